@@ -1,0 +1,95 @@
+//! The disk that the log, the unit files and the index files stand on: named files, and what a crash may leave of them.
+//!
+//! Each call is a moment. Between two syncs of a file each range that was written, and the part past its length at the
+//! last sync, may hold any bytes after a crash, and any length between may be left. After a sync that answered Ok a
+//! crash leaves what a read gives. A removal that answered Ok stays done. `DiskState` says this as one relation.
+
+ghost use Rattle.std.specs.Prelude.{◌≡◌, ◌+◌, ◌-◌, ◌≤◌, ℕ, length, take, drop, map, min, Some, None, IfOk, OnOk, MatchResult, string_bytes};
+ghost use Rattle.mq_outside.specs.Counts.{Counted, CountsFailure, CountsDiskFault};
+ghost use Rattle.mq_outside.specs.Files.{Same, At, Torn, Shortened, Vanished, Lists, bytes_of, overwritten};
+ghost use Rattle.mq_outside.specs.Disk.{DiskState, Moves, IsDurable, IsCrashImage};
+
+use crate::faults::{DiskFault, Failed};
+use std::alloc::Global;
+
+/// A disk of named files. What it holds is said where `tells` holds; of a real disk nothing is said.
+pub trait Disk {
+    /// That it tells what it holds.
+    ghost tells: { Type 0 };
+
+    /// What it tells: what is read, the moment, and the crash images of each moment.
+    ghost state: { Self → DiskState };
+
+    /// How often it failed.
+    ghost faults: { Self → ℕ };
+
+    /// How many syncs were asked of it.
+    ghost syncs: { Self → ℕ };
+
+    /// How many bytes `read_at` gave.
+    ghost given: { Self → ℕ };
+
+    /// The names of the files, in byte order.
+    fn list(&mut self, alloc: Global) -> Result<Vec<String>, DiskFault>
+        ensures names { tells → IfOk result (λ names. Lists (state self.old).reads (map (λ name. string_bytes name) names.items)) }
+        ensures moves { tells → Moves Same (state self.old) (state self.new) }
+        ensures cause { CountsDiskFault result (faults self.old) (faults self.new) }
+        ensures syncs { syncs self.new ≡ syncs self.old }
+        ensures given { given self.new ≡ given self.old };
+
+    /// The length of a file in bytes, 0 where it is absent.
+    fn len(&mut self, file: &str) -> Result<u64, Failed>
+        ensures len { tells → IfOk result (λ n. n ≡ length (bytes_of (state self.old).reads file.now)) }
+        ensures moves { tells → Moves Same (state self.old) (state self.new) }
+        ensures cause { CountsFailure result (faults self.old) (faults self.new) }
+        ensures syncs { syncs self.new ≡ syncs self.old }
+        ensures given { given self.new ≡ given self.old };
+
+    /// Reads what stands at the offset, up to `out`. Answers how many bytes; fewer than `out` only at the file's end.
+    fn read_at(&mut self, file: &str, at: u64, out: &mut [u8]) -> Result<usize, Failed>
+        ensures within { IfOk result (λ n. n ≤ length out.old) }
+        ensures count { tells → IfOk result (λ n. n ≡ min (length out.old) (length (bytes_of (state self.old).reads file.now) - at)) }
+        ensures bytes { tells → IfOk result (λ n. take n out.new ≡ take n (drop at (bytes_of (state self.old).reads file.now))) }
+        ensures moves { tells → Moves Same (state self.old) (state self.new) }
+        ensures cause { CountsFailure result (faults self.old) (faults self.new) }
+        ensures syncs { syncs self.new ≡ syncs self.old }
+        ensures given { MatchResult result (λ n. Counted n (given self.old) (given self.new)) (λ _. given self.new ≡ given self.old) };
+
+    /// Writes over what is there and past the end, and makes the file where it is absent.
+    fn write_at(&mut self, file: &str, at: u64, piece: &[u8]) -> Result<(), Failed>
+        requires { tells → at ≤ length (bytes_of (state self.old).reads file.now) }
+        ensures written { tells → OnOk result ((state self.new).reads file.now ≡ Some (overwritten at piece.now (bytes_of (state self.old).reads file.now))) }
+        ensures moves { tells → Moves (At file.now (Torn at (length piece.now))) (state self.old) (state self.new) }
+        ensures cause { CountsFailure result (faults self.old) (faults self.new) }
+        ensures syncs { syncs self.new ≡ syncs self.old }
+        ensures given { given self.new ≡ given self.old };
+
+    /// Cuts a file to a length in bytes. An absent file stays absent.
+    fn cut(&mut self, file: &str, len: u64) -> Result<(), Failed>
+        requires { tells → len ≤ length (bytes_of (state self.old).reads file.now) }
+        ensures cut { tells → OnOk result (bytes_of (state self.new).reads file.now ≡ take len (bytes_of (state self.old).reads file.now)) }
+        ensures moves { tells → Moves (At file.now (Shortened len)) (state self.old) (state self.new) }
+        ensures cause { CountsFailure result (faults self.old) (faults self.new) }
+        ensures syncs { syncs self.new ≡ syncs self.old }
+        ensures given { given self.new ≡ given self.old };
+
+    /// After it a crash leaves of this file what is read.
+    fn sync(&mut self, file: &str) -> Result<(), Failed>
+        ensures durable { tells → OnOk result (IsDurable file.now (state self.new)) }
+        ensures moves { tells → Moves Same (state self.old) (state self.new) }
+        ensures cause { CountsFailure result (faults self.old) (faults self.new) }
+        ensures syncs { Counted 1 (syncs self.old) (syncs self.new) }
+        ensures given { given self.new ≡ given self.old };
+
+    /// Removes a file. After it a crash leaves none. An absent file stays absent.
+    fn remove(&mut self, file: &str) -> Result<(), Failed>
+        ensures gone { tells → OnOk result ((state self.new).reads file.now ≡ None) }
+        ensures durable { tells → OnOk result (IsDurable file.now (state self.new)) }
+        ensures moves { tells → Moves (At file.now Vanished) (state self.old) (state self.new) }
+        ensures cause { CountsFailure result (faults self.old) (faults self.new) }
+        ensures syncs { syncs self.new ≡ syncs self.old }
+        ensures given { given self.new ≡ given self.old };
+
+    /// What is read is itself what a crash may leave.
+    ghost reads_is_image: { (disk : Self) → tells → IsCrashImage (state disk) (state disk).reads };
+}

@@ -1,0 +1,14 @@
+//! How a device refuses. Each refusal is counted by the device that gave it.
+
+/// A device failed. Its count of faults rose in this call.
+#[derive(Clone, Copy, Debug, PartialEq, Eq)]
+pub struct Failed;
+
+/// A device failed, or there was no memory for the answer.
+#[derive(Clone, Copy, Debug, PartialEq, Eq)]
+pub enum DiskFault {
+    /// The device failed. Its count of faults rose in this call.
+    Failed,
+    /// Nothing was asked of the device, or its answer was dropped.
+    Memory,
+}
