@@ -29,6 +29,10 @@ pub trait Disk {
     /// How many bytes `read_at` gave.
     ghost given: { Self → ℕ };
 
+    /// How often it failed, as a number: a refusal is told to the client with it.
+    fn fault_count(&self) -> u64
+        ensures { result ≡ faults self.now };
+
     /// The names of the files, in byte order.
     fn list(&mut self, alloc: Global) -> Result<Vec<String>, DiskFault>
         ensures names { tells → IfOk result (λ names. Lists (state self.old).reads (map (λ name. string_bytes name) names.items)) }
