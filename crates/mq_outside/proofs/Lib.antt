@@ -1,1 +1,10 @@
 pub mod Moments
+pub mod MemSourceLemmas
+pub mod MemKeepLemmas
+pub mod NamedLemmas
+pub mod MemFilesLemmas
+pub mod MemCallsLemmas
+pub mod MemDiskLemmas
+pub mod Replay
+pub mod PieceLemmas
+pub mod CrashLaws

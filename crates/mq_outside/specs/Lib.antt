@@ -1,3 +1,15 @@
 pub mod Counts
 pub mod Files
 pub mod Disk
+pub mod Listed
+pub mod Calls
+pub mod Named
+pub mod MemFiles
+pub mod MemCalls
+pub mod MemDisk
+pub mod MemDiskState
+pub mod MemKeep
+pub mod MemSource
+pub mod MemSink
+pub mod MemClock
+pub mod Pieces

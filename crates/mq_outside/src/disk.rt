@@ -7,13 +7,20 @@
 ghost use Rattle.std.specs.Prelude.{◌≡◌, ◌+◌, ◌-◌, ◌≤◌, ℕ, length, take, drop, map, min, Some, None, IfOk, OnOk, MatchResult, string_bytes};
 ghost use Rattle.mq_outside.specs.Counts.{Counted, CountsFailure, CountsDiskFault};
 ghost use Rattle.mq_outside.specs.Files.{Same, At, Torn, Shortened, Vanished, Lists, bytes_of, overwritten};
-ghost use Rattle.mq_outside.specs.Disk.{DiskState, Moves, IsDurable, IsCrashImage};
+ghost use Rattle.mq_outside.specs.Disk.{DiskState, EachImage, Moves, IsDurable, IsCrashImage};
+ghost use Rattle.mq_outside.specs.Pieces.{HasPiece, IsStored, stored_piece};
 
 use crate::faults::{DiskFault, Failed};
+use crate::frozen::Frozen;
+use crate::reader::Reader;
+use bytes::Bytes;
 use std::alloc::Global;
 
 /// A disk of named files. What it holds is said where `tells` holds; of a real disk nothing is said.
 pub trait Disk {
+    /// Reads the frozen pieces of this disk.
+    type Reader: Reader + Drop;
+
     /// That it tells what it holds.
     ghost tells: { Type 0 };
 
@@ -29,6 +36,9 @@ pub trait Disk {
     /// How many bytes `read_at` gave.
     ghost given: { Self → ℕ };
 
+    /// How often its readers failed, of those that were taken back.
+    ghost reader_faults: { Self → ℕ };
+
     /// How often it failed, as a number: a refusal is told to the client with it.
     fn fault_count(&self) -> u64
         ensures { result ≡ faults self.now };
@@ -39,7 +49,8 @@ pub trait Disk {
         ensures moves { tells → Moves Same (state self.old) (state self.new) }
         ensures cause { CountsDiskFault result (faults self.old) (faults self.new) }
         ensures syncs { syncs self.new ≡ syncs self.old }
-        ensures given { given self.new ≡ given self.old };
+        ensures given { given self.new ≡ given self.old }
+        ensures reader_faults { reader_faults self.new ≡ reader_faults self.old };
 
     /// The length of a file in bytes, 0 where it is absent.
     fn len(&mut self, file: &str) -> Result<u64, Failed>
@@ -47,7 +58,8 @@ pub trait Disk {
         ensures moves { tells → Moves Same (state self.old) (state self.new) }
         ensures cause { CountsFailure result (faults self.old) (faults self.new) }
         ensures syncs { syncs self.new ≡ syncs self.old }
-        ensures given { given self.new ≡ given self.old };
+        ensures given { given self.new ≡ given self.old }
+        ensures reader_faults { reader_faults self.new ≡ reader_faults self.old };
 
     /// Reads what stands at the offset, up to `out`. Answers how many bytes; fewer than `out` only at the file's end.
     fn read_at(&mut self, file: &str, at: u64, out: &mut [u8]) -> Result<usize, Failed>
@@ -57,7 +69,8 @@ pub trait Disk {
         ensures moves { tells → Moves Same (state self.old) (state self.new) }
         ensures cause { CountsFailure result (faults self.old) (faults self.new) }
         ensures syncs { syncs self.new ≡ syncs self.old }
-        ensures given { MatchResult result (λ n. Counted n (given self.old) (given self.new)) (λ _. given self.new ≡ given self.old) };
+        ensures given { MatchResult result (λ n. Counted n (given self.old) (given self.new)) (λ _. given self.new ≡ given self.old) }
+        ensures reader_faults { reader_faults self.new ≡ reader_faults self.old };
 
     /// Writes over what is there and past the end, and makes the file where it is absent.
     fn write_at(&mut self, file: &str, at: u64, piece: &[u8]) -> Result<(), Failed>
@@ -66,7 +79,8 @@ pub trait Disk {
         ensures moves { tells → Moves (At file.now (Torn at (length piece.now))) (state self.old) (state self.new) }
         ensures cause { CountsFailure result (faults self.old) (faults self.new) }
         ensures syncs { syncs self.new ≡ syncs self.old }
-        ensures given { given self.new ≡ given self.old };
+        ensures given { given self.new ≡ given self.old }
+        ensures reader_faults { reader_faults self.new ≡ reader_faults self.old };
 
     /// Cuts a file to a length in bytes. An absent file stays absent.
     fn cut(&mut self, file: &str, len: u64) -> Result<(), Failed>
@@ -75,7 +89,8 @@ pub trait Disk {
         ensures moves { tells → Moves (At file.now (Shortened len)) (state self.old) (state self.new) }
         ensures cause { CountsFailure result (faults self.old) (faults self.new) }
         ensures syncs { syncs self.new ≡ syncs self.old }
-        ensures given { given self.new ≡ given self.old };
+        ensures given { given self.new ≡ given self.old }
+        ensures reader_faults { reader_faults self.new ≡ reader_faults self.old };
 
     /// After it a crash leaves of this file what is read.
     fn sync(&mut self, file: &str) -> Result<(), Failed>
@@ -83,7 +98,8 @@ pub trait Disk {
         ensures moves { tells → Moves Same (state self.old) (state self.new) }
         ensures cause { CountsFailure result (faults self.old) (faults self.new) }
         ensures syncs { Counted 1 (syncs self.old) (syncs self.new) }
-        ensures given { given self.new ≡ given self.old };
+        ensures given { given self.new ≡ given self.old }
+        ensures reader_faults { reader_faults self.new ≡ reader_faults self.old };
 
     /// Removes a file. After it a crash leaves none. An absent file stays absent.
     fn remove(&mut self, file: &str) -> Result<(), Failed>
@@ -92,7 +108,54 @@ pub trait Disk {
         ensures moves { tells → Moves (At file.now Vanished) (state self.old) (state self.new) }
         ensures cause { CountsFailure result (faults self.old) (faults self.new) }
         ensures syncs { syncs self.new ≡ syncs self.old }
-        ensures given { given self.new ≡ given self.old };
+        ensures given { given self.new ≡ given self.old }
+        ensures reader_faults { reader_faults self.new ≡ reader_faults self.old };
+
+    /// Makes a piece of bytes that are stored in a log file and synced. It takes no memory.
+    fn freeze(&mut self, base: u64, from: u64, bytes: Bytes) -> Frozen
+        requires { tells → EachImage (HasPiece base from bytes) (state self.old) }
+        ensures range { (result.base ≡ base) × (result.from ≡ from) × (result.len ≡ length bytes) }
+        ensures held { tells → result.held ≡ Some bytes }
+        ensures moves { tells → Moves Same (state self.old) (state self.new) }
+        ensures faults { faults self.new ≡ faults self.old }
+        ensures syncs { syncs self.new ≡ syncs self.old }
+        ensures given { given self.new ≡ given self.old }
+        ensures reader_faults { reader_faults self.new ≡ reader_faults self.old };
+
+    /// Makes a piece of a synced range of a log file.
+    fn freeze_stored(
+        &mut self,
+        alloc: Global,
+        base: u64,
+        from: u64,
+        to: u64,
+    ) -> Result<Frozen, DiskFault>
+        requires ordered { from ≤ to }
+        requires stored { tells → IsStored base from to (state self.old) }
+        ensures range { IfOk result (λ piece. (piece.base ≡ base) × (piece.from ≡ from) × (piece.len ≡ to - from)) }
+        ensures held { tells → IfOk result (λ piece. piece.held ≡ Some (stored_piece base from to (state self.old))) }
+        ensures moves { tells → Moves Same (state self.old) (state self.new) }
+        ensures cause { CountsDiskFault result (faults self.old) (faults self.new) }
+        ensures syncs { syncs self.new ≡ syncs self.old }
+        ensures given { given self.new ≡ given self.old }
+        ensures reader_faults { reader_faults self.new ≡ reader_faults self.old };
+
+    /// A reader of its pieces for another thread.
+    fn reader(&mut self, alloc: Global) -> Result<Self::Reader, DiskFault>
+        ensures fresh { IfOk result (λ reader. (Self.Reader.faults reader ≡ 0) × (Self.Reader.reads reader ≡ 0)) }
+        ensures moves { tells → Moves Same (state self.old) (state self.new) }
+        ensures cause { CountsDiskFault result (faults self.old) (faults self.new) }
+        ensures syncs { syncs self.new ≡ syncs self.old }
+        ensures given { given self.new ≡ given self.old }
+        ensures reader_faults { reader_faults self.new ≡ reader_faults self.old };
+
+    /// Takes a reader back, and its count of failures with it. It takes no memory.
+    fn take_back(&mut self, reader: Self::Reader)
+        ensures moves { tells → Moves Same (state self.old) (state self.new) }
+        ensures faults { faults self.new ≡ faults self.old }
+        ensures syncs { syncs self.new ≡ syncs self.old }
+        ensures given { given self.new ≡ given self.old }
+        ensures reader_faults { Counted (Self.Reader.faults reader) (reader_faults self.old) (reader_faults self.new) };
 
     /// What is read is itself what a crash may leave.
     ghost reads_is_image: { (disk : Self) → tells → IsCrashImage (state disk) (state disk).reads };

@@ -3,12 +3,49 @@
 
 mod clock;
 mod disk;
+#[cfg(test)]
+mod disk_tests;
+mod fails;
 mod faults;
+mod folder_disk;
+mod folder_files;
+mod folder_keep;
+mod folder_reader;
+mod frozen;
 mod keep;
+#[cfg(test)]
+mod keep_tests;
+mod machine_clock;
+mod mem_buffer;
+mod mem_calls;
+mod mem_clock;
+mod mem_disk;
+mod mem_files;
+mod mem_keep;
+mod mem_reader;
+mod mem_sink;
+mod mem_source;
+mod reader;
+mod std_streams;
 mod stream;
+#[cfg(test)]
+mod stream_tests;
 
 pub use clock::Clock;
 pub use disk::Disk;
 pub use faults::{DiskFault, Failed};
+pub use folder_disk::FolderDisk;
+pub use folder_keep::FolderKeep;
+pub use folder_reader::FolderReader;
+pub use frozen::Frozen;
 pub use keep::Keep;
+pub use machine_clock::MachineClock;
+pub use mem_clock::MemClock;
+pub use mem_disk::{MemDisk, Room};
+pub use mem_keep::MemKeep;
+pub use mem_reader::MemReader;
+pub use mem_sink::MemSink;
+pub use mem_source::MemSource;
+pub use reader::Reader;
+pub use std_streams::{StdSink, StdSource};
 pub use stream::{Sink, Source};

@@ -1,0 +1,101 @@
+//! Reads frozen ranges of the log files in a store folder, by position, so that readers share no cursor. The log file that
+//! was read last is kept open.
+
+ghost use Rattle.std.specs.Prelude.{◌≡◌};
+
+use crate::faults::Failed;
+use crate::frozen::Frozen;
+use crate::reader::Reader;
+use mq_bytes::LogFile;
+use std::fs::File;
+use std::io;
+use std::io::ErrorKind;
+use std::os::unix::fs::FileExt;
+use std::rt::Files;
+
+// A log file that is kept open.
+#[derive(Drop)]
+struct OpenLog {
+    base: u64,
+    file: File,
+}
+
+/// A reader of a store folder.
+#[derive(Drop)]
+pub struct FolderReader<R: Files<File = File> + AllocGlobal + Clone + Drop> {
+    rt: R,
+    root: String,
+    last: Option<OpenLog>,
+    pub faults: u64,
+    pub reads: u64,
+}
+
+impl<R: Files<File = File> + AllocGlobal + Clone + Drop> FolderReader<R> {
+    /// A reader of a store folder.
+    pub fn new(rt: R, root: String) -> FolderReader<R>
+        ensures faults { result.faults ≡ 0 }
+        ensures reads { result.reads ≡ 0 }
+    {
+        FolderReader {
+            rt,
+            root,
+            last: None,
+            faults: 0,
+            reads: 0,
+        }
+    }
+
+    // Opens a log file where another one is open.
+    fn open(&mut self, base: u64) -> io::Result<()>
+        ensures faults { self.new.faults ≡ self.old.faults }
+        ensures reads { self.new.reads ≡ self.old.reads }
+    {
+        if let Some(open) = &self.last
+            && open.base == base
+        {
+            return Ok(());
+        }
+        self.last = None;
+        let log = LogFile::of(base);
+        let root = self.root.as_str();
+        let name = log.as_str();
+        let path = format!(in self.rt.alloc(); "{root}/{name}")?;
+        let file = std::fs::open(&self.rt, path.as_str())?;
+        self.last = Some(OpenLog { base, file });
+        Ok(())
+    }
+
+    // Fills `out` from this offset of a log file on.
+    fn read_log(&mut self, base: u64, at: u64, out: &mut [u8]) -> io::Result<()>
+        ensures faults { self.new.faults ≡ self.old.faults }
+        ensures reads { self.new.reads ≡ self.old.reads }
+    {
+        self.open(base)?;
+        match &self.last {
+            Some(open) => open.file.read_exact_at(out, at),
+            None => Err(io::Error::from(ErrorKind::NotFound)),
+        }
+    }
+}
+
+impl<R: Files<File = File> + AllocGlobal + Clone + Drop> Reader for FolderReader<R> {
+    ghost faults = { λ reader. reader.faults };
+
+    ghost reads = { λ reader. reader.reads };
+
+    fn read(&mut self, piece: &Frozen, at: u64, out: &mut [u8]) -> Result<(), Failed> {
+        self.reads = self.reads.saturating_add(1);
+        if let Some(held) = &piece.held {
+            let from = at as usize;
+            out.copy_from_slice(&held.as_slice()[from..from + out.len()]);
+            return Ok(());
+        }
+        match self.read_log(piece.base, piece.from.saturating_add(at), out) {
+            Ok(()) => Ok(()),
+            Err(_) => {
+                self.faults = self.faults.saturating_add(1);
+                Err(Failed)
+            }
+        }
+    }
+}

@@ -1,0 +1,18 @@
+//! A stored range of a log file that is never written again. It goes from the owner of the disk to the threads that
+//! answer from it, so that these read it with no turn of the owner.
+
+ghost use Rattle.std.proofs.Props.{props};
+ghost use Rattle.mq_outside.specs.Pieces.{IsWhole};
+
+use bytes::Bytes;
+
+/// So many bytes of the log file named by `base`, from an offset in it on.
+#[derive(Drop)]
+pub struct Frozen {
+    pub base: u64,
+    pub from: u64,
+    pub len: u64,
+    /// The bytes, where the disk keeps them in memory.
+    pub held: Option<Bytes>,
+    ghost whole: { IsWhole held len } by { Prim.hlevel props },
+}
