@@ -1,0 +1,17 @@
+pub mod NumberTexts
+pub mod PairTexts
+pub mod PropsLemmas
+pub mod AppendLemmas
+pub mod DraftLemmas
+pub mod Records
+pub mod InPlaceLemmas
+pub mod TestLaws
+pub mod TextLemmas
+pub mod PutLemmas
+pub mod LaxLemmas
+pub mod BlankLemmas
+pub mod UnitLemmas
+pub mod Views
+pub mod ScanLemmas
+pub mod WrittenLemmas
+pub mod Seals

@@ -1,0 +1,11 @@
+pub mod Entry
+pub mod Props
+pub mod LaxProps
+pub mod Layout
+pub mod Drafts
+pub mod Parsed
+pub mod InPlace
+pub mod Views
+pub mod LensViews
+pub mod Blanks
+pub mod Units

@@ -1,0 +1,95 @@
+//! What a record says before it has a place, and the test that it can be written.
+
+use crate::props::Props;
+use crate::topic::is_named;
+use mq_bytes::{Rows, Text};
+
+/// What a record says, but for its place. Times are milliseconds, hosts are an IPv4 address and a port of four bytes each.
+#[derive(Drop)]
+pub struct Draft {
+    pub topic: Text,
+    pub queue: u32,
+    pub flag: i32,
+    pub sysflag: u32,
+    pub born: u64,
+    pub born_host: [u8; 8],
+    pub store_host: [u8; 8],
+    pub reconsume: i32,
+    pub prepared: u64,
+    pub body: Rows<u8>,
+    pub props: Props,
+}
+
+/// Where a record stands: its number in its queue, its physical offset in the log, and the time at which it was stored.
+#[derive(Clone, Copy)]
+pub struct Place {
+    pub queue_offset: u64,
+    pub offset: u64,
+    pub store: u64,
+}
+
+/// A record: a draft at a place. `size` is how many bytes its layout has.
+#[derive(Drop)]
+pub struct Record {
+    pub draft: Draft,
+    pub place: Place,
+    pub size: u32,
+}
+
+/// Why a draft can't be written.
+#[derive(Debug, Clone, Copy, PartialEq, Eq)]
+pub enum DraftFault {
+    /// The topic is empty, or has an illegal character.
+    BadTopic,
+    /// The topic has more than 127 bytes.
+    TopicLong,
+    /// The system flag says that a host has an address of 16 bytes.
+    HostSix,
+    /// The body has more than 4,194,304 bytes.
+    BodyLong,
+    /// The stored properties have more than 32,767 bytes, the seal's 14 among them.
+    PropsLong,
+    /// The record and 8 bytes behind it don't fit into a segment.
+    RecordLong,
+}
+
+const TOPIC_MAX: usize = 127;
+
+const BODY_MAX: usize = 4194304;
+
+const HOSTS_LONG: u32 = 48;
+
+impl Draft {
+    ghost use Rattle.std.specs.Prelude.{◌≡◌, None, Some, IfOk, IfErr};
+    ghost use Rattle.record_codec.specs.Drafts.{draft_fault, draft_size};
+
+    /// The size of the record, or the first fault that keeps it from being written into a segment of `segment` bytes.
+    #[tactic(auto, unfolding(crate::specs::Drafts::draft_fault))]
+    pub fn check(&self, segment: u32) -> Result<u32, DraftFault>
+        ensures passes { IfOk result (λ size. (draft_fault segment self.now ≡ None) × (size ≡ draft_size self.now)) }
+        ensures fault { IfErr result (λ fault. draft_fault segment self.now ≡ Some fault) }
+    {
+        let topic = self.topic.as_str().as_bytes();
+        if !is_named(topic) {
+            return Err(DraftFault::BadTopic);
+        }
+        if topic.len() > TOPIC_MAX {
+            return Err(DraftFault::TopicLong);
+        }
+        if self.sysflag & HOSTS_LONG != 0 {
+            return Err(DraftFault::HostSix);
+        }
+        let body = self.body.as_slice().len();
+        if body > BODY_MAX {
+            return Err(DraftFault::BodyLong);
+        }
+        let Some(props) = self.props.written_len() else {
+            return Err(DraftFault::PropsLong);
+        };
+        let size = (105 + body + topic.len() + props) as u32;
+        if size + 8 > segment {
+            return Err(DraftFault::RecordLong);
+        }
+        Ok(size)
+    }
+}

@@ -1,0 +1,110 @@
+//! Whether bytes begin with a record's layout. Nothing is copied.
+
+ghost use Rattle.std.specs.Prelude.{◌≡◌, ◌+◌, ◌≤◌, ◌^◌, ◌++◌, List, ℕ, length, nat_lt, IfSome, IfNone};
+ghost use Rattle.record_codec.specs.Entry.{Entry};
+ghost use Rattle.record_codec.specs.InPlace.{has_fields as has_fields_of, are_props as are_props_of};
+ghost use Rattle.record_codec.specs.Layout.{are_low as are_low_of, layout, IsRecord};
+ghost use Rattle.record_codec.specs.LensViews.{lens_view};
+ghost use Rattle.record_codec.specs.Parsed.{parsed, end_of, is_spelled as is_spelled_of};
+
+use crate::layout::MAGIC;
+use crate::lens::{Lens, lens_of, u32_at, u64_at};
+use crate::scan::{are_distinct, are_written, has_name};
+use crate::seal::{seal_end, sum_of};
+use crate::topic::is_legal;
+use crate::view::View;
+use mq_bytes::crc32;
+
+/// Offsets and times are below 2^62.
+const LIMIT: u64 = 0x4000_0000_0000_0000;
+
+fn are_low(numbers: &[u64]) -> bool
+    ensures { result ≡ are_low_of numbers.now }
+{
+    for number in numbers {
+        if *number >= LIMIT {
+            return false;
+        }
+    }
+    true
+}
+
+#[tactic(auto, unfolding(crate::specs::InPlace::has_fields))]
+fn has_fields(bytes: &[u8], lens: &Lens) -> bool
+    requires { end_of (lens_view lens.now) ≤ length bytes.now }
+    ensures { result ≡ has_fields_of bytes.now (lens_view lens.now) }
+{
+    let from = 89 + lens.body as usize;
+    if !is_legal(&bytes[from..from + lens.topic as usize]) {
+        return false;
+    }
+    if u32_at(bytes, 36) & 48 != 0 {
+        return false;
+    }
+    are_low(&[
+        u64_at(bytes, 20),
+        u64_at(bytes, 28),
+        u64_at(bytes, 40),
+        u64_at(bytes, 56),
+        u64_at(bytes, 76),
+    ])
+}
+
+#[tactic(auto, unfolding(crate::specs::Parsed::is_spelled))]
+fn is_spelled(bytes: &[u8], lens: &Lens) -> bool
+    requires { end_of (lens_view lens.now) ≤ length bytes.now }
+    ensures { result ≡ is_spelled_of bytes.now (lens_view lens.now) }
+{
+    let body = lens.body as usize;
+    let name = 91 + body + lens.topic as usize + lens.props as usize;
+    if u32_at(bytes, 4) != MAGIC {
+        return false;
+    }
+    if u32_at(bytes, 8) != crc32(&bytes[88..88 + body]) % 0x8000_0000 {
+        return false;
+    }
+    if &bytes[name..name + 5] != b"SEAL\x01".as_slice() {
+        return false;
+    }
+    let end = seal_end(sum_of(&bytes[..name + 5]));
+    &bytes[name + 5..name + 14] == end.as_slice()
+}
+
+#[tactic(auto, unfolding(crate::specs::InPlace::are_props))]
+fn are_props(text: &[u8]) -> bool
+    ensures { result ≡ are_props_of text.now }
+{
+    if !are_written(text) {
+        return false;
+    }
+    if !are_distinct(text) || has_name(b"SEAL", text) {
+        return false;
+    }
+    std::str::from_utf8(text).is_ok()
+}
+
+fn view_of(bytes: &[u8]) -> Option<View<'_>>
+    ensures { result ≡ parsed bytes.now }
+{
+    let lens = lens_of(bytes)?;
+    let from = 91 + lens.body as usize + lens.topic as usize;
+    let text = &bytes[from..from + lens.props as usize];
+    if !has_fields(bytes, &lens) || !is_spelled(bytes, &lens) || !are_props(text) {
+        return None;
+    }
+    Some(View {
+        bytes,
+        body: lens.body,
+        topic: lens.topic,
+        props: lens.props,
+    })
+}
+
+/// The record whose layout stands at the front of these bytes, whatever follows it. Takes no memory.
+pub fn test(bytes: &[u8]) -> Option<View<'_>>
+    ensures exact { result ≡ parsed bytes.now }
+    ensures found { IfSome result (λ r. IsRecord r × ((rest : List ℕ) × (bytes.now ≡ layout r ++ rest))) }
+    ensures none { IfNone result ((r : Entry) (rest : List ℕ) → IsRecord r → bytes.now ≡ layout r ++ rest → ⊥) }
+{
+    view_of(bytes)
+}
