@@ -1,0 +1,13 @@
+pub mod HeaderReading
+pub mod HeaderTexts
+pub mod TextLengths
+pub mod BinaryReading
+pub mod BinaryWriting
+pub mod WireNumbers
+pub mod BinaryAgain
+pub mod NameOrder
+pub mod BinaryTakes
+pub mod FrontLaws
+pub mod FrameTexts
+pub mod FaultLaws
+pub mod StreamLaws

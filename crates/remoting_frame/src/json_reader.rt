@@ -1,0 +1,138 @@
+//! Reads a header in JSON form: one object, nested at most 127 deep.
+//!
+//! | name        | value                     | where absent |
+//! |-------------|---------------------------|--------------|
+//! | `code`      | whole number of 32 bits   | refused      |
+//! | `opaque`    | whole number of 32 bits   | refused      |
+//! | `flag`      | whole number of 32 bits   | 0            |
+//! | `version`   | whole number of 32 bits   | 0            |
+//! | `remark`    | text or null              | empty        |
+//! | `extFields` | object of texts, or null  | empty        |
+//!
+//! A member of `extFields` that is null is dropped. Other names are read over. Of a name that comes twice the last
+//! value counts, and no other is looked at. A number with a point or an exponent, and `-0`, is not whole.
+
+ghost use Rattle.std.specs.Prelude.{IfOk, option_map, option_and_then, string_bytes, ◌++◌};
+ghost use Rattle.serde_json.specs.View.{view, members_view};
+ghost use Rattle.remoting_frame.specs.Gives.{Gives};
+ghost use Rattle.remoting_frame.specs.Head.{IsInOrder};
+ghost use Rattle.remoting_frame.specs.Json.{data_of, whole, whole_or_zero, text_or_empty, pair_of, pairs_of, pairs_or_none, header_of, json_header};
+
+use crate::fault::HeaderFault;
+use crate::header::Header;
+use mq_bytes::{Rows, Text};
+use serde_json::{Map, Value};
+use std::alloc::Global;
+
+fn value_of(alloc: Global, bytes: &[u8]) -> Result<Value, HeaderFault>
+    ensures { Gives view result (data_of bytes.now) }
+{
+    match Value::from_slice(alloc, bytes) {
+        Ok(value) => Ok(value),
+        Err(error) => {
+            if error.is_memory() {
+                Err(HeaderFault::Memory)
+            } else {
+                Err(HeaderFault::Bad)
+            }
+        }
+    }
+}
+
+#[tactic(auto, unfolding(crate::specs::Json::whole))]
+fn number_of(value: Option<&Value>) -> Result<i32, HeaderFault>
+    ensures { Gives (λ n. n) result (option_and_then whole (option_map (λ v. view v.now) value.entry)) }
+{
+    let Some(value) = value else {
+        return Err(HeaderFault::Bad);
+    };
+    let Some(number) = value.as_i64() else {
+        return Err(HeaderFault::Bad);
+    };
+    if number < -2147483648 || number > 2147483647 {
+        return Err(HeaderFault::Bad);
+    }
+    Ok(number as i32)
+}
+
+fn number_or_zero(value: Option<&Value>) -> Result<i32, HeaderFault>
+    ensures { Gives (λ n. n) result (whole_or_zero (option_map (λ v. view v.now) value.entry)) }
+{
+    if value.is_none() {
+        return Ok(0);
+    }
+    number_of(value)
+}
+
+fn text_or_none(alloc: Global, value: Option<&Value>) -> Result<Text, HeaderFault>
+    ensures { Gives (λ t. t) result (text_or_empty (option_map (λ v. view v.now) value.entry)) }
+{
+    match value {
+        None | Some(Value::Null) => Ok(Text::of(String::new(alloc))),
+        Some(Value::String(text)) => Ok(Text::of(text.clone()?)),
+        Some(_) => Err(HeaderFault::Bad),
+    }
+}
+
+fn push_pair(pairs: &mut Vec<(Text, Text)>, name: &String, value: &Value) -> Result<(), HeaderFault>
+    ensures { Gives (λ _. pairs.new.items) result (option_map (λ p. pairs.old.items ++ p) (pair_of (string_bytes name.now) (view value.now))) }
+{
+    match value {
+        Value::Null => Ok(()),
+        Value::String(text) => {
+            pairs.push((Text::of(name.clone()?), Text::of(text.clone()?)))?;
+            Ok(())
+        }
+        _ => Err(HeaderFault::Bad),
+    }
+}
+
+fn pairs_in(alloc: Global, map: &Map<String, Value>) -> Result<Rows<(Text, Text)>, HeaderFault>
+    ensures pairs { Gives (λ r. r) result (pairs_of (members_view map.now.entries)) }
+    ensures ordered { IfOk result IsInOrder }
+{
+    let mut pairs = Vec::with_capacity(alloc, map.len())?;
+    for (name, value) in map.iter() {
+        push_pair(&mut pairs, name, value)?;
+    }
+    Ok(Rows::of(pairs))
+}
+
+fn pairs_or_empty(alloc: Global, value: Option<&Value>) -> Result<Rows<(Text, Text)>, HeaderFault>
+    ensures ordered { IfOk result IsInOrder }
+    ensures pairs { Gives (λ r. r) result (pairs_or_none (option_map (λ v. view v.now) value.entry)) }
+{
+    match value {
+        None | Some(Value::Null) => Ok(Rows::of(Vec::new(alloc))),
+        Some(Value::Object(map)) => pairs_in(alloc, map),
+        Some(_) => Err(HeaderFault::Bad),
+    }
+}
+
+#[tactic(auto, unfolding(crate::specs::Json::header_of))]
+fn header_from(alloc: Global, value: &Value) -> Result<Header, HeaderFault>
+    ensures { Gives (λ h. h) result (header_of (view value.now)) }
+{
+    let code = number_of(value.get("code"))?;
+    let opaque = number_of(value.get("opaque"))?;
+    let flag = number_or_zero(value.get("flag"))?;
+    let version = number_or_zero(value.get("version"))?;
+    let remark = text_or_none(alloc, value.get("remark"))?;
+    let ext = pairs_or_empty(alloc, value.get("extFields"))?;
+    Ok(Header {
+        code,
+        version,
+        opaque,
+        flag,
+        remark,
+        ext,
+    })
+}
+
+/// The header that the bytes are in JSON form.
+pub(crate) fn read_json(alloc: Global, bytes: &[u8]) -> Result<Header, HeaderFault>
+    ensures { Gives (λ h. h) result (json_header bytes.now) }
+{
+    let value = value_of(alloc, bytes)?;
+    header_from(alloc, &value)
+}
