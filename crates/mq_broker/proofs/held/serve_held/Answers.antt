@@ -1,0 +1,38 @@
+use Rattle.std.proofs.Common.{◌≡◌, ◌∙◌, [], refl, sym, Ok, Some, None, subst, rules, arith, ap}
+use Rattle.mq_broker.proofs.ProgressLemmas.{ran_nothing}
+use Rattle.mq_broker.proofs.HeldLemmas.{served_more, ended_more, halted_by_frame, next_strict}
+use Rattle.mq_broker.proofs.held.serve_held.Goals as goal
+
+pub loop-halt-init : goal.loop-halt-init
+loop-halt-init g c = record {
+  served = λ s stands. record { frames = []; cut = (refl, refl); ran = ran_nothing s [] _ _ _ _ _ _ _ refl stands };
+  end = c.requires.end;
+  sink = refl;
+  disk = refl;
+  clock = refl;
+}
+
+pub returns-in-Err-clause-served : goal.returns-in-Err-clause-served
+returns-in-Err-clause-served g c = λ s stands.
+    halted_by_frame c.in-Err.halt s _ _ _ _ _ _ _ _ _ _ _ _ _ _ _ c.in-Err.ensures.frame c.loop-halt.invariant.disk (c.loop-halt.invariant.served s stands)
+
+pub returns-in-Err-serve-clause-served : goal.returns-in-Err-serve-clause-served
+returns-in-Err-serve-clause-served g c = λ s stands.
+    let served = c.loop-halt.invariant.served s stands in
+    let given = rw c.in-Ok-Some.field-0-is at c.in-Ok-Some.ensures.frame in
+    ended_more c.in-Err-serve.stop s _ _ _ c.in-Ok-Some.frame _ _ _ _ _ _ _ _ _ _ _ _ _ _ _ _ served given c.loop-halt.invariant.disk (c.in-Err-serve.ensures.ran _ served.ran.stands)
+
+pub loop-halt-smaller : goal.loop-halt-smaller
+loop-halt-smaller g c = let given = rw c.in-Ok-Some.field-0-is at c.in-Ok-Some.ensures.frame in next_strict _ _ _ _ given.0
+
+pub loop-halt-preserved : goal.loop-halt-preserved
+loop-halt-preserved g c = record {
+  served = λ s stands.
+      let served = c.loop-halt.invariant.served s stands in
+      let given = rw c.in-Ok-Some.field-0-is at c.in-Ok-Some.ensures.frame in
+      served_more s _ _ _ c.in-Ok-Some.frame _ _ _ _ _ _ _ _ _ _ _ _ _ _ served given (c.in-Ok.ensures.ran _ served.ran.stands);
+  end = c.in-Ok.ensures.end_again;
+  sink = c.in-Ok.ensures.cause.0 ∙ c.loop-halt.invariant.sink;
+  disk = c.in-Ok.ensures.cause.1 ∙ c.loop-halt.invariant.disk;
+  clock = c.in-Ok.ensures.cause.2 ∙ c.loop-halt.invariant.clock;
+}

@@ -1,0 +1,16 @@
+//! What came of a request, as far as its reply tells it.
+
+use record_codec::Place;
+
+/// What came of a request.
+#[derive(Clone, Copy)]
+pub(crate) enum Answer {
+    /// It isn't served.
+    Refused,
+    /// Its record stands there, flushed.
+    Sent(Place),
+    /// Its record was appended there, and its flush failed, which was the disk's failure of this number.
+    NotFlushed(Place, u64),
+    /// There was no memory for it, and nothing was appended.
+    NoMemory,
+}
