@@ -1,0 +1,213 @@
+#!/usr/bin/env python3
+"""Runs the real program in empty folders and looks at what it writes: checks/end_to_end.py PROGRAM.
+
+Frames are made and records are read here by code of their own. Each check prints its name; the first that fails ends it.
+"""
+import json
+import os
+import signal
+import subprocess
+import sys
+import tempfile
+import zlib
+
+PROGRAM = os.path.abspath(sys.argv[1])
+HERE = os.path.dirname(os.path.abspath(__file__))
+SAMPLE = open(os.path.join(HERE, "..", "crates", "mq_broker", "stdin"), "rb").read()
+REPLY = open(os.path.join(HERE, "..", "crates", "mq_broker", "stdout"), "rb").read()
+LOG = "store/commitlog/00000000000000000000"
+
+
+def frame(header, body=b""):
+    text = json.dumps(header, separators=(",", ":")).encode()
+    return (4 + len(text) + len(body)).to_bytes(4, "big") + len(text).to_bytes(4, "big") + text + body
+
+
+def send(opaque, body, topic="T", flag=0, **fields):
+    ext = {"producerGroup": "P", "topic": topic, "queueId": "0", "sysFlag": "0", "bornTimestamp": "1000", "flag": "0",
+           "defaultTopic": "TBW102", "defaultTopicQueueNums": "4"}
+    ext.update(fields)
+    return frame({"code": 10, "extFields": ext, "flag": flag, "opaque": opaque, "version": 395}, body)
+
+
+def replies(data):
+    found = []
+    while data:
+        size, head = int.from_bytes(data[:4], "big"), int.from_bytes(data[5:8], "big")
+        found.append(json.loads(data[8:8 + head]))
+        data = data[4 + size:]
+    return found
+
+
+def records(data):
+    """The records of a log file, each with its checks tested."""
+    found, at = [], 0
+    while at < len(data):
+        size = int.from_bytes(data[at:at + 4], "big")
+        r = data[at:at + size]
+        assert len(r) == size and r[4:8] == bytes.fromhex("DAA320A7"), at
+        body_len = int.from_bytes(r[84:88], "big")
+        body = r[88:88 + body_len]
+        assert int.from_bytes(r[8:12], "big") == zlib.crc32(body) & 0x7FFFFFFF, at
+        zeroed = r[:-9] + b"00000000\x02"
+        assert r[-14:] == b"SEAL\x01" + b"%08X" % zlib.crc32(zeroed) + b"\x02", at
+        assert int.from_bytes(r[28:36], "big") == at
+        found.append({"place": at, "body": body, "queue_offset": int.from_bytes(r[20:28], "big"), "bytes": r})
+        at += size
+    return found
+
+
+def run(data, folder, words=("pipe",)):
+    done = subprocess.run([PROGRAM, *words], input=data, cwd=folder, stdout=subprocess.PIPE, timeout=60)
+    return done.returncode, done.stdout
+
+
+def check(name):
+    def wrap(test):
+        with tempfile.TemporaryDirectory() as folder:
+            test(folder)
+        print("ok:", name)
+    return wrap
+
+
+def log(folder):
+    with open(os.path.join(folder, LOG), "rb") as file:
+        return file.read()
+
+
+@check("an empty input makes the format and no log")
+def _(folder):
+    assert run(b"", folder) == (0, b"")
+    assert open(folder + "/store/config/format").read() == "mq_broker 1 1073741824 65536 262144\n"
+    assert not os.path.exists(os.path.join(folder, LOG))
+
+
+@check("the sample frame gets its reply, and its record is the documented one")
+def _(folder):
+    assert run(SAMPLE, folder) == (0, REPLY)
+    known = bytes.fromhex(
+        "0000006CDAA320A758932AAC0000000000000000000000000000000000000000000000000000000000000000000003E87F00000100000000"
+        "00000000000007D07F00000100002A9F000000000000000000000000000000026869" "0154000E5345414C01")
+    stored = log(folder)
+    assert len(stored) == 108 and stored[:56] == known[:56] and stored[64:99] == known[64:99]
+    records(stored)
+
+
+@check("a frame that comes a byte at a time is served alike")
+def _(folder):
+    child = subprocess.Popen([PROGRAM, "pipe"], stdin=subprocess.PIPE, stdout=subprocess.PIPE, cwd=folder)
+    for byte in SAMPLE:
+        child.stdin.write(bytes([byte]))
+        child.stdin.flush()
+    child.stdin.close()
+    assert child.stdout.read() == REPLY and child.wait() == 0
+
+
+@check("bytes that end inside a frame, and a frame too short, are status 2")
+def _(folder):
+    assert run(SAMPLE + b"\0\0\0", folder) == (2, REPLY)
+    with tempfile.TemporaryDirectory() as other:
+        assert run(b"\0\0\0\3", other) == (2, b"")
+
+
+@check("what isn't served is answered with 3, one-way requests and responses not at all")
+def _(folder):
+    header = {"code": 999, "extFields": {}, "flag": 0, "opaque": 9}
+    want = (b'\0\0\0\x85\0\0\0\x81{"code":3,"extFields":{},"flag":1,"language":"OTHER","opaque":9,"remark":"code 999",'
+            b'"serializeTypeCurrentRPC":"JSON","version":0}')
+    assert run(frame(header), folder) == (0, want)
+    for flag in (1, 2):
+        with tempfile.TemporaryDirectory() as other:
+            assert run(frame({**header, "flag": flag}), other) == (0, b"")
+
+
+@check("sends are counted by topic and stand one behind another; refused ones take no place")
+def _(folder):
+    data = (send(1, b"a") + send(2, b"bb", topic="U") + send(3, b"", topic="a b") + send(4, b"c") + send(5, b"d", flag=2)
+            + send(6, b"", queueId="1") + send(7, b"e", topic="SCHEDULE_TOPIC_XXXX"))
+    status, out = run(data, folder)
+    assert status == 0
+    told = replies(out)
+    assert [(r["opaque"], r["code"]) for r in told] == [(1, 0), (2, 0), (3, 3), (4, 0), (6, 3), (7, 3)]
+    stored = records(log(folder))
+    assert [r["body"] for r in stored] == [b"a", b"bb", b"c", b"d"]
+    assert [r["queue_offset"] for r in stored] == [0, 0, 1, 2]
+    ids = [r["extFields"]["msgId"] for r in told if r["code"] == 0]
+    assert ids == ["7F00000100002A9F%016X" % stored[k]["place"] for k in (0, 1, 2)]
+
+
+@check("other words are status 1, a store that stands is status 6 and stays as it is")
+def _(folder):
+    assert run(b"", folder, ()) == (1, b"") and run(b"", folder, ("pipe", "x")) == (1, b"")
+    assert run(SAMPLE, folder) == (0, REPLY)
+    before = log(folder)
+    assert run(SAMPLE, folder) == (6, b"") and log(folder) == before
+
+
+@check("a second process on the store is refused with status 5 and harms nothing")
+def _(folder):
+    first = subprocess.Popen([PROGRAM, "pipe"], stdin=subprocess.PIPE, stdout=subprocess.PIPE, cwd=folder)
+    first.stdin.write(SAMPLE)
+    first.stdin.flush()
+    assert first.stdout.read(len(REPLY)) == REPLY
+    before = log(folder)
+    assert run(SAMPLE, folder) == (5, b"") and log(folder) == before
+    first.stdin.close()
+    assert first.wait() == 0
+
+
+@check("a closed standard output is status 4")
+def _(folder):
+    read, write = os.pipe()
+    os.close(read)
+    child = subprocess.Popen([PROGRAM, "pipe"], stdin=subprocess.PIPE, stdout=write, cwd=folder,
+                             preexec_fn=lambda: signal.signal(signal.SIGPIPE, signal.SIG_IGN))
+    os.close(write)
+    child.stdin.write(SAMPLE)
+    child.stdin.close()
+    assert child.wait() == 4
+
+
+@check("a killed process loses no record whose reply was read")
+def _(folder):
+    for round_ in range(20):
+        with tempfile.TemporaryDirectory() as place:
+            child = subprocess.Popen([PROGRAM, "pipe"], stdin=subprocess.PIPE, stdout=subprocess.PIPE, cwd=place)
+            bodies, told = [], 0
+            for k in range(round_ * 3 + 1):
+                body = b"%d" % k
+                child.stdin.write(send(k, body))
+                child.stdin.flush()
+                head = child.stdout.read(4)
+                reply = json.loads(child.stdout.read(int.from_bytes(head, "big"))[4:])
+                assert reply["code"] == 0
+                bodies.append(body)
+                told += 1
+            child.stdin.write(send(told, b"torn" * 1000) * 50)
+            child.stdin.flush()
+            child.send_signal(signal.SIGKILL)
+            child.wait()
+            data = log(place)
+            at = 0
+            for body in bodies:
+                size = int.from_bytes(data[at:at + 4], "big")
+                assert records(data[at:at + size] if at == 0 else data[:at + size])[-1]["body"] == body
+                at += size
+
+
+@check("under strace the sync of the log stands between the write of the record and that of its reply")
+def _(folder):
+    if subprocess.run(["sh", "-c", "command -v strace"], stdout=subprocess.DEVNULL).returncode != 0:
+        print("skipped, no strace:", end=" ")
+        return
+    trace = os.path.join(folder, "trace")
+    done = subprocess.run(["strace", "-o", trace, "-e", "trace=pwrite64,fdatasync,fsync,write", PROGRAM, "pipe"], input=SAMPLE,
+                          cwd=folder, stdout=subprocess.PIPE, stderr=subprocess.PIPE, timeout=60)
+    if done.returncode != 0 or done.stdout != REPLY:
+        print("skipped, strace is refused:", end=" ")
+        return
+    lines = open(trace).read().splitlines()
+    wrote = max(i for i, line in enumerate(lines) if line.startswith("pwrite64("))
+    answered = max(i for i, line in enumerate(lines) if line.startswith("write(1,"))
+    between = [line for line in lines[wrote + 1:answered] if line.startswith(("fdatasync(", "fsync("))]
+    assert len(between) >= 2, lines
