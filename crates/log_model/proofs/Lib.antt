@@ -1,0 +1,15 @@
+pub mod LayoutLengths
+pub mod Lists
+pub mod Places
+pub mod FileNames
+pub mod Steps
+pub mod Fronts
+pub mod Prefixes
+pub mod StoreLemmas
+pub mod Recovery
+pub mod Longer
+pub mod NameOrder
+pub mod Damage
+pub mod OneDamage
+pub mod BatchLemmas
+pub mod Cuts

@@ -1,0 +1,114 @@
+-- A longer log: its files begin with those of the shorter one, and a disk that stores the shorter one stores it too.
+use Rattle.std.proofs.Common.{◌≡◌, ◌≢◌, ◌⊎◌, inl, inr, ⊎_elim, ℕ, zero, suc, ◌<◌, ◌≤◌, true, false, bytes_eq, List, [], ◌∷◌, ◌++◌, length, take, Option, None, refl, sym, ◌∙◌, ap, subst, arith, length-append, length-take-le}
+use Rattle.std.proofs.lemmas.Bool.{cases_Bool, cases_eq}
+use Rattle.std.proofs.lemmas.List.{take_all, take-take, take-append-le}
+use Rattle.std.proofs.lemmas.Slice.Eq.{bytes_eq-Decides}
+use Rattle.mq_outside.specs.Files.{Files, bytes_in, bytes_of}
+use Rattle.mq_outside.specs.Disk.{DiskState, IsCrashImage}
+use Rattle.record_codec.specs.Entry.{Entry}
+use Rattle.record_codec.specs.Layout.{size}
+use Rattle.log_model.specs.Log.{fits, IsWellFormed}
+use Rattle.log_model.specs.Segments.{Shape, used, grown, laid, shape_of, segment_file, last_bytes, AreClosed, IsLogFile, AreSegmentFiles}
+use Rattle.log_model.specs.Store.{StoresAt, IsLaid}
+use Rattle.log_model.proofs.Places.{placed_log, well_formed_take, grown_here, grown_next, shape_of-append}
+use Rattle.log_model.proofs.Fronts.{closed_ended}
+use Rattle.log_model.proofs.Recovery.{Reads, laid_reads}
+
+-- ---- the files of a longer log
+
+grown_closed : (S : ℕ) (shape : Shape) (r : Entry) (files : Files) → AreClosed S (grown S shape r).older files → AreClosed S shape.older files
+grown_closed S shape r files are = ⊎_elim
+    (λ (here : fits S (used shape) (size r) ≡ true). subst (λ (s : Shape). AreClosed S s.older files) (grown_here S shape r here) are)
+    (λ (full : fits S (used shape) (size r) ≡ false). (subst (λ (s : Shape). AreClosed S s.older files) (grown_next S shape r full) are).1)
+    (cases_Bool (fits S (used shape) (size r)))
+
+laid_closed : (S : ℕ) (shape : Shape) (records : List Entry) (files : Files) → AreClosed S (laid S shape records).older files → AreClosed S shape.older files
+laid_closed S shape [] files are = are
+laid_closed S shape (r ∷ records) files are = grown_closed S shape r files (laid_closed S (grown S shape r) records files are)
+
+pub closed_same : (S k : ℕ) (older : List (List Entry)) (some other : Files) → k < length older → AreClosed S older some → AreClosed S older other
+    → some (segment_file S k) ≡ other (segment_file S k)
+closed_same S k [] some other low are too = absurd (omega (arith, low))
+closed_same S k (records ∷ older) some other low are too = ⊎_elim
+    (λ (is : k ≡ length older). ap (λ (n : ℕ). some (segment_file S n)) is ∙ are.0 ∙ sym too.0 ∙ ap (λ (n : ℕ). other (segment_file S n)) (sym is))
+    (λ (earlier : k ≡ length older → ⊥). closed_same S k older some other (omega (arith, low, earlier)) are.1 too.1)
+    (cases_eq k (length older))
+
+-- a name is that of one of the first segments, or of none
+pub find_name : (S n : ℕ) (name : List ℕ) → ((k : ℕ) × (k ≤ n) × (name ≡ segment_file S k)) ⊎ ((k : ℕ) → k ≤ n → name ≢ segment_file S k)
+find_name S zero name = ⊎_elim
+    (λ (same : bytes_eq name (segment_file S 0) ≡ true). inl (0, omega arith, (bytes_eq-Decides _ _).0 same))
+    (λ (apart : bytes_eq name (segment_file S 0) ≡ false). inr (λ k low is.
+    let zero_is : k ≡ 0 = omega (arith, low) in
+    let full : false ≡ true = sym apart ∙ (bytes_eq-Decides _ _).1 (is ∙ ap (segment_file S) zero_is) in absurd (cc)))
+    (cases_Bool (bytes_eq name (segment_file S 0)))
+find_name S (suc n) name = ⊎_elim
+    (λ (same : bytes_eq name (segment_file S (suc n)) ≡ true). inl (suc n, omega arith, (bytes_eq-Decides _ _).0 same))
+    (λ (apart : bytes_eq name (segment_file S (suc n)) ≡ false). ⊎_elim
+    (λ (found : (k : ℕ) × (k ≤ n) × (name ≡ segment_file S k)). inl (found.0, omega (arith, found.1), found.2))
+    (λ (none : (k : ℕ) → k ≤ n → name ≢ segment_file S k). inr (λ k low is. ⊎_elim
+    (λ (last : k ≡ suc n). let full : false ≡ true = sym apart ∙ (bytes_eq-Decides _ _).1 (is ∙ ap (segment_file S) last) in absurd (cc))
+    (λ (earlier : k ≡ suc n → ⊥). none k (omega (arith, low, earlier)) is)
+    (cases_eq k (suc n))))
+    (find_name S n name))
+    (cases_Bool (bytes_eq name (segment_file S (suc n))))
+
+-- the bytes of one file begin the other
+abbrev pub Begins : List ℕ → List ℕ → Type 0
+Begins front bytes = take (length front) bytes ≡ front
+
+-- each file of a log begins that file of each longer one
+pub files_begin : (S : ℕ) (log more : List Entry) (files longer : Files) (name : List ℕ) → IsWellFormed S (log ++ more) → AreSegmentFiles S log files
+    → AreSegmentFiles S (log ++ more) longer → IsLogFile name → Begins (bytes_of files name) (bytes_of longer name)
+files_begin S log more files longer name well short long in_folder =
+    let shape : Shape = shape_of S log in
+    let rule : shape_of S (log ++ more) ≡ laid S shape more = shape_of-append S log more in
+    let older : AreClosed S shape.older longer = laid_closed S shape more longer (subst (λ (s : Shape). AreClosed S s.older longer) rule long.older) in
+    let placed = placed_log S (log ++ more) well in
+    let all : Reads S (shape_of S (log ++ more)) longer = record {
+      older = closed_ended S (shape_of S (log ++ more)).older longer placed.roomy long.older;
+      last = ap (λ (l : List ℕ). take (used (shape_of S (log ++ more))) l) long.last ∙ take_all _ _ (omega arith);
+    } in
+    let reads : Reads S shape longer = laid_reads S shape more longer (subst (λ (s : Shape). Reads S s longer) rule all) in
+    ⊎_elim
+    (λ (found : (k : ℕ) × (k ≤ length shape.older) × (name ≡ segment_file S k)). subst (λ (n : List ℕ). Begins (bytes_of files n) (bytes_of longer n)) (sym found.2) (⊎_elim
+    (λ (is : found.0 ≡ length shape.older). subst (λ (k : ℕ). Begins (bytes_of files (segment_file S k)) (bytes_of longer (segment_file S k))) (sym is)
+    (subst (λ (l : List ℕ). Begins l (last_bytes S shape longer)) (sym short.last) reads.last))
+    (λ (earlier : found.0 ≡ length shape.older → ⊥).
+    let same = closed_same S found.0 shape.older files longer (omega (arith, found.1, earlier)) short.older older in
+    ap (λ (o : Option (List ℕ)). take (length (bytes_of files (segment_file S found.0))) (bytes_in o)) (sym same) ∙ take_all _ _ (omega arith))
+    (cases_eq found.0 (length shape.older))))
+    (λ (none : (k : ℕ) → k ≤ length shape.older → name ≢ segment_file S k).
+    let absent : files name ≡ None = short.others name in_folder none in
+    subst (λ (o : Option (List ℕ)). Begins (bytes_in o) (bytes_of longer name)) (sym absent) refl)
+    (find_name S (length shape.older) name)
+
+-- ---- a disk that stores a log stores each longer one
+
+take_longer : (log more : List Entry) (k : ℕ) → k ≤ length log → take k (log ++ more) ≡ take k log
+take_longer log more k within = take-append-le k log more within
+
+pub stores_longer : (S : ℕ) (log more : List Entry) (flushed : ℕ) (shape : Shape) (reach : ℕ) (disk : DiskState) → IsWellFormed S (log ++ more)
+    → StoresAt S log flushed shape reach disk → StoresAt S (log ++ more) flushed shape reach disk
+stores_longer S log more flushed shape reach disk well stores = record {
+  well_formed = well;
+  within = omega (arith, stores.within, length-append log more);
+  laid = subst (λ (l : List Entry). IsLaid S l shape) (sym (take_longer log more flushed stores.within)) stores.laid;
+  each = stores.each;
+}
+
+-- and each shorter one that has the flushed records
+pub stores_shorter : (S : ℕ) (log : List Entry) (flushed k : ℕ) (shape : Shape) (reach : ℕ) (disk : DiskState) → flushed ≤ k → k ≤ length log
+    → StoresAt S log flushed shape reach disk → StoresAt S (take k log) flushed shape reach disk
+stores_shorter S log flushed k shape reach disk low within stores = record {
+  well_formed = well_formed_take S k log stores.well_formed;
+  within = omega (arith, low, length-take-le k log within);
+  laid = subst (λ (l : List Entry). IsLaid S l shape) (sym (take-take flushed k log low)) stores.laid;
+  each = stores.each;
+}
+
+-- the crash images agree in each file before the last
+pub stores_agree : (S : ℕ) (log : List Entry) (flushed : ℕ) (shape : Shape) (reach : ℕ) (disk : DiskState) (some other : Files) (k : ℕ) → StoresAt S log flushed shape reach disk
+    → IsCrashImage disk some → IsCrashImage disk other → k < length shape.older → some (segment_file S k) ≡ other (segment_file S k)
+stores_agree S log flushed shape reach disk some other k stores one two low =
+    closed_same S k shape.older some other low (stores.each.at some one).older (stores.each.at other two).older

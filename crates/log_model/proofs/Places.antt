@@ -1,0 +1,143 @@
+-- The segments of a well-formed log: each record has its place in the segment that the blank rule gives it.
+use Rattle.std.proofs.Common.{◌≡◌, ⊎_elim, ℕ, zero, suc, ◌+◌, ◌*◌, ◌/◌, ◌%◌, ◌^◌, ◌<◌, ◌≤◌, true, false, cond, List, [], ◌∷◌, ◌++◌, length, take, slice_get, Some, refl, sym, ◌∙◌, ap, subst, arith, append_assoc, append-nil, length-append}
+use Rattle.std.proofs.lemmas.Bool.{leb-true, cases_Bool, cond-true, cond-false}
+use Rattle.std.proofs.lemmas.List.{take-take}
+use Rattle.std.proofs.lemmas.List.Concat.{flat_map-append}
+use Rattle.std.proofs.lemmas.Nat.{mod-mul-add, div-mul-add}
+use Rattle.record_codec.specs.Entry.{Entry}
+use Rattle.record_codec.specs.Layout.{layout, size}
+use Rattle.log_model.proofs.LayoutLengths.{length-layout}
+use Rattle.log_model.specs.Log.{IsSegmentSize, fits, end_from, end_of, next_place, Follows, IsWellFormed}
+use Rattle.log_model.specs.Segments.{layouts, Shape, empty_shape, added, opened, used, grown, laid, shape_of, end_in}
+use Rattle.log_model.proofs.Lists.{get_take}
+
+-- ---- well-formed logs
+
+pub well_formed_take : (S k : ℕ) (log : List Entry) → IsWellFormed S log → IsWellFormed S (take k log)
+well_formed_take S k log well = record {
+  segment = well.segment;
+  each = λ j r got.
+      let in_log = get_take k j log r got in
+      subst (λ (l : List Entry). Follows S l r) (sym (take-take j k log (omega (arith, in_log.1)))) (well.each j r in_log.0);
+}
+
+end_from-append : (place : ℕ) (log more : List Entry) → end_from place (log ++ more) ≡ end_from (end_from place log) more
+end_from-append place [] more = refl
+end_from-append place (r ∷ log) more = end_from-append (r.offset + size r) log more
+
+pub end_of-append : (log : List Entry) (r : Entry) → end_of (log ++ r ∷ []) ≡ r.offset + size r
+end_of-append log r = end_from-append 0 log (r ∷ [])
+
+-- ---- the bytes of records
+
+pub layouts_push : (records : List Entry) (r : Entry) → layouts (records ++ r ∷ []) ≡ layouts records ++ layout r
+layouts_push records r = flat_map-append layout records (r ∷ []) ∙ ap (λ (l : List ℕ). layouts records ++ l) (append-nil (layout r))
+
+pub used_push : (shape : Shape) (r : Entry) → used (added shape (r ∷ [])) ≡ used shape + size r
+used_push shape r = omega (arith, ap length (layouts_push shape.last r), length-append (layouts shape.last) (layout r), length-layout r)
+
+pub used_first : (shape : Shape) (r : Entry) → used (added (opened shape) (r ∷ [])) ≡ size r
+used_first shape r = omega (arith, ap length (append-nil (layout r)), length-layout r)
+
+-- ---- the blank rule
+
+pub grown_here : (S : ℕ) (shape : Shape) (r : Entry) → fits S (used shape) (size r) ≡ true → grown S shape r ≡ added shape (r ∷ [])
+grown_here S shape r here = cond-true _ (added shape (r ∷ [])) (added (opened shape) (r ∷ [])) here
+
+pub grown_next : (S : ℕ) (shape : Shape) (r : Entry) → fits S (used shape) (size r) ≡ false → grown S shape r ≡ added (opened shape) (r ∷ [])
+grown_next S shape r full = cond-false _ (added shape (r ∷ [])) (added (opened shape) (r ∷ [])) full
+
+laid-append : (S : ℕ) (shape : Shape) (records more : List Entry) → laid S shape (records ++ more) ≡ laid S (laid S shape records) more
+laid-append S shape [] more = refl
+laid-append S shape (x ∷ records) more = laid-append S (grown S shape x) records more
+
+pub shape_of-append : (S : ℕ) (log more : List Entry) → shape_of S (log ++ more) ≡ laid S (shape_of S log) more
+shape_of-append S log more = laid-append S empty_shape log more
+
+-- each segment before the last has room for a blank
+abbrev pub AreRoomy : ℕ → List (List Entry) → Type 0
+AreRoomy S [] = Unit {0}
+AreRoomy S (records ∷ older) = (length (layouts records) + 8 ≤ S) × AreRoomy S older
+
+-- the records of all segments
+abbrev pub all_of : List (List Entry) → List Entry
+all_of [] = []
+all_of (records ∷ older) = all_of older ++ records
+
+-- the segments of these records, which end where the records end
+pub record Placed (S : ℕ) (done : List Entry) (shape : Shape) : Type 0 where
+  pub end : end_of done ≡ end_in S shape
+  pub room : used shape + 8 ≤ S
+  pub roomy : AreRoomy S shape.older
+  pub all : all_of shape.older ++ shape.last ≡ done
+
+next_of : (S : ℕ) (done : List Entry) (shape : Shape) (r : Entry) → Placed S done shape
+    → next_place S done (size r) ≡ (cond (fits S (used shape) (size r)) (end_in S shape) ((length shape.older + 1) * S))
+next_of S done shape r placed =
+    let small : used shape < S = omega (arith, placed.room) in
+    let offset : end_of done % S ≡ used shape = ap (λ (n : ℕ). n % S) placed.end ∙ mod-mul-add (length shape.older) S (used shape) small in
+    let number : end_of done / S ≡ length shape.older = ap (λ (n : ℕ). n / S) placed.end ∙ div-mul-add (length shape.older) S (used shape) small in
+    λ i. cond (fits S (offset i) (size r)) (placed.end i) ((number i + 1) * S)
+
+-- a record that follows stands at the end where it fits there
+pub place_here : (S : ℕ) (done : List Entry) (shape : Shape) (r : Entry) → Placed S done shape → Follows S done r → fits S (used shape) (size r) ≡ true
+    → r.offset ≡ end_in S shape
+place_here S done shape r placed follows here = follows.place ∙ next_of S done shape r placed ∙ cond-true _ (end_in S shape) ((length shape.older + 1) * S) here
+
+-- and else at the start of the next segment
+pub place_next : (S : ℕ) (done : List Entry) (shape : Shape) (r : Entry) → Placed S done shape → Follows S done r → fits S (used shape) (size r) ≡ false
+    → r.offset ≡ end_in S (opened shape)
+place_next S done shape r placed follows full =
+    let one : length shape.older + 1 ≡ suc (length shape.older) = omega arith in
+    let start : (length shape.older + 1) * S ≡ suc (length shape.older) * S = ap (λ (n : ℕ). n * S) one in
+    let here : r.offset ≡ (length shape.older + 1) * S = follows.place ∙ next_of S done shape r placed ∙ cond-false _ (end_in S shape) ((length shape.older + 1) * S) full in
+    omega (arith, here, start)
+
+placed_here : (S : ℕ) (done : List Entry) (shape : Shape) (r : Entry) → Placed S done shape → Follows S done r → fits S (used shape) (size r) ≡ true
+    → Placed S (done ++ r ∷ []) (added shape (r ∷ []))
+placed_here S done shape r placed follows here = record {
+  end = omega (arith, end_of-append done r, place_here S done shape r placed follows here, used_push shape r);
+  room = omega (arith, used_push shape r, leb-true _ _ here);
+  roomy = placed.roomy;
+  all = sym (append_assoc (all_of shape.older) shape.last (r ∷ [])) ∙ ap (λ (l : List Entry). l ++ r ∷ []) placed.all;
+}
+
+placed_next : (S : ℕ) (done : List Entry) (shape : Shape) (r : Entry) → Placed S done shape → Follows S done r → fits S (used shape) (size r) ≡ false
+    → Placed S (done ++ r ∷ []) (added (opened shape) (r ∷ []))
+placed_next S done shape r placed follows full = record {
+  end = omega (arith, end_of-append done r, place_next S done shape r placed follows full, used_first shape r);
+  room = omega (arith, used_first shape r, follows.room);
+  roomy = (placed.room, placed.roomy);
+  all = ap (λ (l : List Entry). l ++ r ∷ []) placed.all;
+}
+
+pub placed_grown : (S : ℕ) (done : List Entry) (shape : Shape) (r : Entry) → Placed S done shape → Follows S done r → Placed S (done ++ r ∷ []) (grown S shape r)
+placed_grown S done shape r placed follows = ⊎_elim
+    (λ (here : fits S (used shape) (size r) ≡ true). subst (λ (s : Shape). Placed S (done ++ r ∷ []) s) (sym (grown_here S shape r here)) (placed_here S done shape r placed follows here))
+    (λ (full : fits S (used shape) (size r) ≡ false). subst (λ (s : Shape). Placed S (done ++ r ∷ []) s) (sym (grown_next S shape r full)) (placed_next S done shape r placed follows full))
+    (cases_Bool (fits S (used shape) (size r)))
+
+placed_from : (S : ℕ) (rest done : List Entry) (shape : Shape) → Placed S done shape → ((k : ℕ) (r : Entry) → slice_get rest k ≡ Some r → Follows S (done ++ take k rest) r)
+    → Placed S (done ++ rest) (laid S shape rest)
+placed_from S [] done shape placed each = subst (λ (l : List Entry). Placed S l shape) (sym (append-nil done)) placed
+placed_from S (x ∷ rest) done shape placed each =
+    let first : Follows S done x = subst (λ (l : List Entry). Follows S l x) (append-nil done) (each zero x refl) in
+    subst (λ (l : List Entry). Placed S l (laid S (grown S shape x) rest)) (append_assoc done (x ∷ []) rest)
+    (placed_from S rest (done ++ x ∷ []) (grown S shape x) (placed_grown S done shape x placed first)
+    (λ k r got. subst (λ (l : List Entry). Follows S l r) (sym (append_assoc done (x ∷ []) (take k rest))) (each (suc k) r got)))
+
+placed_empty : (S : ℕ) → IsSegmentSize S → Placed S [] empty_shape
+placed_empty S segment = record { end = omega arith; room = omega (arith, segment.low); roomy = tt; all = refl }
+
+-- a well-formed log is placed in its segments
+pub placed_log : (S : ℕ) (log : List Entry) → IsWellFormed S log → Placed S log (shape_of S log)
+placed_log S log well = placed_from S log [] empty_shape (placed_empty S well.segment) well.each
+
+-- ---- how far a log goes
+
+end_from_low : (place : ℕ) (log : List Entry) → place ≤ 2 ^ 62 → ((k : ℕ) (r : Entry) → slice_get log k ≡ Some r → r.offset + size r ≤ 2 ^ 62) → end_from place log ≤ 2 ^ 62
+end_from_low place [] low each = low
+end_from_low place (r ∷ log) low each = end_from_low (r.offset + size r) log (each zero r refl) (λ k s got. each (suc k) s got)
+
+pub end_low : (S : ℕ) (log : List Entry) → IsWellFormed S log → end_of log ≤ 2 ^ 62
+end_low S log well = end_from_low 0 log (omega arith) (λ k r got. (well.each k r got).low)

@@ -1,0 +1,20 @@
+-- What a flush turn is given: records of the log that lie in one segment, and the blank before them.
+use Rattle.std.specs.Prelude.{◌≡◌, ℕ, ◌+◌, ◌-◌, ◌/◌, ◌<◌, ◌≤◌, ◌==◌, List, take, drop, length, slice_get, Option, Some, None, if◌then◌else◌}
+use Rattle.record_codec.specs.Entry.{Entry}
+use Rattle.log_model.specs.declared.batch.Batch.{Batch}
+use Rattle.log_model.specs.Log.{end_of}
+use Rattle.log_model.specs.Segments.{layouts}
+
+-- the place and the size of the blank between the end of the records and the next place: none where they meet
+abbrev pub blank_between : ℕ → ℕ → Option (ℕ × ℕ)
+blank_between end place = if end == place then None else Some (end, place - end)
+
+-- the batch has the log's records from the flushed number on, all of the segment of the first, and the blank before them
+pub record IsBatchOf (S : ℕ) (log : List Entry) (flushed : ℕ) (batch : Batch) : Type 0 where
+  pub from : batch.from ≡ flushed
+  pub some : 0 < batch.count
+  pub within : flushed + batch.count ≤ length log
+  pub place : (first : Entry) → slice_get log flushed ≡ Some first → batch.place ≡ first.offset
+  pub segment : (i : ℕ) (r : Entry) → i < batch.count → slice_get log (flushed + i) ≡ Some r → r.offset / S ≡ batch.place / S
+  pub bytes : batch.bytes ≡ layouts (take batch.count (drop flushed log))
+  pub blank : batch.blank ≡ blank_between (end_of (take flushed log)) batch.place

@@ -1,0 +1,99 @@
+//! What holds of logs, of their segment files and of recovery. No call is made: the clauses speak of the definitions.
+
+ghost use Rattle.std.specs.Prelude.{◌≡◌, ◌≤◌, ◌/◌, ◌%◌, ◌++◌, List, [], ℕ, Some, length, take, drop, slice_get};
+ghost use Rattle.mq_outside.specs.Disk.{EachImage, IsCrashImage};
+ghost use Rattle.mq_outside.specs.Files.{Files, HasNoFile, At, Shortened, bytes_of};
+ghost use Rattle.record_codec.specs.Entry.{Entry};
+ghost use Rattle.log_model.specs.Log.{IsSegmentSize, IsWellFormed};
+ghost use Rattle.log_model.specs.Segments.{Shape, shape_of, segment_file, last_name, IsLogFile, AreSegmentFiles};
+ghost use Rattle.log_model.specs.Store.{StartsWith, IsDamagedAt, IsHonest, IsLaid, Keeps, KeepsPrefix, Stands, StoresLog};
+
+use mq_outside::Disk;
+
+/// Each honest crash of a disk that stores a log leaves a prefix of the log with all that is flushed.
+pub fn crashes_leave_a_prefix<D: Disk>(disk: &D)
+    ensures { D.tells → (S : ℕ) (log : List Entry) (flushed : ℕ) (files : Files) → StoresLog S log flushed (D.state disk.now)
+        → IsCrashImage (D.state disk.now) files → IsHonest S log flushed files → KeepsPrefix S log flushed files }
+{}
+
+/// A disk without files stores the empty log.
+pub fn an_empty_disk_stores_the_empty_log<D: Disk>(disk: &D)
+    ensures { D.tells → (S : ℕ) → IsSegmentSize S → EachImage HasNoFile (D.state disk.now) → StoresLog S [] 0 (D.state disk.now) }
+{}
+
+/// What a disk is after a crash, which holds one of the images, stores the same log.
+pub fn a_crashed_disk_stores_the_log<D: Disk, E: Disk>(before: &D, after: &E)
+    ensures { D.tells → E.tells → (S : ℕ) (log : List Entry) (flushed : ℕ) (files : Files) → StoresLog S log flushed (D.state before.now)
+        → IsCrashImage (D.state before.now) files → EachImage (λ image. image ≡ files) (E.state after.now)
+        → StoresLog S log flushed (E.state after.now) }
+{}
+
+/// Recovery of a log's own files keeps the log.
+pub fn files_recover_to_their_log()
+    ensures { (S : ℕ) (log : List Entry) (files : Files) → IsWellFormed S log → AreSegmentFiles S log files → Keeps S log files }
+{}
+
+/// Logs with the same files are the same.
+pub fn files_tell_their_log()
+    ensures { (S : ℕ) (first second : List Entry) (files : Files) → IsWellFormed S first → IsWellFormed S second
+        → AreSegmentFiles S first files → AreSegmentFiles S second files → first ≡ second }
+{}
+
+/// Recovery keeps one list of records of any files.
+pub fn recovery_is_unique()
+    ensures { (S : ℕ) (first second : List Entry) (files : Files) → Keeps S first files → Keeps S second files → first ≡ second }
+{}
+
+/// Recovery of what recovery kept keeps the same.
+pub fn recovery_is_idempotent()
+    ensures { (S : ℕ) (records again : List Entry) (files after : Files) → Keeps S records files → AreSegmentFiles S records after
+        → Keeps S again after → again ≡ records }
+{}
+
+/// What recovery keeps is a well-formed log.
+pub fn kept_is_well_formed()
+    ensures { (S : ℕ) (records : List Entry) (files : Files) → Keeps S records files → IsWellFormed S records }
+{}
+
+/// Each record that recovery keeps stands where it says: in the file of its segment, at its offset there.
+pub fn kept_records_stand_at_their_places()
+    ensures { (S : ℕ) (records : List Entry) (files : Files) (k : ℕ) (r : Entry) → Keeps S records files → slice_get records k ≡ Some r
+        → StartsWith (drop (r.offset % S) (bytes_of files (segment_file S (r.offset / S)))) r }
+{}
+
+/// The files that a log is recovered from are honest for it.
+pub fn kept_files_are_honest()
+    ensures { (S : ℕ) (log : List Entry) (flushed : ℕ) (files : Files) → Keeps S log files → IsHonest S log flushed files }
+{}
+
+/// Where the flushed records stand at the front of the files, and any bytes behind them that are honest, recovery keeps a prefix.
+pub fn torn_ends_leave_a_prefix()
+    ensures { (S : ℕ) (log : List Entry) (flushed : ℕ) (shape : Shape) (reach : ℕ) (files : Files) → IsWellFormed S log
+        → flushed ≤ length log → IsLaid S (take flushed log) shape → Stands S shape reach files
+        → IsHonest S log flushed files → KeepsPrefix S log flushed files }
+{}
+
+/// Files that recovery keeps records of are not damaged.
+pub fn kept_files_are_undamaged()
+    ensures { (S : ℕ) (records : List Entry) (files : Files) (place : ℕ) (name : List ℕ) → Keeps S records files
+        → IsDamagedAt S files place name → ⊥ }
+{}
+
+/// Damage stands at one place, in one file.
+pub fn damage_has_one_place()
+    ensures { (S : ℕ) (files : Files) (place other_place : ℕ) (name other : List ℕ) → IsDamagedAt S files place name
+        → IsDamagedAt S files other_place other → (place ≡ other_place) × (name ≡ other) }
+{}
+
+/// Each file of a log begins that file of each longer log.
+pub fn files_only_grow()
+    ensures { (S : ℕ) (log more : List Entry) (files longer : Files) (name : List ℕ) → IsWellFormed S (log ++ more)
+        → AreSegmentFiles S log files → AreSegmentFiles S (log ++ more) longer → IsLogFile name
+        → take (length (bytes_of files name)) (bytes_of longer name) ≡ bytes_of files name }
+{}
+
+/// The files of a log whose last one was cut anywhere are honest for the log.
+pub fn cut_files_are_honest()
+    ensures { (S : ℕ) (log : List Entry) (flushed : ℕ) (files cut : Files) → IsWellFormed S log → AreSegmentFiles S log files
+        → At (last_name S (shape_of S log)) (Shortened 0) files cut → IsHonest S log flushed cut }
+{}

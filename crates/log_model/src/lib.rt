@@ -1,0 +1,21 @@
+//! What a log is, how its segment files hold it, and what a crash and a recovery leave of it.
+#![tactic(auto)]
+
+mod admissible;
+mod batch;
+mod laws;
+mod place;
+
+pub use admissible::{is_admissible, is_system_topic};
+pub use batch::{Batch, Receipt};
+pub use laws::{
+    a_crashed_disk_stores_the_log, an_empty_disk_stores_the_empty_log, crashes_leave_a_prefix,
+    cut_files_are_honest, damage_has_one_place, files_only_grow, files_recover_to_their_log,
+    files_tell_their_log, kept_files_are_honest, kept_files_are_undamaged, kept_is_well_formed,
+    kept_records_stand_at_their_places, recovery_is_idempotent, recovery_is_unique,
+    torn_ends_leave_a_prefix,
+};
+pub use place::next_place;
+
+#[cfg(test)]
+mod tests;
