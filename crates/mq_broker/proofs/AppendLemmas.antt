@@ -1,6 +1,6 @@
 -- A record that is appended: that it can be written, where it ends, and what is counted then.
-use Rattle.std.proofs.Common.{◌≡◌, ◌∙◌, ℕ, ◌+◌, ◌-◌, ◌^◌, ◌<◌, ◌≤◌, ◌++◌, List, [], ◌∷◌, length, Bool, true, false, None, Some, cond, refl, ap, sym, subst, rules, arith, length-append, codes}
-use Rattle.std.proofs.lemmas.Grind.{common_steps, flat_map-append}
+use Rattle.std.proofs.Common.{◌≡◌, ◌∙◌, ℕ, ◌+◌, ◌-◌, ◌^◌, ◌<◌, ◌≤◌, ◌++◌, List, [], ◌∷◌, length, Bool, true, false, None, cond, refl, ap, sym, subst, rules, arith, length-append, codes}
+use Rattle.std.proofs.lemmas.Grind.{flat_map-append}
 use Rattle.std.proofs.lemmas.List.{append-nil}
 use Rattle.std.proofs.lemmas.List.Sums.{sum_by-append}
 use Rattle.std.proofs.lemmas.Slice.Eq.{bytes_eq-Decides}
@@ -8,13 +8,13 @@ use Rattle.std.specs.List.{count_by}
 use Rattle.std.specs.Str.{bytes_eq}
 use Rattle.record_codec.specs.Entry.{Entry}
 use Rattle.record_codec.specs.Layout.{layout}
-use Rattle.record_codec.specs.Drafts.{entry_of, draft_size, draft_fault, IsEncodable}
+use Rattle.record_codec.specs.Drafts.{entry_of, draft_fault, IsEncodable}
 use Rattle.record_codec.specs.Props.{has_name}
 use Rattle.record_codec.specs.declared.draft.Draft.{Draft}
 use Rattle.record_codec.specs.declared.draft.Place.{Place}
 use Rattle.record_codec.proofs.DraftLemmas.{HasNoFault-from, IsEncodable-from}
 use Rattle.mq_broker.proofs.LayoutLengths.{length-layout}
-use Rattle.mq_broker.specs.Run.{State, layouts, records_of}
+use Rattle.mq_broker.specs.Run.{layouts, records_of}
 
 pub encodable : (end : ℕ) (d : Draft) (p : Place) → draft_fault (2 ^ 30 - end) d ≡ None → d.born < 2 ^ 62 → d.prepared ≡ 0 → d.props ≡ []
     → p.queue_offset ≤ end → p.offset ≡ end → end ≤ 2 ^ 30 → p.store < 2 ^ 62 → IsEncodable d p

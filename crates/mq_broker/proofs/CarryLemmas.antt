@@ -1,10 +1,10 @@
 -- A request that is served appends the record of its draft.
-use Rattle.std.proofs.Common.{◌≡◌, ◌∙◌, ℕ, ◌+◌, ◌-◌, ◌^◌, List, length, true, None, Some, refl, ap, sym, subst}
+use Rattle.std.proofs.Common.{◌≡◌, ◌∙◌, ℕ, ◌-◌, ◌^◌, List, length, true, None, Some, refl, ap, sym}
 use Rattle.record_codec.specs.Drafts.{entry_of, draft_fault}
 use Rattle.record_codec.specs.declared.draft.Draft.{Draft}
 use Rattle.remoting_frame.specs.Head.{Head}
 use Rattle.mq_broker.specs.Sends.{SendFields, send_in}
-use Rattle.mq_broker.specs.Run.{State, is_number, is_plain, draft_of, place_after, placed, room_after, layouts, appended_for}
+use Rattle.mq_broker.specs.Run.{State, is_number, is_plain, draft_of, place_after, room_after, layouts, appended_for}
 
 pub served : (s : State) (end reading : ℕ) (head : Head) (body : List ℕ) (send : SendFields) (draft : Draft) → is_number 10 head.code ≡ true → send_in head.ext ≡ Some send → is_plain send ≡ true
     → draft ≡ draft_of send body → end ≡ length (layouts s.log) → draft_fault (2 ^ 30 - end) draft ≡ None

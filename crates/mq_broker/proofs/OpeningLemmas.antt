@@ -1,17 +1,16 @@
 -- A run that begins once the store is open, seen from before the opening.
-use Rattle.std.proofs.Common.{◌≡◌, ◌≢◌, ◌⊎◌, inl, inr, ⊎_elim, ◌∙◌, ℕ, ◌<◌, ◌≤◌, List, [], codes, Option, Some, None, Result, Ok, Err, length, refl, ap, sym, subst, arith}
+use Rattle.std.proofs.Common.{◌≡◌, ◌≢◌, ◌⊎◌, inl, inr, ⊎_elim, ◌∙◌, ℕ, ◌≤◌, List, [], codes, Option, Result, Ok, Err, refl, ap, sym, subst, arith}
 use Rattle.mq_outside.specs.Counts.{Rises}
 use Rattle.mq_outside.specs.Files.{Files, Same, HasNoFile, bytes_in, bytes_of}
 use Rattle.mq_outside.specs.Disk.{DiskState, Moves, Throughout}
 use Rattle.mq_outside.proofs.Moments.{each_same, at_start, goes_on, chained}
 use Rattle.remoting_frame.specs.declared.frame.Frame.{Frame}
-use Rattle.mq_broker.specs.Durable.{first_log_file, Begins, IsWhole, Holds}
-use Rattle.mq_broker.specs.Run.{State, opening, layouts}
-use Rattle.mq_broker.specs.Brokers.{Represents}
+use Rattle.mq_broker.specs.Durable.{first_log_file, Begins, Holds}
+use Rattle.mq_broker.specs.Run.{State, layouts}
 use Rattle.mq_broker.specs.Openings.{OpeningCause}
 use Rattle.mq_broker.specs.Causes.{CountsPipe}
-use Rattle.mq_broker.specs.Progress.{Flushed, Ran, Ended}
-use Rattle.mq_broker.specs.Pipes.{ServedAll, ServedFirst, Piped}
+use Rattle.mq_broker.specs.Progress.{Ran, Ended}
+use Rattle.mq_broker.specs.Pipes.{ServedAll, Piped}
 use Rattle.mq_broker.specs.Promise.{Tells, Causes}
 use Rattle.mq_broker.specs.declared.broker.Broker.{Broker}
 use Rattle.mq_broker.specs.declared.status.Status.{Status}

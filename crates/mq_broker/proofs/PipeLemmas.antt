@@ -1,5 +1,5 @@
 -- A stream that is served piece by piece.
-use Rattle.std.proofs.Common.{◌≡◌, ◌≢◌, ◌⊎◌, inl, inr, ◌∙◌, ℕ, ◌+◌, ◌-◌, ◌<◌, ◌≤◌, ◌^◌, ◌++◌, List, [], ◌∷◌, Option, Some, None, Result, Ok, Err, length, take, refl, ap, sym, subst, arith, append_assoc, length-append}
+use Rattle.std.proofs.Common.{◌≡◌, inl, inr, ◌∙◌, ℕ, ◌+◌, ◌-◌, ◌++◌, List, [], ◌∷◌, None, Result, Ok, Err, length, refl, ap, sym, subst, arith, append_assoc, length-append}
 use Rattle.std.proofs.lemmas.List.{append-nil}
 use Rattle.mq_outside.specs.Counts.{Rises}
 use Rattle.mq_outside.specs.Disk.{DiskState}
@@ -9,12 +9,11 @@ use Rattle.remoting_frame.specs.Streams.{BeginsWith}
 use Rattle.remoting_frame.specs.declared.frame.Frame.{Frame}
 use Rattle.remoting_frame.proofs.StreamLaws.{begins_more}
 use Rattle.mq_broker.specs.Run.{State, run}
-use Rattle.mq_broker.specs.Progress.{Ran, Ended}
+use Rattle.mq_broker.specs.Progress.{Ended}
 use Rattle.mq_broker.specs.Brokers.{Represents}
 use Rattle.mq_broker.specs.Causes.{CountsHalt, CountsPipe}
-use Rattle.mq_broker.specs.Pipes.{FaultAt, ServedHeld, EndedHeld, HaltedHeld, SoFar, EndsInside, EndsBy, ServedAll, ServedFirst, Piped, EndsHere, stream_limit}
+use Rattle.mq_broker.specs.Pipes.{ServedHeld, HaltedHeld, SoFar, ServedAll, ServedFirst, Piped, EndsHere, stream_limit}
 use Rattle.mq_broker.specs.declared.broker.Broker.{Broker}
-use Rattle.mq_broker.specs.declared.stop.Stop.{Stop}
 use Rattle.mq_broker.specs.declared.stop.Stop.TheVariants as stops
 use Rattle.mq_broker.specs.declared.stop.Halt.{Halt}
 use Rattle.mq_broker.specs.declared.stop.Halt.TheVariants.{BadFrame, Read, Stopped}

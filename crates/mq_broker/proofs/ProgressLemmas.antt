@@ -1,27 +1,25 @@
 -- One event, and one run behind another.
-use Rattle.std.proofs.Common.{◌≡◌, ◌≢◌, ◌⊎◌, ⊎_elim, inl, inr, Err, ◌∙◌, ℕ, ◌+◌, ◌<◌, ◌≤◌, ◌++◌, List, [], ◌∷◌, Bool, true, false, not, Option, Some, None, map, length, take, drop, refl, ap, sym, subst, arith, append_assoc, length-append}
+use Rattle.std.proofs.Common.{◌≡◌, ◌⊎◌, ⊎_elim, inl, inr, Err, ◌∙◌, ℕ, ◌<◌, ◌≤◌, ◌++◌, List, [], ◌∷◌, true, false, not, Option, Some, None, map, length, take, drop, refl, ap, sym, subst, arith, append_assoc, length-append}
 use Rattle.std.proofs.lemmas.List.{append-nil, take-append-drop, take_at, length-take, map-append}
 use Rattle.std.proofs.lemmas.List.Elements.{filter-append}
 use Rattle.std.proofs.Math.Seq.{take-add}
 use Rattle.std.proofs.lemmas.Bool.{cases_lt}
 use Rattle.std.proofs.lemmas.Grind.{flat_map-append}
-use Rattle.std.specs.List.{AllByRecursion, filter}
-use Rattle.mq_outside.specs.Counts.{Rises}
+use Rattle.std.specs.List.{AllByRecursion}
 use Rattle.mq_outside.specs.Files.{Files, bytes_of}
 use Rattle.mq_outside.specs.Disk.{DiskState, Throughout}
 use Rattle.mq_outside.proofs.Moments.{at_start, chained, weaker}
 use Rattle.record_codec.specs.Entry.{Entry}
 use Rattle.record_codec.specs.Layout.{layout}
-use Rattle.remoting_frame.specs.Head.{Head}
 use Rattle.remoting_frame.specs.declared.frame.Frame.{Frame}
 use Rattle.mq_broker.specs.Taken.{TookPart}
 use Rattle.mq_broker.specs.Durable.{first_log_file, Begins, Holds}
-use Rattle.mq_broker.specs.Outcomes.{Outcome, FlushFailed, Event}
-use Rattle.mq_broker.specs.Run.{State, layouts, is_response, requests_of, appended, appended_by, with_record, step, run, reply_to, written_for, written}
-use Rattle.mq_broker.specs.Answers.{outcome_of, IsAnswer, CountsFlush, UnlessFailed, HasFailed, StandsAt}
+use Rattle.mq_broker.specs.Outcomes.{FlushFailed, Event}
+use Rattle.mq_broker.specs.Run.{State, layouts, is_response, requests_of, appended, with_record, step, run, written_for, written}
+use Rattle.mq_broker.specs.Answers.{outcome_of, IsAnswer, CountsFlush, UnlessFailed, HasFailed}
 use Rattle.mq_broker.specs.Brokers.{Represents}
 use Rattle.mq_broker.specs.Causes.{CountsWrite}
-use Rattle.mq_broker.specs.Progress.{IsFineOutcome, IsFine, readings_of, Lasts, Flushed, Ran, Failed, AtMostOne, IsLast, IsWritten, Wrote, Ended}
+use Rattle.mq_broker.specs.Progress.{IsFineOutcome, IsFine, readings_of, Lasts, Ran, Failed, AtMostOne, IsLast, Wrote, Ended}
 use Rattle.mq_broker.specs.declared.broker.Broker.{Broker}
 use Rattle.mq_broker.specs.declared.answer.Answer.{Answer}
 use Rattle.mq_broker.specs.declared.answer.Answer.TheVariants.{Refused, Sent, NotFlushed, NoMemory}

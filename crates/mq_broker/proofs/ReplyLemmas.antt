@@ -1,10 +1,10 @@
 -- The fields of replies are in order, and the headers of replies are short.
-use Rattle.std.proofs.Common.{◌≡◌, ◌∙◌, ℕ, ℤ, pos, negsuc, ◌+◌, ◌^◌, ◌<◌, ◌≤◌, ◌++◌, List, [], codes, length, refl, ap, arith, length-append, FitsSigned, w32}
+use Rattle.std.proofs.Common.{◌≡◌, ℕ, ℤ, pos, negsuc, ◌^◌, ◌<◌, ◌≤◌, ◌++◌, List, [], codes, length, refl, arith, length-append, FitsSigned, w32}
 use Rattle.std.proofs.lemmas.Fmt.{length-decimal-le, length_signed_le}
 use Rattle.std.specs.List.Sorted.{IsStrictlySortedBy}
 use Rattle.std.specs.Int.{w64, to_be_bytes}
 use Rattle.mq_bytes.specs.Decimal.{decimal, digits_of}
-use Rattle.mq_bytes.specs.Ids.{message_id_of, hex_of}
+use Rattle.mq_bytes.specs.Ids.{message_id_of}
 use Rattle.mq_bytes.proofs.HexLemmas.{length-hex_of}
 use Rattle.remoting_frame.specs.Head.{Head, IsInOrder, pairs_size, IsShort}
 use Rattle.mq_broker.specs.Run.{store_host}

@@ -1,5 +1,5 @@
 -- What a broker keeps of its log.
-use Rattle.std.specs.Prelude.{◌≡◌, ℕ, ◌≤◌, List, length}
+use Rattle.std.specs.Prelude.{◌≡◌, ℕ, List, length}
 use Rattle.std.specs.Option.{unwrap_or}
 use Rattle.std.specs.BTreeMap.{get_by_text}
 use Rattle.mq_broker.specs.Run.{State, layouts, records_of}

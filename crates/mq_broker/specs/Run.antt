@@ -1,5 +1,5 @@
 -- The run of a broker over requests: which records the log gets, and which replies are given.
-use Rattle.std.specs.Prelude.{ℕ, ◌+◌, ◌-◌, ◌^◌, ◌/◌, ◌%◌, ◌==◌, ◌&&◌, ◌||◌, ◌++◌, List, [], ◌∷◌, ℤ, pos, negsuc, false, codes, length, max, flat_map, filter, map, nat_le, nat_lt, not, Bool, count_by, Option, Some, None, option_and_then, if◌then◌else◌}
+use Rattle.std.specs.Prelude.{ℕ, ◌-◌, ◌^◌, ◌/◌, ◌%◌, ◌==◌, ◌&&◌, ◌||◌, ◌++◌, List, [], ◌∷◌, ℤ, pos, negsuc, false, codes, length, max, flat_map, filter, nat_lt, not, Bool, count_by, Option, Some, None, if◌then◌else◌}
 use Rattle.std.specs.Int.{w32, cast_unsigned}
 use Rattle.std.specs.Str.{bytes_eq}
 use Rattle.record_codec.specs.Entry.{Entry}

@@ -1,10 +1,9 @@
 -- What a SEND_MESSAGE request says in the fields of its header.
-use Rattle.std.specs.Prelude.{ℕ, ◌+◌, ◌^◌, ◌==◌, ◌&&◌, List, [], ◌∷◌, ℤ, pos, negsuc, codes, length, nat_lt, nat_le, nat_eq, not, false, Bool, Option, Some, None, option_and_then, if◌then◌else◌}
+use Rattle.std.specs.Prelude.{ℕ, ◌^◌, ◌&&◌, List, [], ◌∷◌, ℤ, pos, negsuc, codes, length, nat_lt, nat_le, nat_eq, not, false, Bool, Option, Some, None, option_and_then, if◌then◌else◌}
 use Rattle.std.specs.Str.{bytes_eq}
 use Rattle.mq_bytes.specs.Decimal.{decimal_value}
 use Rattle.std.specs.List.{list_any}
 use Rattle.remoting_frame.specs.Json.{in_i32}
-use Rattle.remoting_frame.specs.Head.{Head}
 
 infixl 10 ◌>>=◌
 abbrev pub ◌>>=◌ : {A B : Type 0} → Option A → (A → Option B) → Option B

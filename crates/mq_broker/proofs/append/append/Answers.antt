@@ -1,12 +1,12 @@
-use Rattle.std.proofs.Common.{◌≡◌, ◌∙◌, ℕ, ◌+◌, ◌-◌, ◌^◌, ◌<◌, ◌≤◌, ◌++◌, List, [], length, Some, rules, ap, sym, refl, subst, arith, length-append, cond, max}
+use Rattle.std.proofs.Common.{◌≡◌, ◌∙◌, ℕ, ◌+◌, ◌^◌, ◌<◌, ◌≤◌, ◌++◌, List, length, ap, refl, arith, cond}
 use Rattle.std.proofs.lemmas.Grind.{common_steps}
 use Rattle.std.specs.Option.{unwrap_or}
 use Rattle.std.specs.Str.{bytes_eq}
 use Rattle.std.specs.BTreeMap.{get_by_text}
 use Rattle.record_codec.specs.Layout.{layout}
-use Rattle.record_codec.specs.Drafts.{entry_of, IsEncodable}
+use Rattle.record_codec.specs.Drafts.{entry_of}
 use Rattle.record_codec.specs.declared.draft.Place.{Place}
-use Rattle.mq_broker.specs.Run.{State, layouts, place_after, records_of}
+use Rattle.mq_broker.specs.Run.{place_after}
 use Rattle.mq_broker.proofs.AppendLemmas.{encodable, ends_within, counts_more, counted_within, end_more}
 use Rattle.mq_broker.proofs.append.append.Goals as goal
 

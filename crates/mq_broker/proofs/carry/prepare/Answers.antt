@@ -1,9 +1,9 @@
-use Rattle.std.proofs.Common.{rules, ◌≡◌, ◌∙◌, ℕ, ℤ, List, Some, refl, ap, sym, subst, Option, option_map, IfSome, true}
+use Rattle.std.proofs.Common.{rules, ◌≡◌, ◌∙◌, Some, ap, sym, subst, Option, IfSome, true}
 use Rattle.record_codec.specs.Entry.{Entry}
 use Rattle.record_codec.specs.Drafts.{entry_of}
 use Rattle.record_codec.specs.Layout.{layout}
 use Rattle.record_codec.specs.declared.draft.Place.{Place}
-use Rattle.mq_broker.specs.Run.{State, is_number, is_plain, place_of, place_after, appended_for, with_record}
+use Rattle.mq_broker.specs.Run.{State, is_number, is_plain, place_after, appended_for, with_record}
 use Rattle.mq_broker.specs.Brokers.{Represents}
 use Rattle.mq_broker.specs.Views.{fields_view}
 use Rattle.mq_broker.proofs.CarryLemmas.{served}

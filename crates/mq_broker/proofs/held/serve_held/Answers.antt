@@ -1,4 +1,4 @@
-use Rattle.std.proofs.Common.{◌≡◌, ◌∙◌, [], refl, sym, Ok, Some, None, subst, rules, arith, ap}
+use Rattle.std.proofs.Common.{◌∙◌, [], refl}
 use Rattle.mq_broker.proofs.ProgressLemmas.{ran_nothing}
 use Rattle.mq_broker.proofs.HeldLemmas.{served_more, ended_more, halted_by_frame, next_strict}
 use Rattle.mq_broker.proofs.held.serve_held.Goals as goal

@@ -1,4 +1,4 @@
-use Rattle.std.proofs.Common.{◌≡◌, ◌∙◌, ℕ, ◌+◌, ◌-◌, ◌≤◌, ◌++◌, List, length, take, ap, refl, sym, subst, arith}
+use Rattle.std.proofs.Common.{◌≡◌, ◌∙◌, ℕ, ◌++◌, length, take, ap, refl, arith}
 use Rattle.std.proofs.lemmas.List.{length-take, append-nil}
 use Rattle.remoting_frame.specs.Held.{Held}
 use Rattle.remoting_frame.specs.Frames.{next_of}

@@ -1,4 +1,4 @@
-use Rattle.std.proofs.Common.{◌≡◌, ◌≤◌, ◌<◌, ◌^◌, ◌∙◌, ◌++◌, List, ℕ, length, codes, ap, arith}
+use Rattle.std.proofs.Common.{◌≡◌, ◌<◌, ◌^◌, ◌∙◌, ◌++◌, List, ℕ, length, codes, ap, arith}
 use Rattle.mq_bytes.specs.Decimal.{digits_of}
 use Rattle.remoting_frame.specs.Head.{Head, pairs_size}
 use Rattle.mq_broker.proofs.ReplyLemmas.{short_with, length-flush_remark}

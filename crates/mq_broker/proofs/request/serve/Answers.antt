@@ -1,4 +1,4 @@
-use Rattle.std.proofs.Common.{◌≡◌, ◌∙◌, refl, sym}
+use Rattle.std.proofs.Common.{◌∙◌, sym}
 use Rattle.mq_broker.proofs.ProgressLemmas.{ran_skip}
 use Rattle.mq_broker.proofs.request.serve.Goals as goal
 

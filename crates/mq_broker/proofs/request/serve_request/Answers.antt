@@ -1,8 +1,4 @@
-use Rattle.std.proofs.Common.{◌≡◌, ◌∙◌, ℕ, rules, refl, sym, ap, subst, Err}
 use Rattle.mq_outside.proofs.Moments.{at_start}
-use Rattle.mq_broker.specs.Durable.{Begins, Holds}
-use Rattle.mq_broker.specs.Run.{State, layouts, appended_by}
-use Rattle.mq_broker.specs.Answers.{outcome_of}
 use Rattle.mq_broker.proofs.ProgressLemmas.{one_ran, ended_by_clock, ended_by_writing, ended_by_disk}
 use Rattle.mq_broker.proofs.request.serve_request.Goals as goal
 

@@ -1,4 +1,4 @@
-use Rattle.std.proofs.Common.{◌≡◌, ◌∙◌, inl, List, ℕ, Option, length, ap, refl, sym}
+use Rattle.std.proofs.Common.{◌∙◌, inl, List, ℕ, Option, length, ap, sym}
 use Rattle.mq_outside.specs.Files.{Files, bytes_in, bytes_of}
 use Rattle.mq_broker.specs.Durable.{first_log_file}
 use Rattle.mq_broker.specs.Run.{opening}
