@@ -1,0 +1,39 @@
+use Rattle.std.proofs.Common.{◌≡◌, ◌+◌, ◌-◌, ◌≤◌, ◌∙◌, ap, subst, sym, arith, List, ℕ, length, replicate, Some}
+use Rattle.std.proofs.lemmas.List.{length-take, length-replicate}
+use Rattle.mq_outside.specs.Files.{bytes_of, overwritten}
+use Rattle.mq_outside.proofs.Moments.{at_start}
+use Rattle.log_model.specs.Store.{Stands}
+use Rattle.segment_files.proofs.Pieces.{writes_on, blank_next}
+use Rattle.segment_files.proofs.blank.write_blank.Goals as goal
+
+pub returns-in_err-write_at-clause-any_moment : goal.returns-in_err-write_at-clause-any_moment
+returns-in_err-write_at-clause-any_moment g c tells S shape reach behind low each =
+    writes_on behind (omega arith) (omega (arith, ap length c.front_of.ensures, low)) (c.write_at.ensures.moves tells) (at_start _ (Stands S shape reach) each)
+
+pub loop-done-init : goal.loop-done-init
+loop-done-init g c = record {
+  low = omega arith;
+  within = omega arith;
+  written = λ tells. c.in_ok-write_at.ensures.written tells
+      ∙ ap (λ (l : List ℕ). Some (overwritten c.args.at l (bytes_of (g.D.Disk.state c.args.disk.now).reads c.args.name.now))) c.front_of.ensures;
+  any_moment = λ tells S shape reach behind low each.
+      writes_on behind (omega arith) (omega (arith, ap length c.front_of.ensures, low)) (c.write_at.ensures.moves tells) (at_start _ (Stands S shape reach) each);
+  faults = c.in_ok-write_at.ensures.cause;
+  syncs = c.write_at.ensures.syncs;
+}
+
+pub returns-in_err-write_at-2-clause-any_moment : goal.returns-in_err-write_at-2-clause-any_moment
+returns-in_err-write_at-2-clause-any_moment g c tells S shape reach behind low each =
+    writes_on behind (omega arith) (omega (arith, length-take c.min-piece.result c.args.zeros.now, length-replicate {A = ℕ} (c.args.size - 8) 0, low, c.loop-done.invariant.within, c.loop-done.invariant.low, c.min-piece.ensures, c.from-end.ensures, c.loop-done-test.true)) (c.write_at-in-loop-done.ensures.moves tells) (c.loop-done.invariant.any_moment tells S shape reach behind low each)
+
+pub loop-done-preserved : goal.loop-done-preserved
+loop-done-preserved g c = record {
+  low = omega (arith, c.loop-done.invariant.low);
+  within = omega (arith, c.loop-done.invariant.within, c.loop-done.invariant.low, c.min-piece.ensures, c.from-end.ensures, c.loop-done-test.true);
+  written = λ tells. blank_next c.args.at c.args.size c.loop-done.done c.min-piece.result c.args.zeros.now (bytes_of (g.D.Disk.state c.args.disk.now).reads c.args.name.now)
+      c.requires.zeros (omega (arith, c.min-piece.ensures)) (c.requires.inside tells) c.loop-done.invariant.low (c.loop-done.invariant.written tells) (c.in_ok-write_at-2.ensures.written tells);
+  any_moment = λ tells S shape reach behind low each.
+      writes_on behind (omega arith) (omega (arith, length-take c.min-piece.result c.args.zeros.now, length-replicate {A = ℕ} (c.args.size - 8) 0, low, c.loop-done.invariant.within, c.loop-done.invariant.low, c.min-piece.ensures, c.from-end.ensures, c.loop-done-test.true)) (c.write_at-in-loop-done.ensures.moves tells) (c.loop-done.invariant.any_moment tells S shape reach behind low each);
+  faults = c.in_ok-write_at-2.ensures.cause ∙ c.loop-done.invariant.faults;
+  syncs = c.write_at-in-loop-done.ensures.syncs ∙ c.loop-done.invariant.syncs;
+}

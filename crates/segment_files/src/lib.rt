@@ -1,0 +1,9 @@
+//! The segment files of the log: a batch comes onto the disk whole, or it is written again.
+#![tactic(auto)]
+
+mod blank;
+mod segments;
+#[cfg(test)]
+mod tests;
+
+pub use segments::Segments;

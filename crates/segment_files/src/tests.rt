@@ -1,0 +1,78 @@
+ghost use Rattle.std.specs.Prelude.{◌≡◌, ◌+◌, ◌≤◌, length, IfOk, OnOk};
+ghost use Rattle.segment_files.specs.Turn.{IsInside};
+
+use crate::Segments;
+use bytes::Bytes;
+use log_model::Batch;
+use mq_bytes::LogFile;
+use mq_outside::{Disk, MemDisk, Room};
+use std::alloc::{AllocError, Global};
+use std::test::Fail;
+
+const ROOM: Room = Room {
+    bytes: 16384,
+    files: 2,
+    calls: 16,
+};
+
+// The first batch has 3178 bytes. A blank of 918 bytes and the second batch come behind it, in a segment of 4096 bytes.
+fn batch_of(alloc: Global, second: bool) -> Result<Batch, AllocError>
+    ensures { IfOk result (λ batch. length batch.bytes ≤ 3178) }
+{
+    let bytes: &[u8] = if second { b"next" } else { &[b'a'; 3178] };
+    let bytes = Bytes::copy_from_slice(alloc, bytes)?;
+    Ok(Batch {
+        from: u64::from(second),
+        count: 1,
+        place: if second { 4096 } else { 0 },
+        blank: if second { Some((3178, 918)) } else { None },
+        bytes,
+    })
+}
+
+// Writes a batch, and where that fails, once more.
+fn write_again<D: Disk>(alloc: Global, segments: &mut Segments<D>, second: bool) -> Result<(), Fail>
+    requires room { segments.old.offset ≤ 10000 }
+    requires inside { D.tells → IsInside segments.old.base segments.old.offset (D.state segments.old.disk) }
+    ensures room { OnOk result (segments.new.offset ≤ segments.old.offset + 3178) }
+    ensures inside { D.tells → IsInside segments.new.base segments.new.offset (D.state segments.new.disk) }
+{
+    let first = batch_of(alloc, second)?;
+    if segments.write_batch(first).is_err() {
+        let again = batch_of(alloc, second)?;
+        segments.write_batch(again)?;
+    }
+    Ok(())
+}
+
+#[test]
+fn a_batch_that_opens_a_segment_stands_whole_whichever_call_failed_first(
+    rt: HostRuntime,
+) -> Result<(), Fail> {
+    let mut expected = [0; 4096];
+    expected[..3178].fill(b'a');
+    expected[3178..3186].copy_from_slice(b"\x00\x00\x03\x96\xCB\xD4\x31\x94");
+    for fail in 0..=7 {
+        let mut fails = Vec::new(rt.alloc());
+        fails.push(fail)?;
+        let disk = MemDisk::new(rt.alloc(), Vec::new(rt.alloc()), ROOM, fails)?;
+        let mut segments = Segments::open(disk, 4096, 0);
+        write_again(rt.alloc(), &mut segments, false)?;
+        write_again(rt.alloc(), &mut segments, true)?;
+        assert_eq!(rt;
+            segments.fault_count(),
+            u64::from(fail > 0),
+            "each listed call is made"
+        );
+        let disk = segments.into_disk();
+        assert_eq!(rt;
+            disk.bytes(LogFile::of(0).as_str()),
+            Some(expected.as_slice())
+        );
+        assert_eq!(rt;
+            disk.bytes(LogFile::of(4096).as_str()),
+            Some(b"next".as_slice())
+        );
+    }
+    Ok(())
+}
