@@ -16,6 +16,8 @@ mod run;
 mod send;
 mod status;
 mod stop;
+#[cfg(test)]
+mod tests;
 mod words;
 mod writing;
 
