@@ -1,8 +1,8 @@
 -- What one call of `run_pipe` did, by the status that it answered.
 use Rattle.std.specs.Prelude.{◌≡◌, ◌⊎◌, ℕ, List, codes, Some, Result, Ok, Err, ◌≤◌}
 use Rattle.mq_outside.specs.Counts.{Rises}
-use Rattle.mq_outside.specs.Files.{HasNoFile}
-use Rattle.mq_outside.specs.Disk.{DiskState}
+use Rattle.mq_outside.specs.Files.{Same, HasNoFile}
+use Rattle.mq_outside.specs.Disk.{DiskState, Moves}
 use Rattle.mq_broker.specs.Durable.{Holds}
 use Rattle.mq_broker.specs.Openings.{the_format, HasOurFormat}
 use Rattle.mq_broker.specs.Run.{opening, layouts}
@@ -35,11 +35,12 @@ pub record Served (status : Status) (source : Type 0) (given given_then left_the
   pub format : keep → kept_then.reads (codes "format") ≡ Some the_format
   pub piped : Piped result opening source given given_then left_then broker sink taken taken_then disk old new clock readings readings_then faults faults_then
 
--- The opening ended the call: nothing was read, and nothing was written.
-pub record Refused (status : Status) (given given_then taken taken_then readings readings_then : List ℕ) : Type 0 where
+-- The opening ended the call: nothing was read from the source and nothing written to the sink, and the disk is as it was.
+pub record Refused (status : Status) (given given_then taken taken_then : List ℕ) (disk : Type 0) (old new : DiskState) (readings readings_then : List ℕ) : Type 0 where
   pub refused : (status.code ≡ 1) ⊎ ((status.code ≡ 5) ⊎ ((status.code ≡ 6) ⊎ ((status.code ≡ 7) ⊎ ((status.code ≡ 10) × (status.name ≡ codes "keep")))))
   pub given_is : given_then ≡ given
   pub taken_is : taken_then ≡ taken
+  pub still : disk → Moves Same old new
   pub readings_is : readings_then ≡ readings
 
 -- each fault of a device is told only where the device's count rose

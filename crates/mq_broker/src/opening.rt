@@ -1,6 +1,6 @@
 //! Opens the store: it has the format of this program, or none yet, and no file stands in it.
 
-ghost use Rattle.std.specs.Prelude.{◌≡◌, ◌⊎◌, slice_get, [], map, string_bytes, Some, codes, OnOk, IfErr};
+ghost use Rattle.std.specs.Prelude.{◌≡◌, ◌≢◌, ◌⊎◌, List, ℕ, slice_get, [], map, string_bytes, Some, codes, OnOk, IfErr};
 ghost use Rattle.mq_outside.specs.Files.{Same, HasNoFile};
 ghost use Rattle.mq_outside.specs.Disk.{Moves};
 ghost use Rattle.mq_broker.specs.Openings.{the_format, HasOurFormat, IsForeign, OpeningCause};
@@ -33,6 +33,7 @@ pub(crate) fn open_store<D: Disk, P: Keep>(
     ensures rests { D.tells → Moves Same (D.state disk.old) (D.state disk.new) }
     ensures ours { P.tells → OnOk result (HasOurFormat (P.state keep.old).reads) }
     ensures format { P.tells → OnOk result ((P.state keep.new).reads (codes "format") ≡ Some the_format) }
+    ensures others { P.tells → (name : List ℕ) → name ≢ codes "format" → (P.state keep.new).reads name ≡ (P.state keep.old).reads name }
     ensures foreign { D.tells → P.tells → IfErr result (λ status. status.code ≡ 6 → IsForeign (D.state disk.old).reads (P.state keep.old).reads status.name) }
     ensures cause { IfErr result (λ status. OpeningCause status (D.faults disk.old) (D.faults disk.new) (P.faults keep.old) (P.faults keep.new)) }
     ensures disk_still { OnOk result (D.faults disk.new ≡ D.faults disk.old) }

@@ -1,6 +1,6 @@
 //! The whole run of `pipe`: the words, the opening, and the requests of a source, answered to a sink.
 
-ghost use Rattle.std.specs.Prelude.{◌≡◌, ◌⊎◌, Some, None};
+ghost use Rattle.std.specs.Prelude.{◌≡◌, ◌≢◌, ◌⊎◌, List, ℕ, codes, Some, None};
 ghost use Rattle.mq_broker.specs.Words.{texts_of, wrong_word};
 ghost use Rattle.mq_broker.specs.Openings.{IsForeign};
 ghost use Rattle.mq_broker.specs.Promise.{Tells, Served, Refused, Causes};
@@ -40,12 +40,18 @@ pub fn run_pipe<S: Source, K: Sink, D: Disk, P: Keep, C: Clock>(
     keep: &mut P,
     clock: &mut C,
 ) -> Status
-    // Status 1, and its place, come exactly where the words don't fit.
+    // Status 1 comes exactly where the words don't fit, with the place of the first that doesn't.
     ensures usage { result.code ≡ 1 → wrong_word (texts_of words.now) ≡ Some result.place }
+    ensures wrong { (place : ℕ) → wrong_word (texts_of words.now) ≡ Some place → result.code ≡ 1 }
+
+    // Else requests are served, or the opening refused the call.
     ensures fits { wrong_word (texts_of words.now) ≡ None → Served result S.tells (S.given source.old) (S.given source.new) (S.left source.new) K.tells (K.taken sink.old) (K.taken sink.new)
         D.tells (D.state disk.old) (D.state disk.new) C.tells (C.readings clock.old) (C.readings clock.new) (D.faults disk.old) (D.faults disk.new) P.tells (P.state keep.old) (P.state keep.new)
-        ⊎ Refused result (S.given source.old) (S.given source.new) (K.taken sink.old) (K.taken sink.new) (C.readings clock.old) (C.readings clock.new) }
+        ⊎ Refused result (S.given source.old) (S.given source.new) (K.taken sink.old) (K.taken sink.new) D.tells (D.state disk.old) (D.state disk.new) (C.readings clock.old) (C.readings clock.new) }
+
     ensures foreign { D.tells → P.tells → result.code ≡ 6 → IsForeign (D.state disk.old).reads (P.state keep.old).reads result.name }
+    // No other text of the keep is touched.
+    ensures kept { P.tells → (name : List ℕ) → name ≢ codes "format" → (P.state keep.new).reads name ≡ (P.state keep.old).reads name }
     ensures causes { Causes result (S.faults source.old) (S.faults source.new) (K.faults sink.old) (K.faults sink.new) (D.faults disk.old) (D.faults disk.new)
         (P.faults keep.old) (P.faults keep.new) (C.faults clock.old) (C.faults clock.new) }
 {
