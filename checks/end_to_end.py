@@ -5,6 +5,7 @@ Frames are made and records are read here by code of their own. Each check print
 """
 import json
 import os
+import resource
 import signal
 import subprocess
 import sys
@@ -166,6 +167,32 @@ def _(folder):
     child.stdin.write(SAMPLE)
     child.stdin.close()
     assert child.wait() == 4
+
+
+@check("a store of another format is status 6 and stays as it is")
+def _(folder):
+    os.makedirs(folder + "/store/config")
+    with open(folder + "/store/config/format", "w") as file:
+        file.write("mq_broker 1 4096 65536 262144\n")
+    assert run(SAMPLE, folder) == (6, b"") and not os.path.exists(os.path.join(folder, LOG))
+
+
+@check("a full disk is told with reply 10 and status 5, and what was acknowledged before stands")
+def _(folder):
+    def small_files():
+        signal.signal(signal.SIGXFSZ, signal.SIG_IGN)
+        resource.setrlimit(resource.RLIMIT_FSIZE, (4096, 4096))
+
+    data = b"".join(send(k, b"x" * 900) for k in range(8))
+    done = subprocess.run([PROGRAM, "pipe"], input=data, cwd=folder, stdout=subprocess.PIPE, preexec_fn=small_files, timeout=60)
+    told = replies(done.stdout)
+    good = [r for r in told if r["code"] == 0]
+    assert done.returncode == 5 and 0 < len(good) == len(told) - 1
+    assert told[-1]["code"] == 10 and told[-1]["remark"] == "flush 1"
+    data, at = log(folder), 0
+    for _ in good:
+        at += int.from_bytes(data[at:at + 4], "big")
+    assert len(records(data[:at])) == len(good)
 
 
 @check("a killed process loses no record whose reply was read")
