@@ -21,6 +21,7 @@ pub use laws::{layouts_are_apart, layouts_read_back, records_write_back};
 pub use layout::encode;
 pub use props::Props;
 pub use reading::test;
+pub use topic::is_legal_topic;
 pub use unit::{Unit, unit_of};
 pub use view::View;
 

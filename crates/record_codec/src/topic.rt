@@ -34,9 +34,15 @@ pub(crate) fn is_named(topic: &[u8]) -> bool
     !topic.is_empty() && are_topic_chars(topic)
 }
 
-/// Whether the topic is legal.
 pub(crate) fn is_legal(topic: &[u8]) -> bool
     ensures { result ≡ is_legal_of topic.now }
 {
     !topic.is_empty() && topic.len() < 128 && are_topic_chars(topic)
+}
+
+/// Whether a record may have this topic.
+pub fn is_legal_topic(topic: &str) -> bool
+    ensures { result ≡ is_legal_of topic.now }
+{
+    is_legal(topic.as_bytes())
 }
