@@ -1,6 +1,6 @@
 //! Outside vectors, worked examples, and what no clause says.
 
-ghost use Rattle.std.specs.Prelude.{IfOk};
+ghost use Rattle.std.specs.Prelude.{◌<◌, ◌≤◌, length, IfOk};
 ghost use Rattle.remoting_frame.specs.Head.{IsShort};
 ghost use Rattle.remoting_frame.specs.BinaryText.{Has16Bits};
 
@@ -18,6 +18,10 @@ const SEND_WORDS: [u8; 8] = [0, 0, 1, 6, 0, 0, 1, 0];
 // The header of its reply.
 const REPLY: &[u8] =
     b"{\"code\":0,\"extFields\":{\"msgId\":\"7F00000100002A9F0000000000000000\",\"queueId\":\"0\",\"queueOffset\":\"0\"},\"flag\":1,\"language\":\"OTHER\",\"opaque\":7,\"serializeTypeCurrentRPC\":\"JSON\",\"version\":0}";
+
+// A GET_MAX_OFFSET of queue 0 of topic `T` in binary form.
+const ASKING: &[u8] =
+    b"\x00\x00\x00\x33\x01\x00\x00\x2F\x00\x1E\x00\x01\x8B\x00\x00\x00\x05\x00\x00\x00\x00\x00\x00\x00\x00\x00\x00\x00\x1A\x00\x05topic\x00\x00\x00\x01T\x00\x07queueId\x00\x00\x00\x010";
 
 fn send_frame(alloc: Global) -> Result<Vec<u8>, AllocError> {
     let mut frame = Vec::from_slice(alloc, &SEND_WORDS)?;
@@ -157,9 +161,7 @@ fn each_fault_is_told_as_soon_as_its_bytes_are_there(rt: HostRuntime) -> Result<
     Ok(())
 }
 
-#[test]
-fn a_header_nested_200_deep_is_refused(rt: HostRuntime) -> Result<(), Fail> {
-    let alloc = rt.alloc();
+fn nested_200_deep(alloc: Global) -> Result<Vec<u8>, AllocError> {
     let mut header = Vec::from_slice(alloc, b"{\"code\":1,\"opaque\":2,\"a\":")?;
     for _ in 0..200 {
         header.push(91)?;
@@ -168,35 +170,109 @@ fn a_header_nested_200_deep_is_refused(rt: HostRuntime) -> Result<(), Fail> {
         header.push(93)?;
     }
     header.push(125)?;
-    assert!(rt; is_bad(alloc, Form::Json, &header));
+    Ok(header)
+}
+
+#[test]
+fn a_header_nested_200_deep_is_refused(rt: HostRuntime) -> Result<(), Fail> {
+    let header = nested_200_deep(rt.alloc())?;
+    assert!(rt; is_bad(rt.alloc(), Form::Json, &header));
     Ok(())
 }
 
 #[test]
-fn a_binary_request_is_read(rt: HostRuntime) -> Result<(), Fail> {
+fn a_binary_request_cut_at_any_byte_is_read(rt: HostRuntime) -> Result<(), Fail> {
     let alloc = rt.alloc();
+    for cut in 0..ASKING.len() {
+        let mut cutter = Cutter::new(alloc);
+        cutter.feed(&ASKING[..cut])?;
+        assert!(rt; matches!(cutter.next(alloc), Ok(None)), "cut at {cut}");
+        cutter.feed(&ASKING[cut..])?;
+        let Ok(Some(frame)) = cutter.next(alloc) else {
+            return Err(Fail::from("a frame"));
+        };
+        let header = &frame.header;
+        assert_eq!(rt; frame.form, Form::Binary);
+        assert_eq!(rt;
+            (header.code, header.version, header.opaque, header.flag),
+            (30, 395, 5, 0)
+        );
+        let [first, second] = header.ext.as_slice() else {
+            return Err(Fail::from("two pairs"));
+        };
+        assert_eq!(rt; first.0.as_str(), "queueId");
+        assert_eq!(rt; first.1.as_str(), "0");
+        assert_eq!(rt; second.0.as_str(), "topic");
+        assert_eq!(rt; second.1.as_str(), "T");
+    }
+    Ok(())
+}
+
+// How many frames a stream gives that comes in two pieces, and the fault behind them.
+fn cut_at(alloc: Global, stream: &[u8], cut: usize) -> Result<(u64, Option<FrameFault>), AllocError>
+    requires { cut ≤ length stream.now }
+{
     let mut cutter = Cutter::new(alloc);
-    cutter.feed(b"\x00\x00\x00\x33\x01\x00\x00\x2F")?;
-    cutter.feed(
-        b"\x00\x1E\x00\x01\x8B\x00\x00\x00\x05\x00\x00\x00\x00\x00\x00\x00\x00\x00\x00\x00\x1A",
-    )?;
-    cutter.feed(b"\x00\x05topic\x00\x00\x00\x01T\x00\x07queueId\x00\x00\x00\x010")?;
-    let Ok(Some(frame)) = cutter.next(alloc) else {
-        return Err(Fail::from("a frame"));
-    };
-    let header = &frame.header;
-    assert_eq!(rt; frame.form, Form::Binary);
-    assert_eq!(rt;
-        (header.code, header.version, header.opaque, header.flag),
-        (30, 395, 5, 0)
-    );
-    let [first, second] = header.ext.as_slice() else {
-        return Err(Fail::from("two pairs"));
-    };
-    assert_eq!(rt; first.0.as_str(), "queueId");
-    assert_eq!(rt; first.1.as_str(), "0");
-    assert_eq!(rt; second.0.as_str(), "topic");
-    assert_eq!(rt; second.1.as_str(), "T");
+    let mut frames = 0u64;
+    for piece in [&stream[..cut], &stream[cut..]] {
+        cutter.feed(piece)?;
+        for _ in 0..2 {
+            match cutter.next(alloc) {
+                Ok(Some(_)) => frames = frames.saturating_add(1),
+                Ok(None) => {}
+                Err(fault) => return Ok((frames, Some(fault))),
+            }
+        }
+    }
+    Ok((frames, None))
+}
+
+// Whether this fault comes behind a good frame with the last of these bytes and not before, wherever the stream is cut.
+fn comes_with_the_last_byte(
+    alloc: Global,
+    bad: &[u8],
+    fault: FrameFault,
+) -> Result<bool, AllocError>
+    requires { 0 < length bad.now }
+{
+    let mut stream = Vec::from_slice(alloc, ASKING)?;
+    stream.extend_from_slice(&bad[..bad.len() - 1])?;
+    if cut_at(alloc, &stream, 0)? != (1, None) {
+        return Ok(false);
+    }
+    stream.extend_from_slice(&bad[bad.len() - 1..])?;
+    for cut in 0..=stream.len() {
+        if cut_at(alloc, &stream, cut)? != (1, Some(fault)) {
+            return Ok(false);
+        }
+    }
+    Ok(true)
+}
+
+#[test]
+fn a_bad_frame_behind_a_good_one_is_told_at_its_place_wherever_the_stream_is_cut(
+    rt: HostRuntime,
+) -> Result<(), Fail> {
+    let alloc = rt.alloc();
+    let mut nested = Vec::from_slice(alloc, b"\0\0\x01\xAE\0\0\x01\xAA")?;
+    nested.extend_from_slice(&nested_200_deep(alloc)?)?;
+    let rows: [(&[u8], FrameFault); 6] = [
+        (b"\0\0\0\x03", FrameFault::BadLength(55)),
+        (b"\x01\0\0\x01", FrameFault::BadLength(55)),
+        (b"\0\0\0\x09\x02\0\0\0", FrameFault::BadForm(55)),
+        (b"\0\0\0\x09\0\0\0\x06", FrameFault::BadLength(55)),
+        (&nested, FrameFault::BadHeader(55)),
+        (
+            b"\0\0\0\x21\x01\0\0\x1D\0\x01\0\0\0\0\0\0\x02\0\0\0\0\0\0\0\0\0\0\0\x08\0\x01a\0\0\0\x02b",
+            FrameFault::BadHeader(55),
+        ),
+    ];
+    for (bad, fault) in rows {
+        assert!(rt;
+            comes_with_the_last_byte(alloc, bad, fault)?,
+            "{fault:?} of {bad:?}"
+        );
+    }
     Ok(())
 }
 
