@@ -1,5 +1,5 @@
 -- The files of a log whose last one was cut anywhere are honest.
-use Rattle.std.proofs.Common.{◌≡◌, ◌≢◌, ◌⊎◌, inl, inr, ⊎_elim, ℕ, ◌+◌, ◌<◌, ◌≤◌, Bool, true, false, bytes_eq, List, [], ◌∷◌, ◌++◌, length, take, drop, slice_get, Option, Some, None, IsSome, is_some, refl, sym, ◌∙◌, ap, subst, arith, append_assoc, append-nil, length-append, take-append-drop}
+use Rattle.std.proofs.Common.{◌≡◌, ◌⊎◌, inl, inr, ⊎_elim, ℕ, ◌≤◌, true, false, bytes_eq, List, [], ◌∷◌, ◌++◌, length, take, drop, Option, Some, None, IsSome, is_some, refl, sym, ◌∙◌, ap, subst, arith, append_assoc, append-nil, length-append, take-append-drop}
 use Rattle.std.proofs.lemmas.Bool.{cases_Bool}
 use Rattle.std.proofs.lemmas.List.{length-take, take-append-le, drop-append-le}
 use Rattle.std.proofs.lemmas.Slice.Eq.{bytes_eq-Decides}
@@ -7,8 +7,8 @@ use Rattle.mq_outside.specs.Files.{Files, bytes_in, bytes_of, At, Shortened}
 use Rattle.record_codec.specs.Entry.{Entry}
 use Rattle.record_codec.specs.Layout.{layout}
 use Rattle.log_model.specs.Log.{IsWellFormed}
-use Rattle.log_model.specs.Segments.{layouts, Shape, used, shape_of, segment_file, last_name, last_bytes, AreSegmentFiles}
-use Rattle.log_model.specs.Store.{StartsWith, EndsInBlank, AreEnded, LooksAt, IsNext, IsHonest}
+use Rattle.log_model.specs.Segments.{layouts, used, shape_of, segment_file, last_name, last_bytes, AreSegmentFiles}
+use Rattle.log_model.specs.Store.{StartsWith, AreEnded, IsHonest}
 use Rattle.log_model.proofs.Lists.{option_cases}
 use Rattle.log_model.proofs.Places.{placed_log}
 use Rattle.log_model.proofs.Recovery.{files_keep, kept_honest}

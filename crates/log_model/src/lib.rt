@@ -3,11 +3,14 @@
 
 mod admissible;
 mod batch;
+mod fault;
 mod laws;
 mod place;
+mod queues;
 
 pub use admissible::{is_admissible, is_system_topic};
 pub use batch::{Batch, Receipt};
+pub use fault::LoadFault;
 pub use laws::{
     a_crashed_disk_stores_the_log, an_empty_disk_stores_the_empty_log, crashes_leave_a_prefix,
     cut_files_are_honest, damage_has_one_place, files_only_grow, files_recover_to_their_log,
@@ -16,6 +19,7 @@ pub use laws::{
     torn_ends_leave_a_prefix,
 };
 pub use place::next_place;
+pub use queues::queue_of;
 
 #[cfg(test)]
 mod tests;

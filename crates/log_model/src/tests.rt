@@ -1,7 +1,11 @@
 //! The worked places, and records that were made apart, with the sums of zlib.
 
+ghost use Rattle.std.specs.Prelude.{All};
+ghost use Rattle.log_model.specs.Queues.{IsStored};
+
 use super::*;
-use record_codec::test as test_record;
+use record_codec::{Record, Unit, test as test_record};
+use std::alloc::Global;
 use std::test::Fail;
 
 /// A message `hi` to the topic `T`, queue 1,023.
@@ -32,6 +36,39 @@ const DELIVERY: &[u8; 123] =
 \x00\x00\x07\xD0\x7F\x00\x00\x01\x00\x00*\x9F\x00\x00\x00\x00\x00\x00\x00\x00\x00\x00\x00\x00\x00\x00\x00\x02\
 hi\x01T\x00\x1DDELAY_FROM\x011-0\x02SEAL\x01CC1B3A6E\x02";
 
+/// A message `hi` to the topic `T`, queue 0, with the tag `TagA`.
+const TAGGED: &[u8; 118] =
+    b"\x00\x00\x00v\xDA\xA3 \xA7X\x93*\xAC\x00\x00\x00\x00\x00\x00\x00\x00\x00\x00\x00\x00\x00\x00\x00\x00\x00\x00\x00\x00\
+\x00\x00\x00\x00\x00\x00\x00\x00\x00\x00\x00\x00\x00\x00\x03\xE8\x7F\x00\x00\x01\x00\x00\x00\x00\x00\x00\x00\x00\x00\x00\x07\xD0\x7F\
+\x00\x00\x01\x00\x00*\x9F\x00\x00\x00\x00\x00\x00\x00\x00\x00\x00\x00\x00\x00\x00\x00\x02\
+hi\x01T\x00\x18TAGS\x01TagA\x02SEAL\x017BC5EEFB\x02";
+
+/// Behind it a message to the topic `U`, queue 0.
+const OTHER_TOPIC: &[u8; 108] =
+    b"\x00\x00\x00l\xDA\xA3 \xA7X\x93*\xAC\x00\x00\x00\x00\x00\x00\x00\x00\x00\x00\x00\x00\x00\x00\x00\x00\x00\x00\x00\x00\
+\x00\x00\x00v\x00\x00\x00\x00\x00\x00\x00\x00\x00\x00\x03\xE8\x7F\x00\x00\x01\x00\x00\x00\x00\x00\x00\x00\x00\x00\x00\x07\xD0\x7F\
+\x00\x00\x01\x00\x00*\x9F\x00\x00\x00\x00\x00\x00\x00\x00\x00\x00\x00\x00\x00\x00\x00\x02\
+hi\x01U\x00\x0ESEAL\x0157A5502E\x02";
+
+/// Behind these a message to the topic `T`, queue 0, without a tag.
+const UNTAGGED: &[u8; 108] =
+    b"\x00\x00\x00l\xDA\xA3 \xA7X\x93*\xAC\x00\x00\x00\x00\x00\x00\x00\x00\x00\x00\x00\x00\x00\x00\x00\x01\x00\x00\x00\x00\
+\x00\x00\x00\xE2\x00\x00\x00\x00\x00\x00\x00\x00\x00\x00\x03\xE8\x7F\x00\x00\x01\x00\x00\x00\x00\x00\x00\x00\x00\x00\x00\x07\xD0\x7F\
+\x00\x00\x01\x00\x00*\x9F\x00\x00\x00\x00\x00\x00\x00\x00\x00\x00\x00\x00\x00\x00\x00\x02\
+hi\x01T\x00\x0ESEAL\x01FF2879C7\x02";
+
+// Puts the record that these bytes begin with behind the log.
+fn put_record(alloc: Global, log: &mut Vec<Record>, bytes: &[u8]) -> Result<(), Fail>
+    requires { All IsStored log.old.items }
+    ensures { All IsStored log.new.items }
+{
+    let Some(view) = test_record(bytes) else {
+        return Err(Fail::from("no record"));
+    };
+    log.push(view.to_record(alloc)?)?;
+    Ok(())
+}
+
 /// Whether a record stands there, and a log may have it.
 fn admits(bytes: &[u8]) -> Option<bool> {
     Some(is_admissible(&test_record(bytes)?))
@@ -56,4 +93,27 @@ fn a_log_has_plain_messages_alone(rt: HostRuntime) {
     assert_eq!(rt; admits(DELIVERY), Some(false));
     assert!(rt; is_system_topic("SCHEDULE_TOPIC_XXXX"));
     assert!(rt; !is_system_topic("SCHEDULE_TOPIC_XXX"));
+}
+
+#[test]
+fn the_units_of_a_queue_are_those_of_its_records(rt: HostRuntime) -> Result<(), Fail> {
+    let mut log = Vec::new(rt.alloc());
+    put_record(rt.alloc(), &mut log, TAGGED)?;
+    put_record(rt.alloc(), &mut log, OTHER_TOPIC)?;
+    put_record(rt.alloc(), &mut log, UNTAGGED)?;
+    let units = queue_of(rt.alloc(), &log, "T", 0)?;
+    let expected = [
+        Unit {
+            offset: 0,
+            size: 118,
+            tag: 2598919,
+        },
+        Unit {
+            offset: 226,
+            size: 108,
+            tag: 0,
+        },
+    ];
+    assert_eq!(rt; units.as_slice(), expected.as_slice());
+    Ok(())
 }
