@@ -41,47 +41,48 @@ impl<D: Disk> Flusher<D> {
     /// Writes a batch behind the flushed records and syncs it. At `Err` the log is stored as before, and the same batch may
     /// come again.
     pub fn turn(&mut self, batch: Batch) -> Result<Receipt, FlushFault>
-        requires room { self.old.segments.offset + length batch.bytes < 2 ^ 63 }
-        requires inside { D.tells → IsInside self.old.segments.base self.old.segments.offset (D.state self.old.segments.disk) }
+        requires room { self.old.segments.file.offset + length batch.bytes < 2 ^ 63 }
+        requires inside { D.tells → IsInside self.old.segments.file.base self.old.segments.file.offset (D.state self.old.segments.disk) }
 
         // At each moment of the call each image has what was flushed before it, and each honest one keeps it.
         ensures any_moment { D.tells → (S : ℕ) (log : List Entry) (flushed : ℕ) (shape : Shape) (reach : ℕ)
-            → WritesAt S log flushed shape reach self.old.segments.base self.old.segments.offset (D.state self.old.segments.disk)
-            → GoesOn S log flushed shape (is_due self.old.segments.base batch.blank) batch.place batch.blank batch.count batch.bytes
+            → WritesAt S log flushed shape reach self.old.segments.file.base self.old.segments.file.offset (D.state self.old.segments.disk)
+            → GoesOn S log flushed shape (is_due self.old.segments.file.base batch.blank) batch.place batch.blank batch.count batch.bytes
             → Throughout (D.state self.old.segments.disk) (D.state self.new.segments.disk) (HasRecords S (take flushed log)) }
         ensures honest { D.tells → (S : ℕ) (log : List Entry) (flushed : ℕ) (shape : Shape) (reach : ℕ)
-            → WritesAt S log flushed shape reach self.old.segments.base self.old.segments.offset (D.state self.old.segments.disk)
-            → GoesOn S log flushed shape (is_due self.old.segments.base batch.blank) batch.place batch.blank batch.count batch.bytes
+            → WritesAt S log flushed shape reach self.old.segments.file.base self.old.segments.file.offset (D.state self.old.segments.disk)
+            → GoesOn S log flushed shape (is_due self.old.segments.file.base batch.blank) batch.place batch.blank batch.count batch.bytes
             → Throughout (D.state self.old.segments.disk) (D.state self.new.segments.disk) (KeepsIfHonest S log flushed) }
 
         // A fault leaves the log as before, and the batch can be written again.
         ensures still { D.tells → (S : ℕ) (log : List Entry) (flushed : ℕ) (shape : Shape) (reach : ℕ)
-            → WritesAt S log flushed shape reach self.old.segments.base self.old.segments.offset (D.state self.old.segments.disk)
-            → GoesOn S log flushed shape (is_due self.old.segments.base batch.blank) batch.place batch.blank batch.count batch.bytes
-            → OnErr result (CanRetry S log flushed self.new.segments.base self.new.segments.offset (D.state self.new.segments.disk) batch.place batch.blank batch.count batch.bytes) }
+            → WritesAt S log flushed shape reach self.old.segments.file.base self.old.segments.file.offset (D.state self.old.segments.disk)
+            → GoesOn S log flushed shape (is_due self.old.segments.file.base batch.blank) batch.place batch.blank batch.count batch.bytes
+            → OnErr result (CanRetry S log flushed self.new.segments.file.base self.new.segments.file.offset (D.state self.new.segments.disk) batch.place batch.blank batch.count batch.bytes) }
 
         // After Ok the batch is flushed too, and where nothing longer stood behind it every image is exactly the log's files.
         ensures flushed { D.tells → (S : ℕ) (log : List Entry) (flushed : ℕ) (shape : Shape) (reach : ℕ)
-            → WritesAt S log flushed shape reach self.old.segments.base self.old.segments.offset (D.state self.old.segments.disk)
-            → GoesOn S log flushed shape (is_due self.old.segments.base batch.blank) batch.place batch.blank batch.count batch.bytes
-            → OnOk result (WritesAt S log (flushed + batch.count) (shape_of S (take (flushed + batch.count) log)) (max (reach_behind (is_due self.old.segments.base batch.blank) reach) self.new.segments.offset) self.new.segments.base self.new.segments.offset (D.state self.new.segments.disk)) }
+            → WritesAt S log flushed shape reach self.old.segments.file.base self.old.segments.file.offset (D.state self.old.segments.disk)
+            → GoesOn S log flushed shape (is_due self.old.segments.file.base batch.blank) batch.place batch.blank batch.count batch.bytes
+            → OnOk result (WritesAt S log (flushed + batch.count) (shape_of S (take (flushed + batch.count) log)) (max (reach_behind (is_due self.old.segments.file.base batch.blank) reach) self.new.segments.file.offset) self.new.segments.file.base self.new.segments.file.offset (D.state self.new.segments.disk)) }
         ensures exact { D.tells → (S : ℕ) (log : List Entry) (flushed : ℕ) (shape : Shape) (reach : ℕ)
-            → WritesAt S log flushed shape reach self.old.segments.base self.old.segments.offset (D.state self.old.segments.disk)
-            → GoesOn S log flushed shape (is_due self.old.segments.base batch.blank) batch.place batch.blank batch.count batch.bytes
-            → reach_behind (is_due self.old.segments.base batch.blank) reach ≤ self.new.segments.offset
+            → WritesAt S log flushed shape reach self.old.segments.file.base self.old.segments.file.offset (D.state self.old.segments.disk)
+            → GoesOn S log flushed shape (is_due self.old.segments.file.base batch.blank) batch.place batch.blank batch.count batch.bytes
+            → reach_behind (is_due self.old.segments.file.base batch.blank) reach ≤ self.new.segments.file.offset
             → OnOk result (EachImage (AreSegmentFiles S (take (flushed + batch.count) log)) (D.state self.new.segments.disk)) }
 
         // What was written, and where the next bytes go.
         ensures range { IfOk result (λ receipt. (receipt.from ≡ batch.from) × (receipt.count ≡ batch.count)
-            × (receipt.piece.base ≡ self.new.segments.base) × (receipt.piece.from + length batch.bytes ≡ self.new.segments.offset) × (receipt.piece.len ≡ length batch.bytes)) }
+            × (receipt.piece.base ≡ self.new.segments.file.base) × (receipt.piece.from + length batch.bytes ≡ self.new.segments.file.offset) × (receipt.piece.len ≡ length batch.bytes)) }
         ensures held { D.tells → IfOk result (λ receipt. receipt.piece.held ≡ Some batch.bytes) }
-        ensures moved { OnOk result ((self.new.segments.base ≡ base_behind (is_due self.old.segments.base batch.blank) batch.place self.old.segments.base)
-            × (self.new.segments.offset ≡ reach_behind (is_due self.old.segments.base batch.blank) self.old.segments.offset + length batch.bytes)) }
-        ensures room { OnErr result (self.new.segments.offset ≤ self.old.segments.offset) }
-        ensures inside { D.tells → IsInside self.new.segments.base self.new.segments.offset (D.state self.new.segments.disk) }
+        ensures moved { OnOk result ((self.new.segments.file.base ≡ base_behind (is_due self.old.segments.file.base batch.blank) batch.place self.old.segments.file.base)
+            × (self.new.segments.file.offset ≡ reach_behind (is_due self.old.segments.file.base batch.blank) self.old.segments.file.offset + length batch.bytes)) }
+        ensures room { OnErr result (self.new.segments.file.offset ≤ self.old.segments.file.offset) }
+        ensures inside { D.tells → IsInside self.new.segments.file.base self.new.segments.file.offset (D.state self.new.segments.disk) }
+        ensures segment { self.new.segments.segment ≡ self.old.segments.segment }
         ensures cause { CountsFailure result (D.faults self.old.segments.disk) (D.faults self.new.segments.disk) }
         ensures count { IfErr result (λ fault. fault.count ≡ D.faults self.new.segments.disk) }
-        ensures syncs { D.syncs self.new.segments.disk ≤ D.syncs self.old.segments.disk + syncs_of (is_due self.old.segments.base batch.blank) }
+        ensures syncs { D.syncs self.new.segments.disk ≤ D.syncs self.old.segments.disk + syncs_of (is_due self.old.segments.file.base batch.blank) }
     {
         match self.segments.write_batch(batch) {
             Ok(receipt) => Ok(receipt),

@@ -1,5 +1,5 @@
 -- What is written in pieces, one behind another, behind the records of the last segment.
-use Rattle.std.proofs.Common.{◌≡◌, ◌≢◌, ℕ, ◌+◌, ◌-◌, ◌*◌, ◌<◌, ◌≤◌, max, min, List, [], ◌∷◌, ◌++◌, length, take, drop, replicate, Option, Some, None, refl, sym, ◌∙◌, ap, subst, arith, append_assoc, length-append}
+use Rattle.std.proofs.Common.{◌≡◌, ℕ, ◌+◌, ◌-◌, ◌≤◌, max, List, ◌++◌, length, take, drop, replicate, Option, Some, refl, sym, ◌∙◌, ap, subst, arith, append_assoc, length-append}
 use Rattle.std.proofs.lemmas.List.{take-take, take_at, length-take, length-replicate, replicate-append-replicate, take-replicate}
 use Rattle.std.proofs.lemmas.Slice.{drop-append-drop}
 use Rattle.std.proofs.Transfers.{drop-appended}
@@ -7,9 +7,9 @@ use Rattle.mq_bytes.specs.Names.{log_file}
 use Rattle.mq_outside.specs.Files.{Files, Same, bytes_in, bytes_of, At, Torn, overwritten}
 use Rattle.mq_outside.specs.Disk.{DiskState, IsDurable, EachImage, Moves, Throughout}
 use Rattle.mq_outside.specs.Pieces.{HasPiece}
-use Rattle.mq_outside.proofs.Moments.{each_step, goes_on, at_start, at_end}
+use Rattle.mq_outside.proofs.Moments.{each_step, goes_on, at_end}
 use Rattle.record_codec.specs.Blanks.{blank_front}
-use Rattle.log_model.specs.Segments.{Shape, blank_of, used, last_name}
+use Rattle.log_model.specs.Segments.{Shape, used, last_name}
 use Rattle.log_model.specs.Store.{Stands}
 use Rattle.log_model.proofs.FileNames.{IsNamed}
 use Rattle.log_model.proofs.Steps.{torn_stands}

@@ -2,8 +2,11 @@
 #![tactic(auto)]
 
 mod blank;
+mod last_file;
+mod read;
 mod segments;
 #[cfg(test)]
 mod tests;
 
+pub use last_file::LastFile;
 pub use segments::Segments;

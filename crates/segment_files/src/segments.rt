@@ -1,197 +1,118 @@
 //! The files of the log's segments. The last of them grows; the others are ended by a blank and never change.
-//!
-//! A turn writes a batch behind the records that are flushed, and syncs the file. Where the batch opens a new segment the
-//! blank comes first, and it is synced before the new file is made: else a crash could leave a new file behind a segment
-//! that has no end. After a fault the same batch is written again at the same place. A blank that was synced stays.
 
-ghost use Rattle.std.specs.Prelude.{◌≡◌, true, ◌+◌, ◌-◌, ◌*◌, ◌/◌, ◌%◌, ◌<◌, ◌≤◌, ◌^◌, max, List, ℕ, length, take, drop, Some, OnOk, OnErr, IfOk};
+ghost use Rattle.std.specs.Prelude.{◌≡◌, ◌+◌, ◌*◌, ◌/◌, ◌%◌, ◌<◌, ◌≤◌, ◌^◌, max, List, ℕ, length, take, Some, OnOk, OnErr, IfOk, IfErr};
 ghost use Rattle.std.specs.Borrow.{Lends, sem};
 ghost use Rattle.mq_outside.specs.Counts.{CountsFailure};
-ghost use Rattle.mq_outside.specs.Disk.{EachImage, Throughout};
+ghost use Rattle.mq_outside.specs.Disk.{EachImage, Rests, Throughout};
 ghost use Rattle.record_codec.specs.Entry.{Entry};
+ghost use Rattle.log_model.specs.Faults.{CountsLoadFault};
 ghost use Rattle.log_model.specs.Log.{end_of};
-ghost use Rattle.log_model.specs.Segments.{Shape, added, opened, used, base, shape_of, AreSegmentFiles};
-ghost use Rattle.log_model.specs.Store.{StoresAt, IsBatch, KeepsIfHonest};
-ghost use Rattle.segment_files.specs.Turn.{IsInside, WritesAt, HasRecords, Opens, GoesOn, CanRetry, is_due, shape_behind, base_behind, reach_behind, syncs_of};
+ghost use Rattle.log_model.specs.Queues.{said_by, IsStored};
+ghost use Rattle.log_model.specs.Segments.{Shape, shape_of, AreSegmentFiles};
+ghost use Rattle.log_model.specs.Store.{StoresAt, KeepsIfHonest};
+ghost use Rattle.segment_files.specs.Reading.{IsRecordAt, TellsDamage};
+ghost use Rattle.segment_files.specs.Turn.{IsInside, WritesAt, HasRecords, GoesOn, CanRetry, is_due, base_behind, reach_behind, syncs_of};
 ghost use Rattle.segment_files.specs.contracts.segments.Segments.{the_row};
 
-use crate::blank::write_blank;
-use bytes::Bytes;
-use log_model::{Batch, Receipt};
-use mq_bytes::LogFile;
-use mq_outside::{Disk, Failed, Frozen};
-
-// So many zeros of a blank are written at once.
-const ZEROS: usize = 4096;
+use crate::last_file::LastFile;
+use crate::read::read_record;
+use log_model::{Batch, LoadFault, Receipt};
+use mq_outside::{Disk, Failed};
+use record_codec::Record;
+use std::alloc::Global;
 
 /// The segment files on a disk, and where the next bytes go.
 #[derive(Drop)]
 pub struct Segments<D: Disk> {
     disk: D,
-    // Where the last file begins, and the offset in it behind what is flushed.
-    base: u64,
-    offset: u64,
+    // How many bytes a segment has.
+    segment: u32,
+    file: LastFile,
 }
 
 impl<D: Disk> Segments<D> {
-    // Ends the last file by a blank of this size, and syncs it. The next bytes go to a new file at `next`.
-    fn end_file(&mut self, size: u32, next: u64) -> Result<(), Failed>
-        requires room { self.old.offset < 2 ^ 63 }
-        requires inside { D.tells → IsInside self.old.base self.old.offset (D.state self.old.disk) }
-        ensures any_moment { D.tells → (S : ℕ) (log : List Entry) (flushed : ℕ) (shape : Shape) (reach : ℕ)
-            → WritesAt S log flushed shape reach self.old.base self.old.offset (D.state self.old.disk) → shape ≡ shape_of S (take flushed log) → size ≡ S - used shape
-            → Throughout (D.state self.old.disk) (D.state self.new.disk) (HasRecords S (take flushed log)) }
-        ensures still { D.tells → (S : ℕ) (log : List Entry) (flushed : ℕ) (shape : Shape) (reach : ℕ)
-            → WritesAt S log flushed shape reach self.old.base self.old.offset (D.state self.old.disk) → shape ≡ shape_of S (take flushed log) → size ≡ S - used shape
-            → WritesAt S log flushed shape S self.old.base self.old.offset (D.state self.new.disk) }
-        ensures opened { D.tells → (S : ℕ) (log : List Entry) (flushed : ℕ) (shape : Shape) (reach : ℕ)
-            → WritesAt S log flushed shape reach self.old.base self.old.offset (D.state self.old.disk) → shape ≡ shape_of S (take flushed log) → size ≡ S - used shape
-            → next ≡ base S (opened shape) → OnOk result (WritesAt S log flushed (opened shape) 0 self.new.base self.new.offset (D.state self.new.disk)) }
-        ensures inside { D.tells → IsInside self.new.base self.new.offset (D.state self.new.disk) }
-        ensures moved { OnOk result ((self.new.base ≡ next) × (self.new.offset ≡ 0)) }
-        ensures stays { OnErr result ((self.new.base ≡ self.old.base) × (self.new.offset ≡ self.old.offset)) }
-        ensures cause { CountsFailure result (D.faults self.old.disk) (D.faults self.new.disk) }
-        ensures syncs { D.syncs self.new.disk ≤ D.syncs self.old.disk + 1 }
-    {
-        let file = LogFile::of(self.base);
-        let name = file.as_str();
-        write_blank(&mut self.disk, name, self.offset, size, &[0; ZEROS])?;
-        self.disk.sync(name)?; // the blank
-        self.base = next;
-        self.offset = 0;
-        Ok(())
-    }
-
-    // Writes these bytes behind what is flushed, and syncs them.
-    fn store(&mut self, bytes: Bytes) -> Result<Frozen, Failed>
-        requires room { self.old.offset + length bytes < 2 ^ 63 }
-        requires inside { D.tells → IsInside self.old.base self.old.offset (D.state self.old.disk) }
-        ensures any_moment { D.tells → (S : ℕ) (log : List Entry) (flushed count : ℕ) (shape : Shape) (reach : ℕ)
-            → WritesAt S log flushed shape reach self.old.base self.old.offset (D.state self.old.disk) → IsBatch S log flushed count shape bytes
-            → Throughout (D.state self.old.disk) (D.state self.new.disk) (HasRecords S (take flushed log)) }
-        ensures still { D.tells → (S : ℕ) (log : List Entry) (flushed count : ℕ) (shape : Shape) (reach : ℕ)
-            → WritesAt S log flushed shape reach self.old.base self.old.offset (D.state self.old.disk) → IsBatch S log flushed count shape bytes
-            → WritesAt S log flushed shape (max reach (self.old.offset + length bytes)) self.old.base self.old.offset (D.state self.new.disk) }
-        ensures flushed { D.tells → (S : ℕ) (log : List Entry) (flushed count : ℕ) (shape : Shape) (reach : ℕ)
-            → WritesAt S log flushed shape reach self.old.base self.old.offset (D.state self.old.disk) → IsBatch S log flushed count shape bytes
-            → OnOk result (WritesAt S log (flushed + count) (shape_of S (take (flushed + count) log)) (max reach (self.old.offset + length bytes)) self.new.base self.new.offset (D.state self.new.disk)) }
-        ensures inside { D.tells → IsInside self.new.base self.new.offset (D.state self.new.disk) }
-        ensures moved { OnOk result (self.new.offset ≡ self.old.offset + length bytes) }
-        ensures stays { OnErr result (self.new.offset ≡ self.old.offset) }
-        ensures base { self.new.base ≡ self.old.base }
-        ensures range { IfOk result (λ piece. (piece.base ≡ self.old.base) × (piece.from ≡ self.old.offset) × (piece.len ≡ length bytes)) }
-        ensures held { D.tells → IfOk result (λ piece. piece.held ≡ Some bytes) }
-        ensures cause { CountsFailure result (D.faults self.old.disk) (D.faults self.new.disk) }
-        ensures syncs { D.syncs self.new.disk ≤ D.syncs self.old.disk + 1 }
-    {
-        let file = LogFile::of(self.base);
-        let name = file.as_str();
-        self.disk.write_at(name, self.offset, &bytes)?;
-        self.disk.sync(name)?; // the batch
-        let from = self.offset;
-        self.offset += bytes.len() as u64;
-        Ok(self.disk.freeze(self.base, from, bytes))
-    }
-
-    // Ends the last file where the blank lies in it. A blank before it stands already.
-    fn open_next(&mut self, place: u64, blank: Option<(u64, u32)>) -> Result<(), Failed>
-        requires room { self.old.offset < 2 ^ 63 }
-        requires inside { D.tells → IsInside self.old.base self.old.offset (D.state self.old.disk) }
-        ensures any_moment { D.tells → (S : ℕ) (log : List Entry) (flushed : ℕ) (shape : Shape) (reach : ℕ)
-            → WritesAt S log flushed shape reach self.old.base self.old.offset (D.state self.old.disk) → (is_due self.old.base blank ≡ true → Opens S log flushed shape place blank)
-            → Throughout (D.state self.old.disk) (D.state self.new.disk) (HasRecords S (take flushed log)) }
-        ensures still { D.tells → (S : ℕ) (log : List Entry) (flushed : ℕ) (shape : Shape) (reach : ℕ)
-            → WritesAt S log flushed shape reach self.old.base self.old.offset (D.state self.old.disk) → (is_due self.old.base blank ≡ true → Opens S log flushed shape place blank)
-            → WritesAt S log flushed shape S self.old.base self.old.offset (D.state self.new.disk) }
-        ensures opened { D.tells → (S : ℕ) (log : List Entry) (flushed : ℕ) (shape : Shape) (reach : ℕ)
-            → WritesAt S log flushed shape reach self.old.base self.old.offset (D.state self.old.disk) → (is_due self.old.base blank ≡ true → Opens S log flushed shape place blank)
-            → OnOk result (WritesAt S log flushed (shape_behind (is_due self.old.base blank) shape) (reach_behind (is_due self.old.base blank) reach) self.new.base self.new.offset (D.state self.new.disk)) }
-        ensures inside { D.tells → IsInside self.new.base self.new.offset (D.state self.new.disk) }
-        ensures moved { OnOk result ((self.new.base ≡ base_behind (is_due self.old.base blank) place self.old.base) × (self.new.offset ≡ reach_behind (is_due self.old.base blank) self.old.offset)) }
-        ensures stays { OnErr result ((self.new.base ≡ self.old.base) × (self.new.offset ≡ self.old.offset)) }
-        ensures cause { CountsFailure result (D.faults self.old.disk) (D.faults self.new.disk) }
-        ensures syncs { D.syncs self.new.disk + 1 ≤ D.syncs self.old.disk + syncs_of (is_due self.old.base blank) }
-    {
-        let Some((at, size)) = blank else {
-            return Ok(());
-        };
-        if self.base <= at {
-            self.end_file(size, place)?;
-        }
-        Ok(())
-    }
-
     /// Segment files that go on where the log ends.
     pub fn open(disk: D, segment: u32, end: u64) -> Segments<D>
         requires { 0 < segment }
         ensures disk { result.disk ≡ disk }
-        ensures place { (result.base ≡ end / segment * segment) × (result.offset ≡ end % segment) }
+        ensures segment { result.segment ≡ segment }
+        ensures place { (result.file.base ≡ end / segment * segment) × (result.file.offset ≡ end % segment) }
 
         // The disk stores the log up to there.
         ensures writes { D.tells → (log : List Entry) (flushed reach : ℕ) → StoresAt segment log flushed (shape_of segment (take flushed log)) reach (D.state disk) → reach ≤ segment → end ≡ end_of (take flushed log)
-            → WritesAt segment log flushed (shape_of segment (take flushed log)) reach result.base result.offset (D.state result.disk) }
+            → WritesAt segment log flushed (shape_of segment (take flushed log)) reach result.file.base result.file.offset (D.state result.disk) }
         ensures inside { D.tells → (log : List Entry) (flushed reach : ℕ) → StoresAt segment log flushed (shape_of segment (take flushed log)) reach (D.state disk) → reach ≤ segment → end ≡ end_of (take flushed log)
-            → IsInside result.base result.offset (D.state result.disk) }
+            → IsInside result.file.base result.file.offset (D.state result.disk) }
     {
-        let offset = end % u64::from(segment);
         Segments {
             disk,
-            base: end - offset,
-            offset,
+            segment,
+            file: LastFile::at(segment, end),
         }
     }
 
     /// Writes a batch behind the flushed records and syncs it. It takes no memory. At `Err` the log is stored as before,
     /// and the same batch may come again.
     pub fn write_batch(&mut self, batch: Batch) -> Result<Receipt, Failed>
-        requires room { self.old.offset + length batch.bytes < 2 ^ 63 }
-        requires inside { D.tells → IsInside self.old.base self.old.offset (D.state self.old.disk) }
+        requires room { self.old.file.offset + length batch.bytes < 2 ^ 63 }
+        requires inside { D.tells → IsInside self.old.file.base self.old.file.offset (D.state self.old.disk) }
 
         // At each moment of the call each image has what was flushed before it, and each honest one keeps it.
         ensures any_moment { D.tells → (S : ℕ) (log : List Entry) (flushed : ℕ) (shape : Shape) (reach : ℕ)
-            → WritesAt S log flushed shape reach self.old.base self.old.offset (D.state self.old.disk)
-            → GoesOn S log flushed shape (is_due self.old.base batch.blank) batch.place batch.blank batch.count batch.bytes
+            → WritesAt S log flushed shape reach self.old.file.base self.old.file.offset (D.state self.old.disk)
+            → GoesOn S log flushed shape (is_due self.old.file.base batch.blank) batch.place batch.blank batch.count batch.bytes
             → Throughout (D.state self.old.disk) (D.state self.new.disk) (HasRecords S (take flushed log)) }
         ensures honest { D.tells → (S : ℕ) (log : List Entry) (flushed : ℕ) (shape : Shape) (reach : ℕ)
-            → WritesAt S log flushed shape reach self.old.base self.old.offset (D.state self.old.disk)
-            → GoesOn S log flushed shape (is_due self.old.base batch.blank) batch.place batch.blank batch.count batch.bytes
+            → WritesAt S log flushed shape reach self.old.file.base self.old.file.offset (D.state self.old.disk)
+            → GoesOn S log flushed shape (is_due self.old.file.base batch.blank) batch.place batch.blank batch.count batch.bytes
             → Throughout (D.state self.old.disk) (D.state self.new.disk) (KeepsIfHonest S log flushed) }
 
         // A fault leaves the log as before, and the batch can be written again.
         ensures still { D.tells → (S : ℕ) (log : List Entry) (flushed : ℕ) (shape : Shape) (reach : ℕ)
-            → WritesAt S log flushed shape reach self.old.base self.old.offset (D.state self.old.disk)
-            → GoesOn S log flushed shape (is_due self.old.base batch.blank) batch.place batch.blank batch.count batch.bytes
-            → OnErr result (CanRetry S log flushed self.new.base self.new.offset (D.state self.new.disk) batch.place batch.blank batch.count batch.bytes) }
+            → WritesAt S log flushed shape reach self.old.file.base self.old.file.offset (D.state self.old.disk)
+            → GoesOn S log flushed shape (is_due self.old.file.base batch.blank) batch.place batch.blank batch.count batch.bytes
+            → OnErr result (CanRetry S log flushed self.new.file.base self.new.file.offset (D.state self.new.disk) batch.place batch.blank batch.count batch.bytes) }
 
         // After Ok the batch is flushed too, and where nothing longer stood behind it every image is exactly the log's files.
         ensures flushed { D.tells → (S : ℕ) (log : List Entry) (flushed : ℕ) (shape : Shape) (reach : ℕ)
-            → WritesAt S log flushed shape reach self.old.base self.old.offset (D.state self.old.disk)
-            → GoesOn S log flushed shape (is_due self.old.base batch.blank) batch.place batch.blank batch.count batch.bytes
-            → OnOk result (WritesAt S log (flushed + batch.count) (shape_of S (take (flushed + batch.count) log)) (max (reach_behind (is_due self.old.base batch.blank) reach) self.new.offset) self.new.base self.new.offset (D.state self.new.disk)) }
+            → WritesAt S log flushed shape reach self.old.file.base self.old.file.offset (D.state self.old.disk)
+            → GoesOn S log flushed shape (is_due self.old.file.base batch.blank) batch.place batch.blank batch.count batch.bytes
+            → OnOk result (WritesAt S log (flushed + batch.count) (shape_of S (take (flushed + batch.count) log)) (max (reach_behind (is_due self.old.file.base batch.blank) reach) self.new.file.offset) self.new.file.base self.new.file.offset (D.state self.new.disk)) }
         ensures exact { D.tells → (S : ℕ) (log : List Entry) (flushed : ℕ) (shape : Shape) (reach : ℕ)
-            → WritesAt S log flushed shape reach self.old.base self.old.offset (D.state self.old.disk)
-            → GoesOn S log flushed shape (is_due self.old.base batch.blank) batch.place batch.blank batch.count batch.bytes
-            → reach_behind (is_due self.old.base batch.blank) reach ≤ self.new.offset
+            → WritesAt S log flushed shape reach self.old.file.base self.old.file.offset (D.state self.old.disk)
+            → GoesOn S log flushed shape (is_due self.old.file.base batch.blank) batch.place batch.blank batch.count batch.bytes
+            → reach_behind (is_due self.old.file.base batch.blank) reach ≤ self.new.file.offset
             → OnOk result (EachImage (AreSegmentFiles S (take (flushed + batch.count) log)) (D.state self.new.disk)) }
 
         // What was written, and where the next bytes go.
         ensures range { IfOk result (λ receipt. (receipt.from ≡ batch.from) × (receipt.count ≡ batch.count)
-            × (receipt.piece.base ≡ self.new.base) × (receipt.piece.from + length batch.bytes ≡ self.new.offset) × (receipt.piece.len ≡ length batch.bytes)) }
+            × (receipt.piece.base ≡ self.new.file.base) × (receipt.piece.from + length batch.bytes ≡ self.new.file.offset) × (receipt.piece.len ≡ length batch.bytes)) }
         ensures held { D.tells → IfOk result (λ receipt. receipt.piece.held ≡ Some batch.bytes) }
-        ensures moved { OnOk result ((self.new.base ≡ base_behind (is_due self.old.base batch.blank) batch.place self.old.base)
-            × (self.new.offset ≡ reach_behind (is_due self.old.base batch.blank) self.old.offset + length batch.bytes)) }
-        ensures room { OnErr result (self.new.offset ≤ self.old.offset) }
-        ensures inside { D.tells → IsInside self.new.base self.new.offset (D.state self.new.disk) }
+        ensures moved { OnOk result ((self.new.file.base ≡ base_behind (is_due self.old.file.base batch.blank) batch.place self.old.file.base)
+            × (self.new.file.offset ≡ reach_behind (is_due self.old.file.base batch.blank) self.old.file.offset + length batch.bytes)) }
+        ensures room { OnErr result (self.new.file.offset ≤ self.old.file.offset) }
+        ensures inside { D.tells → IsInside self.new.file.base self.new.file.offset (D.state self.new.disk) }
+        ensures segment { self.new.segment ≡ self.old.segment }
         ensures cause { CountsFailure result (D.faults self.old.disk) (D.faults self.new.disk) }
-        ensures syncs { D.syncs self.new.disk ≤ D.syncs self.old.disk + syncs_of (is_due self.old.base batch.blank) }
+        ensures syncs { D.syncs self.new.disk ≤ D.syncs self.old.disk + syncs_of (is_due self.old.file.base batch.blank) }
     {
-        self.open_next(batch.place, batch.blank)?;
-        let piece = self.store(batch.bytes)?;
-        Ok(Receipt {
-            from: batch.from,
-            count: batch.count,
-            piece,
-        })
+        self.file.write_batch(&mut self.disk, batch)
+    }
+
+    /// The record of `size` bytes at this place of the log. `Damaged` is answered exactly where other bytes stand there.
+    pub fn read_record(&mut self, alloc: Global, place: u64, size: u32) -> Result<Record, LoadFault>
+        requires { 0 < self.old.segment }
+        ensures stands { D.tells → IfOk result (λ r. IsRecordAt self.old.segment place size (D.state self.old.disk) (said_by r)) }
+        ensures stored { IfOk result (λ r. IsStored r × (r.size ≡ size)) }
+        ensures damaged { D.tells → IfErr result (TellsDamage self.old.segment place size (D.state self.old.disk)) }
+
+        // The disk is only read, and the next bytes go where they went.
+        ensures rests { D.tells → Rests (D.state self.old.disk) (D.state self.new.disk) }
+        ensures stays { (self.new.segment ≡ self.old.segment) × (self.new.file.base ≡ self.old.file.base) × (self.new.file.offset ≡ self.old.file.offset) }
+        ensures cause { CountsLoadFault result (D.faults self.old.disk) (D.faults self.new.disk) }
+        ensures syncs { D.syncs self.new.disk ≡ D.syncs self.old.disk }
+    {
+        read_record(&mut self.disk, alloc, self.segment, place, size)
     }
 
     /// How often the disk failed.

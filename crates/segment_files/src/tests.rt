@@ -1,9 +1,9 @@
-ghost use Rattle.std.specs.Prelude.{◌≡◌, ◌+◌, ◌≤◌, length, IfOk, OnOk};
+ghost use Rattle.std.specs.Prelude.{◌≡◌, ◌+◌, ◌<◌, ◌≤◌, length, IfOk, OnOk};
 ghost use Rattle.segment_files.specs.Turn.{IsInside};
 
 use crate::Segments;
 use bytes::Bytes;
-use log_model::Batch;
+use log_model::{Batch, LoadFault};
 use mq_bytes::LogFile;
 use mq_outside::{Disk, MemDisk, Room};
 use std::alloc::{AllocError, Global};
@@ -32,16 +32,74 @@ fn batch_of(alloc: Global, second: bool) -> Result<Batch, AllocError>
 
 // Writes a batch, and where that fails, once more.
 fn write_again<D: Disk>(alloc: Global, segments: &mut Segments<D>, second: bool) -> Result<(), Fail>
-    requires room { segments.old.offset ≤ 10000 }
-    requires inside { D.tells → IsInside segments.old.base segments.old.offset (D.state segments.old.disk) }
-    ensures room { OnOk result (segments.new.offset ≤ segments.old.offset + 3178) }
-    ensures inside { D.tells → IsInside segments.new.base segments.new.offset (D.state segments.new.disk) }
+    requires room { segments.old.file.offset ≤ 10000 }
+    requires inside { D.tells → IsInside segments.old.file.base segments.old.file.offset (D.state segments.old.disk) }
+    ensures room { OnOk result (segments.new.file.offset ≤ segments.old.file.offset + 3178) }
+    ensures inside { D.tells → IsInside segments.new.file.base segments.new.file.offset (D.state segments.new.disk) }
 {
     let first = batch_of(alloc, second)?;
     if segments.write_batch(first).is_err() {
         let again = batch_of(alloc, second)?;
         segments.write_batch(again)?;
     }
+    Ok(())
+}
+
+/// Eight zeros, and behind them a message `hi` to the topic `T`, queue 1,023.
+const BEHIND_ZEROS: &[u8; 116] =
+    b"\x00\x00\x00\x00\x00\x00\x00\x00\x00\x00\x00l\xDA\xA3 \xA7X\x93*\xAC\x00\x00\x03\xFF\x00\x00\x00\x00\x00\x00\x00\x00\x00\x00\x00\x00\
+\x00\x00\x00\x00\x00\x00\x00\x00\x00\x00\x00\x00\x00\x00\x00\x00\x00\x00\x03\xE8\x7F\x00\x00\x01\x00\x00\x00\x00\x00\x00\x00\x00\
+\x00\x00\x07\xD0\x7F\x00\x00\x01\x00\x00*\x9F\x00\x00\x00\x00\x00\x00\x00\x00\x00\x00\x00\x00\x00\x00\x00\x02\
+hi\x01T\x00\x0ESEAL\x01B1FC2CE2\x02";
+
+// Whether damage is told, at this place and in this file.
+fn is_damaged<D: Disk>(
+    alloc: Global,
+    segments: &mut Segments<D>,
+    place: u64,
+    size: u32,
+    file: u64,
+) -> bool
+    requires { 0 < segments.old.segment }
+    ensures { segments.new.segment ≡ segments.old.segment }
+{
+    match segments.read_record(alloc, place, size) {
+        Err(LoadFault::Damaged(told, name)) => {
+            told == place && name.as_str() == LogFile::of(file).as_str()
+        }
+        _ => false,
+    }
+}
+
+#[test]
+fn a_record_is_read_where_it_stands_and_nowhere_else(rt: HostRuntime) -> Result<(), Fail> {
+    let mut fails = Vec::new(rt.alloc());
+    fails.push(6)?;
+    let mut disk = MemDisk::new(rt.alloc(), Vec::new(rt.alloc()), ROOM, fails)?;
+    disk.write_at(LogFile::of(4096).as_str(), 0, BEHIND_ZEROS)?;
+    let mut segments = Segments::open(disk, 4096, 0);
+    let Ok(record) = segments.read_record(rt.alloc(), 4104, 108) else {
+        return Err(Fail::from("the other answer"));
+    };
+    assert_eq!(rt; (record.draft.queue, record.size), (1023, 108));
+    assert!(rt;
+        is_damaged(rt.alloc(), &mut segments, 4104, 107, 4096),
+        "another size"
+    );
+    assert!(rt;
+        is_damaged(rt.alloc(), &mut segments, 4103, 108, 4096),
+        "another place"
+    );
+    assert!(rt;
+        is_damaged(rt.alloc(), &mut segments, 8, 108, 0),
+        "an absent file"
+    );
+    assert!(rt;
+        matches!(
+            segments.read_record(rt.alloc(), 4104, 108),
+            Err(LoadFault::Failed)
+        )
+    );
     Ok(())
 }
 

@@ -1,4 +1,4 @@
-use Rattle.std.proofs.Common.{◌≡◌, ◌+◌, ◌-◌, ◌≤◌, ◌∙◌, ap, subst, sym, arith, List, ℕ, length, replicate, Some}
+use Rattle.std.proofs.Common.{◌-◌, ◌∙◌, ap, arith, List, ℕ, length, Some}
 use Rattle.std.proofs.lemmas.List.{length-take, length-replicate}
 use Rattle.mq_outside.specs.Files.{bytes_of, overwritten}
 use Rattle.mq_outside.proofs.Moments.{at_start}

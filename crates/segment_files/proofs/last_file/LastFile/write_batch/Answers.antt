@@ -1,6 +1,6 @@
 use Rattle.mq_outside.proofs.Moments.{chained}
 use Rattle.segment_files.proofs.Turns.{keeps_records, retry_first, retry_second, writes_exact, writes_moved, writes_to, on_err}
-use Rattle.segment_files.proofs.segments.Segments.write_batch.Goals as goal
+use Rattle.segment_files.proofs.last_file.LastFile.write_batch.Goals as goal
 
 pub returns-in_err-open_next-clause-honest : goal.returns-in_err-open_next-clause-honest
 returns-in_err-open_next-clause-honest g c tells S log flushed shape reach writes goes =

@@ -1,11 +1,11 @@
-use Rattle.std.proofs.Common.{◌≡◌, ◌∙◌, ◌+◌, ◌≤◌, max, ap, sym, subst, arith, ℕ, List, length, take, Some}
+use Rattle.std.proofs.Common.{◌∙◌, ◌+◌, ◌≤◌, max, ap, sym, subst, ℕ, List, length, take, Some}
 use Rattle.log_model.specs.Segments.{shape_of}
 use Rattle.segment_files.specs.Turn.{WritesAt}
 use Rattle.mq_outside.specs.Files.{bytes_of, overwritten}
-use Rattle.mq_outside.proofs.Moments.{at_end, each_same}
+use Rattle.mq_outside.proofs.Moments.{at_end}
 use Rattle.segment_files.proofs.Pieces.{each_piece}
 use Rattle.segment_files.proofs.Turns.{has_records, same_on, writes_still, writes_same, batch_low, write_stands, writes_batch}
-use Rattle.segment_files.proofs.segments.Segments.store.Goals as goal
+use Rattle.segment_files.proofs.last_file.LastFile.store.Goals as goal
 
 pub returns-in_err-write_at-clause-any_moment : goal.returns-in_err-write_at-clause-any_moment
 returns-in_err-write_at-clause-any_moment g c tells S log flushed count shape reach writes is =
@@ -27,9 +27,9 @@ returns-in_err-sync-clause-still g c tells S log flushed count shape reach write
 
 pub freeze-requires : goal.freeze-requires
 freeze-requires g c tells =
-    each_piece (g.D.Disk.state c.args.self.now.disk) c.args.self.now.base (c.as_str-name.ensures ∙ c.of-file.ensures)
-    (subst (λ (l : List ℕ). c.args.self.now.offset ≤ length (bytes_of (g.D.Disk.state c.args.self.now.disk).reads l)) (sym (c.as_str-name.ensures ∙ c.of-file.ensures)) (c.requires.inside tells))
-    (c.in_ok-write_at.ensures.written tells ∙ ap (λ (l : List ℕ). Some (overwritten c.args.self.now.offset l (bytes_of (g.D.Disk.state c.args.self.now.disk).reads c.as_str-name.result.now))) c.deref.ensures)
+    each_piece (g.D.Disk.state c.args.disk.now) c.args.self.now.base (c.as_str-name.ensures ∙ c.of-file.ensures)
+    (subst (λ (l : List ℕ). c.args.self.now.offset ≤ length (bytes_of (g.D.Disk.state c.args.disk.now).reads l)) (sym (c.as_str-name.ensures ∙ c.of-file.ensures)) (c.requires.inside tells))
+    (c.in_ok-write_at.ensures.written tells ∙ ap (λ (l : List ℕ). Some (overwritten c.args.self.now.offset l (bytes_of (g.D.Disk.state c.args.disk.now).reads c.as_str-name.result.now))) c.deref.ensures)
     (c.sync.ensures.moves tells) (c.in_ok-sync.ensures.durable tells)
 
 pub returns-clause-any_moment : goal.returns-clause-any_moment
@@ -44,8 +44,8 @@ returns-clause-flushed g c tells S log flushed count shape reach writes is =
     let written = write_stands (length c.args.bytes) writes named (ap length c.deref.ensures) (c.write_at.ensures.moves tells) in
     subst (λ (n : ℕ). WritesAt S log (flushed + count) (shape_of S (take (flushed + count) log)) (max reach (c.args.self.now.offset + length c.args.bytes)) c.args.self.now.base
     (c.args.self.now.offset + n) (g.D.Disk.state c.freeze.new.self)) (sym c.len.ensures.value)
-    (writes_same (writes_batch writes is named (g.met.D.Disk.reads_is_image c.args.self.now.disk tells)
-    (c.in_ok-write_at.ensures.written tells ∙ ap (λ (l : List ℕ). Some (overwritten c.args.self.now.offset l (bytes_of (g.D.Disk.state c.args.self.now.disk).reads c.as_str-name.result.now))) c.deref.ensures) synced (c.in_ok-sync.ensures.durable tells) (at_end (same_on written synced))) (c.freeze.ensures.moves tells))
+    (writes_same (writes_batch writes is named (g.met.D.Disk.reads_is_image c.args.disk.now tells)
+    (c.in_ok-write_at.ensures.written tells ∙ ap (λ (l : List ℕ). Some (overwritten c.args.self.now.offset l (bytes_of (g.D.Disk.state c.args.disk.now).reads c.as_str-name.result.now))) c.deref.ensures) synced (c.in_ok-sync.ensures.durable tells) (at_end (same_on written synced))) (c.freeze.ensures.moves tells))
 
 pub returns-clause-still : goal.returns-clause-still
 returns-clause-still g c tells S log flushed count shape reach writes is =

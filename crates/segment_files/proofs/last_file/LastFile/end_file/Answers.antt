@@ -1,8 +1,7 @@
-use Rattle.std.proofs.Common.{◌≡◌, ◌∙◌, arith, ℕ}
+use Rattle.std.proofs.Common.{◌∙◌, arith}
 use Rattle.mq_outside.proofs.Moments.{at_end}
-use Rattle.log_model.specs.Store.{Stands}
 use Rattle.segment_files.proofs.Turns.{has_records, same_on, writes_still, end_behind, blank_fits, each_to_end, writes_opened}
-use Rattle.segment_files.proofs.segments.Segments.end_file.Goals as goal
+use Rattle.segment_files.proofs.last_file.LastFile.end_file.Goals as goal
 
 pub returns-in_err-write_blank-clause-any_moment : goal.returns-in_err-write_blank-clause-any_moment
 returns-in_err-write_blank-clause-any_moment g c tells S log flushed shape reach writes is fills =
@@ -37,7 +36,7 @@ returns-clause-opened g c tells S log flushed shape reach writes is fills next =
     let named = c.as_str-name.ensures ∙ c.of-file.ensures in
     let written = c.write_blank.ensures.any_moment tells S shape S (end_behind writes named) (blank_fits writes fills) (each_to_end writes) in
     let synced = c.sync.ensures.moves tells in
-    writes_opened writes named is fills next (g.met.D.Disk.reads_is_image c.args.self.now.disk tells)
+    writes_opened writes named is fills next (g.met.D.Disk.reads_is_image c.args.disk.now tells)
     (c.in_ok-write_blank.ensures.written tells) synced (c.in_ok-sync.ensures.durable tells) (at_end (same_on written synced))
 
 pub returns-clause-still : goal.returns-clause-still

@@ -1,0 +1,189 @@
+//! The log's last file, which grows, over a disk of the caller.
+//!
+//! A turn writes a batch behind the records that are flushed, and syncs the file. Where the batch opens a new segment the
+//! blank comes first, and it is synced before the new file is made: else a crash could leave a new file behind a segment
+//! that has no end. After a fault the same batch is written again at the same place. A blank that was synced stays.
+
+ghost use Rattle.std.specs.Prelude.{◌≡◌, true, ◌+◌, ◌-◌, ◌*◌, ◌/◌, ◌%◌, ◌<◌, ◌≤◌, ◌^◌, max, List, ℕ, length, take, drop, Some, OnOk, OnErr, IfOk};
+ghost use Rattle.mq_outside.specs.Counts.{CountsFailure};
+ghost use Rattle.mq_outside.specs.Disk.{EachImage, Throughout};
+ghost use Rattle.record_codec.specs.Entry.{Entry};
+ghost use Rattle.log_model.specs.Segments.{Shape, added, opened, used, base, shape_of, AreSegmentFiles};
+ghost use Rattle.log_model.specs.Store.{IsBatch, KeepsIfHonest};
+ghost use Rattle.segment_files.specs.Turn.{IsInside, WritesAt, HasRecords, Opens, GoesOn, CanRetry, is_due, shape_behind, base_behind, reach_behind, syncs_of};
+
+use crate::blank::write_blank;
+use bytes::Bytes;
+use log_model::{Batch, Receipt};
+use mq_bytes::LogFile;
+use mq_outside::{Disk, Failed, Frozen};
+
+// So many zeros of a blank are written at once.
+const ZEROS: usize = 4096;
+
+/// The last file of a log, and where the next bytes go.
+#[derive(Clone, Copy)]
+pub struct LastFile {
+    // Where the file begins in the log, and the offset in it behind what is flushed.
+    base: u64,
+    offset: u64,
+}
+
+impl LastFile {
+    /// The file where a log ends, in segments of so many bytes.
+    pub fn at(segment: u32, end: u64) -> LastFile
+        requires { 0 < segment }
+        ensures { (result.base ≡ end / segment * segment) × (result.offset ≡ end % segment) }
+    {
+        let offset = end % u64::from(segment);
+        LastFile {
+            base: end - offset,
+            offset,
+        }
+    }
+
+    // Ends the last file by a blank of this size, and syncs it. The next bytes go to a new file at `next`.
+    fn end_file<D: Disk>(&mut self, disk: &mut D, size: u32, next: u64) -> Result<(), Failed>
+        requires room { self.old.offset < 2 ^ 63 }
+        requires inside { D.tells → IsInside self.old.base self.old.offset (D.state disk.old) }
+        ensures any_moment { D.tells → (S : ℕ) (log : List Entry) (flushed : ℕ) (shape : Shape) (reach : ℕ)
+            → WritesAt S log flushed shape reach self.old.base self.old.offset (D.state disk.old) → shape ≡ shape_of S (take flushed log) → size ≡ S - used shape
+            → Throughout (D.state disk.old) (D.state disk.new) (HasRecords S (take flushed log)) }
+        ensures still { D.tells → (S : ℕ) (log : List Entry) (flushed : ℕ) (shape : Shape) (reach : ℕ)
+            → WritesAt S log flushed shape reach self.old.base self.old.offset (D.state disk.old) → shape ≡ shape_of S (take flushed log) → size ≡ S - used shape
+            → WritesAt S log flushed shape S self.old.base self.old.offset (D.state disk.new) }
+        ensures opened { D.tells → (S : ℕ) (log : List Entry) (flushed : ℕ) (shape : Shape) (reach : ℕ)
+            → WritesAt S log flushed shape reach self.old.base self.old.offset (D.state disk.old) → shape ≡ shape_of S (take flushed log) → size ≡ S - used shape
+            → next ≡ base S (opened shape) → OnOk result (WritesAt S log flushed (opened shape) 0 self.new.base self.new.offset (D.state disk.new)) }
+        ensures inside { D.tells → IsInside self.new.base self.new.offset (D.state disk.new) }
+        ensures moved { OnOk result ((self.new.base ≡ next) × (self.new.offset ≡ 0)) }
+        ensures stays { OnErr result ((self.new.base ≡ self.old.base) × (self.new.offset ≡ self.old.offset)) }
+        ensures cause { CountsFailure result (D.faults disk.old) (D.faults disk.new) }
+        ensures syncs { D.syncs disk.new ≤ D.syncs disk.old + 1 }
+    {
+        let file = LogFile::of(self.base);
+        let name = file.as_str();
+        write_blank(disk, name, self.offset, size, &[0; ZEROS])?;
+        disk.sync(name)?; // the blank
+        self.base = next;
+        self.offset = 0;
+        Ok(())
+    }
+
+    // Writes these bytes behind what is flushed, and syncs them.
+    fn store<D: Disk>(&mut self, disk: &mut D, bytes: Bytes) -> Result<Frozen, Failed>
+        requires room { self.old.offset + length bytes < 2 ^ 63 }
+        requires inside { D.tells → IsInside self.old.base self.old.offset (D.state disk.old) }
+        ensures any_moment { D.tells → (S : ℕ) (log : List Entry) (flushed count : ℕ) (shape : Shape) (reach : ℕ)
+            → WritesAt S log flushed shape reach self.old.base self.old.offset (D.state disk.old) → IsBatch S log flushed count shape bytes
+            → Throughout (D.state disk.old) (D.state disk.new) (HasRecords S (take flushed log)) }
+        ensures still { D.tells → (S : ℕ) (log : List Entry) (flushed count : ℕ) (shape : Shape) (reach : ℕ)
+            → WritesAt S log flushed shape reach self.old.base self.old.offset (D.state disk.old) → IsBatch S log flushed count shape bytes
+            → WritesAt S log flushed shape (max reach (self.old.offset + length bytes)) self.old.base self.old.offset (D.state disk.new) }
+        ensures flushed { D.tells → (S : ℕ) (log : List Entry) (flushed count : ℕ) (shape : Shape) (reach : ℕ)
+            → WritesAt S log flushed shape reach self.old.base self.old.offset (D.state disk.old) → IsBatch S log flushed count shape bytes
+            → OnOk result (WritesAt S log (flushed + count) (shape_of S (take (flushed + count) log)) (max reach (self.old.offset + length bytes)) self.new.base self.new.offset (D.state disk.new)) }
+        ensures inside { D.tells → IsInside self.new.base self.new.offset (D.state disk.new) }
+        ensures moved { OnOk result (self.new.offset ≡ self.old.offset + length bytes) }
+        ensures stays { OnErr result (self.new.offset ≡ self.old.offset) }
+        ensures base { self.new.base ≡ self.old.base }
+        ensures range { IfOk result (λ piece. (piece.base ≡ self.old.base) × (piece.from ≡ self.old.offset) × (piece.len ≡ length bytes)) }
+        ensures held { D.tells → IfOk result (λ piece. piece.held ≡ Some bytes) }
+        ensures cause { CountsFailure result (D.faults disk.old) (D.faults disk.new) }
+        ensures syncs { D.syncs disk.new ≤ D.syncs disk.old + 1 }
+    {
+        let file = LogFile::of(self.base);
+        let name = file.as_str();
+        disk.write_at(name, self.offset, &bytes)?;
+        disk.sync(name)?; // the batch
+        let from = self.offset;
+        self.offset += bytes.len() as u64;
+        Ok(disk.freeze(self.base, from, bytes))
+    }
+
+    // Ends the last file where the blank lies in it. A blank before it stands already.
+    fn open_next<D: Disk>(
+        &mut self,
+        disk: &mut D,
+        place: u64,
+        blank: Option<(u64, u32)>,
+    ) -> Result<(), Failed>
+        requires room { self.old.offset < 2 ^ 63 }
+        requires inside { D.tells → IsInside self.old.base self.old.offset (D.state disk.old) }
+        ensures any_moment { D.tells → (S : ℕ) (log : List Entry) (flushed : ℕ) (shape : Shape) (reach : ℕ)
+            → WritesAt S log flushed shape reach self.old.base self.old.offset (D.state disk.old) → (is_due self.old.base blank ≡ true → Opens S log flushed shape place blank)
+            → Throughout (D.state disk.old) (D.state disk.new) (HasRecords S (take flushed log)) }
+        ensures still { D.tells → (S : ℕ) (log : List Entry) (flushed : ℕ) (shape : Shape) (reach : ℕ)
+            → WritesAt S log flushed shape reach self.old.base self.old.offset (D.state disk.old) → (is_due self.old.base blank ≡ true → Opens S log flushed shape place blank)
+            → WritesAt S log flushed shape S self.old.base self.old.offset (D.state disk.new) }
+        ensures opened { D.tells → (S : ℕ) (log : List Entry) (flushed : ℕ) (shape : Shape) (reach : ℕ)
+            → WritesAt S log flushed shape reach self.old.base self.old.offset (D.state disk.old) → (is_due self.old.base blank ≡ true → Opens S log flushed shape place blank)
+            → OnOk result (WritesAt S log flushed (shape_behind (is_due self.old.base blank) shape) (reach_behind (is_due self.old.base blank) reach) self.new.base self.new.offset (D.state disk.new)) }
+        ensures inside { D.tells → IsInside self.new.base self.new.offset (D.state disk.new) }
+        ensures moved { OnOk result ((self.new.base ≡ base_behind (is_due self.old.base blank) place self.old.base) × (self.new.offset ≡ reach_behind (is_due self.old.base blank) self.old.offset)) }
+        ensures stays { OnErr result ((self.new.base ≡ self.old.base) × (self.new.offset ≡ self.old.offset)) }
+        ensures cause { CountsFailure result (D.faults disk.old) (D.faults disk.new) }
+        ensures syncs { D.syncs disk.new + 1 ≤ D.syncs disk.old + syncs_of (is_due self.old.base blank) }
+    {
+        let Some((at, size)) = blank else {
+            return Ok(());
+        };
+        if self.base <= at {
+            self.end_file(disk, size, place)?;
+        }
+        Ok(())
+    }
+
+    /// Writes a batch behind the flushed records and syncs it. It takes no memory. At `Err` the log is stored as before,
+    /// and the same batch may come again.
+    pub fn write_batch<D: Disk>(&mut self, disk: &mut D, batch: Batch) -> Result<Receipt, Failed>
+        requires room { self.old.offset + length batch.bytes < 2 ^ 63 }
+        requires inside { D.tells → IsInside self.old.base self.old.offset (D.state disk.old) }
+
+        // At each moment of the call each image has what was flushed before it, and each honest one keeps it.
+        ensures any_moment { D.tells → (S : ℕ) (log : List Entry) (flushed : ℕ) (shape : Shape) (reach : ℕ)
+            → WritesAt S log flushed shape reach self.old.base self.old.offset (D.state disk.old)
+            → GoesOn S log flushed shape (is_due self.old.base batch.blank) batch.place batch.blank batch.count batch.bytes
+            → Throughout (D.state disk.old) (D.state disk.new) (HasRecords S (take flushed log)) }
+        ensures honest { D.tells → (S : ℕ) (log : List Entry) (flushed : ℕ) (shape : Shape) (reach : ℕ)
+            → WritesAt S log flushed shape reach self.old.base self.old.offset (D.state disk.old)
+            → GoesOn S log flushed shape (is_due self.old.base batch.blank) batch.place batch.blank batch.count batch.bytes
+            → Throughout (D.state disk.old) (D.state disk.new) (KeepsIfHonest S log flushed) }
+
+        // A fault leaves the log as before, and the batch can be written again.
+        ensures still { D.tells → (S : ℕ) (log : List Entry) (flushed : ℕ) (shape : Shape) (reach : ℕ)
+            → WritesAt S log flushed shape reach self.old.base self.old.offset (D.state disk.old)
+            → GoesOn S log flushed shape (is_due self.old.base batch.blank) batch.place batch.blank batch.count batch.bytes
+            → OnErr result (CanRetry S log flushed self.new.base self.new.offset (D.state disk.new) batch.place batch.blank batch.count batch.bytes) }
+
+        // After Ok the batch is flushed too, and where nothing longer stood behind it every image is exactly the log's files.
+        ensures flushed { D.tells → (S : ℕ) (log : List Entry) (flushed : ℕ) (shape : Shape) (reach : ℕ)
+            → WritesAt S log flushed shape reach self.old.base self.old.offset (D.state disk.old)
+            → GoesOn S log flushed shape (is_due self.old.base batch.blank) batch.place batch.blank batch.count batch.bytes
+            → OnOk result (WritesAt S log (flushed + batch.count) (shape_of S (take (flushed + batch.count) log)) (max (reach_behind (is_due self.old.base batch.blank) reach) self.new.offset) self.new.base self.new.offset (D.state disk.new)) }
+        ensures exact { D.tells → (S : ℕ) (log : List Entry) (flushed : ℕ) (shape : Shape) (reach : ℕ)
+            → WritesAt S log flushed shape reach self.old.base self.old.offset (D.state disk.old)
+            → GoesOn S log flushed shape (is_due self.old.base batch.blank) batch.place batch.blank batch.count batch.bytes
+            → reach_behind (is_due self.old.base batch.blank) reach ≤ self.new.offset
+            → OnOk result (EachImage (AreSegmentFiles S (take (flushed + batch.count) log)) (D.state disk.new)) }
+
+        // What was written, and where the next bytes go.
+        ensures range { IfOk result (λ receipt. (receipt.from ≡ batch.from) × (receipt.count ≡ batch.count)
+            × (receipt.piece.base ≡ self.new.base) × (receipt.piece.from + length batch.bytes ≡ self.new.offset) × (receipt.piece.len ≡ length batch.bytes)) }
+        ensures held { D.tells → IfOk result (λ receipt. receipt.piece.held ≡ Some batch.bytes) }
+        ensures moved { OnOk result ((self.new.base ≡ base_behind (is_due self.old.base batch.blank) batch.place self.old.base)
+            × (self.new.offset ≡ reach_behind (is_due self.old.base batch.blank) self.old.offset + length batch.bytes)) }
+        ensures room { OnErr result (self.new.offset ≤ self.old.offset) }
+        ensures inside { D.tells → IsInside self.new.base self.new.offset (D.state disk.new) }
+        ensures cause { CountsFailure result (D.faults disk.old) (D.faults disk.new) }
+        ensures syncs { D.syncs disk.new ≤ D.syncs disk.old + syncs_of (is_due self.old.base batch.blank) }
+    {
+        self.open_next(disk, batch.place, batch.blank)?;
+        let piece = self.store(disk, batch.bytes)?;
+        Ok(Receipt {
+            from: batch.from,
+            count: batch.count,
+            piece,
+        })
+    }
+}
