@@ -1,0 +1,11 @@
+pub mod NameLemmas
+pub mod SettleLemmas
+pub mod WindowLemmas
+pub mod TailLemmas
+pub mod ReadLemmas
+pub mod StepLemmas
+pub mod KeptShapes
+pub mod ImageLemmas
+pub mod RecoverLemmas
+pub mod OursLemmas
+pub mod ScanLemmas

@@ -1,0 +1,7 @@
+pub mod Faults
+pub mod Matches
+pub mod Names
+pub mod Recovered
+pub mod Scan
+pub mod Settle
+pub mod Tails

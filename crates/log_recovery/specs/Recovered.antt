@@ -1,0 +1,66 @@
+-- What recovery hands out, what it makes of the files, and what it answers.
+use Rattle.std.specs.Prelude.{◌≡◌, ◌≢◌, ◌⊎◌, ℕ, ◌<◌, ◌≤◌, List, [], length, take, IsSome, IsTrue, Result, Ok, Err}
+use Rattle.std.specs.Ordering.{nat_cmp, is_lt}
+use Rattle.std.specs.Cmp.Lexicographic.{slice_cmp}
+use Rattle.mq_outside.specs.Counts.{Rises}
+use Rattle.mq_outside.specs.Files.{Files}
+use Rattle.mq_outside.specs.Disk.{DiskState, IsCrashImage, EachImage}
+use Rattle.record_codec.specs.Entry.{Entry}
+use Rattle.log_model.specs.Log.{end_of}
+use Rattle.log_model.specs.Segments.{used, shape_of, segment_file, last_bytes, layouts, IsLogFile, NoOther}
+use Rattle.log_model.specs.Store.{Keeps, StoresAt}
+use Rattle.log_recovery.specs.declared.fault.RecoverFault.{RecoverFault}
+use Rattle.log_recovery.specs.declared.fault.RecoverFault.TheVariants.{Damaged, Failed, Memory}
+
+-- Recovery keeps records of these files. It handed them, in order, to the visitor that is this before and that after, and
+-- they end here.
+pub record Kept (S : ℕ) (files : Files) (before after : List Entry → Type 0) (end : ℕ) : Type 0 where
+  pub records : List Entry
+  pub keeps : Keeps S records files
+  pub handed : before [] → after records
+  pub ends : end ≡ end_of records
+
+-- a place and a file that are told as damaged
+abbrev pub OnDamage : {A : Type 0} → Result A RecoverFault → (ℕ → List ℕ → Type 0) → Type 0
+OnDamage (Ok _) P = Unit {0}
+OnDamage (Err (Damaged place name)) P = P place name
+OnDamage (Err Failed) P = Unit {0}
+OnDamage (Err Memory) P = Unit {0}
+
+-- the count of the disk's faults rises exactly at Failed: damage and want of memory leave it
+abbrev pub CountsRecoverFault : {A : Type 0} → Result A RecoverFault → ℕ → ℕ → Type 0
+CountsRecoverFault (Ok _) old new = new ≡ old
+CountsRecoverFault (Err (Damaged place name)) old new = new ≡ old
+CountsRecoverFault (Err Failed) old new = Rises old new
+CountsRecoverFault (Err Memory) old new = new ≡ old
+
+-- the last file of the log's folder, in byte order
+pub record IsLastFile (files : Files) (name : List ℕ) : Type 0 where
+  pub there : IsSome (files name)
+  pub behind : (other : List ℕ) → IsLogFile other → IsSome (files other) → other ≢ name → IsTrue (is_lt (slice_cmp nat_cmp other name))
+
+-- a crash leaves each file of the log's folder as it is read, but for the last one
+abbrev pub IsSettled : DiskState → Type 0
+IsSettled disk = EachImage (λ files. (name : List ℕ) → IsLogFile name → (files name ≡ disk.reads name) ⊎ IsLastFile disk.reads name) disk
+
+-- The files are those of these records alone: as they were read before the last, and in the last nothing behind its records.
+pub record IsCutTo (S : ℕ) (records : List Entry) (read files : Files) : Type 0 where
+  pub older : (k : ℕ) → k < length (shape_of S records).older → files (segment_file S k) ≡ read (segment_file S k)
+  pub last : last_bytes S (shape_of S records) files ≡ layouts (shape_of S records).last
+  pub others : NoOther S (length (shape_of S records).older) files
+
+-- Recovery of a disk that stores a log: a prefix of it with all that was flushed was handed to the visitor, and is now the
+-- log that the disk stores, all of it flushed and nothing behind it.
+pub record Recovered (S : ℕ) (log : List Entry) (flushed : ℕ) (before after : List Entry → Type 0) (disk : DiskState) (end : ℕ) : Type 0 where
+  pub number : ℕ
+  pub low : flushed ≤ number
+  pub high : number ≤ length log
+  pub handed : before [] → after (take number log)
+  pub ends : end ≡ end_of (take number log)
+  pub stores : StoresAt S (take number log) number (shape_of S (take number log)) (used (shape_of S (take number log))) disk
+
+-- what a crash may leave of files outside the log's folder is what it might have left before
+pub record IsOutsideOf (old : DiskState) (files : Files) : Type 0 where
+  pub before : Files
+  pub image : IsCrashImage old before
+  pub same : (name : List ℕ) → (IsLogFile name → ⊥) → files name ≡ before name

@@ -1,0 +1,84 @@
+-- What is known of a log's files in the course of reading them.
+use Rattle.std.specs.Prelude.{◌≡◌, ◌⊎◌, ℕ, suc, ◌+◌, ◌-◌, ◌^◌, ◌<◌, ◌≤◌, List, [], ◌∷◌, ◌++◌, length, take, drop}
+use Rattle.mq_outside.specs.Files.{Files}
+use Rattle.record_codec.specs.Entry.{Entry}
+use Rattle.record_codec.specs.Layout.{layout, size, IsRecord}
+use Rattle.log_model.specs.Log.{end_of}
+use Rattle.log_model.specs.Segments.{Shape, used, base}
+use Rattle.log_model.specs.Store.{IsNext, ReadsTo, Keeps}
+use Rattle.log_recovery.specs.declared.tail.Tail.{Tail}
+use Rattle.log_recovery.specs.declared.window.Window.{Window}
+use Rattle.log_recovery.specs.Tails.{HasTail}
+use Rattle.log_recovery.specs.Names.{AreNamed, NoFurther}
+
+-- ---- a window
+
+-- the window holds these bytes of a file from its place on
+pub record Shows (window : Window) (bytes : List ℕ) : Type 0 where
+  pub same : take window.held window.buffer.items ≡ take window.held (drop window.from bytes)
+  pub within : window.held ≤ length bytes - window.from
+
+-- each record of at most so many bytes that stands at this place of the file ends before this place
+abbrev pub EndsBefore : List ℕ → ℕ → ℕ → ℕ → Type 0
+EndsBefore bytes at room end = (r : Entry) (rest : List ℕ) → IsRecord r → drop at bytes ≡ layout r ++ rest → size r ≤ room → at + size r ≤ end
+
+-- ---- records
+
+-- these records are read, up to this offset of the file that begins at this base
+pub record Stood (S : ℕ) (files : Files) (records : List Entry) (shape : Shape) (tail : Tail) (file_base at : ℕ) : Type 0 where
+  pub reads : ReadsTo S records shape files
+  pub left : HasTail records tail
+  pub begins : file_base ≡ base S shape
+  pub here : at ≡ used shape
+  pub low : file_base < 2 ^ 63
+
+-- no record comes next
+abbrev pub NoNext : ℕ → Files → List Entry → Shape → Type 0
+NoNext S files records shape = (r : Entry) → IsNext S records files shape r → ⊥
+
+-- a step read a record of n bytes, which was handed on
+pub record StepsTo (S : ℕ) (files : Files) (records : List Entry) (shape : Shape) (tail : Tail) (before after : List Entry → Type 0) (n : ℕ) : Type 0 where
+  pub r : Entry
+  pub next : IsNext S records files shape r
+  pub long : n ≡ size r
+  pub left : HasTail (records ++ r ∷ []) tail
+  pub handed : before records → after (records ++ r ∷ [])
+
+-- a step found no next record
+pub record Stops (S : ℕ) (files : Files) (records : List Entry) (shape : Shape) (tail : Tail) (before after : List Entry → Type 0) (n : ℕ) : Type 0 where
+  pub none : n ≡ 0
+  pub ends : NoNext S files records shape
+  pub left : HasTail records tail
+  pub handed : before records → after records
+
+-- records were read up to here and handed on, behind those that were read before
+pub record Scanned (S : ℕ) (files : Files) (done : List Entry) (tail : Tail) (file_base : ℕ) (before after : List Entry → Type 0) (at : ℕ) : Type 0 where
+  pub records : List Entry
+  pub shape : Shape
+  pub stood : Stood S files records shape tail file_base at
+  pub handed : before done → after records
+
+-- and none comes next
+pub record ScansTo (S : ℕ) (files : Files) (done : List Entry) (tail : Tail) (file_base : ℕ) (before after : List Entry → Type 0) (at : ℕ) : Type 0 where
+  pub scanned : Scanned S files done tail file_base before after at
+  pub ends : NoNext S files scanned.records scanned.shape
+
+-- records were read and handed on up to the end of a file, whose blank ends it, and so many files are read
+pub record Opened (S : ℕ) (files : Files) (done : List Entry) (number : ℕ) (tail : Tail) (before after : List Entry → Type 0) : Type 0 where
+  pub records : List Entry
+  pub shape : Shape
+  pub reads : ReadsTo S records shape files
+  pub left : HasTail records tail
+  pub so_many : length shape.older ≡ number
+  pub starts : used shape ≡ 0
+  pub handed : before done → after records
+
+-- the log was read: so many files, and the records that recovery keeps of them
+pub record ReadLog (S : ℕ) (files : Files) (before after : List Entry → Type 0) (count end : ℕ) : Type 0 where
+  pub records : List Entry
+  pub keeps : Keeps S records files
+  pub handed : before [] → after records
+  pub ends : end ≡ end_of records
+  pub named : AreNamed S count files
+  pub all : NoFurther S count files
+  pub last : ((count ≡ 0) × (records ≡ [])) ⊎ (count ≡ suc (length keeps.shape.older))

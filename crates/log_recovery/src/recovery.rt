@@ -1,0 +1,59 @@
+//! Recovery of the log's files.
+
+ghost use Rattle.std.specs.Prelude.{◌≡◌, ◌+◌, ◌*◌, ◌/◌, ◌%◌, ◌≤◌, List, ℕ, take, IfOk};
+ghost use Rattle.mq_outside.specs.Disk.{EachImage, Rests, Throughout};
+ghost use Rattle.record_codec.specs.Entry.{Entry};
+ghost use Rattle.log_model.specs.Log.{IsSegmentSize};
+ghost use Rattle.log_model.specs.Segments.{IsLogFile};
+ghost use Rattle.log_model.specs.Store.{Keeps, IsDamagedAt, IsHonest, StoresLog, KeepsIfHonest};
+ghost use Rattle.segment_files.specs.Turn.{IsInside, HasRecords};
+ghost use Rattle.log_recovery.specs.Recovered.{Kept, Recovered, IsCutTo, IsSettled, IsOutsideOf, OnDamage, CountsRecoverFault};
+
+use crate::fault::RecoverFault;
+use crate::scan::read_log;
+use crate::settle::settle;
+use crate::visitor::Visit;
+use mq_outside::Disk;
+use std::alloc::Global;
+
+/// Recovers the log from its files: hands each kept record to `each`, cuts off what stands behind them, and answers where they end.
+pub fn recover<D: Disk, V: Visit>(
+    alloc: Global,
+    disk: &mut D,
+    segment: u32,
+    each: &mut V,
+) -> Result<u64, RecoverFault>
+    requires size { IsSegmentSize segment }
+
+    // What is kept of any files, and when they are damaged.
+    ensures kept { D.tells → IfOk result (Kept segment (D.state disk.old).reads (V.stands each.old) (V.stands each.new)) }
+    ensures inside { D.tells → IfOk result (λ end. IsInside (end / segment * segment) (end % segment) (D.state disk.new)) }
+    ensures damaged { D.tells → OnDamage result (IsDamagedAt segment (D.state disk.old).reads) }
+    ensures untouched { D.tells → OnDamage result (λ place name. Rests (D.state disk.old) (D.state disk.new)) }
+
+    // A crash afterwards leaves the kept records and nothing behind them.
+    ensures exact { D.tells → IsSettled (D.state disk.old) → IfOk result (λ end. (records : List Entry) → Keeps segment records (D.state disk.old).reads
+        → EachImage (IsCutTo segment records (D.state disk.old).reads) (D.state disk.new)) }
+
+    // A disk that stores a log, and is read honestly: a prefix is kept, and is stored.
+    ensures ours { D.tells → (log : List Entry) (flushed : ℕ) → StoresLog segment log flushed (D.state disk.old) → IsHonest segment log flushed (D.state disk.old).reads
+        → IfOk result (Recovered segment log flushed (V.stands each.old) (V.stands each.new) (D.state disk.new)) }
+
+    // Whatever the answer, what was flushed stays, at each moment.
+    ensures still { D.tells → (log : List Entry) (flushed : ℕ) → StoresLog segment log flushed (D.state disk.old) → IsHonest segment log flushed (D.state disk.old).reads
+        → StoresLog segment log flushed (D.state disk.new) }
+    ensures any_moment { D.tells → (log : List Entry) (flushed : ℕ) → StoresLog segment log flushed (D.state disk.old) → IsHonest segment log flushed (D.state disk.old).reads
+        → Throughout (D.state disk.old) (D.state disk.new) (HasRecords segment (take flushed log)) }
+    ensures honest { D.tells → (log : List Entry) (flushed : ℕ) → StoresLog segment log flushed (D.state disk.old) → IsHonest segment log flushed (D.state disk.old).reads
+        → Throughout (D.state disk.old) (D.state disk.new) (KeepsIfHonest segment log flushed) }
+
+    // Files outside the log's folder stay.
+    ensures outside { D.tells → (name : List ℕ) → (IsLogFile name → ⊥) → (D.state disk.new).reads name ≡ (D.state disk.old).reads name }
+    ensures outside_images { D.tells → Throughout (D.state disk.old) (D.state disk.new) (IsOutsideOf (D.state disk.old)) }
+    ensures cause { CountsRecoverFault result (D.faults disk.old) (D.faults disk.new) }
+    ensures syncs { D.syncs disk.new ≤ D.syncs disk.old + 1 }
+{
+    let log = read_log(alloc, disk, segment, each)?;
+    settle(disk, segment, log.count, log.end)?;
+    Ok(log.end)
+}

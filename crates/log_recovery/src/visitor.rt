@@ -1,0 +1,18 @@
+//! Who takes the records that recovery keeps.
+
+ghost use Rattle.std.specs.Prelude.{◌++◌, ◌∷◌, List, [], ℕ, OnOk};
+ghost use Rattle.record_codec.specs.Entry.{Entry};
+ghost use Rattle.log_model.specs.Log.{Follows};
+
+use record_codec::View;
+use std::alloc::AllocError;
+
+/// What recovery hands each kept record to, in the order of the log.
+pub trait Visit {
+    /// That these are the records that it was handed.
+    ghost stands: { Self → List Entry → Type 0 };
+
+    /// Takes the record behind those that it was handed.
+    fn record(&mut self, view: &View<'_>) -> Result<(), AllocError>
+        ensures { (S : ℕ) (records : List Entry) → Follows S records view.now → stands self.old records → OnOk result (stands self.new (records ++ view.now ∷ [])) };
+}
