@@ -1,0 +1,6 @@
+pub mod CountLemmas
+pub mod TailLemmas
+pub mod FollowLemmas
+pub mod TurnLemmas
+pub mod DurableLemmas
+pub mod OpeningLemmas

@@ -1,0 +1,112 @@
+-- One turn of the flusher, for a batch behind a log that is all flushed.
+use Rattle.std.proofs.Common.{◌≡◌, ◌⊎◌, ⊎_elim, ◌∙◌, ℕ, ◌+◌, ◌++◌, List, [], ◌∷◌, length, take, Bool, true, false, Option, refl, ap, sym, subst, arith, length-append}
+use Rattle.std.proofs.lemmas.List.{length_push, take_at, take_all}
+use Rattle.std.proofs.lemmas.Bool.{le-leb}
+use Rattle.mq_outside.specs.Files.{Files}
+use Rattle.mq_outside.specs.Disk.{DiskState, Throughout}
+use Rattle.record_codec.specs.Entry.{Entry}
+use Rattle.record_codec.specs.declared.draft.Draft.{Draft}
+use Rattle.record_codec.specs.declared.draft.Place.{Place}
+use Rattle.log_model.specs.declared.batch.Batch.{Batch}
+use Rattle.log_model.specs.Log.{IsWellFormed}
+use Rattle.log_model.specs.Segments.{Shape, opened, base, end_in, shape_of}
+use Rattle.log_model.specs.Store.{StoresLog, KeepsIfHonest, IsBatch}
+use Rattle.log_model.specs.Batches.{IsBatchOf}
+use Rattle.log_model.proofs.BatchLemmas.{batch_goes, GoesHere, GoesNext}
+use Rattle.log_model.proofs.Longer.{stores_longer}
+use Rattle.log_model.proofs.Prefixes.{keeps_prefix}
+use Rattle.segment_files.specs.Turn.{WritesAt, HasRecords, GoesOn, CanRetry, is_due, shape_behind}
+use Rattle.log_writer.specs.Tails.{StandsFor}
+use Rattle.log_writer.specs.Places.{next_entry, with_next, IsAppended}
+use Rattle.log_writer.specs.Durable.{Stores}
+use Rattle.log_writer.specs.declared.tail.LogTail.{LogTail}
+use Rattle.log_writer.specs.declared.writer.LogWriter.{LogWriter}
+
+front_is : (log : List Entry) (r : Entry) → take (length log) (log ++ r ∷ []) ≡ log
+front_is log r = take_at log (r ∷ []) (length log) refl
+
+-- the batch goes on where a log that is all flushed ends
+pub batch_goes_on : (S : ℕ) (log : List Entry) (flushed : ℕ) (batch : Batch) (file_base : ℕ) → IsWellFormed S log → IsBatchOf S log flushed batch
+    → file_base ≡ base S (shape_of S (take flushed log))
+    → GoesOn S log flushed (shape_of S (take flushed log)) (is_due file_base batch.blank) batch.place batch.blank batch.count batch.bytes
+batch_goes_on S log flushed batch file_base well is at =
+    let shape : Shape = shape_of S (take flushed log) in
+    ⊎_elim
+    (λ (here : GoesHere S log flushed batch).
+    let not_due : is_due file_base batch.blank ≡ false = ap (is_due file_base) here.blank in
+    record {
+      records = subst (λ (due : Bool). IsBatch S log flushed batch.count (shape_behind due shape) batch.bytes) (sym not_due) here.is;
+      opens = λ due. let full : false ≡ true = sym not_due ∙ due in absurd (cc);
+    })
+    (λ (next : GoesNext S log flushed batch).
+    let due : is_due file_base batch.blank ≡ true = ap (is_due file_base) next.blank ∙ le-leb file_base (end_in S shape) (omega (arith, at)) in
+    record {
+      records = subst (λ (d : Bool). IsBatch S log flushed batch.count (shape_behind d shape) batch.bytes) (sym due) next.is;
+      opens = λ _. record { is = refl; filled = next.blank; begins = next.place };
+    })
+    (batch_goes S log flushed batch well is)
+
+-- a disk that stores the log stores it with one record more that is not flushed yet
+writes_longer : (S : ℕ) (log : List Entry) (r : Entry) (reach file_base offset : ℕ) (disk : DiskState) → IsWellFormed S (log ++ r ∷ [])
+    → WritesAt S log (length log) (shape_of S log) reach file_base offset disk
+    → WritesAt S (log ++ r ∷ []) (length log) (shape_of S (take (length log) (log ++ r ∷ []))) reach file_base offset disk
+writes_longer S log r reach file_base offset disk well writes =
+    let front = front_is log r in
+    subst (λ (l : List Entry). WritesAt S (log ++ r ∷ []) (length log) (shape_of S l) reach file_base offset disk) (sym front) (record {
+      stores = stores_longer S log (r ∷ []) (length log) (shape_of S log) reach disk well writes.stores;
+      place = writes.place;
+      low = writes.low;
+    })
+
+-- what a turn of the flusher starts from, for this record behind the log
+pub record Starts (S : ℕ) (log : List Entry) (r : Entry) (batch : Batch) (file_base offset : ℕ) (disk : DiskState) : Type 0 where
+  pub reach : ℕ
+  pub writes : WritesAt S (log ++ r ∷ []) (length log) (shape_of S (take (length log) (log ++ r ∷ []))) reach file_base offset disk
+  pub goes : GoesOn S (log ++ r ∷ []) (length log) (shape_of S (take (length log) (log ++ r ∷ []))) (is_due file_base batch.blank) batch.place batch.blank batch.count batch.bytes
+
+-- what was appended, in the segments of the disk
+pub appended_in : (S size : ℕ) (log : List Entry) (draft : Draft) (reading : ℕ) (tail : LogTail) (at : Place) (batch : Batch) → size ≡ S
+    → IsAppended size log draft reading tail at batch → IsAppended S log draft reading tail at batch
+appended_in S size log draft reading tail at batch same appended = subst (λ (k : ℕ). IsAppended k log draft reading tail at batch) same appended
+
+pub starts : (S : ℕ) (log : List Entry) (draft : Draft) (reading : ℕ) (tail : LogTail) (at : Place) (batch : Batch) (writer : LogWriter) (disk : DiskState)
+    → Stores S log writer disk → IsAppended writer.tail.segment log draft reading tail at batch
+    → (IsWellFormed writer.tail.segment log → IsWellFormed writer.tail.segment (with_next writer.tail.segment log draft reading))
+    → Starts S log (next_entry S log draft reading) batch writer.file.base writer.file.offset disk
+starts S log draft reading tail at batch writer disk stores appended well_formed =
+    let r : Entry = next_entry S log draft reading in
+    let here = appended_in S writer.tail.segment log draft reading tail at batch stores.size appended in
+    let well : IsWellFormed S (log ++ r ∷ []) =
+    subst (λ (k : ℕ). IsWellFormed k log → IsWellFormed k (with_next k log draft reading)) stores.size well_formed stores.writes.stores.well_formed in
+    let writes = writes_longer S log r stores.reach writer.file.base writer.file.offset disk well stores.writes in
+    record { reach = stores.reach; writes = writes; goes = batch_goes_on S (log ++ r ∷ []) (length log) batch writer.file.base well here.is writes.place.last }
+
+-- the records at the front of a longer log
+pub has_front : (S : ℕ) (log : List Entry) (r : Entry) {old new : DiskState} → Throughout old new (HasRecords S (take (length log) (log ++ r ∷ []))) → Throughout old new (HasRecords S log)
+has_front S log r {old = old} {new = new} so_far = subst (λ (l : List Entry). Throughout old new (HasRecords S l)) (front_is log r) so_far
+
+-- the record was flushed
+pub stores_sent : (S : ℕ) (log : List Entry) (r : Entry) (writer : LogWriter) (count reach : ℕ) (disk : DiskState) → count ≡ 1 → writer.tail.segment ≡ S → StandsFor writer.tail (log ++ r ∷ [])
+    → WritesAt S (log ++ r ∷ []) (length log + count) (shape_of S (take (length log + count) (log ++ r ∷ []))) reach writer.file.base writer.file.offset disk
+    → Stores S (log ++ r ∷ []) writer disk
+stores_sent S log r writer count reach disk one size stands writes =
+    let number : length log + count ≡ length (log ++ r ∷ []) = omega (arith, one, length_push log r) in
+    let whole : take (length (log ++ r ∷ [])) (log ++ r ∷ []) ≡ log ++ r ∷ [] = take_all (length (log ++ r ∷ [])) (log ++ r ∷ []) (omega arith) in
+    record {
+      size = size;
+      stands = stands;
+      reach = reach;
+      writes = subst (λ (l : List Entry). WritesAt S (log ++ r ∷ []) (length (log ++ r ∷ [])) (shape_of S l) reach writer.file.base writer.file.offset disk) whole
+          (subst (λ (n : ℕ). WritesAt S (log ++ r ∷ []) n (shape_of S (take n (log ++ r ∷ []))) reach writer.file.base writer.file.offset disk) number writes);
+    }
+
+-- the record was not flushed
+pub stores_failed : (S : ℕ) (log : List Entry) (flushed file_base offset : ℕ) (disk : DiskState) (place : ℕ) (blank : Option (ℕ × ℕ)) (count : ℕ) (bytes : List ℕ)
+    → CanRetry S log flushed file_base offset disk place blank count bytes → StoresLog S log flushed disk
+stores_failed S log flushed file_base offset disk place blank count bytes retry = record { shape = retry.shape; reach = retry.reach; at = retry.writes.stores }
+
+-- the records at the front of any longer log are kept of each honest image
+pub keeps_front : (S : ℕ) (log more : List Entry) (files : Files) → IsWellFormed S (log ++ more) → HasRecords S log files → KeepsIfHonest S (log ++ more) (length log) files
+keeps_front S log more files well has honest =
+    keeps_prefix S (log ++ more) (length log) files has.shape has.reach well (omega (arith, length-append log more))
+    (subst (λ (l : List Entry). (has.shape ≡ shape_of S l) ⊎ (has.shape ≡ opened (shape_of S l))) (sym (take_at log more (length log) refl)) has.laid) has.stands honest

@@ -1,0 +1,16 @@
+use Rattle.std.proofs.Common.{◌∙◌, sym, arith}
+use Rattle.log_model.specs.Queues.{queue_end}
+use Rattle.log_writer.proofs.TailLemmas.{last_store_low}
+use Rattle.log_writer.proofs.visit.LogTailVisit.record.Goals as goal
+
+pub returns : goal.returns
+returns c S records follows stands =
+    c.in_ok-advance.ensures.moved records c.args.view.now stands (record {
+      of_topic = sym c.topic.ensures;
+      of_queue = sym c.queue.ensures;
+      offset_is = sym c.offset.ensures.value;
+      store_is = sym c.store.ensures.value;
+      size_is = sym c.size-size.ensures;
+      next = c.queue_offset.ensures.value ∙ follows.queue_offset ∙ (λ i. queue_end records (sym c.topic.ensures i) (sym c.queue.ensures i));
+      later = last_store_low c.store.result records (λ k earlier got. omega (arith, follows.store k earlier got, c.store.ensures.value));
+    })

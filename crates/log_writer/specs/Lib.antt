@@ -1,0 +1,6 @@
+pub mod Counts
+pub mod Tails
+pub mod Places
+pub mod Outcomes
+pub mod Durable
+pub mod Openings

@@ -1,0 +1,68 @@
+-- Where the next record goes, and which drafts may become one.
+use Rattle.std.specs.Prelude.{◌≡◌, ℕ, ◌+◌, ◌^◌, ◌<◌, ◌≤◌, max, bit_and, List, [], ◌∷◌, ◌++◌, length, codes, None, false}
+use Rattle.record_codec.specs.Entry.{Entry}
+use Rattle.record_codec.specs.Props.{value_of, has_name}
+use Rattle.record_codec.specs.Layout.{layout}
+use Rattle.record_codec.specs.Drafts.{entry_of, draft_size, draft_fault}
+use Rattle.record_codec.specs.declared.draft.Draft.{Draft}
+use Rattle.record_codec.specs.declared.draft.Place.{Place}
+use Rattle.log_model.specs.Log.{is_system_topic, next_place}
+use Rattle.log_model.specs.Queues.{queue_end}
+use Rattle.log_model.specs.declared.batch.Batch.{Batch}
+use Rattle.log_model.specs.Batches.{blank_between, IsBatchOf}
+use Rattle.log_writer.specs.Tails.{last_store, StandsFor}
+use Rattle.log_writer.specs.declared.tail.LogTail.{LogTail}
+
+-- The place of the next record, of n bytes: the end of its queue, the next place of the log, and the clock's reading or the
+-- last record's store time, whichever is the later.
+abbrev pub place_behind : ℕ → List Entry → List ℕ → ℕ → ℕ → ℕ → Place
+place_behind S log topic queue n reading = record {
+  queue_offset = queue_end log topic queue;
+  offset = next_place S log n;
+  store = max reading (last_store log);
+}
+
+-- the place of the record of this draft
+abbrev pub place_of : ℕ → List Entry → Draft → ℕ → Place
+place_of S log draft reading = place_behind S log draft.topic draft.queue (draft_size draft) reading
+
+-- the record of this draft behind the log
+abbrev pub next_entry : ℕ → List Entry → Draft → ℕ → Entry
+next_entry S log draft reading = entry_of draft (place_of S log draft reading)
+
+-- the log with the record of this draft
+abbrev pub with_next : ℕ → List Entry → Draft → ℕ → List Entry
+with_next S log draft reading = log ++ next_entry S log draft reading ∷ []
+
+-- a record of n bytes behind the log ends within the greatest place that a log has
+abbrev pub HasRoom : ℕ → List Entry → ℕ → Type 0
+HasRoom S log n = next_place S log n + n ≤ 2 ^ 62
+
+-- A draft whose record may stand behind any log where there is room: it can be written into a segment, and is a plain
+-- message to one of 1,024 queues, which neither begins nor ends a transaction that was kept apart.
+pub record IsPlainDraft (S : ℕ) (draft : Draft) : Type 0 where
+  pub passes : draft_fault S draft ≡ None
+  pub born : draft.born < 2 ^ 62
+  pub prepared : draft.prepared < 2 ^ 62
+  pub unsealed : has_name (codes "SEAL") draft.props ≡ false
+  pub queue : draft.queue < 1024
+  pub copy : bit_and draft.sysflag 12 ≡ 8 → ⊥
+  pub topic : is_system_topic draft.topic ≡ false
+  pub delivery : value_of (codes "DELAY_FROM") draft.props ≡ None
+  pub renewal : value_of (codes "TRAN_PREPARED_QUEUE_OFFSET") draft.props ≡ None
+
+-- a batch of this record alone, behind so many records that end here
+pub record IsAlone (records end : ℕ) (r : Entry) (batch : Batch) : Type 0 where
+  pub from : batch.from ≡ records
+  pub one : batch.count ≡ 1
+  pub at : batch.place ≡ r.offset
+  pub blank : batch.blank ≡ blank_between end r.offset
+  pub bytes : batch.bytes ≡ layout r
+
+-- the record of this draft was put behind the log: the tail stands for both, and the batch has this record alone
+pub record IsAppended (S : ℕ) (log : List Entry) (draft : Draft) (reading : ℕ) (tail : LogTail) (at : Place) (batch : Batch) : Type 0 where
+  pub room : HasRoom S log (draft_size draft)
+  pub place : at ≡ place_of S log draft reading
+  pub stands : StandsFor tail (with_next S log draft reading)
+  pub one : batch.count ≡ 1
+  pub is : IsBatchOf S (with_next S log draft reading) (length log) batch
