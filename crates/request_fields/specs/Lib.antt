@@ -1,0 +1,9 @@
+pub mod Kinds
+pub mod Values
+pub mod Faults
+pub mod Gives
+pub mod Bodies
+pub mod Rows
+pub mod Names
+pub mod Requests
+pub mod Reading

@@ -1,0 +1,72 @@
+//! The fields of a SEND, which codes 10 and 310 have under different names.
+//!
+//! | kept             | code 10                 | code 310 | kind                          |
+//! |------------------|-------------------------|----------|-------------------------------|
+//! | `group`          | `producerGroup`         | `a`      | name, required                |
+//! | `topic`          | `topic`                 | `b`      | text, required                |
+//! | `queue`          | `queueId`               | `e`      | i32, required                 |
+//! | `sysflag`        | `sysFlag`               | `f`      | i32, required                 |
+//! | `born`           | `bornTimestamp`         | `g`      | time, required                |
+//! | `flag`           | `flag`                  | `h`      | i32, required                 |
+//! | `default_topic`  | `defaultTopic`          | `c`      | text                          |
+//! | `default_queues` | `defaultTopicQueueNums` | `d`      | i32, 0 where absent           |
+//! | `props`          | `properties`            | `i`      | text                          |
+//! | `reconsume`      | `reconsumeTimes`        | `j`      | i32, 0 where absent           |
+//! |                  | `maxReconsumeTimes`     | `l`      | i32                           |
+//! |                  | `unitMode`              | `k`      | text                          |
+//! |                  | `batch`                 | `m`      | anything but `true`           |
+
+ghost use Rattle.std.specs.Prelude.{◌≡◌};
+ghost use Rattle.request_fields.specs.Faults.{first_fault};
+ghost use Rattle.request_fields.specs.Gives.{Gives};
+ghost use Rattle.request_fields.specs.Rows.{send_row};
+ghost use Rattle.request_fields.specs.Reading.{send_said};
+ghost use Rattle.request_fields.specs.Names.{names_view};
+ghost use Rattle.request_fields.specs.declared.request.Request.TheVariants.{Send};
+
+use crate::fault::RequestFault;
+use crate::needed::{needed_i32, needed_name, needed_text, needed_time};
+use crate::optional::{optional_i32, optional_text, optional_untrue};
+use crate::request::Request;
+use crate::send_fields::SendFields;
+use crate::send_names::SendNames;
+use mq_bytes::Rows;
+use remoting_frame::Frame;
+use std::alloc::Global;
+
+#[tactic(auto, using(crate::proofs::Later::told_first, crate::proofs::Later::told_later, crate::proofs::Later::none_of_both), unfolding(crate::specs::Rows::send_row, crate::specs::Reading::send_said))]
+pub(crate) fn send(
+    alloc: Global,
+    frame: &Frame,
+    names: &SendNames<'_>,
+) -> Result<Request, RequestFault>
+    ensures { Gives result (first_fault (send_row (names_view names.now)) frame.now.header.ext) (Send (send_said (names_view names.now) frame.now.header.ext frame.now.body)) }
+{
+    let header = &frame.header;
+    let group = needed_name(alloc, header, names.group)?;
+    let topic = needed_text(alloc, header, names.topic)?;
+    let queue = needed_i32(alloc, header, names.queue)?;
+    let sysflag = needed_i32(alloc, header, names.sysflag)?;
+    let born = needed_time(alloc, header, names.born)?;
+    let flag = needed_i32(alloc, header, names.flag)?;
+    let default_topic = optional_text(alloc, header, names.default_topic)?;
+    let default_queues = optional_i32(alloc, header, names.default_queues, 0)?;
+    let props = optional_text(alloc, header, names.props)?;
+    let reconsume = optional_i32(alloc, header, names.reconsume, 0)?;
+    let _max_reconsume = optional_i32(alloc, header, names.max_reconsume, 16)?;
+    optional_untrue(alloc, header, names.batch)?;
+    let body = Rows::of(Vec::from_slice(alloc, frame.body.as_slice())?);
+    Ok(Request::Send(SendFields {
+        group,
+        topic,
+        queue,
+        sysflag,
+        born,
+        flag,
+        default_topic,
+        default_queues,
+        props,
+        reconsume,
+        body,
+    }))
+}
