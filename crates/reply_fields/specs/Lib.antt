@@ -1,0 +1,7 @@
+pub mod Ranges
+pub mod Slices
+pub mod Stretches
+pub mod Parts
+pub mod Replies
+pub mod Refusals
+pub mod Asks

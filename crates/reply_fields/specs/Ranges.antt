@@ -1,0 +1,6 @@
+-- Ranges of stored pieces, and how often a reader was asked.
+use Rattle.std.specs.Prelude.{ℕ, ◌+◌, ◌-◌, ◌^◌, ◌≤◌, min}
+
+-- Between none and n more. A count that stands at the greatest u64 stays there.
+abbrev pub RisesAtMost : ℕ → ℕ → ℕ → Type 0
+RisesAtMost n old new = (min old (2 ^ 64 - 1) ≤ new) × (new ≤ old + n)

@@ -1,0 +1,199 @@
+//! A check-back: the question to a producer group what became of its half message, and how it is written.
+//!
+//! The frame has code 39, flag 2, which asks for no answer, and version 0. Its body is the record of the half message
+//! with the topic and the queue that it is for. Its fields are texts:
+//!
+//! | name                   |                                                           |
+//! |------------------------|-----------------------------------------------------------|
+//! | `commitLogOffset`      | the record's physical offset                              |
+//! | `msgId`                | the property `UNIQ_KEY`, or where there is none the id of the record |
+//! | `offsetMsgId`          | the id of the record                                      |
+//! | `tranStateTableOffset` | the record's queue offset                                 |
+//! | `transactionId`        | the property `UNIQ_KEY`, or else empty                    |
+
+ghost use Rattle.std.specs.Prelude.{◌≡◌, ◌<◌, ◌^◌, ◌++◌, length, codes, IfOk, OnOk, OnErr, Some};
+ghost use Rattle.std.specs.Str.Parse.{digits_value};
+ghost use Rattle.mq_bytes.specs.Decimal.{digits_of};
+ghost use Rattle.mq_bytes.specs.Ids.{message_id_of};
+ghost use Rattle.record_codec.specs.Drafts.{entry_of, IsEncodable};
+ghost use Rattle.record_codec.specs.Props.{value_of};
+ghost use Rattle.remoting_frame.specs.Head.{IsInOrder};
+ghost use Rattle.remoting_frame.specs.Headers.{header_in, header_text};
+ghost use Rattle.remoting_frame.specs.declared.frame.Form.TheVariants.{Json};
+ghost use Rattle.reply_fields.specs.Asks.{text_or, real_topic as real_topic_of, real_queue as real_queue_of, real_draft, offset_id as offset_id_of, ask_fields, ask_head, ask_bytes, IsAsked};
+
+use crate::ask_frame::write_frame;
+use crate::copies::record_of;
+use mq_bytes::{Rows, Text, message_id, read_decimal};
+use record_codec::{Props, Record};
+use remoting_frame::Header;
+use std::alloc::{AllocError, Global};
+use std::marker::Model;
+
+/// A check-back to a link, for a producer group. `view` is the newest record of the half message; it stands in the log,
+/// has a legal topic `REAL_TOPIC` and a decimal `REAL_QID` below 1,024, and can be written with these.
+#[derive(Drop)]
+pub struct Ask {
+    pub link: u32,
+    pub group: Text,
+    pub view: Record,
+}
+
+impl Model for Ask {
+    ghost use Rattle.reply_fields.specs.Parts.{AskParts};
+
+    ghost Value = { AskParts };
+
+    ghost use Rattle.reply_fields.specs.Asks.{IsAsked};
+
+    ghost view = { λ a. record { link = a.link; group = a.group; view = a.view } };
+
+    ghost invariant = { λ a. IsAsked a.view };
+}
+
+// The topic that the half message is for.
+fn real_topic(alloc: Global, props: &Props) -> Result<Text, AllocError>
+    ensures { IfOk result (λ topic. topic ≡ real_topic_of props.now) }
+{
+    text(alloc, props.get("REAL_TOPIC").unwrap_or(""))
+}
+
+// The number that digits without a leading zero write.
+#[tactic(auto, using(crate::proofs::AskLemmas::number_read))]
+fn number_in(text: &str) -> u32
+    requires plain { text.now ≡ digits_of (digits_value 10 text.now) }
+    requires low { digits_value 10 text.now < 1024 }
+    ensures { result ≡ digits_value 10 text.now }
+{
+    match read_decimal(text) {
+        Some(number) => number as u32,
+        None => unreachable!(),
+    }
+}
+
+// The queue that it is for.
+fn real_queue(props: &Props) -> u32
+    requires decimal { value_of (codes "REAL_QID") props.now ≡ Some (digits_of (real_queue_of props.now)) }
+    requires low { real_queue_of props.now < 1024 }
+    ensures { result ≡ real_queue_of props.now }
+{
+    number_in(props.get("REAL_QID").unwrap_or(""))
+}
+
+// The record as the message that it will be.
+fn message_of(alloc: Global, view: &Record) -> Result<Record, AllocError>
+    requires { IsAsked view.now }
+    ensures message { IfOk result (λ message. entry_of message.draft message.place ≡ entry_of (real_draft view.now.draft) view.now.place) }
+    ensures encodable { IfOk result (λ message. IsEncodable message.draft message.place) }
+{
+    let topic = real_topic(alloc, &view.draft.props)?;
+    let queue = real_queue(&view.draft.props);
+    let copy = record_of(alloc, view)?;
+    let mut draft = copy.draft;
+    draft.topic = topic;
+    draft.queue = queue;
+    Ok(Record {
+        draft,
+        place: copy.place,
+        size: copy.size,
+    })
+}
+
+fn text(alloc: Global, text: &str) -> Result<Text, AllocError>
+    ensures { IfOk result (λ copy. copy ≡ text.now) }
+{
+    Ok(Text::of(String::from_str(alloc, text)?))
+}
+
+fn number(alloc: Global, number: u64) -> Result<Text, AllocError>
+    ensures { IfOk result (λ digits. digits ≡ digits_of number) }
+{
+    Ok(Text::of(format!(in alloc; "{number}")?))
+}
+
+// The sender's own id, or where there is none the one that the broker gave.
+fn id_of(alloc: Global, view: &Record) -> Result<Text, AllocError>
+    ensures { IfOk result (λ id. id ≡ text_or (offset_id_of view.now) (value_of (codes "UNIQ_KEY") view.now.draft.props)) }
+{
+    let id = match view.draft.props.get("UNIQ_KEY") {
+        Some(key) => text(alloc, key)?,
+        None => offset_id(alloc, view)?,
+    };
+    Ok(id)
+}
+
+fn id_at(alloc: Global, host: [u8; 8], place: u64) -> Result<Text, AllocError>
+    ensures id { IfOk result (λ id. id ≡ message_id_of host place) }
+    ensures host { length host ≡ 8 }
+{
+    Ok(Text::of(message_id(alloc, host, place)?))
+}
+
+fn offset_id(alloc: Global, view: &Record) -> Result<Text, AllocError>
+    ensures id { IfOk result (λ id. id ≡ offset_id_of view.now) }
+    ensures host { length view.now.draft.store_host ≡ 8 }
+{
+    let id = id_at(alloc, view.draft.store_host, view.place.offset)?;
+    Ok(id)
+}
+
+fn pairs_of(alloc: Global, view: &Record) -> Result<Rows<(Text, Text)>, AllocError>
+    ensures fields { IfOk result (λ fields. fields ≡ ask_fields view.now) }
+    ensures host { OnOk result (length view.now.draft.store_host ≡ 8) }
+{
+    let key = view.draft.props.get("UNIQ_KEY").unwrap_or("");
+    let fields = vec![in alloc;
+        (
+            text(alloc, "commitLogOffset")?,
+            number(alloc, view.place.offset)?
+        ),
+        (text(alloc, "msgId")?, id_of(alloc, view)?),
+        (text(alloc, "offsetMsgId")?, offset_id(alloc, view)?),
+        (
+            text(alloc, "tranStateTableOffset")?,
+            number(alloc, view.place.queue_offset)?
+        ),
+        (text(alloc, "transactionId")?, text(alloc, key)?),
+    ]?;
+    Ok(Rows::of(fields))
+}
+
+fn fields_of(alloc: Global, view: &Record) -> Result<Rows<(Text, Text)>, AllocError>
+    ensures fields { IfOk result (λ fields. fields ≡ ask_fields view.now) }
+    ensures ordered { IfOk result IsInOrder }
+    ensures host { OnOk result (length view.now.draft.store_host ≡ 8) }
+{
+    let fields = pairs_of(alloc, view)?;
+    Ok(fields)
+}
+
+fn header_of(alloc: Global, view: &Record, opaque: i32) -> Result<Header, AllocError>
+    requires { IsAsked view.now }
+    ensures header { IfOk result (λ header. header ≡ ask_head view.now opaque) }
+    ensures short { IfOk result (λ header. length (header_text Json header) < 2 ^ 24) }
+{
+    let ext = fields_of(alloc, view)?;
+    let remark = Text::of(String::new(alloc));
+    Ok(Header {
+        code: 39,
+        version: 0,
+        opaque,
+        flag: 2,
+        remark,
+        ext,
+    })
+}
+
+impl Ask {
+    /// Appends the frame of this check-back. After want of memory `out` is as before.
+    pub fn write(&self, alloc: Global, opaque: i32, out: &mut Vec<u8>) -> Result<(), AllocError>
+        ensures written { OnOk result (out.new.items ≡ out.old.items ++ ask_bytes opaque self.now.view) }
+        ensures again { OnOk result (header_in Json (header_text Json (ask_head self.now.view opaque)) ≡ Some (ask_head self.now.view opaque)) }
+        ensures err { OnErr result (out.new.items ≡ out.old.items) }
+    {
+        let header = header_of(alloc, &self.view, opaque)?;
+        let message = message_of(alloc, &self.view)?;
+        write_frame(alloc, &header, &message, out)?;
+        Ok(())
+    }
+}

@@ -1,0 +1,19 @@
+//! The bytes of what the broker says: replies to requests, and check-backs of half messages.
+#![tactic(auto)]
+
+mod ask;
+mod ask_frame;
+mod body;
+mod copies;
+mod refusals;
+mod reply;
+mod slice;
+
+pub use ask::Ask;
+pub use reply::Reply;
+pub use slice::{Slice, StoredRange};
+
+#[cfg(test)]
+mod ask_tests;
+#[cfg(test)]
+mod tests;

@@ -1,0 +1,114 @@
+//! A reply: what a client is told of its request, and how it is written.
+
+ghost use Rattle.std.specs.Prelude.{◌≡◌, ◌<◌, ◌^◌, ◌++◌, OnOk, OnErr, IfOk, Some};
+ghost use Rattle.mq_outside.specs.Counts.{CountsDiskFault};
+ghost use Rattle.remoting_frame.specs.BinaryText.{Has16Bits};
+ghost use Rattle.remoting_frame.specs.Head.{IsShort};
+ghost use Rattle.remoting_frame.specs.Headers.{header_in, header_text, front_bytes};
+ghost use Rattle.reply_fields.specs.Ranges.{RisesAtMost};
+ghost use Rattle.reply_fields.specs.Replies.{reply_head, AppendsReply};
+ghost use Rattle.reply_fields.specs.Slices.{body_len, kept_count, AppendsBody};
+
+use crate::body::{size_of, write_body};
+use crate::copies::{copies_of, copy_of};
+use crate::slice::Slice;
+use mq_bytes::{Rows, Text};
+use mq_outside::{DiskFault, Reader};
+use remoting_frame::{Form, Header};
+use std::alloc::{AllocError, Global};
+use std::marker::Model;
+
+/// What a client is told. The code has 16 signed bits. The names of `ext` are distinct and in byte order; the remark and
+/// the pairs have together at most 65,536 bytes, where six are counted for the two lengths of each pair. The body has
+/// fewer than 2^30 bytes.
+#[derive(Drop)]
+pub struct Reply {
+    pub code: i32,
+    pub remark: Text,
+    pub ext: Rows<(Text, Text)>,
+    pub body: Rows<Slice>,
+}
+
+impl Model for Reply {
+    ghost use Rattle.reply_fields.specs.Parts.{ReplyParts};
+
+    ghost Value = { ReplyParts };
+
+    ghost use Rattle.reply_fields.specs.Replies.{IsReply};
+
+    ghost view = { λ r. record { code = r.code; remark = r.remark; ext = r.ext; body = r.body } };
+
+    ghost invariant = { λ r. IsReply (record { code = r.code; remark = r.remark; ext = r.ext; body = r.body }) };
+}
+
+/// Room for the front of most replies, so that the frame is grown once.
+const FRONT_ROOM: usize = 512;
+
+impl Reply {
+    // The header of this reply.
+    fn header(&self, alloc: Global, opaque: i32) -> Result<Header, AllocError>
+        ensures header { IfOk result (λ header. header ≡ reply_head self.now opaque) }
+        ensures short { IfOk result IsShort }
+        ensures bits { IfOk result Has16Bits }
+    {
+        Ok(Header {
+            code: self.code,
+            version: 0,
+            opaque,
+            flag: 1,
+            remark: copy_of(alloc, &self.remark)?,
+            ext: copies_of(alloc, self.ext.as_slice())?,
+        })
+    }
+
+    // Appends the front of the frame, which `size` bytes are to follow.
+    fn write_front(
+        &self,
+        alloc: Global,
+        form: Form,
+        opaque: i32,
+        size: usize,
+        out: &mut Vec<u8>,
+    ) -> Result<(), AllocError>
+        requires { size < 2 ^ 30 }
+        ensures front { OnOk result (out.new.items ≡ out.old.items ++ front_bytes form (reply_head self.now opaque) size) }
+        ensures again { OnOk result (header_in form (header_text form (reply_head self.now opaque)) ≡ Some (reply_head self.now opaque)) }
+        ensures err { OnErr result (out.new.items ≡ out.old.items) }
+    {
+        let header = self.header(alloc, opaque)?;
+        out.reserve(size + FRONT_ROOM)?;
+        header.write_front(alloc, form, size as u32, out)?;
+        Ok(())
+    }
+
+    /// Appends the frame of this reply to the request with this opaque. Ranges that adjoin in one piece are read by one
+    /// call of the reader. After a fault `out` is as before.
+    pub fn write<R: Reader>(
+        &self,
+        alloc: Global,
+        form: Form,
+        opaque: i32,
+        reader: &mut R,
+        out: &mut Vec<u8>,
+    ) -> Result<(), DiskFault>
+        ensures written { OnOk result (AppendsReply form opaque self.now out.old.items out.new.items) }
+        ensures again { OnOk result (header_in form (header_text form (reply_head self.now opaque)) ≡ Some (reply_head self.now opaque)) }
+        ensures err { OnErr result (out.new.items ≡ out.old.items) }
+        ensures cause { CountsDiskFault result (R.faults reader.old) (R.faults reader.new) }
+        ensures reads { RisesAtMost (kept_count self.now.body) (R.reads reader.old) (R.reads reader.new) }
+    {
+        let slices = self.body.as_slice();
+        let size = size_of(slices);
+        let start = out.len();
+        let Ok(()) = self.write_front(alloc, form, opaque, size, out) else {
+            return Err(DiskFault::Memory);
+        };
+        match write_body(slices, size, reader, out) {
+            Ok(()) => Ok(()),
+            Err(fault) => {
+                out.truncate(start);
+                Err(fault)
+            }
+        }
+    }
+}
