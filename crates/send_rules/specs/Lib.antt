@@ -1,0 +1,4 @@
+pub mod Kinds
+pub mod Refusals
+pub mod Records
+pub mod Decisions

@@ -1,0 +1,59 @@
+//! What a send asks for besides being stored: a transaction, a delay, or a reply that waits for no flush.
+
+ghost use Rattle.std.specs.Prelude.{◌≡◌, codes, ℕ, List};
+ghost use Rattle.record_codec.specs.Props.{value_of};
+ghost use Rattle.record_codec.specs.LaxProps.{read_props};
+ghost use Rattle.send_rules.specs.Kinds.{says as says_of, is_level as is_level_of, is_half as is_half_of, is_unbuilt as is_unbuilt_of};
+
+use mq_bytes::read_decimal;
+use record_codec::Props;
+use request_fields::SendFields;
+
+/// The bits of the system flag that tell of a transaction, and what they are for a half message.
+const TRANSACTION_BITS: u32 = 12;
+
+const PREPARED: u32 = 4;
+
+// Whether the property of this name is this word, in any case of letters.
+fn says(props: &Props, name: &str, word: &str) -> bool
+    ensures { result ≡ says_of name.now word.now props.now }
+{
+    match props.get(name) {
+        None => false,
+        Some(value) => value.eq_ignore_ascii_case(word),
+    }
+}
+
+// Whether the property `DELAY` names a level: any decimal from 1 on does.
+fn is_delayed(props: &Props) -> bool
+    ensures { result ≡ is_level_of (value_of (codes "DELAY") props.now) }
+{
+    match props.get("DELAY") {
+        None => false,
+        Some(text) => match read_decimal(text) {
+            None => false,
+            Some(level) => level > 0,
+        },
+    }
+}
+
+// Whether it is a half message, by its property or by its system flag.
+fn is_half(send: &SendFields, props: &Props) -> bool
+    requires { props.now ≡ read_props send.now.props }
+    ensures { result ≡ is_half_of send.now }
+{
+    says(props, "TRAN_MSG", "true") || send.sysflag.cast_unsigned() & TRANSACTION_BITS == PREPARED
+}
+
+/// Whether it is of a form that the broker doesn't serve yet: to a queue other than the first, without a default topic,
+/// with a reply that waits for no flush, a half message, or a delayed one.
+pub(crate) fn is_unbuilt(send: &SendFields, props: &Props) -> bool
+    requires { props.now ≡ read_props send.now.props }
+    ensures { result ≡ is_unbuilt_of send.now }
+{
+    send.queue > 0
+        || send.default_topic.as_str().is_empty()
+        || says(props, "WAIT", "false")
+        || is_half(send, props)
+        || is_delayed(props)
+}

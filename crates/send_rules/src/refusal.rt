@@ -1,0 +1,73 @@
+//! The refusals of a send. The first row that holds decides.
+//!
+//! | refusal       | when                                                                            |
+//! |---------------|---------------------------------------------------------------------------------|
+//! | `NotBuilt`    | it is of a form that isn't served yet (`kinds.rt`)                               |
+//! | `Topic`       | the topic is empty, longer than 127 bytes or has an illegal character           |
+//! | `SysFlag`     | the system flag says that a host has an address of 16 bytes                     |
+//! | `Body`        | the body passes 4,194,304 bytes                                                 |
+//! | `Properties`  | the property text passes 31,999 bytes                                           |
+//! | `Record`      | body, property text and 1,024 bytes together pass a segment                     |
+//! | `SystemTopic` | the topic is one that the broker keeps for itself                               |
+
+ghost use Rattle.std.specs.Prelude.{◌≡◌, ◌≤◌, ◌^◌};
+ghost use Rattle.record_codec.specs.LaxProps.{read_props};
+ghost use Rattle.send_rules.specs.Refusals.{refusal_of as refusal_of_send};
+
+use crate::kinds::is_unbuilt;
+use log_model::is_system_topic;
+use record_codec::{Props, is_legal_topic};
+use request_fields::SendFields;
+
+/// Why a send is not taken.
+#[derive(Debug, Clone, Copy, PartialEq, Eq)]
+pub enum Refusal {
+    NotBuilt,
+    Topic,
+    SysFlag,
+    Body,
+    Properties,
+    Record,
+    SystemTopic,
+}
+
+const HOSTS_LONG: u32 = 48;
+
+const BODY_MAX: usize = 4194304;
+
+const PROPERTIES_MAX: usize = 31999;
+
+/// What a record may have besides its body and the property text of its send.
+const RESERVE: usize = 1024;
+
+/// The first refusal that holds, for segments of this size.
+#[tactic(auto, unfolding(crate::specs::Refusals::refusal_of))]
+pub(crate) fn refusal_of(send: &SendFields, props: &Props, segment: u32) -> Option<Refusal>
+    requires { props.now ≡ read_props send.now.props }
+    ensures { result ≡ refusal_of_send segment send.now }
+{
+    let body = send.body.as_slice().len();
+    let properties = send.props.as_str().len();
+    if is_unbuilt(send, props) {
+        return Some(Refusal::NotBuilt);
+    }
+    if !is_legal_topic(send.topic.as_str()) {
+        return Some(Refusal::Topic);
+    }
+    if send.sysflag.cast_unsigned() & HOSTS_LONG != 0 {
+        return Some(Refusal::SysFlag);
+    }
+    if body > BODY_MAX {
+        return Some(Refusal::Body);
+    }
+    if properties > PROPERTIES_MAX {
+        return Some(Refusal::Properties);
+    }
+    if body + properties + RESERVE > segment as usize {
+        return Some(Refusal::Record);
+    }
+    if is_system_topic(send.topic.as_str()) {
+        return Some(Refusal::SystemTopic);
+    }
+    None
+}
