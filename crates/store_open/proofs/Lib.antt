@@ -1,0 +1,3 @@
+pub mod ForeignLemmas
+pub mod FormatLemmas
+pub mod WordLemmas

@@ -1,0 +1,36 @@
+-- The opening of a store: which size its segments have, and when it is another's.
+use Rattle.std.specs.Prelude.{◌≡◌, ◌⊎◌, ℕ, List, codes, Option, Some, None, slice_get, unwrap_or}
+use Rattle.mq_outside.specs.Counts.{Rises}
+use Rattle.mq_outside.specs.Files.{Files, Lists}
+use Rattle.store_open.specs.Formats.{format_text, IsFormatFor, NEW_SEGMENT, NEW_SLOTS, NEW_ENTRIES}
+use Rattle.store_open.specs.declared.status.Status.{Status}
+
+-- the name of the text that says the store's format
+abbrev pub FORMAT : List ℕ
+FORMAT = codes "format"
+
+-- the name is that of the first of the files, in byte order
+pub record IsFirstFile (files : Files) (name : List ℕ) : Type 0 where
+  pub names : List (List ℕ)
+  pub listed : Lists files names
+  pub first : slice_get names 0 ≡ Some name
+
+-- how many bytes a segment has: of a store without a format as many as were asked for, or by default, else as many as the format says
+abbrev pub IsSegmentOf : Option (List ℕ) → Option ℕ → ℕ → Type 0
+IsSegmentOf None asked segment = segment ≡ unwrap_or asked NEW_SEGMENT
+IsSegmentOf (Some text) asked segment = IsFormatFor text asked segment
+
+-- the format behind the opening: that of a new store, or the one that stood there
+abbrev pub format_after : Option (List ℕ) → ℕ → List ℕ
+format_after None segment = format_text segment NEW_SLOTS NEW_ENTRIES
+format_after (Some text) segment = text
+
+-- The store is another's: it has no format, and this file stands in it; or `format` is none, or of another size than was asked for.
+abbrev pub IsForeign : Files → Option (List ℕ) → Option ℕ → List ℕ → Type 0
+IsForeign files None asked name = IsFirstFile files name
+IsForeign files (Some text) asked name = (name ≡ FORMAT) × ((segment : ℕ) → IsFormatFor text asked segment → ⊥)
+
+-- the counts of the disk and of the keep
+abbrev pub OpeningCause : Status → ℕ → ℕ → ℕ → ℕ → Type 0
+OpeningCause status disk disk_then keep keep_then =
+    ((status.code ≡ 5) × Rises disk disk_then) ⊎ ((status.code ≡ 6) ⊎ ((status.code ≡ 7) ⊎ ((status.code ≡ 10) × (status.name ≡ codes "keep") × Rises keep keep_then)))
