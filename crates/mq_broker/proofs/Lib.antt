@@ -1,8 +1,8 @@
 pub mod ReplyLemmas
-pub mod AppendLemmas
-pub mod CarryLemmas
+pub mod FlushLemmas
 pub mod ProgressLemmas
 pub mod HeldLemmas
 pub mod PipeLemmas
-pub mod OpeningLemmas
-pub mod LayoutLengths
+pub mod RunLemmas
+pub mod CauseLemmas
+pub mod ActionLemmas

@@ -6,9 +6,9 @@ use Rattle.std.specs.Int.{w64, to_be_bytes}
 use Rattle.mq_bytes.specs.Decimal.{decimal, digits_of}
 use Rattle.mq_bytes.specs.Ids.{message_id_of}
 use Rattle.mq_bytes.proofs.HexLemmas.{length-hex_of}
-use Rattle.remoting_frame.specs.Head.{Head, IsInOrder, pairs_size, IsShort}
-use Rattle.mq_broker.specs.Run.{store_host}
-use Rattle.mq_broker.specs.Replies.{sent_fields, refused, reply_head}
+use Rattle.remoting_frame.specs.Head.{IsInOrder, pairs_size}
+use Rattle.mq_broker.specs.Actions.{store_host}
+use Rattle.mq_broker.specs.Replies.{sent_fields}
 
 pub none_in_order : IsInOrder []
 unfolding IsStrictlySortedBy
@@ -30,15 +30,11 @@ length-code : (code : ℤ) → FitsSigned w32 code → length (decimal code) ≤
 length-code (pos n) fits = length_signed_le 10 (pos n) (omega (arith, fits)) (omega (arith, fits))
 length-code (negsuc n) fits = length_signed_le 10 (negsuc n) (omega (arith, fits)) (omega (arith, fits))
 
-pub refused_is_short : (code opaque : ℤ) → FitsSigned w32 code → IsShort (reply_head (refused code) opaque)
-refused_is_short code opaque fits = omega (arith, length-append (codes "code ") (decimal code), length-code code fits)
+pub length_code_remark : (code : ℤ) → FitsSigned w32 code → length (codes "code " ++ decimal code) ≤ 100
+length_code_remark code fits = omega (arith, length-append (codes "code ") (decimal code), length-code code fits)
 
 pub sent_fields_are_short : (place queue_offset : ℕ) → queue_offset < 2 ^ 64 → pairs_size (sent_fields store_host place queue_offset) ≤ 200
 sent_fields_are_short place queue_offset small = omega (arith, length-message_id_of store_host place refl, length-digits_of queue_offset small)
 
--- a header with these fields and a short remark
-pub short_with : (head : Head) → length head.remark ≤ 100 → pairs_size head.ext ≤ 200 → IsShort head
-short_with head few small = omega (arith, few, small)
-
-pub length-flush_remark : (count : ℕ) → count < 2 ^ 64 → length (codes "flush " ++ digits_of count) ≤ 100
-length-flush_remark count few = omega (arith, length-digits_of count few, length-append (codes "flush ") (digits_of count))
+pub length_flush_remark : (count : ℕ) → count < 2 ^ 64 → length (codes "flush " ++ digits_of count) ≤ 100
+length_flush_remark count few = omega (arith, length-digits_of count few, length-append (codes "flush ") (digits_of count))

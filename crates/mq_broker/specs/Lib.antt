@@ -1,15 +1,10 @@
-pub mod Durable
 pub mod Taken
-pub mod Sends
 pub mod Replies
-pub mod Run
+pub mod Actions
 pub mod Outcomes
-pub mod Views
-pub mod Brokers
+pub mod Run
 pub mod Answers
 pub mod Progress
 pub mod Causes
 pub mod Pipes
-pub mod Openings
-pub mod Words
 pub mod Promise

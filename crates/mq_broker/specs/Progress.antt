@@ -1,18 +1,39 @@
--- How far a run has come: what was carried out, written and flushed.
-use Rattle.std.specs.Prelude.{◌≡◌, ◌≢◌, ℕ, ◌≤◌, ◌++◌, List, [], ◌∷◌, map, Some}
+-- How far a run has come: what was carried out, written and flushed. A log is in segments of S bytes.
+use Rattle.std.specs.Prelude.{◌≡◌, ◌≢◌, ℕ, ◌≤◌, ◌++◌, List, [], ◌∷◌, length, map, Some}
 use Rattle.std.specs.List.{AllByRecursion}
 use Rattle.mq_outside.specs.Counts.{Rises}
-use Rattle.mq_outside.specs.Files.{Files}
-use Rattle.mq_outside.specs.Disk.{DiskState, Throughout}
+use Rattle.mq_outside.specs.Disk.{DiskState}
 use Rattle.record_codec.specs.Entry.{Entry}
 use Rattle.remoting_frame.specs.declared.frame.Frame.{Frame}
+use Rattle.log_model.specs.Store.{StoresLog}
+use Rattle.log_writer.specs.Tails.{StandsFor}
+use Rattle.log_writer.specs.Durable.{CanGoOn, Stores, Flushes}
+use Rattle.log_writer.specs.declared.writer.LogWriter.{LogWriter}
 use Rattle.mq_broker.specs.Outcomes.{Outcome, Done, FlushFailed, NoMemory, Event}
-use Rattle.mq_broker.specs.Durable.{Begins, Holds}
-use Rattle.mq_broker.specs.Run.{State, layouts, requests_of, appended, step, run, written}
-use Rattle.mq_broker.specs.Brokers.{Represents}
-use Rattle.mq_broker.specs.declared.broker.Broker.{Broker}
+use Rattle.mq_broker.specs.Run.{requests_of, appended, run, written, flushed_of}
 use Rattle.mq_broker.specs.declared.stop.Stop.{Stop}
 use Rattle.mq_broker.specs.declared.stop.Stop.TheVariants as stops
+
+-- a log that is open: its writer and its disk
+pub record OpenLog : Type 1 where
+  pub writer : LogWriter
+  pub disk : DiskState
+
+abbrev pub open_log : LogWriter → DiskState → OpenLog
+open_log writer disk = record { writer = writer; disk = disk }
+
+-- the disk stores the log, all of it flushed, and the next record goes behind it
+abbrev pub IsStored : ℕ → List Entry → OpenLog → Type 0
+IsStored S log at = Stores S log at.writer at.disk
+
+-- the writer puts records behind this log, in segments of this size
+pub record StandsAt (S : ℕ) (log : List Entry) (writer : LogWriter) : Type 0 where
+  pub size : writer.tail.segment ≡ S
+  pub stands : StandsFor writer.tail log
+
+-- the next bytes of the log go inside its last file
+abbrev pub CanTake : Type 0 → OpenLog → Type 0
+CanTake tells at = CanGoOn tells at.writer at.disk
 
 -- no flush failed
 abbrev pub IsFineOutcome : Outcome → Type 0
@@ -34,35 +55,34 @@ IsFine event = IsFineOutcome event.outcome
 abbrev pub readings_of : List Event → List ℕ
 readings_of = map (λ event. event.reading)
 
--- From the moment at which each event ended, each crash leaves the log up to it.
-abbrev pub Lasts : State → List Event → DiskState → Type 0
-Lasts s [] disk = Unit {0}
-Lasts s (event ∷ events) disk = ((m : ℕ) (files : Files) → event.moment ≤ m → m ≤ disk.moment → disk.image_at m files → Begins (layouts (step s event).log) files) × Lasts (step s event) events disk
+-- The events' records were flushed, each by the moment at which it was answered, and the disk stores the log with them.
+pub record GoesOn (S : ℕ) (log : List Entry) (events : List Event) (old new : OpenLog) : Type 0 where
+  pub flushes : Flushes S log (length log) (flushed_of S log events) old.disk new.disk
+  pub late : AllByRecursion (λ event. old.disk.moment ≤ event.moment) events
+  pub stored : IsStored S (run S log events) new
 
--- What a crash leaves of the log of a run that went from one state of the disk to another: at each moment what stood there
--- before, from each event's end on the log up to it, and the disk is read as the run's last log.
-pub record Flushed (s : State) (events : List Event) (old new : DiskState) : Type 0 where
-  pub kept : Throughout old new (Begins (layouts s.log))
-  pub lasts : Lasts s events new
-  pub come : AllByRecursion (λ event. event.moment ≤ new.moment) events
-  pub holds : Holds (layouts (run s events).log) new
+-- The same where the last one, if there is one, is an event whose flush failed: its record is no more than appended.
+pub record Stays (S : ℕ) (log : List Entry) (events last : List Event) (old new : OpenLog) : Type 0 where
+  pub flushes : Flushes S log (length log) (flushed_of S log events) old.disk new.disk
+  pub late : AllByRecursion (λ event. old.disk.moment ≤ event.moment) events
+  pub stored : StoresLog S (run S log (events ++ last)) (length (run S log events)) new.disk
 
 -- The requests among the frames were carried out, each with its reading, and were answered, and no flush failed. What is said
 -- of the sink, the disk and the clock is said where these tell what they hold.
-pub record Ran (s : State) (frames : List Frame) (broker : Broker) (sink : Type 0) (taken taken_then : List ℕ) (disk : Type 0) (old new : DiskState)
+pub record Ran (S : ℕ) (log : List Entry) (frames : List Frame) (sink : Type 0) (taken taken_then : List ℕ) (disk : Type 0) (old new : OpenLog)
     (clock : Type 0) (readings readings_then : List ℕ) : Type 0 where
   pub events : List Event
   pub asked : map (λ event. event.request) events ≡ requests_of frames
   pub fine : AllByRecursion IsFine events
-  pub stands : Represents broker (run s events)
-  pub answered : sink → taken_then ≡ taken ++ written s events
+  pub stands : StandsAt S (run S log events) new.writer
+  pub answered : sink → taken_then ≡ taken ++ written S log events
   pub read : clock → readings_then ≡ readings ++ readings_of events
-  pub flushed : disk → Holds (layouts s.log) old → Flushed s events old new
+  pub durable : disk → IsStored S log old → GoesOn S log events old new
 
 -- the request whose flush failed, as the disk's failure of this number
-pub record Failed (s : State) (faults faults_then : ℕ) (event : Event) : Type 0 where
+pub record Failed (S : ℕ) (log : List Entry) (faults faults_then : ℕ) (event : Event) : Type 0 where
   pub entry : Entry
-  pub served : appended s event ≡ Some entry
+  pub served : appended S log event ≡ Some entry
   pub failed : event.outcome ≡ FlushFailed faults_then
   pub rises : Rises faults faults_then
 
@@ -88,16 +108,15 @@ pub record Wrote (stop : Stop) (taken taken_then bytes : List ℕ) : Type 0 wher
 
 -- The same where this ended the reading. The last request carried out may be one whose flush failed, and of what was to be
 -- written some may be missing at the end.
-pub record Ended (stop : Stop) (s : State) (frames : List Frame) (sink : Type 0) (taken taken_then : List ℕ) (disk : Type 0) (old new : DiskState)
+pub record Ended (stop : Stop) (S : ℕ) (log : List Entry) (frames : List Frame) (sink : Type 0) (taken taken_then : List ℕ) (disk : Type 0) (old new : OpenLog)
     (clock : Type 0) (readings readings_then : List ℕ) (faults faults_then : ℕ) : Type 0 where
   pub events : List Event
   pub last : List Event
   pub left : List Frame
   pub asked : map (λ event. event.request) (events ++ last) ++ left ≡ requests_of frames
   pub fine : AllByRecursion IsFine events
-  pub failed : AtMostOne (Failed (run s events) faults faults_then) last
+  pub failed : AtMostOne (Failed S (run S log events) faults faults_then) last
   pub because : IsLast stop last
-  pub answered : sink → Wrote stop taken taken_then (written s (events ++ last))
+  pub answered : sink → Wrote stop taken taken_then (written S log (events ++ last))
   pub read : clock → readings_then ≡ readings ++ readings_of (events ++ last)
-  pub kept : disk → Holds (layouts s.log) old → Throughout old new (Begins (layouts s.log))
-  pub lasts : disk → Holds (layouts s.log) old → Lasts s events new
+  pub durable : disk → IsStored S log old → Stays S log events last old new

@@ -1,40 +1,45 @@
--- Replies, and their bytes on the wire.
+-- The replies of the broker.
 use Rattle.std.specs.Prelude.{ℕ, ◌++◌, List, [], ◌∷◌, ℤ, pos, codes}
 use Rattle.mq_bytes.specs.Decimal.{decimal, digits_of}
 use Rattle.mq_bytes.specs.Ids.{message_id_of}
-use Rattle.remoting_frame.specs.Head.{Head}
-use Rattle.remoting_frame.specs.Headers.{frame_bytes}
-use Rattle.remoting_frame.specs.declared.frame.Form.{Form}
+use Rattle.reply_fields.specs.Parts.{ReplyParts}
+use Rattle.send_rules.specs.declared.refusal.Refusal.{Refusal}
+use Rattle.send_rules.specs.declared.refusal.Refusal.TheVariants.{NotBuilt, Topic, SysFlag, Body, Properties, Record, SystemTopic}
 
-pub record Reply : Type 0 where
-  pub code : ℤ
-  pub remark : List ℕ
-  pub ext : List (List ℕ × List ℕ)
+-- a code and a remark, with no fields and no body
+abbrev pub remarked : ℤ → List ℕ → ReplyParts
+remarked code remark = record { code = code; remark = remark; ext = []; body = [] }
 
 -- a request that isn't served
-abbrev pub refused : ℤ → Reply
-refused code = record { code = pos 3; remark = codes "code " ++ decimal code; ext = [] }
+abbrev pub not_served : ℤ → ReplyParts
+not_served code = remarked (pos 3) (codes "code " ++ decimal code)
+
+-- a send that is refused
+abbrev pub refused : ℤ → Refusal → ReplyParts
+refused code NotBuilt = not_served code
+refused code Topic = remarked (pos 13) (codes "topic")
+refused code SysFlag = remarked (pos 13) (codes "sysFlag")
+refused code Body = remarked (pos 13) (codes "body")
+refused code Properties = remarked (pos 13) (codes "properties")
+refused code Record = remarked (pos 13) (codes "record")
+refused code SystemTopic = remarked (pos 16) (codes "system topic")
+
+-- a record would end past the greatest place
+abbrev pub log_end : ReplyParts
+log_end = remarked (pos 14) (codes "log end")
+
+-- there was no memory for the request
+abbrev pub no_memory : ReplyParts
+no_memory = remarked (pos 901) (codes "memory")
 
 -- the fields that tell where a record stands: its id, by the host that stores it and its place, and its offset in queue 0
 abbrev pub sent_fields : List ℕ → ℕ → ℕ → List (List ℕ × List ℕ)
 sent_fields host place queue_offset = (codes "msgId", message_id_of host place) ∷ (codes "queueId", codes "0") ∷ (codes "queueOffset", digits_of queue_offset) ∷ []
 
 -- the record stands in the log, flushed
-abbrev pub sent : List ℕ → ℕ → ℕ → Reply
-sent host place queue_offset = record { code = pos 0; remark = []; ext = sent_fields host place queue_offset }
+abbrev pub sent : List ℕ → ℕ → ℕ → ReplyParts
+sent host place queue_offset = record { code = pos 0; remark = []; ext = sent_fields host place queue_offset; body = [] }
 
 -- the record was appended and its flush failed, which was the disk's failure of this number
-abbrev pub not_flushed : List ℕ → ℕ → ℕ → ℕ → Reply
-not_flushed host place queue_offset count = record { code = pos 10; remark = codes "flush " ++ digits_of count; ext = sent_fields host place queue_offset }
-
--- there was no memory for the request
-abbrev pub no_memory : Reply
-no_memory = record { code = pos 901; remark = codes "memory"; ext = [] }
-
--- the header of a reply to the request with this opaque
-abbrev pub reply_head : Reply → ℤ → Head
-reply_head reply opaque = record { code = reply.code; version = pos 0; opaque = opaque; flag = pos 1; remark = reply.remark; ext = reply.ext }
-
--- the frame of a reply, which has no body
-abbrev pub reply_bytes : Form → ℤ → Reply → List ℕ
-reply_bytes form opaque reply = frame_bytes form (reply_head reply opaque) []
+abbrev pub not_flushed : List ℕ → ℕ → ℕ → ℕ → ReplyParts
+not_flushed host place queue_offset count = record { code = pos 10; remark = codes "flush " ++ digits_of count; ext = sent_fields host place queue_offset; body = [] }

@@ -1,12 +1,13 @@
 //! What came of a request, as far as its reply tells it.
 
 use record_codec::Place;
+use reply_fields::Reply;
 
 /// What came of a request.
-#[derive(Clone, Copy)]
+#[derive(Drop)]
 pub(crate) enum Answer {
-    /// It isn't served.
-    Refused,
+    /// Nothing was appended: this is the reply.
+    Told(Reply),
     /// Its record stands there, flushed.
     Sent(Place),
     /// Its record was appended there, and its flush failed, which was the disk's failure of this number.

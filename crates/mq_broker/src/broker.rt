@@ -1,40 +1,50 @@
-//! What the broker keeps of its log, so that the next record can be placed: where it goes, its number in its topic's
-//! queue, and the store time of the last. The records themselves stand on the disk alone.
+//! What serves requests: the log that is open, and a buffer for the reply.
 
-ghost use Rattle.std.specs.Prelude.{◌≡◌, ◌≤◌, ◌<◌, ◌^◌, List, ℕ};
-ghost use Rattle.std.specs.Option.{unwrap_or};
-ghost use Rattle.std.specs.BTreeMap.{get_by_text};
+ghost use Rattle.std.specs.Prelude.{◌≡◌};
 
+use log_writer::LogWriter;
+use mq_outside::{Failed, Frozen, Reader};
 use std::alloc::Global;
-use std::collections::BTreeMap;
 
-/// The end of the log, and the record that is put there next.
+/// Reads for replies that have no stored range, as all of them are yet: there is nothing that it could read.
+#[derive(Drop)]
+pub(crate) struct NothingStored {
+    faults: u64,
+    reads: u64,
+}
+
+impl Reader for NothingStored {
+    ghost faults = { λ reader. reader.faults };
+
+    ghost reads = { λ reader. reader.reads };
+
+    fn read(&mut self, _piece: &Frozen, _at: u64, _out: &mut [u8]) -> Result<(), Failed> {
+        self.reads = self.reads.saturating_add(1);
+        self.faults = self.faults.saturating_add(1);
+        Err(Failed)
+    }
+}
+
+/// A broker over a disk of the caller.
 #[derive(Drop)]
 pub(crate) struct Broker {
-    /// Where the next record goes, bytes behind the beginning of the log.
-    pub(crate) end: u64,
-    /// The store time of the last record, milliseconds.
-    pub(crate) now: u64,
-    /// How many records each topic has.
-    pub(crate) queue_offsets: BTreeMap<String, u64>,
-    /// The bytes of the record that is being written.
+    pub(crate) writer: LogWriter,
+    pub(crate) reader: NothingStored,
+    /// The bytes of the reply that is being written.
     pub(crate) buffer: Vec<u8>,
-    pub(crate) ghost room: { end ≤ 2 ^ 30 },
-    pub(crate) ghost time: { now < 2 ^ 62 },
-    pub(crate) ghost counted: { (topic : List ℕ) → unwrap_or (get_by_text queue_offsets topic) 0 ≤ end },
 }
 
 impl Broker {
-    /// An empty log.
-    pub(crate) fn new(alloc: Global) -> Broker
-        ensures end { result.end ≡ 0 }
-        ensures now { result.now ≡ 0 }
-        ensures counts { (topic : List ℕ) → unwrap_or (get_by_text result.queue_offsets topic) 0 ≡ 0 }
+    /// A broker that goes on with this log.
+    pub(crate) fn new(alloc: Global, writer: LogWriter) -> Broker
+        ensures { result.writer ≡ writer }
     {
         Broker {
-            end: 0,
-            now: 0,
-            queue_offsets: BTreeMap::new(alloc),
+            writer,
+            reader: NothingStored {
+                faults: 0,
+                reads: 0,
+            },
             buffer: Vec::new(alloc),
         }
     }

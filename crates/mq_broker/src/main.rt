@@ -1,24 +1,19 @@
 //! `mq_broker pipe` serves the requests of standard input and answers on standard output; the store is the folder `store`
-//! of the current folder. The exit status tells how the run ended (`status.rt`), and nothing else is printed.
+//! of the current folder. The exit status tells how the run ended (`store_open`), and nothing else is printed.
 #![tactic(auto)]
 
+mod action;
 mod answer;
-mod append;
 mod broker;
 mod carry;
-mod flush;
 mod held;
-mod opening;
 mod pipe;
 mod reply;
 mod request;
 mod run;
-mod send;
-mod status;
 mod stop;
 #[cfg(test)]
 mod tests;
-mod words;
 mod writing;
 
 use mq_outside::{FolderDisk, FolderKeep, MachineClock, StdSink, StdSource};

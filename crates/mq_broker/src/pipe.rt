@@ -1,11 +1,9 @@
 //! Reads the stream of requests to its end, and serves each as soon as it is whole.
 
-ghost use Rattle.std.specs.Prelude.{◌≡◌, ◌^◌, ◌≤◌, ◌<◌, ◌+◌, ◌++◌, [], OnErr, IfOk, length, take};
+ghost use Rattle.std.specs.Prelude.{◌≡◌, ◌^◌, ◌≤◌, ◌<◌, ◌+◌, ◌++◌, List, [], OnErr, IfOk, length, take, ℕ};
 ghost use Rattle.mq_outside.specs.Counts.{CountsFailure};
-ghost use Rattle.mq_outside.specs.Files.{bytes_of};
-ghost use Rattle.mq_broker.specs.Durable.{first_log_file};
-ghost use Rattle.mq_broker.specs.Run.{State};
-ghost use Rattle.mq_broker.specs.Brokers.{Represents};
+ghost use Rattle.record_codec.specs.Entry.{Entry};
+ghost use Rattle.mq_broker.specs.Progress.{open_log, StandsAt, CanTake};
 ghost use Rattle.mq_broker.specs.Causes.{CountsPipe};
 ghost use Rattle.mq_broker.specs.Pipes.{Piped, EndsHere};
 
@@ -74,13 +72,12 @@ fn serve_stream<S: Source, K: Sink, D: Disk, C: Clock>(
     clock: &mut C,
     input: &mut [u8],
     cutter: &mut Cutter,
-    buffer: &mut Vec<u8>,
 ) -> Result<(), Halt>
-    requires end { D.tells → length (bytes_of (D.state disk.old).reads first_log_file) ≡ broker.old.end }
+    requires open { CanTake D.tells (open_log broker.old.writer (D.state disk.old)) }
     requires room { 0 < length input.old }
     requires start { cutter.old ≡ record { at = 0; bytes = [] } }
-    ensures served { (s : State) → Represents broker.old s → Piped result s S.tells (S.given source.old) (S.given source.new) (S.left source.new) broker.new
-        K.tells (K.taken sink.old) (K.taken sink.new) D.tells (D.state disk.old) (D.state disk.new) C.tells (C.readings clock.old) (C.readings clock.new) (D.faults disk.old) (D.faults disk.new) }
+    ensures served { (segment : ℕ) (log : List Entry) → StandsAt segment log broker.old.writer → Piped result segment log S.tells (S.given source.old) (S.given source.new) (S.left source.new)
+        K.tells (K.taken sink.old) (K.taken sink.new) D.tells (open_log broker.old.writer (D.state disk.old)) (open_log broker.new.writer (D.state disk.new)) C.tells (C.readings clock.old) (C.readings clock.new) (D.faults disk.old) (D.faults disk.new) }
     ensures cause { CountsPipe result (S.faults source.old) (S.faults source.new) (K.faults sink.old) (K.faults sink.new) (D.faults disk.old) (D.faults disk.new) (C.faults clock.old) (C.faults clock.new) }
 {
     let mut total: u64 = 0;
@@ -97,7 +94,7 @@ fn serve_stream<S: Source, K: Sink, D: Disk, C: Clock>(
             Err(_) => return Err(Halt::Stopped(Stop::Memory)),
             Ok(()) => {}
         }
-        match serve_held(alloc, broker, buffer, cutter, sink, disk, clock) {
+        match serve_held(alloc, broker, cutter, sink, disk, clock) {
             Err(halt) => return Err(halt),
             Ok(()) => {}
         }
@@ -114,16 +111,15 @@ pub(crate) fn serve_all<S: Source, K: Sink, D: Disk, C: Clock>(
     disk: &mut D,
     clock: &mut C,
 ) -> Result<(), Halt>
-    requires end { D.tells → length (bytes_of (D.state disk.old).reads first_log_file) ≡ broker.old.end }
-    ensures served { (s : State) → Represents broker.old s → Piped result s S.tells (S.given source.old) (S.given source.new) (S.left source.new) broker.new
-        K.tells (K.taken sink.old) (K.taken sink.new) D.tells (D.state disk.old) (D.state disk.new) C.tells (C.readings clock.old) (C.readings clock.new) (D.faults disk.old) (D.faults disk.new) }
+    requires open { CanTake D.tells (open_log broker.old.writer (D.state disk.old)) }
+    ensures served { (segment : ℕ) (log : List Entry) → StandsAt segment log broker.old.writer → Piped result segment log S.tells (S.given source.old) (S.given source.new) (S.left source.new)
+        K.tells (K.taken sink.old) (K.taken sink.new) D.tells (open_log broker.old.writer (D.state disk.old)) (open_log broker.new.writer (D.state disk.new)) C.tells (C.readings clock.old) (C.readings clock.new) (D.faults disk.old) (D.faults disk.new) }
     ensures cause { CountsPipe result (S.faults source.old) (S.faults source.new) (K.faults sink.old) (K.faults sink.new) (D.faults disk.old) (D.faults disk.new) (C.faults clock.old) (C.faults clock.new) }
 {
     let Ok(mut input) = vec![in alloc; 0u8; PIECE] else {
         return Err(Halt::Stopped(Stop::Memory));
     };
     let mut cutter = Cutter::new(alloc);
-    let mut buffer = Vec::new(alloc);
     serve_stream(
         alloc,
         broker,
@@ -133,6 +129,5 @@ pub(crate) fn serve_all<S: Source, K: Sink, D: Disk, C: Clock>(
         clock,
         input.as_mut_slice(),
         &mut cutter,
-        &mut buffer,
     )
 }

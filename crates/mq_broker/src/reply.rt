@@ -1,49 +1,90 @@
-//! The headers of replies: what a client is told of its request.
+//! The replies of the broker: what a client is told of its request.
 //!
-//! | code | remark    | fields                           | when                                          |
-//! |-----:|-----------|----------------------------------|-----------------------------------------------|
-//! |    0 |           | `msgId`, `queueId`, `queueOffset` | the record stands in the log, flushed         |
-//! |   10 | `flush N` | the same                         | its flush failed, as the disk's failure N     |
-//! |    3 | `code N`  |                                  | the request, of code N, isn't served          |
-//! |  901 | `memory`  |                                  | there was no memory for the request           |
+//! | code | remark         | fields                            | when                                                |
+//! |-----:|----------------|-----------------------------------|-----------------------------------------------------|
+//! |    0 |                | `msgId`, `queueId`, `queueOffset` | the record stands in the log, flushed               |
+//! |   10 | `flush N`      | the same                          | its flush failed, as the disk's failure N           |
+//! |    3 | `code N`       |                                   | the request, of code N, isn't served                |
+//! |    1 | `field NAME`   |                                   | a field is missing or not of its kind               |
+//! |   13 | `topic`, ..    |                                   | the send is refused, for what the remark names      |
+//! |   16 | `system topic` |                                   | the topic is one that the broker keeps for itself   |
+//! |   14 | `log end`      |                                   | the record would end past the greatest place, 2^62  |
+//! |  901 | `memory`       |                                   | there was no memory for the request                 |
 
-ghost use Rattle.std.specs.Prelude.{◌≡◌, ◌≤◌, [], Option, IfOk, string_bytes};
-ghost use Rattle.mq_broker.specs.Replies.{reply_head, sent_fields as sent_fields_of, refused as refused_of, sent as sent_of, not_flushed as not_flushed_of, no_memory as no_memory_of};
+ghost use Rattle.std.specs.Prelude.{◌≡◌, ◌≤◌, List, [], Option, FitsSigned, IfOk, length};
+ghost use Rattle.std.specs.Int.{w16};
 ghost use Rattle.record_codec.specs.Entry.{Entry};
-ghost use Rattle.mq_broker.specs.Run.{reply_for, store_host};
-ghost use Rattle.mq_broker.specs.Answers.{outcome_of, IsAnswer};
-ghost use Rattle.remoting_frame.specs.BinaryText.{Has16Bits};
-ghost use Rattle.remoting_frame.specs.Head.{IsInOrder, pairs_size, IsShort};
+ghost use Rattle.remoting_frame.specs.Head.{IsInOrder, pairs_size};
+ghost use Rattle.reply_fields.specs.Parts.{ReplyParts};
+ghost use Rattle.mq_broker.specs.Actions.{store_host};
+ghost use Rattle.mq_broker.specs.Answers.{IsAnswer};
+ghost use Rattle.mq_broker.specs.Replies.{remarked as remarked_of, not_served as not_served_of, refused as refused_of, sent_fields as sent_fields_of, sent as sent_of, not_flushed as not_flushed_of, no_memory as no_memory_of, log_end as log_end_of};
 
+use crate::action::STORE_HOST;
 use crate::answer::Answer;
-use crate::carry::STORE_HOST;
 use mq_bytes::{Rows, Text, message_id};
 use record_codec::Place;
-use remoting_frame::Header;
+use reply_fields::Reply;
+use send_rules::Refusal;
 use std::alloc::{AllocError, Global};
 
-// The header of a reply to the request with this opaque.
-fn reply(opaque: i32, code: i32, remark: String, ext: Rows<(Text, Text)>) -> Header
-    requires { IsInOrder ext }
-    ensures { result ≡ reply_head (record { code = code; remark = string_bytes remark; ext = ext }) opaque }
+fn text(alloc: Global, text: &str) -> Result<Text, AllocError>
+    ensures { IfOk result (λ copy. copy ≡ text.now) }
 {
-    Header {
+    Ok(Text::of(String::from_str(alloc, text)?))
+}
+
+// A code and a remark, with no fields and no body.
+#[tactic(auto, using(crate::proofs::ReplyLemmas::none_in_order))]
+fn remarked(alloc: Global, code: i32, remark: Text) -> Reply
+    requires code { FitsSigned w16 code }
+    requires short { length remark ≤ 100 }
+    ensures { result ≡ remarked_of code remark }
+{
+    Reply {
         code,
-        version: 0,
-        opaque,
-        flag: 1,
-        remark: Text::of(remark),
-        ext,
+        remark,
+        ext: Rows::of(Vec::new(alloc)),
+        body: Rows::of(Vec::new(alloc)),
     }
 }
 
-// No fields at all.
-#[tactic(auto, using(crate::proofs::ReplyLemmas::none_in_order))]
-fn no_fields(alloc: Global) -> Rows<(Text, Text)>
-    ensures none { result ≡ [] }
-    ensures ordered { IsInOrder result }
+/// A request of this code isn't served.
+#[tactic(auto, using(crate::proofs::ReplyLemmas::length_code_remark))]
+pub(crate) fn not_served(alloc: Global, code: i32) -> Result<Reply, AllocError>
+    ensures { IfOk result (λ reply. reply ≡ not_served_of code) }
 {
-    Rows::of(Vec::new(alloc))
+    let remark = format!(in alloc; "code {code}")?;
+    Ok(remarked(alloc, 3, Text::of(remark)))
+}
+
+/// A send of this code is refused.
+pub(crate) fn refused(alloc: Global, code: i32, refusal: Refusal) -> Result<Reply, AllocError>
+    ensures { IfOk result (λ reply. reply ≡ refused_of code refusal) }
+{
+    match refusal {
+        Refusal::NotBuilt => not_served(alloc, code),
+        Refusal::Topic => Ok(remarked(alloc, 13, text(alloc, "topic")?)),
+        Refusal::SysFlag => Ok(remarked(alloc, 13, text(alloc, "sysFlag")?)),
+        Refusal::Body => Ok(remarked(alloc, 13, text(alloc, "body")?)),
+        Refusal::Properties => Ok(remarked(alloc, 13, text(alloc, "properties")?)),
+        Refusal::Record => Ok(remarked(alloc, 13, text(alloc, "record")?)),
+        Refusal::SystemTopic => Ok(remarked(alloc, 16, text(alloc, "system topic")?)),
+    }
+}
+
+/// A record would end past the greatest place.
+pub(crate) fn log_end(alloc: Global) -> Result<Reply, AllocError>
+    ensures { IfOk result (λ reply. reply ≡ log_end_of) }
+{
+    Ok(remarked(alloc, 14, text(alloc, "log end")?))
+}
+
+// There was no memory for the request.
+fn no_memory(alloc: Global) -> Result<Reply, AllocError>
+    ensures { IfOk result (λ reply. reply ≡ no_memory_of) }
+{
+    Ok(remarked(alloc, 901, text(alloc, "memory")?))
 }
 
 // The fields that tell where a record stands.
@@ -65,69 +106,41 @@ fn sent_fields(alloc: Global, place: Place) -> Result<Rows<(Text, Text)>, AllocE
     Ok(Rows::of(fields))
 }
 
-fn text(alloc: Global, text: &str) -> Result<Text, AllocError>
-    ensures { IfOk result (λ copy. copy ≡ text.now) }
-{
-    Ok(Text::of(String::from_str(alloc, text)?))
-}
-
-// A request of this code isn't served.
-#[tactic(auto, using(crate::proofs::ReplyLemmas::refused_is_short))]
-fn refused(alloc: Global, opaque: i32, code: i32) -> Result<Header, AllocError>
-    ensures header { IfOk result (λ header. header ≡ reply_head (refused_of code) opaque) }
-    ensures short { IfOk result IsShort }
-    ensures bits { IfOk result Has16Bits }
-{
-    let remark = format!(in alloc; "code {code}")?;
-    Ok(reply(opaque, 3, remark, no_fields(alloc)))
-}
-
-// There was no memory for the request.
-fn no_memory(alloc: Global, opaque: i32) -> Result<Header, AllocError>
-    ensures header { IfOk result (λ header. header ≡ reply_head no_memory_of opaque) }
-    ensures short { IfOk result IsShort }
-    ensures bits { IfOk result Has16Bits }
-{
-    let remark = String::from_str(alloc, "memory")?;
-    Ok(reply(opaque, 901, remark, no_fields(alloc)))
-}
-
 // The record stands in the log at this place, flushed.
-fn sent(alloc: Global, opaque: i32, place: Place) -> Result<Header, AllocError>
-    ensures header { IfOk result (λ header. header ≡ reply_head (sent_of store_host place.offset place.queue_offset) opaque) }
-    ensures short { IfOk result IsShort }
-    ensures bits { IfOk result Has16Bits }
+fn sent(alloc: Global, place: Place) -> Result<Reply, AllocError>
+    ensures { IfOk result (λ reply. reply ≡ sent_of store_host place.offset place.queue_offset) }
 {
-    let fields = sent_fields(alloc, place)?;
-    Ok(reply(opaque, 0, String::new(alloc), fields))
+    Ok(Reply {
+        code: 0,
+        remark: Text::of(String::new(alloc)),
+        ext: sent_fields(alloc, place)?,
+        body: Rows::of(Vec::new(alloc)),
+    })
 }
 
 // The record was appended at this place, and its flush failed, which was the disk's failure `count`.
-fn not_flushed(alloc: Global, opaque: i32, place: Place, count: u64) -> Result<Header, AllocError>
-    ensures header { IfOk result (λ header. header ≡ reply_head (not_flushed_of store_host place.offset place.queue_offset count) opaque) }
-    ensures short { IfOk result IsShort }
-    ensures bits { IfOk result Has16Bits }
+#[tactic(auto, using(crate::proofs::ReplyLemmas::length_flush_remark))]
+fn not_flushed(alloc: Global, place: Place, count: u64) -> Result<Reply, AllocError>
+    ensures { IfOk result (λ reply. reply ≡ not_flushed_of store_host place.offset place.queue_offset count) }
 {
-    let fields = sent_fields(alloc, place)?;
+    let ext = sent_fields(alloc, place)?;
     let remark = format!(in alloc; "flush {count}")?;
-    Ok(reply(opaque, 10, remark, fields))
+    Ok(Reply {
+        code: 10,
+        remark: Text::of(remark),
+        ext,
+        body: Rows::of(Vec::new(alloc)),
+    })
 }
 
-/// The header of the reply to a request of this header, by what came of it.
-pub(crate) fn reply_to(
-    alloc: Global,
-    request: &Header,
-    answer: Answer,
-) -> Result<Header, AllocError>
-    ensures header { (appended : Option Entry) → IsAnswer answer appended → IfOk result (λ header. header ≡ reply_head (reply_for request.now.code (outcome_of answer) appended) request.now.opaque) }
-    ensures short { IfOk result IsShort }
-    ensures bits { IfOk result Has16Bits }
+/// The reply that tells what came of a request.
+pub(crate) fn reply_of(alloc: Global, answer: Answer) -> Result<Reply, AllocError>
+    ensures { (said : ReplyParts) (appended : Option Entry) → IsAnswer answer said appended → IfOk result (λ reply. (reply ≡ said) × (reply.body ≡ [])) }
 {
-    let opaque = request.opaque;
     match answer {
-        Answer::Refused => refused(alloc, opaque, request.code),
-        Answer::Sent(place) => sent(alloc, opaque, place),
-        Answer::NotFlushed(place, count) => { not_flushed(alloc, opaque, place, count) }
-        Answer::NoMemory => no_memory(alloc, opaque),
+        Answer::Told(reply) => Ok(reply),
+        Answer::Sent(place) => sent(alloc, place),
+        Answer::NotFlushed(place, count) => not_flushed(alloc, place, count),
+        Answer::NoMemory => no_memory(alloc),
     }
 }

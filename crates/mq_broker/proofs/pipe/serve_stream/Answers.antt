@@ -7,10 +7,10 @@ use Rattle.mq_broker.proofs.pipe.serve_stream.Goals as goal
 
 pub loop-total-init : goal.loop-total-init
 loop-total-init g c = record {
-  served = λ s stands. so_far_start s _ _ _ _ _ _ _ _ c.args.cutter.now _ c.requires.start stands;
+  served = λ S log stands. so_far_start S log _ _ _ _ _ _ _ _ c.args.cutter.now c.requires.start stands;
   waits = ap (λ (h : Held). next_of h.at h.bytes) c.requires.start ∙ none_waits;
   within = omega arith;
-  end = c.requires.end;
+  open_ = c.requires.open;
   source = refl;
   sink = refl;
   disk = refl;
@@ -18,12 +18,12 @@ loop-total-init g c = record {
 }
 
 pub returns-in-Err-clause-served : goal.returns-in-Err-clause-served
-returns-in-Err-clause-served g c = λ s stands.
-    read_failed s _ _ _ _ _ _ _ _ _ _ _ _ _ _ _ _ _ (c.loop-total.invariant.served s stands) c.loop-total.invariant.waits c.in-Err.ensures.still
+returns-in-Err-clause-served g c = λ S log stands.
+    read_failed S log _ _ _ _ _ _ _ _ _ _ _ _ _ _ _ _ (c.loop-total.invariant.served S log stands) c.loop-total.invariant.waits c.in-Err.ensures.still
 
 pub returns-then-read-eq0-clause-served : goal.returns-then-read-eq0-clause-served
-returns-then-read-eq0-clause-served g c = λ s stands.
-    source_ended s _ _ _ _ _ _ _ _ c.end_of.result _ _ _ _ _ _ _ _ _ _ _ (c.loop-total.invariant.served s stands) c.loop-total.invariant.waits
+returns-then-read-eq0-clause-served g c = λ S log stands.
+    source_ended S log _ _ _ _ _ _ _ _ c.end_of.result _ _ _ _ _ _ _ _ _ _ (c.loop-total.invariant.served S log stands) c.loop-total.invariant.waits
     (λ told. c.in-Ok.ensures.given told ∙ ap (λ (n : ℕ). g.S.Source.given c.loop-total.source ++ take n c.read_piece.new.input) c.if-read-eq0.true
     ∙ append-nil (g.S.Source.given c.loop-total.source))
     (λ told. c.in-Ok.ensures.end told c.if-read-eq0.true)
@@ -33,16 +33,16 @@ pub returns-then-read-eq0-clause-cause : goal.returns-then-read-eq0-clause-cause
 returns-then-read-eq0-clause-cause g c = counts_end _ c.end_of.result _ _ _ _ _ _ _ _ c.end_of.ensures
 
 pub returns-in-Err-feed-clause-served : goal.returns-in-Err-feed-clause-served
-returns-in-Err-feed-clause-served g c = λ s stands.
-    not_fed s _ _ _ _ _ _ _ _ _ _ (take c.in-Ok.read c.read_piece.new.input) _ _ _ _ _ _ _ _ (c.loop-total.invariant.served s stands) c.in-Ok.ensures.given c.loop-total.invariant.disk
+returns-in-Err-feed-clause-served g c = λ S log stands.
+    not_fed S log _ _ _ _ _ _ _ _ _ _ (take c.in-Ok.read c.read_piece.new.input) _ _ _ _ _ _ _ (c.loop-total.invariant.served S log stands) c.in-Ok.ensures.given c.loop-total.invariant.disk
 
 pub returns-in-Err-serve_held-clause-served : goal.returns-in-Err-serve_held-clause-served
-returns-in-Err-serve_held-clause-served g c = λ s stands.
-    let far = c.loop-total.invariant.served s stands in
+returns-in-Err-serve_held-clause-served g c = λ S log stands.
+    let far = c.loop-total.invariant.served S log stands in
     let piece = take c.in-Ok.read c.read_piece.new.input in
     let long : length piece ≡ c.in-Ok.read = omega (arith, length-take c.in-Ok.read c.read_piece.new.input, c.in-Ok.ensures.room) in
-    piece_halted s _ _ _ _ _ _ _ _ c.in-Err-serve_held.halt _ c.in-Ok.read _ _ _ piece _ _ _ _ _ _ _ _ _ _ _ _ _ _ far c.in-Ok.ensures.given long c.in-Ok-feed.ensures.ok c.loop-total.invariant.disk
-    (c.in-Err-serve_held.ensures.served _ far.ran.stands)
+    piece_halted S log _ _ _ _ _ _ _ _ c.in-Err-serve_held.halt _ c.in-Ok.read _ _ _ piece _ _ _ _ _ _ _ _ _ _ _ _ far c.in-Ok.ensures.given long c.in-Ok-feed.ensures.ok c.loop-total.invariant.disk
+    (c.in-Err-serve_held.ensures.served S _ far.ran.stands)
 
 pub returns-in-Err-serve_held-clause-cause : goal.returns-in-Err-serve_held-clause-cause
 returns-in-Err-serve_held-clause-cause g c =
@@ -53,12 +53,12 @@ loop-total-preserved g c =
     let piece = take c.in-Ok.read c.read_piece.new.input in
     let long : length piece ≡ c.in-Ok.read = omega (arith, length-take c.in-Ok.read c.read_piece.new.input, c.in-Ok.ensures.room) in
     record {
-      served = λ s stands.
-          let far = c.loop-total.invariant.served s stands in
-          piece_served s _ _ _ _ _ _ _ _ _ c.in-Ok.read _ _ _ piece _ _ _ _ _ _ _ _ _ _ far c.in-Ok.ensures.given long c.in-Ok-feed.ensures.ok (c.in-Ok-serve_held.ensures.served _ far.ran.stands);
+      served = λ S log stands.
+          let far = c.loop-total.invariant.served S log stands in
+          piece_served S log _ _ _ _ _ _ _ _ _ c.in-Ok.read _ _ _ piece _ _ _ _ _ _ _ _ far c.in-Ok.ensures.given long c.in-Ok-feed.ensures.ok (c.in-Ok-serve_held.ensures.served S _ far.ran.stands);
       waits = c.in-Ok-serve_held.ensures.waits;
       within = c.in-Ok.ensures.within;
-      end = c.in-Ok-serve_held.ensures.end_again;
+      open_ = c.in-Ok-serve_held.ensures.open;
       source = c.in-Ok.ensures.cause ∙ c.loop-total.invariant.source;
       sink = c.in-Ok-serve_held.ensures.cause.0 ∙ c.loop-total.invariant.sink;
       disk = c.in-Ok-serve_held.ensures.cause.1 ∙ c.loop-total.invariant.disk;
@@ -66,5 +66,5 @@ loop-total-preserved g c =
     }
 
 pub returns-clause-served : goal.returns-clause-served
-returns-clause-served g c = λ s stands.
-    limit_reached s _ _ _ _ _ _ _ _ _ _ _ _ _ _ _ _ (c.loop-total.invariant.served s stands) (omega (arith, c.loop-total.invariant.within, c.loop-total-test.false))
+returns-clause-served g c = λ S log stands.
+    limit_reached S log _ _ _ _ _ _ _ _ _ _ _ _ _ _ _ (c.loop-total.invariant.served S log stands) (omega (arith, c.loop-total.invariant.within, c.loop-total-test.false))

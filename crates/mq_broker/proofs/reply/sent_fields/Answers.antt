@@ -1,6 +1,6 @@
 use Rattle.std.proofs.Common.{◌≡◌, ◌≤◌, ◌<◌, ◌^◌, List, ℕ, rules, subst, sym}
 use Rattle.remoting_frame.specs.Head.{IsInOrder, pairs_size}
-use Rattle.mq_broker.specs.Run.{store_host}
+use Rattle.mq_broker.specs.Actions.{store_host}
 use Rattle.mq_broker.specs.Replies.{sent_fields}
 use Rattle.mq_broker.proofs.ReplyLemmas.{sent_in_order, sent_fields_are_short}
 use Rattle.mq_broker.proofs.reply.sent_fields.Goals as goal

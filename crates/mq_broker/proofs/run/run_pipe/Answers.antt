@@ -1,30 +1,55 @@
-use Rattle.std.proofs.Common.{◌∙◌, inl, List, ℕ, Option, length, ap, sym}
-use Rattle.mq_outside.specs.Files.{Files, bytes_in, bytes_of}
-use Rattle.mq_broker.specs.Durable.{first_log_file}
-use Rattle.mq_broker.specs.Run.{opening}
-use Rattle.mq_broker.proofs.OpeningLemmas.{holds_nothing, piped_before, opening_causes}
+use Rattle.std.proofs.Common.{◌∙◌, inl, inr, ℕ, Option, sym, subst, refl}
+use Rattle.log_writer.specs.Durable.{Opened}
+use Rattle.log_writer.specs.Openings.{GoesOnBehind}
+use Rattle.store_open.specs.Openings.{FORMAT, IsForeign}
+use Rattle.store_open.proofs.WordLemmas.{one_command}
+use Rattle.mq_broker.specs.Progress.{open_log}
+use Rattle.mq_broker.proofs.CauseLemmas.{opening_causes}
+use Rattle.mq_broker.proofs.RunLemmas.{begins_with, keeps_on, unrecovered, stores_same, honest_same}
 use Rattle.mq_broker.proofs.run.run_pipe.Goals as goal
 
-pub returns-in-Err-open_store-clause-causes : goal.returns-in-Err-open_store-clause-causes
-returns-in-Err-open_store-clause-causes g c = opening_causes c.in-Err-open_store.status _ _ _ _ _ _ _ _ _ _ c.in-Err-open_store.ensures.cause
+pub returns-in-Err-open_format-clause-foreign : goal.returns-in-Err-open_format-clause-foreign
+returns-in-Err-open_format-clause-foreign g c = λ told kept code asked command.
+    subst (λ (a : Option ℕ). IsForeign (g.D.Disk.state c.args.disk.now).reads ((g.P.Keep.state c.args.keep.now).reads FORMAT) a c.in-Err-open_format.status.name)
+    (one_command _ _ _ c.in-Ok.ensures.fits command) (c.in-Err-open_format.ensures.foreign told kept code)
 
-pub serve_all-ended-requires : goal.serve_all-ended-requires
-serve_all-ended-requires g c = record {
-  end = λ told.
-      ap (λ (files : Files). length (bytes_of files first_log_file)) (c.in-Ok-open_store.ensures.rests told).reads
-      ∙ ap (λ (bytes : Option (List ℕ)). length (bytes_in bytes)) (c.in-Ok-open_store.ensures.empty told first_log_file)
-      ∙ sym c.new-broker.ensures.end;
+pub returns-in-Err-open_format-clause-causes : goal.returns-in-Err-open_format-clause-causes
+returns-in-Err-open_format-clause-causes g c = opening_causes c.in-Err-open_format.status _ _ _ _ _ _ _ _ _ _ c.in-Err-open_format.ensures.cause
+
+pub returns-in-Err-open-clause-fits : goal.returns-in-Err-open-clause-fits
+returns-in-Err-open-clause-fits g c = λ fits. record {
+  asked = c.in-Ok.command.segment;
+  command = c.in-Ok.ensures.fits;
+  called = inr (
+    record { given_is = refl; taken_is = refl; readings_is = refl },
+    inr (unrecovered c.in-Ok.command.segment c.status_of_fault.result _ _ _ _ _ _
+        c.in-Err-open.fault c.in-Ok-open_format.segment c.status_of_fault.ensures c.in-Ok-open_format.ensures.is c.in-Ok-open_format.ensures.rests
+        c.in-Err-open.ensures.damaged c.in-Err-open.ensures.untouched c.in-Err-open.ensures.still c.in-Err-open.ensures.honest),
+  );
 }
 
 pub returns-clause-fits : goal.returns-clause-fits
-returns-clause-fits g c = λ fits. inl (record {
-  result = c.serve_all-ended.result;
-  tells = c.status_of.ensures;
-  broker = c.serve_all-ended.new.broker;
-  empty = c.in-Ok-open_store.ensures.empty;
-  before = λ told. holds_nothing _ (c.in-Ok-open_store.ensures.empty told);
-  ours = c.in-Ok-open_store.ensures.ours;
-  format = c.in-Ok-open_store.ensures.format;
-  piped = piped_before c.serve_all-ended.result opening _ _ _ _ _ _ _ _ _ _ _ _ _ _ _ _ _ _ c.in-Ok-open_store.ensures.rests c.in-Ok-open_store.ensures.disk_still
-      (c.serve_all-ended.ensures.served opening (record { end = c.new-broker.ensures.end; now = c.new-broker.ensures.now; counts = c.new-broker.ensures.counts }));
-})
+returns-clause-fits g c = λ fits.
+    let segment : ℕ = c.in-Ok-open_format.segment in
+    let writer = c.new-broker.result.writer in
+    let opened = open_log writer (g.D.Disk.state c.open.new.disk) in
+    let same = c.in-Ok-open.ensures.cause ∙ c.in-Ok-open_format.ensures.disk_still in
+    let rests = c.in-Ok-open_format.ensures.rests in
+    record {
+      asked = c.in-Ok.command.segment;
+      command = c.in-Ok.ensures.fits;
+      called = inl (record {
+        result = c.serve_all-ended.result;
+        tells = c.status_of.ensures;
+        segment = segment;
+        size = c.in-Ok-open_format.ensures.is;
+        begins = λ told. begins_with segment _ _ _ _ _ _ _ _ _ _ opened _ _ _ _ _ _ _ c.serve_all-ended.result same rests c.serve_all-ended.ensures.served told
+            (subst (GoesOnBehind segment (g.D.Disk.state c.open_format.new.disk).reads) (sym c.new-broker.ensures) (c.in-Ok-open.ensures.kept told));
+        durable = λ told stored flushed stores honest.
+            let mid_stores = stores_same segment stored flushed _ _ (rests told) stores in
+            let mid_honest = honest_same segment stored flushed _ _ (rests told) honest in
+            keeps_on segment _ _ _ _ _ _ _ _ _ _ opened _ _ _ _ _ _ _ c.serve_all-ended.result same rests c.serve_all-ended.ensures.served told stored flushed stores
+            (subst (Opened segment stored flushed (g.D.Disk.state c.open.new.disk)) (sym c.new-broker.ensures) (c.in-Ok-open.ensures.ours told stored flushed mid_stores mid_honest))
+            (c.in-Ok-open.ensures.honest told stored flushed mid_stores mid_honest);
+      });
+    }

@@ -1,112 +1,19 @@
--- A run that begins once the store is open, seen from before the opening.
-use Rattle.std.proofs.Common.{◌≡◌, ◌≢◌, ◌⊎◌, inl, inr, ⊎_elim, ◌∙◌, ℕ, ◌≤◌, List, [], codes, Option, Result, Ok, Err, refl, ap, sym, subst, arith}
+-- Which status has which cause.
+use Rattle.std.proofs.Common.{◌≡◌, ◌≢◌, ◌⊎◌, inl, inr, ⊎_elim, ◌∙◌, ℕ, ◌≤◌, List, codes, Result, Ok, Err, sym, subst, arith}
 use Rattle.mq_outside.specs.Counts.{Rises}
-use Rattle.mq_outside.specs.Files.{Files, Same, HasNoFile, bytes_in, bytes_of}
-use Rattle.mq_outside.specs.Disk.{DiskState, Moves, Throughout}
-use Rattle.mq_outside.proofs.Moments.{each_same, at_start, goes_on, chained}
-use Rattle.remoting_frame.specs.declared.frame.Frame.{Frame}
-use Rattle.mq_broker.specs.Durable.{first_log_file, Begins, Holds}
-use Rattle.mq_broker.specs.Run.{State, layouts}
-use Rattle.mq_broker.specs.Openings.{OpeningCause}
+use Rattle.log_recovery.specs.Recovered.{OnDamage, CountsRecoverFault}
+use Rattle.log_recovery.specs.declared.fault.RecoverFault.{RecoverFault}
+use Rattle.log_recovery.specs.declared.fault.RecoverFault.TheVariants.{Damaged, Failed as DiskFailed, Memory as NoMemory}
+use Rattle.store_open.specs.Openings.{OpeningCause}
+use Rattle.store_open.specs.declared.status.Status.{Status}
 use Rattle.mq_broker.specs.Causes.{CountsPipe}
-use Rattle.mq_broker.specs.Progress.{Ran, Ended}
-use Rattle.mq_broker.specs.Pipes.{ServedAll, Piped}
-use Rattle.mq_broker.specs.Promise.{Tells, Causes}
-use Rattle.mq_broker.specs.declared.broker.Broker.{Broker}
-use Rattle.mq_broker.specs.declared.status.Status.{Status}
-use Rattle.mq_broker.specs.declared.stop.Stop.{Stop}
+use Rattle.mq_broker.specs.Promise.{Tells, TellsFault, Causes}
 use Rattle.mq_broker.specs.declared.stop.Stop.TheVariants as stops
 use Rattle.mq_broker.specs.declared.stop.Halt.{Halt}
 use Rattle.mq_broker.specs.declared.stop.Halt.TheVariants.{BadFrame, Read, Stopped}
 
--- where no file is, no byte of a log is
-pub holds_nothing : (disk : DiskState) → HasNoFile disk.reads → Holds [] disk
-holds_nothing disk none = record {
-  reads = ap (λ (bytes : Option (List ℕ)). bytes_in bytes) (none first_log_file);
-  each = record { at = λ files image. record { front = refl } };
-  exact = λ some. absurd (omega (arith, some));
-}
-
-holds_rest : (bytes : List ℕ) (old new : DiskState) → Moves Same old new → Holds bytes old → Holds bytes new
-holds_rest bytes old new moves holds = record {
-  reads = ap (λ (files : Files). bytes_of files first_log_file) moves.reads ∙ holds.reads;
-  each = each_same moves holds.each;
-  exact = λ some. each_same moves (holds.exact some);
-}
-
-kept_before : (bytes : List ℕ) (old mid new : DiskState) → Moves Same old mid → Holds bytes old → Throughout mid new (Begins bytes) → Throughout old new (Begins bytes)
-kept_before bytes old mid new moves holds kept = chained (goes_on (at_start old (Begins bytes) holds.each) moves (each_same moves holds.each)) kept
-
-ran_before : (s : State) (frames : List Frame) (broker : Broker) (sink : Type 0) (taken taken_then : List ℕ) (disk : Type 0) (old mid new : DiskState) (clock : Type 0) (readings readings_then : List ℕ)
-    → (disk → Moves Same old mid) → Ran s frames broker sink taken taken_then disk mid new clock readings readings_then → Ran s frames broker sink taken taken_then disk old new clock readings readings_then
-ran_before s frames broker sink taken taken_then disk old mid new clock readings readings_then moves ran = record {
-  events = ran.events;
-  asked = ran.asked;
-  fine = ran.fine;
-  stands = ran.stands;
-  answered = ran.answered;
-  read = ran.read;
-  flushed = λ told holds.
-      let flushed = ran.flushed told (holds_rest (layouts s.log) old mid (moves told) holds) in
-      record { kept = kept_before (layouts s.log) old mid new (moves told) holds flushed.kept; lasts = flushed.lasts; come = flushed.come; holds = flushed.holds };
-}
-
-ended_before : (stop : Stop) (s : State) (frames : List Frame) (sink : Type 0) (taken taken_then : List ℕ) (disk : Type 0) (old mid new : DiskState) (clock : Type 0) (readings readings_then : List ℕ) (faults faults_mid faults_then : ℕ)
-    → (disk → Moves Same old mid) → faults_mid ≡ faults → Ended stop s frames sink taken taken_then disk mid new clock readings readings_then faults_mid faults_then
-    → Ended stop s frames sink taken taken_then disk old new clock readings readings_then faults faults_then
-ended_before stop s frames sink taken taken_then disk old mid new clock readings readings_then faults faults_mid faults_then moves same ended =
-    subst (λ (n : ℕ). Ended stop s frames sink taken taken_then disk old new clock readings readings_then n faults_then) same (record {
-      events = ended.events;
-      last = ended.last;
-      left = ended.left;
-      asked = ended.asked;
-      fine = ended.fine;
-      failed = ended.failed;
-      because = ended.because;
-      answered = ended.answered;
-      read = ended.read;
-      kept = λ told holds. kept_before (layouts s.log) old mid new (moves told) holds (ended.kept told (holds_rest (layouts s.log) old mid (moves told) holds));
-      lasts = λ told holds. ended.lasts told (holds_rest (layouts s.log) old mid (moves told) holds);
-    })
-
-all_before : (result : Result (Unit {0}) Halt) (s : State) (source : Type 0) (given given_then left : List ℕ) (broker : Broker) (sink : Type 0) (taken taken_then : List ℕ) (disk : Type 0) (old mid new : DiskState)
-    (clock : Type 0) (readings readings_then : List ℕ) → (disk → Moves Same old mid) → ServedAll result s source given given_then left broker sink taken taken_then disk mid new clock readings readings_then
-    → ServedAll result s source given given_then left broker sink taken taken_then disk old new clock readings readings_then
-all_before result s source given given_then left broker sink taken taken_then disk old mid new clock readings readings_then moves served = record {
-  bytes = served.bytes;
-  frames = served.frames;
-  at = served.at;
-  rest = served.rest;
-  given_is = served.given_is;
-  cut = served.cut;
-  ends = served.ends;
-  ran = ran_before s served.frames broker sink taken taken_then disk old mid new clock readings readings_then moves served.ran;
-}
-
-pub piped_before : (result : Result (Unit {0}) Halt) (s : State) (source : Type 0) (given given_then left : List ℕ) (broker : Broker) (sink : Type 0) (taken taken_then : List ℕ) (disk : Type 0) (old mid new : DiskState)
-    (clock : Type 0) (readings readings_then : List ℕ) (faults faults_mid faults_then : ℕ) → (disk → Moves Same old mid) → faults_mid ≡ faults
-    → Piped result s source given given_then left broker sink taken taken_then disk mid new clock readings readings_then faults_mid faults_then
-    → Piped result s source given given_then left broker sink taken taken_then disk old new clock readings readings_then faults faults_then
-piped_before (Ok u) s source given given_then left broker sink taken taken_then disk old mid new clock readings readings_then faults faults_mid faults_then moves same piped =
-    all_before (Ok tt) s source given given_then left broker sink taken taken_then disk old mid new clock readings readings_then moves piped
-piped_before (Err (BadFrame place)) s source given given_then left broker sink taken taken_then disk old mid new clock readings readings_then faults faults_mid faults_then moves same piped =
-    all_before (Err (BadFrame place)) s source given given_then left broker sink taken taken_then disk old mid new clock readings readings_then moves piped
-piped_before (Err Read) s source given given_then left broker sink taken taken_then disk old mid new clock readings readings_then faults faults_mid faults_then moves same piped =
-    all_before (Err Read) s source given given_then left broker sink taken taken_then disk old mid new clock readings readings_then moves piped
-piped_before (Err (Stopped stop)) s source given given_then left broker sink taken taken_then disk old mid new clock readings readings_then faults faults_mid faults_then moves same piped = record {
-  bytes = piped.bytes;
-  frames = piped.frames;
-  at = piped.at;
-  rest = piped.rest;
-  given_is = piped.given_is;
-  cut = piped.cut;
-  ended = ended_before stop s piped.frames sink taken taken_then disk old mid new clock readings readings_then faults faults_mid faults_then moves same piped.ended;
-}
-
--- ---- the causes
-
 -- the status names none of the devices' faults
-quiet : (status : Status) (code source source_then sink sink_then disk disk_then keep keep_then clock clock_then : ℕ) → status.code ≡ code → code ≤ 7 → code ≢ 3 → code ≢ 4 → code ≢ 5
+quiet : (status : Status) (code source source_then sink sink_then disk disk_then keep keep_then clock clock_then : ℕ) → status.code ≡ code → code ≤ 8 → code ≢ 3 → code ≢ 4 → code ≢ 5
     → Causes status source source_then sink sink_then disk disk_then keep keep_then clock clock_then
 quiet status code source source_then sink sink_then disk disk_then keep keep_then clock clock_then is low three four five = record {
   read = λ e. absurd (three (sym is ∙ e));
@@ -144,11 +51,11 @@ opening_causes status source source_then sink sink_then disk disk_then keep keep
 
 -- the code of an opening that ended the call
 pub opening_refused : (status : Status) (disk disk_then keep keep_then : ℕ) → OpeningCause status disk disk_then keep keep_then
-    → (status.code ≡ 1) ⊎ ((status.code ≡ 5) ⊎ ((status.code ≡ 6) ⊎ ((status.code ≡ 7) ⊎ ((status.code ≡ 10) × (status.name ≡ codes "keep")))))
-opening_refused status disk disk_then keep keep_then (inl failed) = inr (inl failed.0)
-opening_refused status disk disk_then keep keep_then (inr (inl six)) = inr (inr (inl six))
-opening_refused status disk disk_then keep keep_then (inr (inr (inl seven))) = inr (inr (inr (inl seven)))
-opening_refused status disk disk_then keep keep_then (inr (inr (inr kept))) = inr (inr (inr (inr (kept.0, kept.1))))
+    → (status.code ≡ 5) ⊎ ((status.code ≡ 6) ⊎ ((status.code ≡ 7) ⊎ ((status.code ≡ 10) × (status.name ≡ codes "keep"))))
+opening_refused status disk disk_then keep keep_then (inl failed) = inl failed.0
+opening_refused status disk disk_then keep keep_then (inr (inl six)) = inr (inl six)
+opening_refused status disk disk_then keep keep_then (inr (inr (inl seven))) = inr (inr (inl seven))
+opening_refused status disk disk_then keep keep_then (inr (inr (inr kept))) = inr (inr (inr (kept.0, kept.1)))
 
 -- what ended the reading has its cause, where the opening left the disk's count
 pub pipe_causes : (status : Status) (result : Result (Unit {0}) Halt) (source source_then sink sink_then disk disk_mid disk_then keep keep_then clock clock_then : ℕ) → Tells status result → disk_mid ≡ disk
@@ -211,3 +118,32 @@ opening_code status disk disk_then keep keep_then (inl failed) = λ e. omega (ar
 opening_code status disk disk_then keep keep_then (inr (inl six)) = λ e. omega (arith, six, e)
 opening_code status disk disk_then keep keep_then (inr (inr (inl seven))) = λ e. omega (arith, seven, e)
 opening_code status disk disk_then keep keep_then (inr (inr (inr kept))) = λ e. omega (arith, kept.0, e)
+
+-- ---- a log that was not recovered
+
+pub fault_causes : (status : Status) (fault : RecoverFault) (source source_then sink sink_then disk disk_mid disk_then keep keep_then clock clock_then : ℕ) → TellsFault status fault → disk_mid ≡ disk
+    → CountsRecoverFault {A = Unit {0}} (Err fault) disk_mid disk_then → Causes status source source_then sink sink_then disk disk_then keep keep_then clock clock_then
+fault_causes status (Damaged place name) source source_then sink sink_then disk disk_mid disk_then keep keep_then clock clock_then tells same counts =
+    quiet status 8 source source_then sink sink_then disk disk_then keep keep_then clock clock_then tells.0 (omega arith) (λ e. omega (arith, e)) (λ e. omega (arith, e)) (λ e. omega (arith, e))
+fault_causes status DiskFailed source source_then sink sink_then disk disk_mid disk_then keep keep_then clock clock_then tells same counts = record {
+  read = λ e. absurd (omega (arith, tells, e));
+  write = λ e. absurd (omega (arith, tells, e));
+  disk_failed = λ e. subst (λ (n : ℕ). Rises n disk_then) same counts;
+  device = λ e. absurd (omega (arith, tells, e));
+  known = inl (omega (arith, tells));
+}
+fault_causes status NoMemory source source_then sink sink_then disk disk_mid disk_then keep keep_then clock clock_then tells same counts =
+    quiet status 7 source source_then sink sink_then disk disk_then keep keep_then clock clock_then tells (omega arith) (λ e. omega (arith, e)) (λ e. omega (arith, e)) (λ e. omega (arith, e))
+
+-- its status is none of usage and foreign
+pub fault_code : (status : Status) (fault : RecoverFault) → TellsFault status fault → (status.code ≢ 1) × (status.code ≢ 6)
+fault_code status (Damaged place name) tells = let code = tells.0 in (λ e. omega (arith, code, e), λ e. omega (arith, code, e))
+fault_code status DiskFailed tells = (λ e. omega (arith, tells, e), λ e. omega (arith, tells, e))
+fault_code status NoMemory tells = (λ e. omega (arith, tells, e), λ e. omega (arith, tells, e))
+
+-- what holds where damage is told holds of the status that tells it
+pub damage_told : (status : Status) (fault : RecoverFault) (P : ℕ → List ℕ → Type 0) → TellsFault status fault → OnDamage {A = Unit {0}} (Err fault) P → status.code ≡ 8 → P status.place status.name
+damage_told status (Damaged place name) P tells damaged code =
+    subst (λ (n : ℕ). P n status.name) (sym tells.1) (subst (λ (t : List ℕ). P place t) (sym tells.2) damaged)
+damage_told status DiskFailed P tells damaged code = absurd (omega (arith, tells, code))
+damage_told status NoMemory P tells damaged code = absurd (omega (arith, tells, code))
