@@ -8,67 +8,14 @@ import os
 import resource
 import signal
 import subprocess
-import sys
 import tempfile
-import zlib
 
-PROGRAM = os.path.abspath(sys.argv[1])
+from wire import PROGRAM, check, frame, records, replies, run, send
+
 HERE = os.path.dirname(os.path.abspath(__file__))
 SAMPLE = open(os.path.join(HERE, "..", "crates", "mq_broker", "stdin"), "rb").read()
 REPLY = open(os.path.join(HERE, "..", "crates", "mq_broker", "stdout"), "rb").read()
 LOG = "store/commitlog/00000000000000000000"
-
-
-def frame(header, body=b""):
-    text = json.dumps(header, separators=(",", ":")).encode()
-    return (4 + len(text) + len(body)).to_bytes(4, "big") + len(text).to_bytes(4, "big") + text + body
-
-
-def send(opaque, body, topic="T", flag=0, **fields):
-    ext = {"producerGroup": "P", "topic": topic, "queueId": "0", "sysFlag": "0", "bornTimestamp": "1000", "flag": "0",
-           "defaultTopic": "TBW102", "defaultTopicQueueNums": "4"}
-    ext.update(fields)
-    return frame({"code": 10, "extFields": ext, "flag": flag, "opaque": opaque, "version": 395}, body)
-
-
-def replies(data):
-    found = []
-    while data:
-        size, head = int.from_bytes(data[:4], "big"), int.from_bytes(data[5:8], "big")
-        found.append(json.loads(data[8:8 + head]))
-        data = data[4 + size:]
-    return found
-
-
-def records(data):
-    """The records of a log file, each with its checks tested."""
-    found, at = [], 0
-    while at < len(data):
-        size = int.from_bytes(data[at:at + 4], "big")
-        r = data[at:at + size]
-        assert len(r) == size and r[4:8] == bytes.fromhex("DAA320A7"), at
-        body_len = int.from_bytes(r[84:88], "big")
-        body = r[88:88 + body_len]
-        assert int.from_bytes(r[8:12], "big") == zlib.crc32(body) & 0x7FFFFFFF, at
-        zeroed = r[:-9] + b"00000000\x02"
-        assert r[-14:] == b"SEAL\x01" + b"%08X" % zlib.crc32(zeroed) + b"\x02", at
-        assert int.from_bytes(r[28:36], "big") == at
-        found.append({"place": at, "body": body, "queue_offset": int.from_bytes(r[20:28], "big"), "bytes": r})
-        at += size
-    return found
-
-
-def run(data, folder, words=("pipe",)):
-    done = subprocess.run([PROGRAM, *words], input=data, cwd=folder, stdout=subprocess.PIPE, timeout=60)
-    return done.returncode, done.stdout
-
-
-def check(name):
-    def wrap(test):
-        with tempfile.TemporaryDirectory() as folder:
-            test(folder)
-        print("ok:", name)
-    return wrap
 
 
 def log(folder):
@@ -91,7 +38,7 @@ def _(folder):
         "00000000000007D07F00000100002A9F000000000000000000000000000000026869" "0154000E5345414C01")
     stored = log(folder)
     assert len(stored) == 108 and stored[:56] == known[:56] and stored[64:99] == known[64:99]
-    records(stored)
+    assert len(records(folder)) == 1
 
 
 @check("a frame that comes a byte at a time is served alike")
@@ -129,20 +76,26 @@ def _(folder):
     status, out = run(data, folder)
     assert status == 0
     told = replies(out)
-    assert [(r["opaque"], r["code"]) for r in told] == [(1, 0), (2, 0), (3, 3), (4, 0), (6, 3), (7, 3)]
-    stored = records(log(folder))
+    assert [(r["opaque"], r["code"]) for r in told] == [(1, 0), (2, 0), (3, 13), (4, 0), (6, 3), (7, 16)]
+    stored = records(folder)
     assert [r["body"] for r in stored] == [b"a", b"bb", b"c", b"d"]
     assert [r["queue_offset"] for r in stored] == [0, 0, 1, 2]
     ids = [r["extFields"]["msgId"] for r in told if r["code"] == 0]
     assert ids == ["7F00000100002A9F%016X" % stored[k]["place"] for k in (0, 1, 2)]
 
 
-@check("other words are status 1, a store that stands is status 6 and stays as it is")
+@check("other words are status 1")
 def _(folder):
-    assert run(b"", folder, ()) == (1, b"") and run(b"", folder, ("pipe", "x")) == (1, b"")
-    assert run(SAMPLE, folder) == (0, REPLY)
-    before = log(folder)
-    assert run(SAMPLE, folder) == (6, b"") and log(folder) == before
+    for words in ((), ("pipe", "x"), ("pipe", "--segment"), ("pipe", "--segment", "4095"), ("pipe", "--segment", "04096"), ("dump",),
+                  ("pipe", "--segment", "4096", "--segment", "4096")):
+        assert run(b"", folder, words) == (1, b""), words
+
+
+@check("a file in a store without a format is status 6 and stays as it is")
+def _(folder):
+    os.makedirs(folder + "/store/commitlog")
+    open(os.path.join(folder, LOG), "wb").write(b"other")
+    assert run(SAMPLE, folder) == (6, b"") and log(folder) == b"other"
 
 
 @check("a second process on the store is refused with status 5 and harms nothing")
@@ -172,9 +125,10 @@ def _(folder):
 @check("a store of another format is status 6 and stays as it is")
 def _(folder):
     os.makedirs(folder + "/store/config")
-    with open(folder + "/store/config/format", "w") as file:
-        file.write("mq_broker 1 4096 65536 262144\n")
-    assert run(SAMPLE, folder) == (6, b"") and not os.path.exists(os.path.join(folder, LOG))
+    for text in ("mq_broker 2 4096 65536 262144\n", "mq_broker 1 4096 65536 262144", "mq_broker 1 4095 65536 262144\n", ""):
+        with open(folder + "/store/config/format", "w") as file:
+            file.write(text)
+        assert run(SAMPLE, folder) == (6, b"") and not os.path.exists(os.path.join(folder, LOG)), text
 
 
 @check("a full disk is told with reply 10 and status 5, and what was acknowledged before stands")
@@ -189,37 +143,7 @@ def _(folder):
     good = [r for r in told if r["code"] == 0]
     assert done.returncode == 5 and 0 < len(good) == len(told) - 1
     assert told[-1]["code"] == 10 and told[-1]["remark"] == "flush 1"
-    data, at = log(folder), 0
-    for _ in good:
-        at += int.from_bytes(data[at:at + 4], "big")
-    assert len(records(data[:at])) == len(good)
-
-
-@check("a killed process loses no record whose reply was read")
-def _(folder):
-    for round_ in range(20):
-        with tempfile.TemporaryDirectory() as place:
-            child = subprocess.Popen([PROGRAM, "pipe"], stdin=subprocess.PIPE, stdout=subprocess.PIPE, cwd=place)
-            bodies, told = [], 0
-            for k in range(round_ * 3 + 1):
-                body = b"%d" % k
-                child.stdin.write(send(k, body))
-                child.stdin.flush()
-                head = child.stdout.read(4)
-                reply = json.loads(child.stdout.read(int.from_bytes(head, "big"))[4:])
-                assert reply["code"] == 0
-                bodies.append(body)
-                told += 1
-            child.stdin.write(send(told, b"torn" * 1000) * 50)
-            child.stdin.flush()
-            child.send_signal(signal.SIGKILL)
-            child.wait()
-            data = log(place)
-            at = 0
-            for body in bodies:
-                size = int.from_bytes(data[at:at + 4], "big")
-                assert records(data[at:at + size] if at == 0 else data[:at + size])[-1]["body"] == body
-                at += size
+    assert [r["place"] for r in records(folder, whole=False)][:len(good)] == [int(r["extFields"]["msgId"][16:], 16) for r in good]
 
 
 @check("under strace the sync of the log stands between the write of the record and that of its reply")

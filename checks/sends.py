@@ -1,0 +1,88 @@
+#!/usr/bin/env python3
+"""What the real program answers to sends of every kind, in both forms of headers and by both codes: checks/sends.py PROGRAM."""
+from wire import LETTERS, SYSTEM_TOPICS, check, frame, properties, records, replies, run, send
+
+KINDS = [(binary, short) for binary in (False, True) for short in (False, True)]
+
+
+def answers(data, folder, words=("pipe",)):
+    status, out = run(data, folder, words)
+    assert status == 0, status
+    return replies(out)
+
+
+def as_named(remark, short):
+    """The remark with the field's name as the request's code has it."""
+    return "field " + LETTERS[remark[6:]] if short and remark.startswith("field ") else remark
+
+
+@check("a send is served alike in both forms and by both codes")
+def _(folder):
+    told = answers(b"".join(send(k, b"hi", binary=binary, short=short) for k, (binary, short) in enumerate(KINDS)), folder)
+    assert [(r["binary"], r["code"], r["opaque"], r["flag"]) for r in told] == [(binary, 0, k, 1) for k, (binary, _) in enumerate(KINDS)]
+    stored = records(folder)
+    assert [r["body"] for r in stored] == [b"hi"] * 4 and [r["queue_offset"] for r in stored] == [0, 1, 2, 3]
+    for reply, r in zip(told, stored):
+        assert reply["extFields"] == {"msgId": "7F00000100002A9F%016X" % r["place"], "queueId": "0",
+                                      "queueOffset": str(r["queue_offset"])} and "remark" not in reply
+
+
+@check("each refusal has its code and its remark, in the order of the rules, and takes no place")
+def _(folder):
+    half = properties([("TRAN_MSG", "TrUe")])
+    rows = [
+        ({"topic": "a b"}, 13, "topic"), ({"topic": ""}, 13, "topic"), ({"topic": "x" * 128}, 13, "topic"),
+        ({"topic": "a b", "sysFlag": "16"}, 13, "topic"), ({"sysFlag": "16"}, 13, "sysFlag"), ({"sysFlag": "32"}, 13, "sysFlag"),
+        ({"sysFlag": "-1", "properties": "x" * 32000}, 13, "sysFlag"),
+        ({"properties": "x" * 32000}, 13, "properties"), ({"topic": SYSTEM_TOPICS[0], "properties": "x" * 32000}, 13, "properties"),
+        *(({"topic": topic}, 16, "system topic") for topic in SYSTEM_TOPICS),
+        ({"without": ("queueId",)}, 1, "field queueId"), ({"queueId": "x"}, 1, "field queueId"), ({"queueId": "2147483648"}, 1, "field queueId"),
+        ({"bornTimestamp": str(2 ** 62)}, 1, "field bornTimestamp"), ({"producerGroup": ""}, 1, "field producerGroup"),
+        ({"producerGroup": "g" * 121}, 1, "field producerGroup"), ({"batch": "true"}, 1, "field batch"),
+        ({"reconsumeTimes": "x", "without": ("flag",)}, 1, "field flag"), ({"topic": "a b", "reconsumeTimes": "x"}, 1, "field reconsumeTimes"),
+    ]
+    later = [{"queueId": "1"}, {"defaultTopic": ""}, {"without": ("defaultTopic",)}, {"properties": half}, {"sysFlag": "4"},
+             {"properties": properties([("WAIT", "FALSE")])}, {"properties": properties([("DELAY", "1")])},
+             {"queueId": "1", "topic": "a b"}]
+    for binary, short in KINDS:
+        code = 310 if short else 10
+        table = [(fields, status, as_named(remark, short)) for fields, status, remark in rows]
+        table += [(fields, 3, f"code {code}") for fields in later]
+        data = b"".join(send(k, b"hi", binary=binary, short=short, **fields) for k, (fields, _, _) in enumerate(table))
+        for (fields, status, remark), reply in zip(table, answers(data, folder), strict=True):
+            assert (reply["code"], reply.get("remark"), reply["extFields"]) == (status, remark, {}), (fields, reply)
+    assert records(folder) == []
+
+
+@check("bodies and property texts are taken up to their bounds and not past them")
+def _(folder):
+    data = (send(0, b"x" * 4194304) + send(1, b"x" * 4194305) + send(2, b"", properties="n\x01" + "x" * 31997)
+            + send(3, b"", properties="n\x01" + "x" * 31998))
+    told = answers(data, folder)
+    assert [(r["code"], r.get("remark")) for r in told] == [(0, None), (13, "body"), (0, None), (13, "properties")]
+    assert [(len(r["body"]), len(r["props"])) for r in records(folder)] == [(4194304, 0), (0, 32000)]
+
+
+@check("in small segments a record may have what leaves room, and a body past that is refused")
+def _(folder):
+    told = answers(send(0, b"x" * 3072) + send(1, b"x" * 804) + send(2, b"hi") + send(3, b"x" * 3073), folder, ("pipe", "--segment", "4096"))
+    assert [(r["code"], r.get("remark")) for r in told] == [(0, None)] * 3 + [(13, "record")]
+    assert [r["place"] for r in records(folder)] == [0, 3178, 4096]
+
+
+@check("properties are kept in order, the last value of a name counts, and reserved and broken ones are dropped")
+def _(folder):
+    text = "A\x011\x02bad\x02A\x012\x02" + properties([("SEAL", "x"), ("REAL_TOPIC", "U"), ("REAL_QID", "1"), ("DELAY_FROM", "1-0"),
+                                                       ("TRAN_PREPARED_QUEUE_OFFSET", "5"), ("TRANSACTION_CHECK_TIMES", "1"), ("", "x")])
+    told = answers(send(0, b"", properties=text + "KEYS\x01k") + send(1, b"", queueId="-3", sysFlag="11", properties="\x02\x02DELAY\x010\x02DELAY2\x01x"), folder)
+    assert [r["code"] for r in told] == [0, 0] and told[1]["extFields"]["queueId"] == "0"
+    stored = records(folder)
+    assert [r["props"] for r in stored] == [properties([("A", "2"), ("KEYS", "k")]), properties([("DELAY", "0"), ("DELAY2", "x")])]
+    assert [r["sysflag"] for r in stored] == [0, 3]
+
+
+@check("other requests are answered with 3, whatever their fields")
+def _(folder):
+    codes = [11, 12, 14, 15, 17, 29, 30, 31, 33, 34, 35, 36, 37, 41, 42, 320, 999, -5]
+    told = answers(b"".join(frame({"code": code, "opaque": k, "extFields": {}}, binary=k % 2 == 1) for k, code in enumerate(codes)), folder)
+    assert [(r["code"], r["remark"]) for r in told] == [(3, f"code {code}") for code in codes]
