@@ -33,7 +33,7 @@ def _(folder):
     run(send(0, b"hi") + send(1, b"hi"), folder)
     path = os.path.join(folder, FIRST)
     whole = open(path, "rb").read()
-    for i in range(0, 108, 5):
+    for i in range(108):
         for damaged in (whole[:108 + i], whole[:108 + i] + bytes([whole[108 + i] ^ 1]) + whole[109 + i:]):
             open(path, "wb").write(damaged)
             status, out = run(send(2, b"new"), folder)
