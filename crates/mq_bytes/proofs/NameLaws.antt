@@ -1,9 +1,12 @@
 -- Names of 20 digits: ASCII, and apart for numbers that are apart.
-use Rattle.std.proofs.Common.{◌≡◌, ℕ, zero, suc, ◌*◌, ◌/◌, ◌<◌, ◌^◌, List, [], ◌∷◌, length, get_or, lit<, refl, sym, ◌∙◌, ap, arith}
+use Rattle.std.proofs.Common.{◌≡◌, ℕ, zero, suc, ◌+◌, ◌*◌, ◌/◌, ◌<◌, ◌^◌, List, [], ◌∷◌, map, length, get_or, lit<, refl, sym, ◌∙◌, ap, arith}
 use Rattle.std.proofs.Math.Nat.{div-div-eq-div-mul, div-add-mod}
 use Rattle.std.specs.Str.{IsAscii}
 use Rattle.std.specs.List.{AllByRecursion}
 use Rattle.std.specs.Prelude.{codes}
+use Rattle.std.specs.Char.{digit_value}
+use Rattle.std.specs.Str.Parse.{digits_value_after, digits_value}
+use Rattle.std.proofs.lemmas.Str.{digit_value_digit}
 use Rattle.std.proofs.lemmas.Str.{IsAscii-append}
 use Rattle.std.proofs.lemmas.List.{append_cancel_left}
 use Rattle.mq_bytes.specs.Names.{digit_at, twenty_digits, log_file}
@@ -51,6 +54,30 @@ length-twenty_digits n = refl
 pub length-log_file : (base : ℕ) → length (log_file base) ≡ 30
 unfolding log_file twenty_digits
 length-log_file base = refl
+
+-- the powers of ten from this one down to 1
+abbrev tens : ℕ → List ℕ
+tens zero = 1 ∷ []
+tens (suc k) = 10 ^ suc k ∷ tens k
+
+-- what stands above the digit worth p, and that digit, is what stands from it on
+digit_joins : (n p q : ℕ) → p * 10 ≡ q → n / q * 10 + digit_value (digit_at n p) ≡ n / p
+digit_joins n p q is =
+    let above : n / p / 10 ≡ n / q = div-div-eq-div-mul n p 10 ∙ ap (λ (m : ℕ). n / m) is in
+    let digit : digit_value (digit_at n p) + 48 ≡ digit_at n p = digit_value_digit (digit_at n p) (omega arith, omega arith) in
+    omega (arith, div-add-mod (n / p) 10, above, digit)
+
+tens_value : (k n : ℕ) → digits_value_after 10 (n / 10 ^ suc k) (map (digit_at n) (tens k)) ≡ n
+tens_value zero n = digit_joins n 1 10 refl ∙ omega arith
+tens_value (suc k) n =
+    ap (λ (m : ℕ). digits_value_after 10 m (map (digit_at n) (tens k))) (digit_joins n (10 ^ suc k) (10 ^ suc (suc k)) (omega arith)) ∙ tens_value k n
+
+-- the digits write the number
+pub twenty_digits-value : (n : ℕ) → n < 2 ^ 64 → digits_value 10 (twenty_digits n) ≡ n
+unfolding twenty_digits
+twenty_digits-value n small =
+    let none : 0 ≡ n / 10 ^ 20 = omega (arith, small) in
+    ap (λ (m : ℕ). digits_value_after 10 m (map (digit_at n) (tens 19))) none ∙ tens_value 19 n
 
 digit_small : (n p : ℕ) → digit_at n p < 128
 digit_small n p = omega arith

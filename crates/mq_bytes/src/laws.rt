@@ -1,7 +1,7 @@
 //! What holds of the forms of this crate whatever a program does. Each function here states a law in its contract and
 //! does nothing: call it where a proof needs the law, or cite the lemma behind it.
 
-ghost use Rattle.std.specs.Prelude.{◌≡◌, ℕ, ◌^◌, ◌<◌, ◌++◌, List, ℤ, Some, FitsSigned, slice_index, codes};
+ghost use Rattle.std.specs.Prelude.{◌≡◌, ℕ, ◌+◌, ◌^◌, ◌<◌, ◌++◌, List, ◌∷◌, length, ℤ, pos, negsuc, Some, FitsSigned, slice_index, codes};
 ghost use Rattle.std.specs.Int.{w64};
 ghost use Rattle.std.specs.Str.Parse.{IsNumeral, digits_value};
 ghost use Rattle.mq_bytes.specs.Bytes.{AreBytes};
@@ -23,9 +23,21 @@ pub fn digits_are_plain()
     ensures zero { digits_of 0 ≡ codes "0" }
 {}
 
+/// A number is written by its digits, behind a `-` where it is negative.
+pub fn decimals_are_digits()
+    ensures plain { (n : ℕ) → decimal (pos n) ≡ digits_of n }
+    ensures negative { (n : ℕ) → decimal (negsuc n) ≡ 45 ∷ digits_of (n + 1) }
+{}
+
 /// What `write_decimal` writes, `read_decimal` reads as the same number.
 pub fn decimals_read_back()
     ensures { (value : ℤ) → FitsSigned w64 value → decimal_value (decimal value) ≡ Some value }
+{}
+
+/// A segment's name is 20 digits, which write its offset.
+pub fn names_are_digits()
+    ensures length { (n : ℕ) → length (twenty_digits n) ≡ 20 }
+    ensures own { (n : ℕ) → n < 2 ^ 64 → digits_value 10 (twenty_digits n) ≡ n }
 {}
 
 /// Segments at different offsets have different names, and so have their files in the log's folder.
