@@ -1,47 +1,66 @@
--- What a crash may do to a disk in memory: that the images are not too few.
-use Rattle.std.proofs.Common.{◌≡◌, ◌≢◌, ℕ, ◌≤◌, List, [], ◌∷◌, length, Option, Some, inr, refl, sym, subst, arith}
+-- What a crash may do to a disk in memory: that the images are not too few. Each law is of any list of earlier calls.
+use Rattle.std.proofs.Common.{◌≡◌, ◌≢◌, ℕ, ◌≤◌, List, ◌∷◌, length, Option, Some, inr, refl, sym, ◌∙◌, subst, arith}
 use Rattle.std.proofs.lemmas.List.{take_all}
-use Rattle.mq_outside.specs.Files.{Files, Torn, bytes_in, overwritten}
+use Rattle.mq_outside.specs.Files.{Files, At, Torn, Shortened, bytes_in, overwritten}
 use Rattle.mq_outside.specs.Calls.{Event, image_after, reads_after, put_file}
 use Rattle.mq_outside.proofs.Replay.{put_here, put_other, torn_done}
 
--- a write of which nothing is left, not even the file
-nothing_left : (at n : ℕ) (bytes : Option (List ℕ)) → Torn at n bytes bytes
-nothing_left at n bytes = record { there = λ there. there; before = refl; after = refl; no_shorter = omega arith; no_longer = omega arith }
+-- one file changed so
+put_changes : (name : List ℕ) (change : Option (List ℕ) → Option (List ℕ) → Type 0) (files : Files) (bytes : Option (List ℕ)) → change (files name) bytes
+    → At name change files (put_file name bytes files)
+put_changes name change files bytes changed = record {
+  here = subst (λ (b : Option (List ℕ)). change (files name) b) (sym (put_here name bytes files)) changed;
+  others = λ other apart. put_other name other bytes files apart;
+}
 
--- a file that was never synced may be absent
-pub unsynced_may_be_absent : (base : Files) (name piece : List ℕ) → image_after base (Event.Wrote name 0 piece ∷ []) base
-unsynced_may_be_absent base name piece = inr (base, refl, record { here = nothing_left 0 (length piece) (base name); others = λ other apart. refl })
+-- a write may be undone as a whole, so a file that was never synced may be absent
+pub write_may_be_undone : (base : Files) (earlier : List Event) (files : Files) (name piece : List ℕ) (at : ℕ)
+    → image_after base earlier files → image_after base (Event.Wrote name at piece ∷ earlier) files
+write_may_be_undone base earlier files name piece at image = inr (
+  files,
+  image,
+  record { here = record { there = λ there. there; before = refl; after = refl; no_shorter = omega arith; no_longer = omega arith }; others = λ other apart. refl },
+)
+
+-- a write may leave of its file all that a torn write may
+pub write_may_be_torn : (base : Files) (earlier : List Event) (files : Files) (name piece : List ℕ) (at : ℕ) (torn : Option (List ℕ))
+    → image_after base earlier files → Torn at (length piece) (files name) torn → image_after base (Event.Wrote name at piece ∷ earlier) (put_file name torn files)
+write_may_be_torn base earlier files name piece at torn image left = inr (files, image, put_changes name (Torn at (length piece)) files torn left)
 
 -- a write may leave any bytes in its range
-pub write_may_be_torn : (base : Files) (name piece torn : List ℕ) (at : ℕ) → length torn ≡ length piece → at ≤ length (bytes_in (base name))
-    → image_after base (Event.Wrote name at piece ∷ []) (put_file name (Some (overwritten at torn (bytes_in (base name)))) base)
-write_may_be_torn base name piece torn at same within =
-    let files = put_file name (Some (overwritten at torn (bytes_in (base name)))) base in
-    let left : Torn at (length torn) (base name) (files name) =
-    subst (λ (b : Option (List ℕ)). Torn at (length torn) (base name) b) (sym (put_here name (Some (overwritten at torn (bytes_in (base name)))) base)) (torn_done at torn (base name) within) in
-    inr (
-      base,
-      refl,
-      record {
-        here = subst (λ (n : ℕ). Torn at n (base name) (files name)) same left;
-        others = λ other apart. put_other name other (Some (overwritten at torn (bytes_in (base name)))) base apart;
-      },
-    )
+pub write_may_leave_any_bytes : (base : Files) (earlier : List Event) (files : Files) (name piece torn : List ℕ) (at : ℕ)
+    → image_after base earlier files → length torn ≡ length piece → at ≤ length (bytes_in (files name))
+    → image_after base (Event.Wrote name at piece ∷ earlier) (put_file name (Some (overwritten at torn (bytes_in (files name)))) files)
+write_may_leave_any_bytes base earlier files name piece torn at image same within =
+    let left : Option (List ℕ) = Some (overwritten at torn (bytes_in (files name))) in
+    write_may_be_torn base earlier files name piece at left image (subst (λ (n : ℕ). Torn at n (files name) left) same (torn_done at torn (files name) within))
 
 -- a cut may be undone
-pub cut_may_be_undone : (base : Files) (name : List ℕ) (len : ℕ) → image_after base (Event.Cut name len ∷ []) base
-cut_may_be_undone base name len = inr (
-  base,
-  refl,
+pub cut_may_be_undone : (base : Files) (earlier : List Event) (files : Files) (name : List ℕ) (len : ℕ)
+    → image_after base earlier files → image_after base (Event.Cut name len ∷ earlier) files
+cut_may_be_undone base earlier files name len image = inr (
+  files,
+  image,
   record {
-    here = record { there = ((λ there. there), (λ there. there)); no_shorter = omega arith; front = take_all (length (bytes_in (base name))) (bytes_in (base name)) (omega arith) };
+    here = record { there = ((λ there. there), (λ there. there)); no_shorter = omega arith; front = take_all (length (bytes_in (files name))) (bytes_in (files name)) (omega arith) };
     others = λ other apart. refl;
   },
 )
 
--- a sync of one file leaves another as it may have been
-pub sync_keeps_other_torn : (base : Files) (name other piece : List ℕ) → other ≢ name → image_after base (Event.Synced other ∷ Event.Wrote name 0 piece ∷ []) base
-sync_keeps_other_torn base name other piece apart =
-    let read = reads_after base (Event.Wrote name 0 piece ∷ []) in
-    inr (base, unsynced_may_be_absent base name piece, (refl, sym (put_other name other (Some (overwritten 0 piece (bytes_in (base name)))) base apart)))
+-- a cut may leave any length between
+pub cut_may_be_shortened : (base : Files) (earlier : List Event) (files : Files) (name : List ℕ) (len : ℕ) (short : Option (List ℕ))
+    → image_after base earlier files → Shortened len (files name) short → image_after base (Event.Cut name len ∷ earlier) (put_file name short files)
+cut_may_be_shortened base earlier files name len short image left = inr (files, image, put_changes name (Shortened len) files short left)
+
+-- a sync of one file leaves the others as they may have been
+pub sync_keeps_others : (base : Files) (earlier : List Event) (files : Files) (name : List ℕ)
+    → image_after base earlier files → files name ≡ reads_after base earlier name → image_after base (Event.Synced name ∷ earlier) files
+sync_keeps_others base earlier files name image synced = inr (files, image, (refl, synced))
+
+-- so what a write of one file may leave, it may still leave after a sync of another
+pub write_may_be_undone_past_another_sync : (base : Files) (earlier : List Event) (files : Files) (name other piece : List ℕ) (at : ℕ) → other ≢ name
+    → image_after base earlier files → files other ≡ reads_after base earlier other → image_after base (Event.Synced other ∷ Event.Wrote name at piece ∷ earlier) files
+write_may_be_undone_past_another_sync base earlier files name other piece at apart image same =
+    let read = reads_after base earlier in
+    sync_keeps_others base (Event.Wrote name at piece ∷ earlier) files other (write_may_be_undone base earlier files name piece at image)
+    (same ∙ sym (put_other name other (Some (overwritten at piece (bytes_in (read name)))) read apart))

@@ -8,3 +8,4 @@ pub mod MemDiskLemmas
 pub mod Replay
 pub mod PieceLemmas
 pub mod CrashLaws
+pub mod RoomLaws

@@ -5,7 +5,7 @@ use Rattle.std.specs.List.{AllPairs}
 use Rattle.mq_outside.specs.Files.{bytes_in, overwritten}
 use Rattle.mq_outside.specs.Calls.{put_file}
 use Rattle.mq_outside.specs.Named.{Named, content, size_of}
-use Rattle.mq_outside.specs.MemDisk.{given_files}
+use Rattle.mq_outside.specs.MemDisk.{given_files, more_files, more_bytes}
 use Rattle.mq_outside.specs.MemFiles.{total, files_in}
 use Rattle.mq_outside.specs.declared.mem_files.Extent.{Extent}
 use Rattle.mq_outside.proofs.NamedLemmas.{content_apart, added, size-append, size-take, overwritten_none}
@@ -17,6 +17,16 @@ length-files_in (e ∷ extents) buffer = ap suc (length-files_in extents (drop (
 pub no_extents : (extents : List Extent) (buffer : List ℕ) → files_in extents buffer ≡ [] → total extents ≡ length buffer → (length extents ≡ 0) × (length buffer ≡ 0)
 no_extents [] buffer none whole = (refl, sym whole)
 no_extents (e ∷ extents) buffer none whole = absurd (cc)
+
+-- a write makes at most one file
+pub more_files_most : (old : Option (List ℕ)) → more_files old ≤ 1
+more_files_most None = omega arith
+more_files_most (Some bytes) = omega arith
+
+-- a write adds at most name and piece
+pub more_bytes_most : (name : List ℕ) (at : ℕ) (piece : List ℕ) (old : Option (List ℕ)) → at ≤ length (bytes_in old) → more_bytes name at piece old ≤ length name + length piece
+more_bytes_most name at piece None within = omega arith
+more_bytes_most name at piece (Some bytes) within = omega (arith, within)
 
 given_at : (files : List (String Global × Vec ℕ Global)) (i : ℕ) (file : String Global × Vec ℕ Global) (name bytes : List ℕ) (d : Named)
     → i < length files → file ≡ get_or files i file → name ≡ string_bytes file.0 → bytes ≡ file.1.items → get_or (given_files files) i d ≡ record { name = name; bytes = bytes }

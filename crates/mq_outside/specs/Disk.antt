@@ -2,7 +2,8 @@
 use Rattle.std.specs.Prelude.{◌≡◌, ℕ, ◌+◌, ◌≤◌, List}
 use Rattle.mq_outside.specs.Files.{Files}
 
--- What is read now, how many calls have come, and the crash images of each moment so far: which files a crash there may leave.
+-- What is read now, the moment (a number that a call raises by at most one), and the crash images of each moment so far:
+-- which files a crash there may leave.
 pub record DiskState : Type 1 where
   pub reads : Files
   pub moment : ℕ

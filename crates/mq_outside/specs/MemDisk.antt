@@ -1,5 +1,5 @@
 -- The disk in memory.
-use Rattle.std.specs.Prelude.{◌≡◌, ◌⊎◌, ◌<◌, ◌≤◌, ◌+◌, ℕ, List, length, map, String, Vec, string_bytes}
+use Rattle.std.specs.Prelude.{◌≡◌, ◌<◌, ◌≤◌, ◌+◌, ◌-◌, ℕ, List, length, map, Option, None, Some, String, Vec, string_bytes}
 use Rattle.std.specs.declared.alloc.Global.{Global}
 use Rattle.mq_outside.specs.Named.{Named}
 use Rattle.mq_outside.specs.MemFiles.{files_in}
@@ -12,14 +12,25 @@ use Rattle.mq_outside.specs.declared.mem_files.MemFiles.{MemFiles}
 abbrev pub files_of : MemFiles → List Named
 files_of files = files_in files.extents.items files.buffer.items
 
--- with a file of this name and this piece more there would be more files or more bytes than there is room for
-pub record PastRoom (files : MemFiles) (name piece : List ℕ) : Type 0 where
-  pub past : (files.most_files ≤ length files.extents.items) ⊎ (files.most_bytes < length files.buffer.items + length name + length piece)
+-- how many files a write makes: one where there was none
+abbrev pub more_files : Option (List ℕ) → ℕ
+more_files None = 1
+more_files (Some old) = 0
 
--- there are no more than one file and the bytes of this name and this piece more
-pub record Grows (old new : MemFiles) (name piece : List ℕ) : Type 0 where
-  pub files : length new.extents.items ≤ length old.extents.items + 1
-  pub bytes : length new.buffer.items ≤ length old.buffer.items + length name + length piece
+-- how many bytes a write adds: name and piece of a file that it makes, and of one that is there what goes over the old end
+abbrev pub more_bytes : List ℕ → ℕ → List ℕ → Option (List ℕ) → ℕ
+more_bytes name at piece None = length name + length piece
+more_bytes name at piece (Some old) = at + length piece - length old
+
+-- there is room for so many files and so many bytes more
+pub record HasRoomToAdd (files : MemFiles) (count size : ℕ) : Type 0 where
+  pub files_fit : length files.extents.items + count ≤ files.most_files
+  pub bytes_fit : length files.buffer.items + size ≤ files.most_bytes
+
+-- there are no more than so many files and so many bytes more, and the room is the same
+pub record Grows (old new : MemFiles) (count size : ℕ) : Type 0 where
+  pub files : length new.extents.items ≤ length old.extents.items + count
+  pub bytes : length new.buffer.items ≤ length old.buffer.items + size
   pub most_files : new.most_files ≡ old.most_files
   pub most_bytes : new.most_bytes ≡ old.most_bytes
 
@@ -31,6 +42,13 @@ events_of calls = events_in calls.calls.items calls.buffer.items
 pub record HasRoomToNote (calls : MemCalls) (name piece : List ℕ) : Type 0 where
   pub calls_fit : length calls.calls.items < calls.most_calls
   pub bytes_fit : length calls.buffer.items + length name + length piece ≤ calls.most_bytes
+
+-- one call with this name and piece was noted, and the room is the same
+pub record IsNoted (old new : MemCalls) (name piece : List ℕ) : Type 0 where
+  pub calls : length new.calls.items ≡ length old.calls.items + 1
+  pub bytes : length new.buffer.items ≡ length old.buffer.items + length name + length piece
+  pub most_calls : new.most_calls ≡ old.most_calls
+  pub most_bytes : new.most_bytes ≡ old.most_bytes
 
 -- the files that a disk is made with
 abbrev pub given_files : List (String Global × Vec ℕ Global) → List Named

@@ -1,8 +1,9 @@
 //! The disk that the log, the unit files and the index files stand on: named files, and what a crash may leave of them.
 //!
-//! Each call is a moment. Between two syncs of a file each range that was written, and the part past its length at the
-//! last sync, may hold any bytes after a crash, and any length between may be left. After a sync that answered Ok a
-//! crash leaves what a read gives. A removal that answered Ok stays done. `DiskState` says this as one relation.
+//! The moment is a number that a call raises by at most one. Between two syncs of a file each range that was written, and
+//! the part past its length at the last sync, may hold any bytes after a crash, and any length between may be left. After
+//! a sync that answered Ok a crash leaves what a read gives. A removal that answered Ok stays done. `DiskState` says this
+//! as one relation.
 
 ghost use Rattle.std.specs.Prelude.{◌≡◌, ◌+◌, ◌-◌, ◌≤◌, ℕ, length, take, drop, map, min, Some, None, IfOk, OnOk, MatchResult, string_bytes};
 ghost use Rattle.mq_outside.specs.Counts.{Counted, CountsFailure, CountsDiskFault};

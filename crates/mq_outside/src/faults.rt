@@ -9,6 +9,6 @@ pub struct Failed;
 pub enum DiskFault {
     /// The device failed. Its count of faults rose in this call.
     Failed,
-    /// Nothing was asked of the device, or its answer was dropped.
+    /// There was no memory for the call or its answer. The count of faults stays.
     Memory,
 }

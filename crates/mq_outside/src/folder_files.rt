@@ -10,11 +10,11 @@
 //! A new name stands in its folder only once that folder is synced. So the first sync of a file syncs the folders on the
 //! way to it, unless this process has synced them since a name was last put into them.
 
-ghost use Rattle.std.specs.Prelude.{◌≡◌, ◌≤◌, length, IfOk};
+ghost use Rattle.std.specs.Prelude.{◌≡◌, ◌≤◌, ◌++◌, length, codes, string_bytes, IfOk};
 
 use crate::folder_reader::FolderReader;
 use std::alloc::{AllocError, Global};
-use std::fs::{File, OpenOptions};
+use std::fs::{File, OpenFile, OpenOptions};
 use std::io::ErrorKind;
 use std::os::unix::fs::FileExt;
 use std::rt::Files;
@@ -45,7 +45,10 @@ pub struct FolderFiles<R: Files<File = File> + AllocGlobal + Clone + Drop> {
     clean: Vec<String>,
 }
 
-fn path_of(alloc: Global, root: &str, name: &str) -> Result<String, AllocError> {
+// Where a file or folder of the store folder stands.
+fn path_of(alloc: Global, root: &str, name: &str) -> Result<String, AllocError>
+    ensures { IfOk result (λ path. string_bytes path ≡ root.now ++ (codes "/" ++ name.now)) }
+{
     format!(in alloc; "{root}/{name}")
 }
 
@@ -66,14 +69,24 @@ pub fn parent_of(root: &str) -> &str {
     }
 }
 
+/// Makes a folder where it is absent.
+pub fn make_folder<R: Files>(rt: &R, path: &str) -> io::Result<()> {
+    match fs::create_dir(rt, path) {
+        Ok(()) => Ok(()),
+        Err(e) if e.kind() == ErrorKind::AlreadyExists => Ok(()),
+        Err(e) => Err(e),
+    }
+}
+
+/// Syncs a folder, and so the names in it.
+pub fn sync_folder<R: Files>(rt: &R, path: &str) -> io::Result<()> {
+    fs::open(rt, path)?.sync_all()
+}
+
 // Makes the store folder where it is absent, and takes its lock.
 fn take_lock<R: Files<File = File> + AllocGlobal>(rt: &R, root: &str) -> io::Result<File> {
-    match fs::create_dir(rt, root) {
-        Ok(()) => {}
-        Err(e) if e.kind() == ErrorKind::AlreadyExists => {}
-        Err(e) => return Err(e),
-    }
-    fs::open(rt, parent_of(root))?.sync_all()?;
+    make_folder(rt, root)?;
+    sync_folder(rt, parent_of(root))?;
     let path = path_of(rt.alloc(), root, "lock")?;
     let lock = OpenOptions::new()
         .write(true)
@@ -126,7 +139,9 @@ impl<R: Files<File = File> + AllocGlobal + Clone + Drop> FolderFiles<R> {
         }
     }
 
-    fn path(&self, name: &str) -> Result<String, AllocError> {
+    fn path(&self, name: &str) -> Result<String, AllocError>
+        ensures { IfOk result (λ path. string_bytes path ≡ string_bytes self.now.root ++ (codes "/" ++ name.now)) }
+    {
         path_of(self.rt.alloc(), self.root.as_str(), name)
     }
 

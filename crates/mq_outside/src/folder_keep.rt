@@ -11,7 +11,7 @@
 ghost use Rattle.std.specs.Prelude.{◌≡◌, ◌++◌, None, IfOk, codes, string_bytes};
 
 use crate::faults::DiskFault;
-use crate::folder_files::parent_of;
+use crate::folder_files::{make_folder, parent_of, sync_folder};
 use crate::keep::Keep;
 use std::alloc::{AllocError, Global};
 use std::fs::OpenFile;
@@ -64,25 +64,6 @@ fn read_file<R: Files>(rt: &R, alloc: Global, path: &str) -> io::Result<Option<V
     let mut bytes = Vec::new(alloc);
     file.read_to_end(&mut bytes)?;
     Ok(Some(bytes))
-}
-
-// Makes a folder where it is absent.
-fn make_folder<R: Files>(rt: &R, path: &str) -> io::Result<()> {
-    match fs::create_dir(rt, path) {
-        Ok(()) => Ok(()),
-        Err(e) => {
-            if e.kind() == ErrorKind::AlreadyExists {
-                Ok(())
-            } else {
-                Err(e)
-            }
-        }
-    }
-}
-
-// Syncs a folder, and so the names in it.
-fn sync_folder<R: Files>(rt: &R, path: &str) -> io::Result<()> {
-    fs::open(rt, path)?.sync_all()
 }
 
 // Writes a file anew, and syncs it.
@@ -144,10 +125,8 @@ impl<R: Files + Drop> Keep for FolderKeep<R> {
         };
         match read_file(&self.rt, alloc, &paths.file) {
             Ok(bytes) => Ok(bytes),
-            Err(e) => {
-                if e.kind() == ErrorKind::OutOfMemory {
-                    return Err(DiskFault::Memory);
-                }
+            Err(e) if e.kind() == ErrorKind::OutOfMemory => Err(DiskFault::Memory),
+            Err(_) => {
                 self.faults = self.faults.saturating_add(1);
                 Err(DiskFault::Failed)
             }
@@ -160,6 +139,7 @@ impl<R: Files + Drop> Keep for FolderKeep<R> {
         };
         match self.put(&paths, bytes) {
             Ok(()) => Ok(()),
+            Err(e) if e.kind() == ErrorKind::OutOfMemory => Err(DiskFault::Memory),
             Err(_) => {
                 self.faults = self.faults.saturating_add(1);
                 Err(DiskFault::Failed)

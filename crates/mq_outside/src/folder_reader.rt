@@ -26,8 +26,8 @@ pub struct FolderReader<R: Files<File = File> + AllocGlobal + Clone + Drop> {
     rt: R,
     root: String,
     last: Option<OpenLog>,
-    pub faults: u64,
-    pub reads: u64,
+    pub(crate) faults: u64,
+    reads: u64,
 }
 
 impl<R: Files<File = File> + AllocGlobal + Clone + Drop> FolderReader<R> {

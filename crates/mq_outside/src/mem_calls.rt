@@ -37,11 +37,11 @@ pub struct MemCalls {
 }
 
 impl MemCalls {
-    ghost use Rattle.mq_outside.specs.MemDisk.{events_of, HasRoomToNote};
+    ghost use Rattle.mq_outside.specs.MemDisk.{events_of, HasRoomToNote, IsNoted};
 
     /// No calls, with room for so many calls and bytes.
     pub fn new(alloc: Global, most_calls: usize, most_bytes: usize) -> Result<MemCalls, AllocError>
-        ensures empty { IfOk result (λ calls. events_of calls ≡ []) }
+        ensures empty { IfOk result (λ calls. (events_of calls ≡ []) × (calls.calls.items ≡ []) × (calls.buffer.items ≡ [])) }
         ensures calls { IfOk result (λ calls. calls.most_calls ≡ most_calls) }
         ensures bytes { IfOk result (λ calls. calls.most_bytes ≡ most_bytes) }
     {
@@ -67,7 +67,7 @@ impl MemCalls {
     pub fn note(&mut self, kind: Kind, name: &[u8], piece: &[u8])
         requires { HasRoomToNote self.old name.now piece.now }
         ensures noted { events_of self.new ≡ events_of self.old ++ event_of kind name.now piece.now ∷ [] }
-        ensures most { (self.new.most_calls ≡ self.old.most_calls) × (self.new.most_bytes ≡ self.old.most_bytes) }
+        ensures takes { IsNoted self.old self.new name.now piece.now }
     {
         let call = Call {
             kind,

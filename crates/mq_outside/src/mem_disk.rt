@@ -5,10 +5,10 @@ ghost use Rattle.std.specs.Prelude.{◌≡◌, ◌≢◌, ◌↔◌, ◌⊎◌, 
 ghost use Rattle.std.specs.List.{AllPairs};
 ghost use Rattle.std.specs.Option.{option_copied};
 ghost use Rattle.std.proofs.Props.{props};
-ghost use Rattle.mq_outside.specs.Counts.{Counted, CountsFailure, CountsDiskFault};
+ghost use Rattle.mq_outside.specs.Counts.{Counted, CountsFailure, CountsDiskFault, Rises};
 ghost use Rattle.mq_outside.specs.Files.{Files, Same, At, Torn, Shortened, Vanished, Lists, bytes_in, bytes_of, overwritten};
-ghost use Rattle.mq_outside.specs.Disk.{IsCrashImage, IsDurable, Moves};
-ghost use Rattle.mq_outside.specs.Pieces.{IsStored, stored_piece};
+ghost use Rattle.mq_outside.specs.Disk.{EachImage, IsCrashImage, IsDurable, Moves};
+ghost use Rattle.mq_outside.specs.Pieces.{HasPiece, IsStored, stored_piece};
 ghost use Rattle.mq_outside.specs.Calls.{reads_after, state_reads_image};
 ghost use Rattle.mq_outside.specs.Named.{content, size_of};
 ghost use Rattle.mq_outside.specs.MemDisk.{files_of, events_of, given_files};
@@ -50,6 +50,14 @@ pub struct MemDisk {
     ghost replayed: { (name : List ℕ) → content (files_of files) name ≡ reads_after (content (given_files base.items)) (reverse (events_of calls)) name } by { Prim.hlevel props },
 }
 
+// Counts a failure.
+fn fail(faults: &mut u64) -> Failed
+    ensures { Rises faults.old faults.new }
+{
+    *faults = faults.saturating_add(1);
+    Failed
+}
+
 // Puts these files onto a disk that has none.
 fn load(held: &mut MemFiles, files: &[(String, Vec<u8>)])
     requires none { files_of held.old ≡ [] }
@@ -59,6 +67,8 @@ fn load(held: &mut MemFiles, files: &[(String, Vec<u8>)])
     ensures files { (name : List ℕ) → content (files_of held.new) name ≡ content (given_files files.now) name }
     ensures most_files { held.new.most_files ≡ held.old.most_files }
     ensures most_bytes { held.new.most_bytes ≡ held.old.most_bytes }
+    ensures files_taken { length held.new.extents.items ≤ length (given_files files.now) }
+    ensures bytes_taken { length held.new.buffer.items ≤ size_of (given_files files.now) }
 {
     for i in 0..files.len() {
         let file = &files[i];
@@ -88,7 +98,7 @@ impl MemDisk {
         ensures given { IfOk result (λ disk. disk.given ≡ 0) }
         ensures reader_faults { IfOk result (λ disk. disk.reader_faults ≡ 0) }
         ensures fails { IfOk result (λ disk. (disk.fails.calls ≡ fails) × (disk.fails.asked ≡ 0)) }
-        ensures room { IfOk result (λ disk. HasRoom disk room) }
+        ensures room { IfOk result (λ disk. HasRoom disk room (given_files files.items)) }
     {
         let bytes = room.bytes as usize;
         let mut held = MemFiles::new(alloc, room.files as usize, bytes)?;
@@ -117,7 +127,7 @@ impl MemDisk {
 impl Disk for MemDisk {
     type Reader = MemReader;
 
-    ghost use Rattle.mq_outside.specs.MemDiskState.{state_of, IsFull};
+    ghost use Rattle.mq_outside.specs.MemDiskState.{state_of, IsUntouched, Fits, Takes, write_amount, call_amount};
     ghost use Rattle.mq_outside.specs.Listed.{IsListed, after_call};
 
     ghost tells = { Unit {0} };
@@ -146,12 +156,13 @@ impl Disk for MemDisk {
         ensures given { self.new.given ≡ self.old.given }
         ensures reader_faults { self.new.reader_faults ≡ self.old.reader_faults }
 
-        // It fails where it is listed, or there is no room.
+        // It fails where it is listed, and changes nothing.
         ensures listed { IsListed self.old.fails ↔ (result ≡ Err DiskFault.Failed) }
         ensures asks { self.new.fails ≡ after_call self.old.fails }
+        ensures still { IsUntouched self.old self.new }
     {
         if self.fails.next() {
-            self.faults = self.faults.saturating_add(1);
+            let _ = fail(&mut self.faults);
             return Err(DiskFault::Failed);
         }
         match self.files.names(alloc) {
@@ -168,13 +179,13 @@ impl Disk for MemDisk {
         ensures given { self.new.given ≡ self.old.given }
         ensures reader_faults { self.new.reader_faults ≡ self.old.reader_faults }
 
-        // It fails where it is listed, or there is no room.
+        // It fails where it is listed, and changes nothing.
         ensures listed { IsListed self.old.fails ↔ IsErr result }
         ensures asks { self.new.fails ≡ after_call self.old.fails }
+        ensures still { IsUntouched self.old self.new }
     {
         if self.fails.next() {
-            self.faults = self.faults.saturating_add(1);
-            return Err(Failed);
+            return Err(fail(&mut self.faults));
         }
         Ok(bytes_or_none(self.files.bytes(file.as_bytes())).len() as u64)
     }
@@ -189,13 +200,13 @@ impl Disk for MemDisk {
         ensures given { MatchResult result (λ n. Counted n (self.old.given) (self.new.given)) (λ _. self.new.given ≡ self.old.given) }
         ensures reader_faults { self.new.reader_faults ≡ self.old.reader_faults }
 
-        // It fails where it is listed, or there is no room.
+        // It fails where it is listed, and changes nothing.
         ensures listed { IsListed self.old.fails ↔ IsErr result }
         ensures asks { self.new.fails ≡ after_call self.old.fails }
+        ensures still { IsUntouched self.old self.new }
     {
         if self.fails.next() {
-            self.faults = self.faults.saturating_add(1);
-            return Err(Failed);
+            return Err(fail(&mut self.faults));
         }
         let _given = self.given;
         let bytes = bytes_or_none(self.files.bytes(file.as_bytes()));
@@ -218,18 +229,20 @@ impl Disk for MemDisk {
         ensures given { self.new.given ≡ self.old.given }
         ensures reader_faults { self.new.reader_faults ≡ self.old.reader_faults }
 
-        // It fails where it is listed, or there is no room.
+        // It fails where it is listed, or there is no room, and then changes nothing.
         ensures listed { IsListed self.old.fails → IsErr result }
-        ensures refused { OnErr result (IsListed self.old.fails ⊎ IsFull self.old file.now piece.now) }
+        ensures refused { OnErr result (IsListed self.old.fails ⊎ ¬ Fits self.old (write_amount self.old file.now at piece.now)) }
+        ensures fits { OnOk result (Fits self.old (write_amount self.old file.now at piece.now)) }
         ensures asks { self.new.fails ≡ after_call self.old.fails }
+        ensures still { OnErr result (IsUntouched self.old self.new) }
+        ensures takes { OnOk result (Takes (write_amount self.old file.now at piece.now) self.old self.new) }
     {
         let name = file.as_bytes();
         if self.fails.next()
             || !self.calls.has_room(name, piece)
             || self.files.write(file, at as usize, piece).is_err()
         {
-            self.faults = self.faults.saturating_add(1);
-            return Err(Failed);
+            return Err(fail(&mut self.faults));
         }
         self.calls.note(Kind::Write(at), name, piece);
         Ok(())
@@ -244,15 +257,17 @@ impl Disk for MemDisk {
         ensures given { self.new.given ≡ self.old.given }
         ensures reader_faults { self.new.reader_faults ≡ self.old.reader_faults }
 
-        // It fails where it is listed, or there is no room.
+        // It fails where it is listed, or there is no room, and then changes nothing.
         ensures listed { IsListed self.old.fails → IsErr result }
-        ensures refused { OnErr result (IsListed self.old.fails ⊎ IsFull self.old file.now []) }
+        ensures refused { OnErr result (IsListed self.old.fails ⊎ ¬ Fits self.old (call_amount file.now)) }
+        ensures fits { OnOk result (Fits self.old (call_amount file.now)) }
         ensures asks { self.new.fails ≡ after_call self.old.fails }
+        ensures still { OnErr result (IsUntouched self.old self.new) }
+        ensures takes { OnOk result (Takes (call_amount file.now) self.old self.new) }
     {
         let name = file.as_bytes();
         if self.fails.next() || !self.calls.has_room(name, &[]) {
-            self.faults = self.faults.saturating_add(1);
-            return Err(Failed);
+            return Err(fail(&mut self.faults));
         }
         self.files.cut(name, len as usize);
         self.calls.note(Kind::Cut(len), name, &[]);
@@ -267,16 +282,18 @@ impl Disk for MemDisk {
         ensures given { self.new.given ≡ self.old.given }
         ensures reader_faults { self.new.reader_faults ≡ self.old.reader_faults }
 
-        // It fails where it is listed, or there is no room.
+        // It fails where it is listed, or there is no room, and then changes nothing.
         ensures listed { IsListed self.old.fails → IsErr result }
-        ensures refused { OnErr result (IsListed self.old.fails ⊎ IsFull self.old file.now []) }
+        ensures refused { OnErr result (IsListed self.old.fails ⊎ ¬ Fits self.old (call_amount file.now)) }
+        ensures fits { OnOk result (Fits self.old (call_amount file.now)) }
         ensures asks { self.new.fails ≡ after_call self.old.fails }
+        ensures still { OnErr result (IsUntouched self.old self.new) }
+        ensures takes { OnOk result (Takes (call_amount file.now) self.old self.new) }
     {
         let name = file.as_bytes();
         self.syncs = self.syncs.saturating_add(1);
         if self.fails.next() || !self.calls.has_room(name, &[]) {
-            self.faults = self.faults.saturating_add(1);
-            return Err(Failed);
+            return Err(fail(&mut self.faults));
         }
         self.calls.note(Kind::Sync, name, &[]);
         Ok(())
@@ -291,22 +308,37 @@ impl Disk for MemDisk {
         ensures given { self.new.given ≡ self.old.given }
         ensures reader_faults { self.new.reader_faults ≡ self.old.reader_faults }
 
-        // It fails where it is listed, or there is no room.
+        // It fails where it is listed, or there is no room, and then changes nothing.
         ensures listed { IsListed self.old.fails → IsErr result }
-        ensures refused { OnErr result (IsListed self.old.fails ⊎ IsFull self.old file.now []) }
+        ensures refused { OnErr result (IsListed self.old.fails ⊎ ¬ Fits self.old (call_amount file.now)) }
+        ensures fits { OnOk result (Fits self.old (call_amount file.now)) }
         ensures asks { self.new.fails ≡ after_call self.old.fails }
+        ensures still { OnErr result (IsUntouched self.old self.new) }
+        ensures takes { OnOk result (Takes (call_amount file.now) self.old self.new) }
     {
         let name = file.as_bytes();
         if self.fails.next() || !self.calls.has_room(name, &[]) {
-            self.faults = self.faults.saturating_add(1);
-            return Err(Failed);
+            return Err(fail(&mut self.faults));
         }
         self.files.remove(name);
         self.calls.note(Kind::Remove, name, &[]);
         Ok(())
     }
 
-    fn freeze(&mut self, base: u64, from: u64, bytes: Bytes) -> Frozen {
+    fn freeze(&mut self, base: u64, from: u64, bytes: Bytes) -> Frozen
+        requires { EachImage (HasPiece base from bytes) (state_of self.old) }
+        ensures range { (result.base ≡ base) × (result.from ≡ from) × (result.len ≡ length bytes) }
+        ensures held { result.held ≡ Some bytes }
+        ensures moves { Moves Same (state_of self.old) (state_of self.new) }
+        ensures faults { self.new.faults ≡ self.old.faults }
+        ensures syncs { self.new.syncs ≡ self.old.syncs }
+        ensures given { self.new.given ≡ self.old.given }
+        ensures reader_faults { self.new.reader_faults ≡ self.old.reader_faults }
+
+        // It is no call that may be listed, and changes nothing.
+        ensures asks { self.new.fails ≡ self.old.fails }
+        ensures still { IsUntouched self.old self.new }
+    {
         Frozen {
             base,
             from,
@@ -332,12 +364,13 @@ impl Disk for MemDisk {
         ensures given { self.new.given ≡ self.old.given }
         ensures reader_faults { self.new.reader_faults ≡ self.old.reader_faults }
 
-        // It fails where it is listed.
+        // It fails where it is listed, and changes nothing.
         ensures listed { IsListed self.old.fails ↔ (result ≡ Err DiskFault.Failed) }
         ensures asks { self.new.fails ≡ after_call self.old.fails }
+        ensures still { IsUntouched self.old self.new }
     {
         if self.fails.next() {
-            self.faults = self.faults.saturating_add(1);
+            let _ = fail(&mut self.faults);
             return Err(DiskFault::Failed);
         }
         let file = LogFile::of(base);
@@ -361,13 +394,14 @@ impl Disk for MemDisk {
         ensures given { self.new.given ≡ self.old.given }
         ensures reader_faults { self.new.reader_faults ≡ self.old.reader_faults }
 
-        // It fails where it is listed, and its reader nowhere.
+        // It fails where it is listed, and its reader nowhere. It changes nothing.
         ensures listed { IsListed self.old.fails ↔ (result ≡ Err DiskFault.Failed) }
         ensures asks { self.new.fails ≡ after_call self.old.fails }
+        ensures still { IsUntouched self.old self.new }
         ensures never_fails { IfOk result (λ reader. reader.fails.calls.items ≡ []) }
     {
         if self.fails.next() {
-            self.faults = self.faults.saturating_add(1);
+            let _ = fail(&mut self.faults);
             return Err(DiskFault::Failed);
         }
         match MemReader::new(Vec::new(alloc)) {
@@ -376,7 +410,17 @@ impl Disk for MemDisk {
         }
     }
 
-    fn take_back(&mut self, reader: MemReader) {
+    fn take_back(&mut self, reader: MemReader)
+        ensures moves { Moves Same (state_of self.old) (state_of self.new) }
+        ensures faults { self.new.faults ≡ self.old.faults }
+        ensures syncs { self.new.syncs ≡ self.old.syncs }
+        ensures given { self.new.given ≡ self.old.given }
+        ensures reader_faults { Counted reader.faults self.old.reader_faults self.new.reader_faults }
+
+        // It is no call that may be listed, and changes nothing.
+        ensures asks { self.new.fails ≡ self.old.fails }
+        ensures still { IsUntouched self.old self.new }
+    {
         self.reader_faults = self.reader_faults.saturating_add(reader.faults);
     }
 }

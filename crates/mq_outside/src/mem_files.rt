@@ -70,6 +70,8 @@ pub struct MemFiles {
     ghost filled: { total extents.items ≡ length buffer.items },
     ghost ordered: { IsAscending (names_of (files_in extents.items buffer.items)) } by { ascending-IsProp (names_of (files_in extents.items buffer.items)) },
     ghost texts: { AreTexts (names_of (files_in extents.items buffer.items)) } by { texts-IsProp (names_of (files_in extents.items buffer.items)) },
+    ghost files_within: { length extents.items ≤ most_files },
+    ghost bytes_within: { length buffer.items ≤ most_bytes },
     ghost files_reserved: { most_files ≤ vec_capacity extents },
     ghost bytes_reserved: { most_bytes ≤ vec_capacity buffer },
 }
@@ -118,7 +120,7 @@ pub fn find(extents: &[Extent], buffer: &[u8], name: &[u8]) -> Place
 }
 
 impl MemFiles {
-    ghost use Rattle.mq_outside.specs.MemDisk.{files_of, PastRoom, Grows};
+    ghost use Rattle.mq_outside.specs.MemDisk.{files_of, more_files, more_bytes, HasRoomToAdd, Grows};
 
     /// No files, with room for so many files and bytes.
     pub fn new(alloc: Global, most_files: usize, most_bytes: usize) -> Result<MemFiles, AllocError>
@@ -162,13 +164,14 @@ impl MemFiles {
         ensures written { OnOk result ((other : List ℕ) → content (files_of self.new) other
             ≡ put_file name.now (Some (overwritten at piece.now (bytes_of (content (files_of self.old)) name.now))) (content (files_of self.old)) other) }
         ensures full { OnErr result (self.new ≡ self.old) }
-        ensures room { OnErr result (PastRoom self.old name.now piece.now) }
-        ensures grows { Grows self.old self.new name.now piece.now }
+        ensures fits { OnOk result (HasRoomToAdd self.old (more_files (content (files_of self.old) name.now)) (more_bytes name.now at piece.now (content (files_of self.old) name.now))) }
+        ensures refused { OnErr result (¬ HasRoomToAdd self.old (more_files (content (files_of self.old) name.now)) (more_bytes name.now at piece.now (content (files_of self.old) name.now))) }
+        ensures grows { Grows self.old self.new (more_files (content (files_of self.old) name.now)) (more_bytes name.now at piece.now (content (files_of self.old) name.now)) }
     {
         let extent = self.extents[place.index];
         let count = piece.len().min(extent.size - at);
         let more = piece.len() - count;
-        if self.buffer.len() > self.most_bytes || more > self.most_bytes - self.buffer.len() {
+        if more > self.most_bytes - self.buffer.len() {
             return Err(Full);
         }
         replace_bytes(
@@ -190,8 +193,9 @@ impl MemFiles {
         ensures added { OnOk result ((other : List ℕ) → content (files_of self.new) other
             ≡ put_file name.now (Some piece.now) (content (files_of self.old)) other) }
         ensures full { OnErr result (self.new ≡ self.old) }
-        ensures room { OnErr result (PastRoom self.old name.now piece.now) }
-        ensures grows { Grows self.old self.new name.now piece.now }
+        ensures fits { OnOk result (HasRoomToAdd self.old 1 (length name.now + length piece.now)) }
+        ensures refused { OnErr result (¬ HasRoomToAdd self.old 1 (length name.now + length piece.now)) }
+        ensures grows { Grows self.old self.new 1 (length name.now + length piece.now) }
     {
         if self.extents.len() >= self.most_files
             || !is_within(self.buffer.len(), name.len(), piece.len(), self.most_bytes)
@@ -216,8 +220,9 @@ impl MemFiles {
         ensures written { OnOk result ((other : List ℕ) → content (files_of self.new) other
             ≡ put_file name.now (Some (overwritten at piece.now (bytes_of (content (files_of self.old)) name.now))) (content (files_of self.old)) other) }
         ensures full { OnErr result (self.new ≡ self.old) }
-        ensures room { OnErr result (PastRoom self.old name.now piece.now) }
-        ensures grows { Grows self.old self.new name.now piece.now }
+        ensures fits { OnOk result (HasRoomToAdd self.old (more_files (content (files_of self.old) name.now)) (more_bytes name.now at piece.now (content (files_of self.old) name.now))) }
+        ensures refused { OnErr result (¬ HasRoomToAdd self.old (more_files (content (files_of self.old) name.now)) (more_bytes name.now at piece.now (content (files_of self.old) name.now))) }
+        ensures grows { Grows self.old self.new (more_files (content (files_of self.old) name.now)) (more_bytes name.now at piece.now (content (files_of self.old) name.now)) }
     {
         let place = self.place_of(name.as_bytes());
         if place.found {
@@ -231,7 +236,7 @@ impl MemFiles {
     pub fn cut(&mut self, name: &[u8], len: usize)
         ensures cut { (other : List ℕ) → content (files_of self.new) other
             ≡ put_file name.now (option_map (λ bytes. take len bytes) (content (files_of self.old) name.now)) (content (files_of self.old)) other }
-        ensures most { (self.new.most_files ≡ self.old.most_files) × (self.new.most_bytes ≡ self.old.most_bytes) }
+        ensures grows { Grows self.old self.new 0 0 }
     {
         let place = self.place_of(name);
         if place.found {
@@ -245,7 +250,7 @@ impl MemFiles {
         requires found { place.found ≡ true }
         ensures cut { (other : List ℕ) → content (files_of self.new) other
             ≡ put_file name.now (option_map (λ bytes. take len bytes) (content (files_of self.old) name.now)) (content (files_of self.old)) other }
-        ensures most { (self.new.most_files ≡ self.old.most_files) × (self.new.most_bytes ≡ self.old.most_bytes) }
+        ensures grows { Grows self.old self.new 0 0 }
     {
         let extent = self.extents[place.index];
         let size = len.min(extent.size);
@@ -263,7 +268,7 @@ impl MemFiles {
     /// Takes a file out. An absent file stays absent.
     pub fn remove(&mut self, name: &[u8])
         ensures gone { (other : List ℕ) → content (files_of self.new) other ≡ put_file name.now None (content (files_of self.old)) other }
-        ensures most { (self.new.most_files ≡ self.old.most_files) × (self.new.most_bytes ≡ self.old.most_bytes) }
+        ensures grows { Grows self.old self.new 0 0 }
     {
         let place = self.place_of(name);
         if place.found {
@@ -276,7 +281,7 @@ impl MemFiles {
         requires place { IsPlace self.old.extents.items self.old.buffer.items name.now place }
         requires found { place.found ≡ true }
         ensures gone { (other : List ℕ) → content (files_of self.new) other ≡ put_file name.now None (content (files_of self.old)) other }
-        ensures most { (self.new.most_files ≡ self.old.most_files) × (self.new.most_bytes ≡ self.old.most_bytes) }
+        ensures grows { Grows self.old self.new 0 0 }
     {
         let extent = self.extents[place.index];
         delete_bytes(&mut self.buffer, place.start, extent.name + extent.size);

@@ -12,9 +12,9 @@ use std::alloc::AllocError;
 /// A reader of a disk in memory.
 #[derive(Drop)]
 pub struct MemReader {
-    pub fails: Fails,
-    pub faults: u64,
-    pub reads: u64,
+    fails: Fails,
+    pub(crate) faults: u64,
+    reads: u64,
 }
 
 impl MemReader {
@@ -30,6 +30,13 @@ impl MemReader {
             faults: 0,
             reads: 0,
         })
+    }
+
+    /// How many reads were asked of it.
+    pub fn read_count(&self) -> u64
+        ensures { result ≡ self.now.reads }
+    {
+        self.reads
     }
 }
 

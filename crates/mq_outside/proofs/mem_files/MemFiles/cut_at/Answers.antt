@@ -7,6 +7,7 @@ use Rattle.mq_outside.specs.Named.{content, names_of, IsAscending, AreTexts}
 use Rattle.mq_outside.specs.MemFiles.{files_in}
 use Rattle.mq_outside.specs.MemDisk.{files_of}
 use Rattle.mq_outside.proofs.MemFilesLemmas.{found_ends, found_size, found_bytes, replaced_total, replaced_content, replaced_ascending, replaced_texts}
+use Rattle.std.proofs.lemmas.List.{length-set}
 use Rattle.mq_outside.proofs.mem_files.MemFiles.cut_at.Goals as goal
 
 pub overflow_add-place : goal.overflow_add-place
@@ -64,3 +65,7 @@ returns-clause-cut c other =
     ∙ replaced_content c.args.self.now.extents.items c.args.self.now.buffer.items c.args.name.now c.args.place c.args.self.now.filled c.requires.place c.requires.found c.index-extent.result.now c.index-extent.result.now (sym c.index-extent.ensures) (record { name = c.index-extent.result.now.name; size = c.min-size.result }) [] c.min-size.result (c.index-extent.result.now.size - c.min-size.result) (omega arith) refl (omega arith) other
     ∙ ap (λ (l : List ℕ). put_file c.args.name.now (Some l) (content (files_of c.args.self.now)) other) cut_bytes
     ∙ ap (λ (o : Option (List ℕ)). put_file c.args.name.now (option_map (λ (l : List ℕ). take c.args.len l) o) (content (files_of c.args.self.now)) other) (sym bytes)
+
+pub invariant_of-self-clause-files_within : goal.invariant_of-self-clause-files_within
+invariant_of-self-clause-files_within c =
+    omega (arith, c.args.self.now.files_within, length-set c.args.self.now.extents.items c.args.place.index (record { name = c.index-extent.result.now.name; size = c.min-size.result }))
