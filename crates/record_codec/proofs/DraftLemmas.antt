@@ -1,11 +1,11 @@
 -- What a draft without a fault is, and that its record has a layout.
 use Rattle.std.proofs.Common.{◌≡◌, ℕ, ◌+◌, ◌^◌, ◌<◌, ◌≤◌, length, codes, Bool, true, false, cond, not, Option, Some, None, refl, ap, arith}
-use Rattle.std.proofs.lemmas.Bool.{and_parts, and_from, not-false, ltb-false, lt-ltb, le-ltb}
+use Rattle.std.proofs.lemmas.Bool.{and_from, not-false, ltb-false, lt-ltb, le-ltb}
 use Rattle.record_codec.specs.declared.draft.Draft.{Draft}
 use Rattle.record_codec.specs.declared.draft.Place.{Place}
 use Rattle.record_codec.specs.Props.{written, has_name, AreProps}
-use Rattle.record_codec.specs.Layout.{are_hosts_short, is_entry, IsRecord}
-use Rattle.record_codec.specs.Drafts.{entry_of, draft_size, is_named, draft_fault, IsInRanges, IsEncodable}
+use Rattle.record_codec.specs.Layout.{is_named, are_hosts_short, is_entry, IsRecord}
+use Rattle.record_codec.specs.Drafts.{entry_of, draft_size, draft_fault, IsInRanges, IsEncodable}
 
 -- the tests that a draft without a fault passes
 pub record HasNoFault (segment : ℕ) (d : Draft) : Type 0 where
@@ -69,8 +69,7 @@ pub IsRecord-entry_of : (d : Draft) (p : Place) → IsInRanges d → AreProps d.
 unfolding is_entry
 IsRecord-entry_of d p ranges props h =
     let f = HasNoFault-from (2 ^ 30) d h.passes in
-    let named = and_parts _ _ f.named in
-    let legal = and_from _ _ (and_from _ _ named.0 (lt-ltb (length d.topic) 128 (omega (arith, f.topic)))) named.1 in
+    let legal = and_from _ _ f.named (lt-ltb (length d.topic) 128 (omega (arith, f.topic))) in
     let below = λ (n : ℕ) (lt : n < 2 ^ 62). lt-ltb n (2 ^ 62) lt in
     let low = and_from _ _ (below p.queue_offset h.queue_offset) (and_from _ _ (below p.offset h.offset) (and_from _ _ (below d.born h.born) (and_from _ _ (below p.store h.store) (and_from _ _ (below d.prepared h.prepared) refl)))) in
     record {
@@ -81,6 +80,7 @@ IsRecord-entry_of d p ranges props h =
       reconsume = ranges.reconsume;
       born_host = ranges.born_host;
       store_host = ranges.store_host;
+      body = ranges.body;
       props = omega (arith, f.props);
       size = omega (arith, f.topic, f.body, f.props);
     }

@@ -8,7 +8,7 @@ use Rattle.std.proofs.lemmas.Str.{is_utf8-from_IsUtf8, IsUtf8-from_is_utf8}
 use Rattle.record_codec.specs.Entry.{Entry}
 use Rattle.record_codec.specs.Props.{written, are_pairs, are_distinct, has_name, pairs_in}
 use Rattle.record_codec.specs.Layout.{is_legal, are_hosts_short, are_low, is_entry}
-use Rattle.record_codec.specs.Parsed.{n32, n64, Lens, end_of, lens_in, entry_in, is_spelled, entry_at, parsed}
+use Rattle.record_codec.specs.Parsed.{n32, n64, Lengths, end_of, lengths_in, entry_in, is_spelled, entry_at, parsed}
 use Rattle.record_codec.specs.InPlace.{has_fields, are_allowed, are_props}
 use Rattle.record_codec.proofs.PairTexts.{pairs_take}
 
@@ -16,26 +16,26 @@ use Rattle.record_codec.proofs.PairTexts.{pairs_take}
 pub part_of : (b : List ℕ) (from len : ℕ) → take (from + len - from) (drop from b) ≡ take len (drop from b)
 part_of b from len = let e : from + len - from ≡ len = omega arith in ap (λ (k : ℕ). take k (drop from b)) e
 
-abbrev topic_of : List ℕ → Lens → List ℕ
+abbrev topic_of : List ℕ → Lengths → List ℕ
 topic_of b l = take l.topic (drop (89 + l.body) b)
 
-abbrev pub props_of : List ℕ → Lens → List ℕ
+abbrev pub props_of : List ℕ → Lengths → List ℕ
 props_of b l = take l.props (drop (91 + l.body + l.topic) b)
 
-pub length-props_of : (b : List ℕ) (l : Lens) → end_of l ≤ length b → length (props_of b l) ≡ l.props
+pub length-props_of : (b : List ℕ) (l : Lengths) → end_of l ≤ length b → length (props_of b l) ≡ l.props
 length-props_of b l within = omega (arith, length-take l.props (drop (91 + l.body + l.topic) b), length-drop (91 + l.body + l.topic) b)
 
 -- ---- has_fields, test by test
 
-pub fields_without_topic : (b : List ℕ) (l : Lens) → is_legal (topic_of b l) ≡ false → false ≡ has_fields b l
+pub fields_without_topic : (b : List ℕ) (l : Lengths) → is_legal (topic_of b l) ≡ false → false ≡ has_fields b l
 unfolding has_fields
 fields_without_topic b l h = sym (and_left _ _ (and_left _ _ h))
 
-pub fields_without_hosts : (b : List ℕ) (l : Lens) → are_hosts_short (n32 b 36) ≡ false → false ≡ has_fields b l
+pub fields_without_hosts : (b : List ℕ) (l : Lengths) → are_hosts_short (n32 b 36) ≡ false → false ≡ has_fields b l
 unfolding has_fields
 fields_without_hosts b l h = sym (and_left _ _ (and_right _ _ h))
 
-pub fields_by_numbers : (b : List ℕ) (l : Lens) → is_legal (topic_of b l) ≡ true → are_hosts_short (n32 b 36) ≡ true
+pub fields_by_numbers : (b : List ℕ) (l : Lengths) → is_legal (topic_of b l) ≡ true → are_hosts_short (n32 b 36) ≡ true
     → are_low (n64 b 20 ∷ n64 b 28 ∷ n64 b 40 ∷ n64 b 56 ∷ n64 b 76 ∷ []) ≡ has_fields b l
 unfolding has_fields
 fields_by_numbers b l t h = rw (t, h) refl
@@ -62,33 +62,33 @@ props_by_utf8 text utf8 some distinct no_seal is =
 
 -- ---- parsed, test by test
 
-by_pairs : (b : List ℕ) (l : Lens) → lens_in b ≡ Some l → end_of l ≤ length b → parsed b ≡ option_and_then (entry_at b l) (pairs_in (length (props_of b l)) (props_of b l))
+by_pairs : (b : List ℕ) (l : Lengths) → lengths_in b ≡ Some l → end_of l ≤ length b → parsed b ≡ option_and_then (entry_at b l) (pairs_in (length (props_of b l)) (props_of b l))
 unfolding parsed
 by_pairs b l h within =
     let len = length-props_of b l within in
     rw (h, len) refl
 
-none_if : (b : List ℕ) (l : Lens) (o : Option (List (List ℕ × List ℕ))) → ((ps : List (List ℕ × List ℕ)) → o ≡ Some ps → (is_entry (entry_in b l ps) && is_spelled b l) ≡ false) → option_and_then (entry_at b l) o ≡ None
+none_if : (b : List ℕ) (l : Lengths) (o : Option (List (List ℕ × List ℕ))) → ((ps : List (List ℕ × List ℕ)) → o ≡ Some ps → (is_entry (entry_in b l ps) && is_spelled b l) ≡ false) → option_and_then (entry_at b l) o ≡ None
 unfolding entry_at
 none_if b l None h = refl
 none_if b l (Some ps) h = let f = h ps refl in rw f refl
 
-some_if : (b : List ℕ) (l : Lens) (o : Option (List (List ℕ × List ℕ))) → is_some o ≡ true → ((ps : List (List ℕ × List ℕ)) → o ≡ Some ps → (is_entry (entry_in b l ps) && is_spelled b l) ≡ true)
+some_if : (b : List ℕ) (l : Lengths) (o : Option (List (List ℕ × List ℕ))) → is_some o ≡ true → ((ps : List (List ℕ × List ℕ)) → o ≡ Some ps → (is_entry (entry_in b l ps) && is_spelled b l) ≡ true)
     → (r : Entry) × (option_and_then (entry_at b l) o ≡ Some r)
 unfolding entry_at
 some_if b l None some h = absurd cc
 some_if b l (Some ps) some h = let f = h ps refl in (entry_in b l ps, rw f refl)
 
-pub refused_for_lens : (b : List ℕ) → lens_in b ≡ None → parsed b ≡ None
+pub refused_for_lengths : (b : List ℕ) → lengths_in b ≡ None → parsed b ≡ None
 unfolding parsed
-refused_for_lens b h = rw h refl
+refused_for_lengths b h = rw h refl
 
-pub refused_for_fields : (b : List ℕ) (l : Lens) → lens_in b ≡ Some l → end_of l ≤ length b → has_fields b l ≡ false → parsed b ≡ None
+pub refused_for_fields : (b : List ℕ) (l : Lengths) → lengths_in b ≡ Some l → end_of l ≤ length b → has_fields b l ≡ false → parsed b ≡ None
 unfolding is_entry has_fields
 refused_for_fields b l h within f =
     by_pairs b l h within ∙ none_if b l _ (λ ps e. and_left _ _ (and_left _ _ (and_left _ _ (and_left _ _ (and_left _ (are_pairs ps) f)))))
 
-pub refused_for_spelling : (b : List ℕ) (l : Lens) → lens_in b ≡ Some l → end_of l ≤ length b → is_spelled b l ≡ false → parsed b ≡ None
+pub refused_for_spelling : (b : List ℕ) (l : Lengths) → lengths_in b ≡ Some l → end_of l ≤ length b → is_spelled b l ≡ false → parsed b ≡ None
 refused_for_spelling b l h within f = by_pairs b l h within ∙ none_if b l _ (λ ps e. and_right _ _ f)
 
 tail_false : (x d s u : Bool) → (d && s && u) ≡ false → (x && d && s && u) ≡ false
@@ -99,7 +99,7 @@ tail_true : (x d s u : Bool) → x ≡ true → (d && s && u) ≡ true → (x &&
 tail_true true d s u e h = h
 tail_true false d s u e h = absurd cc
 
-pub refused_for_props : (b : List ℕ) (l : Lens) → lens_in b ≡ Some l → end_of l ≤ length b → are_props (props_of b l) ≡ false → parsed b ≡ None
+pub refused_for_props : (b : List ℕ) (l : Lengths) → lengths_in b ≡ Some l → end_of l ≤ length b → are_props (props_of b l) ≡ false → parsed b ≡ None
 unfolding is_entry has_fields are_props
 refused_for_props b l h within f =
     by_pairs b l h within ∙ none_if b l _ (λ ps e. and_left _ _ (tail_false (has_fields b l && are_pairs ps) _ _ _ (sym (ap are_allowed e) ∙ f)))
@@ -108,7 +108,7 @@ some_allowed : (o : Option (List (List ℕ × List ℕ))) → are_allowed o ≡ 
 some_allowed None h = absurd cc
 some_allowed (Some ps) h = refl
 
-pub accepted : (b : List ℕ) (l : Lens) → lens_in b ≡ Some l → end_of l ≤ length b → has_fields b l ≡ true → is_spelled b l ≡ true → are_props (props_of b l) ≡ true → (r : Entry) × (parsed b ≡ Some r)
+pub accepted : (b : List ℕ) (l : Lengths) → lengths_in b ≡ Some l → end_of l ≤ length b → has_fields b l ≡ true → is_spelled b l ≡ true → are_props (props_of b l) ≡ true → (r : Entry) × (parsed b ≡ Some r)
 unfolding is_entry has_fields are_props
 accepted b l h within fields spelled props =
     let text = props_of b l in

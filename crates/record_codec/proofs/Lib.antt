@@ -3,12 +3,14 @@ pub mod PairTexts
 pub mod PropsLemmas
 pub mod AppendLemmas
 pub mod DraftLemmas
+pub mod LayoutLengths
 pub mod Records
 pub mod InPlaceLemmas
 pub mod TestLaws
 pub mod TextLemmas
 pub mod PutLemmas
 pub mod LaxLemmas
+pub mod LastLemmas
 pub mod BlankLemmas
 pub mod UnitLemmas
 pub mod Views

@@ -73,7 +73,7 @@ has_name-with_prop m name value (p ∷ ps) e h =
       | inr other ↦ rw other (or_from _ _ parts.0 (has_name-with_prop m name value ps e parts.1))
     ]
 
-are_distinct-with_prop : (name value : List ℕ) (ps : List (List ℕ × List ℕ)) → are_distinct ps ≡ true → are_distinct (with_prop name value ps) ≡ true
+pub are_distinct-with_prop : (name value : List ℕ) (ps : List (List ℕ × List ℕ)) → are_distinct ps ≡ true → are_distinct (with_prop name value ps) ≡ true
 are_distinct-with_prop name value [] h = refl
 are_distinct-with_prop name value (p ∷ ps) h =
     let parts = and_parts (not (has_name p.0 ps)) (are_distinct ps) h in

@@ -14,13 +14,14 @@ use Rattle.record_codec.specs.Entry.{Entry}
 use Rattle.record_codec.specs.Props.{written, are_pairs, has_name, are_distinct, pairs_in}
 use Rattle.mq_bytes.specs.Bytes.{AreBytes}
 use Rattle.record_codec.specs.Layout.{magic, body_crc, numbers_text, fixed, digits, seal_name, unsealed, size, numbers, front, sealed, layout, is_legal, are_hosts_short, are_low, is_entry, IsRecord}
-use Rattle.record_codec.specs.Parsed.{◌>>=◌, n16, n32, n64, Lens, end_of, lens_past_topic, lens_past_body, lens_past_size, lens_in, entry_in, is_spelled, entry_at, parsed}
+use Rattle.record_codec.specs.Parsed.{◌>>=◌, n16, n32, n64, Lengths, end_of, lengths_past_topic, lengths_past_body, lengths_past_size, lengths_in, entry_in, is_spelled, entry_at, parsed}
+use Rattle.record_codec.proofs.LayoutLengths.{length-digits}
 use Rattle.record_codec.proofs.NumberTexts.{AreBytes-drop, AreBytes-take, AreWide, none, more, four, eight, Fit, numbers_from, numbers_text-read, numbers_from-text}
 use Rattle.record_codec.proofs.PairTexts.{some_is, past_test, past_fault, bind_some, pairs_again, pairs_take}
 
 -- ---- the lengths
 
-pub record LensFacts (b : List ℕ) (l : Lens) : Type 0 where
+pub record LengthsFacts (b : List ℕ) (l : Lengths) : Type 0 where
   pub size : n32 b 0 ≡ end_of l
   pub within : end_of l ≤ length b
   pub body : n32 b 84 ≡ l.body
@@ -31,37 +32,37 @@ or_false : (p q : Bool) → (p || q) ≡ false → (p ≡ false) × (q ≡ false
 or_false true q h = absurd cc
 or_false false q h = (refl, h)
 
-past_topic : (b : List ℕ) (size body topic : ℕ) (l : Lens) → lens_past_topic b size body topic ≡ Some l
+past_topic : (b : List ℕ) (size body topic : ℕ) (l : Lengths) → lengths_past_topic b size body topic ≡ Some l
     → (91 + body + topic + n16 b (89 + body + topic) ≡ size) × (l ≡ record { body = body; topic = topic; props = size - (105 + body + topic) })
-unfolding lens_past_topic
+unfolding lengths_past_topic
 past_topic b size body topic l h =
     let p = past_test (eqb (91 + body + topic + n16 b (89 + body + topic)) size) (record { body = body; topic = topic; props = size - (105 + body + topic) }) l h in
     (eqb-true _ _ p.0, sym p.1)
 
-past_body : (b : List ℕ) (size body : ℕ) (l : Lens) → lens_past_body b size body ≡ Some l
-    → (get_or b (88 + body) 0 ≤ size - 105 - body) × (lens_past_topic b size body (get_or b (88 + body) 0) ≡ Some l)
-unfolding lens_past_body
+past_body : (b : List ℕ) (size body : ℕ) (l : Lengths) → lengths_past_body b size body ≡ Some l
+    → (get_or b (88 + body) 0 ≤ size - 105 - body) × (lengths_past_topic b size body (get_or b (88 + body) 0) ≡ Some l)
+unfolding lengths_past_body
 past_body b size body l h = let p = past_fault (ltb (size - 105 - body) (get_or b (88 + body) 0)) _ l h in (ltb-false _ _ p.0, p.1)
 
-past_size : (b : List ℕ) (size : ℕ) (l : Lens) → lens_past_size b size ≡ Some l
-    → (105 ≤ size) × (size ≤ length b) × (n32 b 84 ≤ size - 105) × (lens_past_body b size (n32 b 84) ≡ Some l)
-unfolding lens_past_size
+past_size : (b : List ℕ) (size : ℕ) (l : Lengths) → lengths_past_size b size ≡ Some l
+    → (105 ≤ size) × (size ≤ length b) × (n32 b 84 ≤ size - 105) × (lengths_past_body b size (n32 b 84) ≡ Some l)
+unfolding lengths_past_size
 past_size b size l h =
     let p = past_fault (ltb size 105 || ltb (length b) size) _ l h in
     let o = or_false (ltb size 105) (ltb (length b) size) p.0 in
     let q = past_fault (ltb (size - 105) (n32 b 84)) _ l p.1 in
     (ltb-false _ _ o.0, ltb-false _ _ o.1, ltb-false _ _ q.0, q.1)
 
-pub lens_facts : (b : List ℕ) (l : Lens) → lens_in b ≡ Some l → LensFacts b l
-unfolding lens_in
-lens_facts b l h =
+pub lengths_facts : (b : List ℕ) (l : Lengths) → lengths_in b ≡ Some l → LengthsFacts b l
+unfolding lengths_in
+lengths_facts b l h =
     let a = past_fault (ltb (length b) 4) _ l h in
     let s = past_size b (n32 b 0) l a.1 in
     let o = past_body b (n32 b 0) (n32 b 84) l s.3 in
     let t = past_topic b (n32 b 0) (n32 b 84) (get_or b (88 + n32 b 84) 0) l o.1 in
-    let whole : LensFacts b (record { body = n32 b 84; topic = get_or b (88 + n32 b 84) 0; props = n32 b 0 - (105 + n32 b 84 + get_or b (88 + n32 b 84) 0) }) =
+    let whole : LengthsFacts b (record { body = n32 b 84; topic = get_or b (88 + n32 b 84) 0; props = n32 b 0 - (105 + n32 b 84 + get_or b (88 + n32 b 84) 0) }) =
     record { size = omega (arith, s, o, t); within = omega (arith, s, o, t); body = refl; topic = refl; props = omega (arith, s, o, t) } in
-    subst (LensFacts b) (sym t.1) whole
+    subst (LengthsFacts b) (sym t.1) whole
 
 -- ---- what is read is a layout
 
@@ -80,13 +81,13 @@ n32_below b at fits = below32 (take 4 (drop at b)) (AreBytes-take 4 (drop at b) 
 wide : AreWide fixed
 wide = more four (more four (more four (more four (more four (more eight (more eight (more four (more eight (more eight (more eight (more eight (more four (more eight (more four none))))))))))))))
 
-record Spelled (b : List ℕ) (l : Lens) : Type 0 where
+record Spelled (b : List ℕ) (l : Lengths) : Type 0 where
   magic : n32 b 4 ≡ magic
   crc : n32 b 8 ≡ body_crc (take l.body (drop 88 b))
   name : take 5 (drop (91 + l.body + l.topic + l.props) b) ≡ seal_name
   seal : take 9 (drop (96 + l.body + l.topic + l.props) b) ≡ digits (crc_of (take (96 + l.body + l.topic + l.props) b ++ unsealed)) ++ 2 ∷ []
 
-spelled_facts : (b : List ℕ) (l : Lens) → is_spelled b l ≡ true → Spelled b l
+spelled_facts : (b : List ℕ) (l : Lengths) → is_spelled b l ≡ true → Spelled b l
 unfolding is_spelled
 spelled_facts b l h =
     let d = and_parts _ (bytes_eq (take 9 (drop (96 + l.body + l.topic + l.props) b)) (digits (crc_of (take (96 + l.body + l.topic + l.props) b ++ unsealed)) ++ 2 ∷ [])) h in
@@ -94,7 +95,7 @@ spelled_facts b l h =
     let a = and_parts (eqb (n32 b 4) magic) (eqb (n32 b 8) (body_crc (take l.body (drop 88 b)))) c.0 in
     record { magic = eqb-true _ _ a.0; crc = eqb-true _ _ a.1; name = (bytes_eq-Decides _ _).0 c.1; seal = (bytes_eq-Decides _ _).0 d.1 }
 
-numbers_are : (b : List ℕ) (l : Lens) (ps : List (List ℕ × List ℕ)) → AreBytes b → LensFacts b l → Spelled b l → take l.props (drop (91 + l.body + l.topic) b) ≡ written ps
+numbers_are : (b : List ℕ) (l : Lengths) (ps : List (List ℕ × List ℕ)) → AreBytes b → LengthsFacts b l → Spelled b l → take l.props (drop (91 + l.body + l.topic) b) ≡ written ps
     → numbers_from 0 fixed b ≡ numbers (entry_in b l ps)
 numbers_are b l ps fits f s w =
     let within = f.within in
@@ -107,7 +108,7 @@ numbers_are b l ps fits f s w =
     let e84 : n32 b 84 ≡ length (take l.body (drop 88 b)) = f.body ∙ sym body_len in
     rw (e0, s.magic, s.crc, e16, e72, e84) refl
 
-numbers_head : (b : List ℕ) (l : Lens) (ps : List (List ℕ × List ℕ)) → AreBytes b → LensFacts b l → Spelled b l → take l.props (drop (91 + l.body + l.topic) b) ≡ written ps → n32 b 0 ≡ size (entry_in b l ps)
+numbers_head : (b : List ℕ) (l : Lengths) (ps : List (List ℕ × List ℕ)) → AreBytes b → LengthsFacts b l → Spelled b l → take l.props (drop (91 + l.body + l.topic) b) ≡ written ps → n32 b 0 ≡ size (entry_in b l ps)
 numbers_head b l ps fits f s w = ap (λ (x : List ℕ). get_or x 0 0) (numbers_are b l ps fits f s w)
 
 -- parts that follow one another
@@ -119,7 +120,7 @@ joined b n b1 body b2 t b3 topic b4 plen b5 props b6 name b7 n' t' plen' props' 
     rw (p0, p1, p2, p3, p4, p5, p6, e0, e1, e2, e3, e4) (simp append_assoc)
 
 -- the whole, part by part
-front_is : (b : List ℕ) (l : Lens) (ps : List (List ℕ × List ℕ)) → AreBytes b → LensFacts b l → Spelled b l → take l.props (drop (91 + l.body + l.topic) b) ≡ written ps
+front_is : (b : List ℕ) (l : Lengths) (ps : List (List ℕ × List ℕ)) → AreBytes b → LengthsFacts b l → Spelled b l → take l.props (drop (91 + l.body + l.topic) b) ≡ written ps
     → b ≡ front (entry_in b l ps) ++ drop (96 + l.body + l.topic + l.props) b
 unfolding front
 front_is b l ps fits f s w =
@@ -148,14 +149,14 @@ front_is b l ps fits f s w =
     (numbers_text fixed (numbers (entry_in b l ps))) (length (take T (drop (89 + B) b))) (to_be_bytes w16 (length (written ps) + 14)) (written ps) seal_name
     p0 p1 p2 p3 p4 p5 p6 nums tlen plen w s.name
 
-pub entry_facts : (b : List ℕ) (l : Lens) (ps : List (List ℕ × List ℕ)) (r : Entry) → entry_at b l ps ≡ Some r → (is_entry (entry_in b l ps) ≡ true) × (is_spelled b l ≡ true) × (entry_in b l ps ≡ r)
+pub entry_facts : (b : List ℕ) (l : Lengths) (ps : List (List ℕ × List ℕ)) (r : Entry) → entry_at b l ps ≡ Some r → (is_entry (entry_in b l ps) ≡ true) × (is_spelled b l ≡ true) × (entry_in b l ps ≡ r)
 unfolding entry_at
 entry_facts b l ps r h =
     let p = past_test (is_entry (entry_in b l ps) && is_spelled b l) (entry_in b l ps) r h in
     let q = and_parts (is_entry (entry_in b l ps)) (is_spelled b l) p.0 in
     (q.0, q.1, p.1)
 
-record_of : (b : List ℕ) (l : Lens) (ps : List (List ℕ × List ℕ)) → AreBytes b → LensFacts b l → take l.props (drop (91 + l.body + l.topic) b) ≡ written ps → is_entry (entry_in b l ps) ≡ true → IsRecord (entry_in b l ps)
+record_of : (b : List ℕ) (l : Lengths) (ps : List (List ℕ × List ℕ)) → AreBytes b → LengthsFacts b l → take l.props (drop (91 + l.body + l.topic) b) ≡ written ps → is_entry (entry_in b l ps) ≡ true → IsRecord (entry_in b l ps)
 record_of b l ps fits f w e =
     let within = f.within in
     let body_len : length (take l.body (drop 88 b)) ≡ l.body = omega (arith, length-take l.body (drop 88 b), length-drop 88 b) in
@@ -170,6 +171,7 @@ record_of b l ps fits f w e =
       reconsume = sfits_to_z {w = w32} {n = n32 b 72} (record { fits = n32_below b 72 fits });
       born_host = (omega (arith, length-take 8 (drop 48 b), length-drop 48 b, within), AreBytes-take 8 (drop 48 b) (AreBytes-drop 48 b fits));
       store_host = (omega (arith, length-take 8 (drop 64 b), length-drop 64 b, within), AreBytes-take 8 (drop 64 b) (AreBytes-drop 64 b fits));
+      body = AreBytes-take l.body (drop 88 b) (AreBytes-drop 88 b fits);
       props = omega (arith, plen, f.props, props_len);
       size = omega (arith, n32_below b 0 fits, f.size, body_len, topic_len, props_len);
     }
@@ -188,11 +190,11 @@ sealed_is b before n e le seal =
 pub parsed_takes : (b : List ℕ) (r : Entry) → AreBytes b → parsed b ≡ Some r → IsRecord r × (b ≡ layout r ++ drop (size r) b)
 unfolding parsed
 parsed_takes b r fits h =
-    let lens = bind_some (lens_in b) (λ l. pairs_in l.props (take l.props (drop (91 + l.body + l.topic) b)) >>= λ ps. entry_at b l ps) r h in
-    let l = lens.0 in
-    let pairs = bind_some (pairs_in l.props (take l.props (drop (91 + l.body + l.topic) b))) (λ ps. entry_at b l ps) r lens.2 in
+    let lengths = bind_some (lengths_in b) (λ l. pairs_in l.props (take l.props (drop (91 + l.body + l.topic) b)) >>= λ ps. entry_at b l ps) r h in
+    let l = lengths.0 in
+    let pairs = bind_some (pairs_in l.props (take l.props (drop (91 + l.body + l.topic) b))) (λ ps. entry_at b l ps) r lengths.2 in
     let ps = pairs.0 in
-    let f = lens_facts b l lens.1 in
+    let f = lengths_facts b l lengths.1 in
     let w = pairs_take l.props (take l.props (drop (91 + l.body + l.topic) b)) ps pairs.1 in
     let e = entry_facts b l ps r pairs.2 in
     let s = spelled_facts b l e.1 in
@@ -204,25 +206,25 @@ parsed_takes b r fits h =
 
 -- ---- a layout is read
 
-lens_1 : (b : List ℕ) → 4 ≤ length b → lens_in b ≡ lens_past_size b (n32 b 0)
-unfolding lens_in
-lens_1 b le = let t : ltb (length b) 4 ≡ false = le-ltb _ _ le in rw t refl
+lengths_1 : (b : List ℕ) → 4 ≤ length b → lengths_in b ≡ lengths_past_size b (n32 b 0)
+unfolding lengths_in
+lengths_1 b le = let t : ltb (length b) 4 ≡ false = le-ltb _ _ le in rw t refl
 
-lens_2 : (b : List ℕ) (size : ℕ) → 105 ≤ size → size ≤ length b → n32 b 84 ≤ size - 105 → lens_past_size b size ≡ lens_past_body b size (n32 b 84)
-unfolding lens_past_size
-lens_2 b size le within body =
+lengths_2 : (b : List ℕ) (size : ℕ) → 105 ≤ size → size ≤ length b → n32 b 84 ≤ size - 105 → lengths_past_size b size ≡ lengths_past_body b size (n32 b 84)
+unfolding lengths_past_size
+lengths_2 b size le within body =
     let t : ltb size 105 ≡ false = le-ltb _ _ le in
     let u : ltb (length b) size ≡ false = le-ltb _ _ within in
     let v : ltb (size - 105) (n32 b 84) ≡ false = le-ltb _ _ body in
     rw (t, u, v) refl
 
-lens_3 : (b : List ℕ) (size body : ℕ) → get_or b (88 + body) 0 ≤ size - 105 - body → lens_past_body b size body ≡ lens_past_topic b size body (get_or b (88 + body) 0)
-unfolding lens_past_body
-lens_3 b size body le = let t : ltb (size - 105 - body) (get_or b (88 + body) 0) ≡ false = le-ltb _ _ le in rw t refl
+lengths_3 : (b : List ℕ) (size body : ℕ) → get_or b (88 + body) 0 ≤ size - 105 - body → lengths_past_body b size body ≡ lengths_past_topic b size body (get_or b (88 + body) 0)
+unfolding lengths_past_body
+lengths_3 b size body le = let t : ltb (size - 105 - body) (get_or b (88 + body) 0) ≡ false = le-ltb _ _ le in rw t refl
 
-lens_4 : (b : List ℕ) (size body topic : ℕ) → 91 + body + topic + n16 b (89 + body + topic) ≡ size → lens_past_topic b size body topic ≡ Some (record { body = body; topic = topic; props = size - (105 + body + topic) })
-unfolding lens_past_topic
-lens_4 b size body topic e = let t : eqb (91 + body + topic + n16 b (89 + body + topic)) size ≡ true = eq-eqb _ _ e in rw t refl
+lengths_4 : (b : List ℕ) (size body topic : ℕ) → 91 + body + topic + n16 b (89 + body + topic) ≡ size → lengths_past_topic b size body topic ≡ Some (record { body = body; topic = topic; props = size - (105 + body + topic) })
+unfolding lengths_past_topic
+lengths_4 b size body topic e = let t : eqb (91 + body + topic + n16 b (89 + body + topic)) size ≡ true = eq-eqb _ _ e in rw t refl
 
 part : (pre mid post : List ℕ) (n m : ℕ) → length pre ≡ n → length mid ≡ m → take m (drop n (pre ++ (mid ++ post))) ≡ mid
 part pre mid post n m p q = rw (drop_at pre (mid ++ post) n p, take_at mid post m q) refl
@@ -279,10 +281,6 @@ places F body t topic pl W name D rest f p n d =
       seal_at = part_at b (in_front F body t topic pl W name) (D ++ 2 ∷ []) rest (96 + length body + length topic + length W) 9 r7 l7 l8;
       within_at = omega (arith, ap (λ (w : List ℕ). length w) r7, length-append (in_front F body t topic pl W name) ((D ++ 2 ∷ []) ++ rest), length-append (D ++ 2 ∷ []) rest, l7, l8);
     }
-
-digits_len : (n : ℕ) → length (digits n) ≡ 8
-unfolding digits
-digits_len n = refl
 
 pub record EntryFacts (r : Entry) : Type 0 where
   pub legal : is_legal r.topic ≡ true
@@ -362,16 +360,16 @@ holds r rest h =
       nums = ap (numbers_from 0 fixed) first.1 ∙ numbers_from-text [] 0 fixed (numbers r) first.0 refl wide (numbers_fit r h);
       born_host = ap (λ (w : List ℕ). take 8 (drop 48 w)) first.1 ∙ host_48 r first.0 ∙ be_bytes_8 r.born_host _ h.born_host.0 h.born_host.1 refl;
       store_host = ap (λ (w : List ℕ). take 8 (drop 64 w)) first.1 ∙ host_64 r first.0 ∙ be_bytes_8 r.store_host _ h.store_host.0 h.store_host.1 refl;
-      places = places (numbers_text fixed (numbers r)) r.body (length r.topic) r.topic (to_be_bytes w16 (length (written r.props) + 14)) (written r.props) seal_name (digits (crc_of (front r ++ unsealed))) rest refl refl refl (digits_len _);
+      places = places (numbers_text fixed (numbers r)) r.body (length r.topic) r.topic (to_be_bytes w16 (length (written r.props) + 14)) (written r.props) seal_name (digits (crc_of (front r ++ unsealed))) rest refl refl refl (length-digits _);
     }
 
 -- ---- a layout is read as its record
 
-abbrev lens_of : Entry → Lens
-lens_of r = record { body = length r.body; topic = length r.topic; props = length (written r.props) }
+abbrev lengths_of : Entry → Lengths
+lengths_of r = record { body = length r.body; topic = length r.topic; props = length (written r.props) }
 
-lens_again : (b : List ℕ) (r : Entry) → IsRecord r → Holds b r → lens_in b ≡ Some (lens_of r)
-lens_again b r h k =
+lengths_again : (b : List ℕ) (r : Entry) → IsRecord r → Holds b r → lengths_in b ≡ Some (lengths_of r)
+lengths_again b r h k =
     let B = length r.body in
     let T = length r.topic in
     let P = length (written r.props) in
@@ -381,11 +379,11 @@ lens_again b r h k =
     let p : n16 b (89 + B + T) ≡ P + 14 = ap (from_be_bytes w16) k.places.plen_at ∙ from_be_bytes-to_be_bytes_2 (P + 14) h.props in
     let props : size r - (105 + B + T) ≡ P = omega arith in
     let within : size r ≤ length b = k.places.within_at in
-    lens_1 b (omega (arith, within)) ∙ ap (lens_past_size b) e0 ∙ lens_2 b (size r) (omega arith) within (omega (arith, e84)) ∙ ap (lens_past_body b (size r)) e84
-    ∙ lens_3 b (size r) B (omega (arith, t)) ∙ ap (lens_past_topic b (size r) B) t ∙ lens_4 b (size r) B T (omega (arith, p))
+    lengths_1 b (omega (arith, within)) ∙ ap (lengths_past_size b) e0 ∙ lengths_2 b (size r) (omega arith) within (omega (arith, e84)) ∙ ap (lengths_past_body b (size r)) e84
+    ∙ lengths_3 b (size r) B (omega (arith, t)) ∙ ap (lengths_past_topic b (size r) B) t ∙ lengths_4 b (size r) B T (omega (arith, p))
     ∙ ap (λ (n : ℕ). Some (record { body = B; topic = T; props = n })) props
 
-entry_again : (b : List ℕ) (r : Entry) → IsRecord r → Holds b r → entry_in b (lens_of r) r.props ≡ r
+entry_again : (b : List ℕ) (r : Entry) → IsRecord r → Holds b r → entry_in b (lengths_of r) r.props ≡ r
 entry_again b r h k =
     let queue : n32 b 12 ≡ r.queue = ap (λ (x : List ℕ). get_or x 3 0) k.nums in
     let flag : cast_signed w32 (n32 b 16) ≡ r.flag = ap (λ (x : List ℕ). cast_signed w32 (get_or x 4 0)) k.nums ∙ to_z-of_z {w = w32} {z = r.flag} h.flag in
@@ -400,7 +398,7 @@ entry_again b r h k =
     let topic = k.places.topic_at in
     rw (topic, queue, flag, sysflag, born, k.born_host, k.store_host, reconsume, prepared, body, queue_offset, offset, store) refl
 
-spelled_again : (b : List ℕ) (r : Entry) → Holds b r → is_spelled b (lens_of r) ≡ true
+spelled_again : (b : List ℕ) (r : Entry) → Holds b r → is_spelled b (lengths_of r) ≡ true
 unfolding is_spelled
 spelled_again b r k =
     let magic_is : n32 b 4 ≡ magic = ap (λ (x : List ℕ). get_or x 1 0) k.nums in
@@ -415,7 +413,7 @@ again_by b r h k =
     let s = said r h.entry in
     let props : pairs_in (length (written r.props)) (take (length (written r.props)) (drop (91 + length r.body + length r.topic) b)) ≡ Some r.props =
     ap (pairs_in (length (written r.props))) k.places.props_at ∙ pairs_again (length (written r.props)) r.props s.pairs (omega arith) in
-    rw (lens_again b r h k, props, entry_again b r h k, h.entry, spelled_again b r k) refl
+    rw (lengths_again b r h k, props, entry_again b r h k, h.entry, spelled_again b r k) refl
 
 -- a layout is read as its record, whatever follows
 pub parsed_again : (r : Entry) (rest : List ℕ) → IsRecord r → parsed (layout r ++ rest) ≡ Some r

@@ -6,7 +6,7 @@ use Rattle.std.proofs.lemmas.Bool.{and_parts, or_cases, eqb-true, leb-true}
 use Rattle.std.proofs.lemmas.List.{take_at, drop_at}
 use Rattle.std.proofs.lemmas.Str.{IsUtf8-take, IsUtf8-drop, IsUtf8-from_ascii, IsCharBoundary-before_ascii, IsCharBoundary-after_ascii}
 use Rattle.record_codec.specs.Props.{pair_text, written, value_of}
-use Rattle.record_codec.specs.Layout.{is_topic_char, all_topic_chars, is_legal}
+use Rattle.record_codec.specs.Layout.{is_named, is_topic_char, all_topic_chars, is_legal}
 
 byte_at : (xs : List ℕ) (c : ℕ) (ys : List ℕ) → get_or (xs ++ c ∷ ys) (length xs) 0 ≡ c
 byte_at [] c ys = refl
@@ -67,4 +67,4 @@ IsAscii-topic (b ∷ topic) h zero = topic_char_low b (and_parts _ (all_topic_ch
 IsAscii-topic (b ∷ topic) h (suc i) = IsAscii-topic topic (and_parts (is_topic_char b) _ h).1 i
 
 pub IsUtf8-legal : (topic : List ℕ) → is_legal topic ≡ true → IsUtf8 topic
-IsUtf8-legal topic h = IsUtf8-from_ascii topic (IsAscii-topic topic (and_parts _ (all_topic_chars topic) h).1)
+IsUtf8-legal topic h = IsUtf8-from_ascii topic (IsAscii-topic topic (and_parts _ (all_topic_chars topic) (and_parts (is_named topic) _ h).0).1)

@@ -3,6 +3,7 @@ use Rattle.std.specs.Prelude.{ℕ, ◌==◌, ◌++◌, List, length, nat_lt, Opt
 use Rattle.std.specs.Int.{w32, to_be_bytes}
 use Rattle.record_codec.specs.Parsed.{n32}
 
+-- the number behind the size
 abbrev pub blank_magic : ℕ
 blank_magic = 0xCBD4_3194
 

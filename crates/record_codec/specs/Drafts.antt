@@ -1,13 +1,14 @@
 -- A draft: what a record says before it has a place, and what keeps it from being written.
-use Rattle.std.specs.Prelude.{◌≡◌, ℕ, ◌+◌, ◌^◌, ◌<◌, List, [], ◌∷◌, length, codes, Bool, false, not, ◌&&◌, nat_lt, FitsSigned, Option, Some, None, if◌then◌else◌}
+use Rattle.std.specs.Prelude.{◌≡◌, ℕ, ◌+◌, ◌^◌, ◌<◌, List, [], ◌∷◌, length, codes, Bool, false, not, nat_lt, FitsSigned, Option, Some, None, if◌then◌else◌}
 use Rattle.std.specs.Int.{w32}
+use Rattle.mq_bytes.specs.Bytes.{AreBytes}
 use Rattle.record_codec.specs.declared.draft.Draft.{Draft}
 use Rattle.record_codec.specs.declared.draft.Place.{Place}
 use Rattle.record_codec.specs.declared.draft.DraftFault.{DraftFault}
 use Rattle.record_codec.specs.declared.draft.DraftFault.TheVariants.{BadTopic, TopicLong, HostSix, BodyLong, PropsLong, RecordLong}
 use Rattle.record_codec.specs.Entry.{Entry}
 use Rattle.record_codec.specs.Props.{written, has_name}
-use Rattle.record_codec.specs.Layout.{all_topic_chars, are_hosts_short, IsHost}
+use Rattle.record_codec.specs.Layout.{is_named, are_hosts_short, IsHost}
 
 -- the record of a draft at a place
 abbrev pub entry_of : Draft → Place → Entry
@@ -41,10 +42,6 @@ abbrev pub first_that_holds : {A : Type 0} → List (Bool × A) → Option A
 first_that_holds [] = None
 first_that_holds (choice ∷ more) = if choice.0 then Some choice.1 else first_that_holds more
 
--- a topic that isn't empty, of legal characters
-abbrev pub is_named : List ℕ → Bool
-is_named topic = nat_lt 0 (length topic) && all_topic_chars topic
-
 -- why a draft can't be written into a segment of this size: the first fault in this order
 unfoldable pub draft_fault : ℕ → Draft → Option DraftFault
 draft_fault segment d = first_that_holds (
@@ -56,7 +53,7 @@ draft_fault segment d = first_that_holds (
     ∷ (nat_lt segment (draft_size d + 8), RecordLong)
     ∷ [])
 
--- the ranges of a draft's numbers and hosts
+-- the ranges of a draft's numbers, hosts and body
 pub record IsInRanges (d : Draft) : Type 0 where
   pub queue : d.queue < 2 ^ 32
   pub flag : FitsSigned w32 d.flag
@@ -64,6 +61,7 @@ pub record IsInRanges (d : Draft) : Type 0 where
   pub reconsume : FitsSigned w32 d.reconsume
   pub born_host : IsHost d.born_host
   pub store_host : IsHost d.store_host
+  pub body : AreBytes d.body
 
 -- a draft that can be written at this place: into the greatest segment it has no fault, its numbers are in range, and the seal's name is free
 pub record IsEncodable (d : Draft) (p : Place) : Type 0 where

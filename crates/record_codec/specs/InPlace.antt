@@ -3,10 +3,10 @@ use Rattle.std.specs.Prelude.{ℕ, ◌+◌, List, [], ◌∷◌, length, take, d
 use Rattle.std.specs.Str.{is_utf8}
 use Rattle.record_codec.specs.Props.{written, are_distinct, has_name, pairs_in}
 use Rattle.record_codec.specs.Layout.{is_legal, are_hosts_short, are_low}
-use Rattle.record_codec.specs.Parsed.{n32, n64, Lens}
+use Rattle.record_codec.specs.Parsed.{n32, n64, Lengths}
 
 -- the topic, the host flags, and the five numbers below 2^62
-unfoldable pub has_fields : List ℕ → Lens → Bool
+unfoldable pub has_fields : List ℕ → Lengths → Bool
 has_fields b l =
     is_legal (take l.topic (drop (89 + l.body) b)) && are_hosts_short (n32 b 36)
     && are_low (n64 b 20 ∷ n64 b 28 ∷ n64 b 40 ∷ n64 b 56 ∷ n64 b 76 ∷ [])

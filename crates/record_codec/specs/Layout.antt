@@ -65,13 +65,18 @@ layout r = sealed (front r)
 abbrev pub is_topic_char : ℕ → Bool
 is_topic_char b = (b == 37) || (b == 124) || (b == 95) || (b == 45) || (nat_le 48 b && nat_le b 57) || (nat_le 65 b && nat_le b 90) || (nat_le 97 b && nat_le b 122)
 
+-- each byte is one of these characters
 abbrev pub all_topic_chars : List ℕ → Bool
 all_topic_chars [] = true
 all_topic_chars (b ∷ bytes) = is_topic_char b && all_topic_chars bytes
 
+-- a topic that isn't empty, of such characters
+abbrev pub is_named : List ℕ → Bool
+is_named topic = nat_lt 0 (length topic) && all_topic_chars topic
+
 -- a topic has 1 to 127 characters
 abbrev pub is_legal : List ℕ → Bool
-is_legal topic = nat_lt 0 (length topic) && nat_lt (length topic) 128 && all_topic_chars topic
+is_legal topic = is_named topic && nat_lt (length topic) 128
 
 -- neither host has six bytes more, as the flags 16 and 32 would say
 abbrev pub are_hosts_short : ℕ → Bool
@@ -100,5 +105,6 @@ pub record IsRecord (r : Entry) : Type 0 where
   pub reconsume : FitsSigned w32 r.reconsume
   pub born_host : IsHost r.born_host
   pub store_host : IsHost r.store_host
+  pub body : AreBytes r.body
   pub props : length (written r.props) + 14 < 2 ^ 16
   pub size : size r < 2 ^ 32

@@ -6,6 +6,6 @@ pub mod Drafts
 pub mod Parsed
 pub mod InPlace
 pub mod Views
-pub mod LensViews
+pub mod LengthsViews
 pub mod Blanks
 pub mod Units

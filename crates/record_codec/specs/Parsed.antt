@@ -21,31 +21,31 @@ abbrev pub n64 : List ℕ → ℕ → ℕ
 n64 b at = from_be_bytes w64 (take 8 (drop at b))
 
 -- the lengths of the body, of the topic, and of the properties without the seal
-pub record Lens : Type 0 where
+pub record Lengths : Type 0 where
   pub body : ℕ
   pub topic : ℕ
   pub props : ℕ
 
-abbrev pub end_of : Lens → ℕ
+abbrev pub end_of : Lengths → ℕ
 end_of l = 105 + l.body + l.topic + l.props
 
-unfoldable pub lens_past_topic : List ℕ → ℕ → ℕ → ℕ → Option Lens
-lens_past_topic b size body topic =
+unfoldable pub lengths_past_topic : List ℕ → ℕ → ℕ → ℕ → Option Lengths
+lengths_past_topic b size body topic =
     if 91 + body + topic + n16 b (89 + body + topic) == size then Some (record { body = body; topic = topic; props = size - (105 + body + topic) }) else None
 
-unfoldable pub lens_past_body : List ℕ → ℕ → ℕ → Option Lens
-lens_past_body b size body =
-    if nat_lt (size - 105 - body) (slice_index b (88 + body)) then None else lens_past_topic b size body (slice_index b (88 + body))
+unfoldable pub lengths_past_body : List ℕ → ℕ → ℕ → Option Lengths
+lengths_past_body b size body =
+    if nat_lt (size - 105 - body) (slice_index b (88 + body)) then None else lengths_past_topic b size body (slice_index b (88 + body))
 
-unfoldable pub lens_past_size : List ℕ → ℕ → Option Lens
-lens_past_size b size =
+unfoldable pub lengths_past_size : List ℕ → ℕ → Option Lengths
+lengths_past_size b size =
     if nat_lt size 105 || nat_lt (length b) size then None
-    else (if nat_lt (size - 105) (n32 b 84) then None else lens_past_body b size (n32 b 84))
+    else (if nat_lt (size - 105) (n32 b 84) then None else lengths_past_body b size (n32 b 84))
 
-unfoldable pub lens_in : List ℕ → Option Lens
-lens_in b = if nat_lt (length b) 4 then None else lens_past_size b (n32 b 0)
+unfoldable pub lengths_in : List ℕ → Option Lengths
+lengths_in b = if nat_lt (length b) 4 then None else lengths_past_size b (n32 b 0)
 
-abbrev pub entry_in : List ℕ → Lens → List (List ℕ × List ℕ) → Entry
+abbrev pub entry_in : List ℕ → Lengths → List (List ℕ × List ℕ) → Entry
 entry_in b l ps = record {
   topic = take l.topic (drop (89 + l.body) b);
   queue = n32 b 12;
@@ -64,16 +64,16 @@ entry_in b l ps = record {
 }
 
 -- the magic, both sums, and the seal's own spelling
-unfoldable pub is_spelled : List ℕ → Lens → Bool
+unfoldable pub is_spelled : List ℕ → Lengths → Bool
 is_spelled b l =
     (n32 b 4 == magic) && (n32 b 8 == body_crc (take l.body (drop 88 b))) && bytes_eq (take 5 (drop (91 + l.body + l.topic + l.props) b)) seal_name
     && bytes_eq (take 9 (drop (96 + l.body + l.topic + l.props) b)) (digits (crc_of (take (96 + l.body + l.topic + l.props) b ++ unsealed)) ++ 2 ∷ [])
 
-unfoldable pub entry_at : List ℕ → Lens → List (List ℕ × List ℕ) → Option Entry
+unfoldable pub entry_at : List ℕ → Lengths → List (List ℕ × List ℕ) → Option Entry
 entry_at b l ps = if is_entry (entry_in b l ps) && is_spelled b l then Some (entry_in b l ps) else None
 
 unfoldable pub parsed : List ℕ → Option Entry
 parsed b = do
-  l ← lens_in b
+  l ← lengths_in b
   ps ← pairs_in l.props (take l.props (drop (91 + l.body + l.topic) b))
   entry_at b l ps

@@ -18,9 +18,10 @@ hash_of (Some (b ∷ tags)) = java_hash (b ∷ tags)
 abbrev pub delay_of : ℕ → ℕ
 delay_of queue = if nat_lt queue 18 then level_delay (queue + 1) else 0
 
--- the tag code: the hash of the property TAGS, and for a delayed record the time at which it is due
-unfoldable pub tag_code : Entry → ℤ
-tag_code r = if bytes_eq r.topic (codes "SCHEDULE_TOPIC_XXXX") then pos (r.store + delay_of r.queue) else hash_of (value_of (codes "TAGS") r.props)
+-- the tag code of a topic, the property TAGS, a queue and a store time: the hash of the tags, and for a delayed record the time at which it is due
+unfoldable pub tag_code : List ℕ → Option (List ℕ) → ℕ → ℕ → ℤ
+tag_code topic tags queue store = if bytes_eq topic (codes "SCHEDULE_TOPIC_XXXX") then pos (store + delay_of queue) else hash_of tags
 
+-- where the record stands, its size and its tag code
 abbrev pub unit_of : Entry → Unit
-unit_of r = record { offset = r.offset; size = size r; tag = tag_code r }
+unit_of r = record { offset = r.offset; size = size r; tag = tag_code r.topic (value_of (codes "TAGS") r.props) r.queue r.store }

@@ -9,7 +9,7 @@
 ghost use Rattle.std.specs.Prelude.{◌≡◌, ◌<◌, ◌^◌, ◌++◌, List, ℕ, IfSome, IfNone};
 ghost use Rattle.record_codec.specs.Blanks.{blank_front, blank_size};
 
-use crate::lens::u32_at;
+use crate::lengths::u32_at;
 
 const BLANK_MAGIC: u32 = 0xCBD4_3194;
 

@@ -1,7 +1,7 @@
 //! What a record says before it has a place, and the test that it can be written.
 
 use crate::props::Props;
-use crate::topic::is_named;
+use crate::topic::{TOPIC_MAX, is_named};
 use mq_bytes::{Rows, Text};
 
 /// What a record says, but for its place. Times are milliseconds, hosts are an IPv4 address and a port of four bytes each.
@@ -10,6 +10,7 @@ pub struct Draft {
     pub topic: Text,
     pub queue: u32,
     pub flag: i32,
+    /// Bits 4 and 8 tell the kind of a transaction's record; bits 16 and 32, an address of 16 bytes for a host, can't be written.
     pub sysflag: u32,
     pub born: u64,
     pub born_host: [u8; 8],
@@ -52,8 +53,6 @@ pub enum DraftFault {
     /// The record and 8 bytes behind it don't fit into a segment.
     RecordLong,
 }
-
-const TOPIC_MAX: usize = 127;
 
 const BODY_MAX: usize = 4194304;
 

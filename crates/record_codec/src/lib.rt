@@ -6,7 +6,7 @@ mod blank;
 mod draft;
 mod laws;
 mod layout;
-mod lens;
+mod lengths;
 mod props;
 mod reading;
 mod scan;
@@ -17,12 +17,12 @@ mod view;
 
 pub use blank::test_blank;
 pub use draft::{Draft, DraftFault, Place, Record};
-pub use laws::{layouts_are_apart, layouts_read_back, records_write_back};
+pub use laws::{last_properties_count, layouts_are_apart, layouts_read_back, records_write_back};
 pub use layout::encode;
 pub use props::Props;
 pub use reading::test;
 pub use topic::is_legal_topic;
-pub use unit::{Unit, unit_of};
+pub use unit::{Unit, tag_code, unit_of};
 pub use view::View;
 
 #[cfg(test)]

@@ -62,6 +62,15 @@ impl Props {
         Ok(props)
     }
 
+    /// The same properties, apart from these.
+    pub fn copy(&self, alloc: Global) -> Result<Props, AllocError>
+        ensures { IfOk result (λ copy. copy ≡ self.now) }
+    {
+        Ok(Props {
+            pairs: copies_of(alloc, &self.pairs)?,
+        })
+    }
+
     /// The value of this name.
     pub fn get(&self, name: &str) -> Option<&str>
         ensures { option_map (λ value. value.now) result ≡ value_of name.now self.now }
@@ -143,6 +152,22 @@ impl Props {
         }
         Ok(Props { pairs })
     }
+}
+
+fn copies_of(alloc: Global, pairs: &[(Text, Text)]) -> Result<Vec<(Text, Text)>, AllocError>
+    ensures { IfOk result (λ copies. copies.items ≡ pairs.now) }
+{
+    let mut copies = Vec::with_capacity(alloc, pairs.len())?;
+    for (name, value) in pairs {
+        copies.push((copy_of(alloc, name)?, copy_of(alloc, value)?))?;
+    }
+    Ok(copies)
+}
+
+fn copy_of(alloc: Global, text: &Text) -> Result<Text, AllocError>
+    ensures { IfOk result (λ copy. copy ≡ text.now) }
+{
+    Ok(Text::of(String::from_str(alloc, text.as_str())?))
 }
 
 fn put_pair(

@@ -4,11 +4,11 @@ ghost use Rattle.std.specs.Prelude.{◌≡◌, ◌+◌, ◌≤◌, ◌^◌, ◌+
 ghost use Rattle.record_codec.specs.Entry.{Entry};
 ghost use Rattle.record_codec.specs.InPlace.{has_fields as has_fields_of, are_props as are_props_of};
 ghost use Rattle.record_codec.specs.Layout.{are_low as are_low_of, layout, IsRecord};
-ghost use Rattle.record_codec.specs.LensViews.{lens_view};
+ghost use Rattle.record_codec.specs.LengthsViews.{lengths_view};
 ghost use Rattle.record_codec.specs.Parsed.{parsed, end_of, is_spelled as is_spelled_of};
 
 use crate::layout::MAGIC;
-use crate::lens::{Lens, lens_of, u32_at, u64_at};
+use crate::lengths::{Lengths, lengths_of, u32_at, u64_at};
 use crate::scan::{are_distinct, are_written, has_name};
 use crate::seal::{seal_end, sum_of};
 use crate::topic::is_legal;
@@ -30,12 +30,12 @@ fn are_low(numbers: &[u64]) -> bool
 }
 
 #[tactic(auto, unfolding(crate::specs::InPlace::has_fields))]
-fn has_fields(bytes: &[u8], lens: &Lens) -> bool
-    requires { end_of (lens_view lens.now) ≤ length bytes.now }
-    ensures { result ≡ has_fields_of bytes.now (lens_view lens.now) }
+fn has_fields(bytes: &[u8], lengths: &Lengths) -> bool
+    requires { end_of (lengths_view lengths.now) ≤ length bytes.now }
+    ensures { result ≡ has_fields_of bytes.now (lengths_view lengths.now) }
 {
-    let from = 89 + lens.body as usize;
-    if !is_legal(&bytes[from..from + lens.topic as usize]) {
+    let from = 89 + lengths.body as usize;
+    if !is_legal(&bytes[from..from + lengths.topic as usize]) {
         return false;
     }
     if u32_at(bytes, 36) & 48 != 0 {
@@ -51,12 +51,12 @@ fn has_fields(bytes: &[u8], lens: &Lens) -> bool
 }
 
 #[tactic(auto, unfolding(crate::specs::Parsed::is_spelled))]
-fn is_spelled(bytes: &[u8], lens: &Lens) -> bool
-    requires { end_of (lens_view lens.now) ≤ length bytes.now }
-    ensures { result ≡ is_spelled_of bytes.now (lens_view lens.now) }
+fn is_spelled(bytes: &[u8], lengths: &Lengths) -> bool
+    requires { end_of (lengths_view lengths.now) ≤ length bytes.now }
+    ensures { result ≡ is_spelled_of bytes.now (lengths_view lengths.now) }
 {
-    let body = lens.body as usize;
-    let name = 91 + body + lens.topic as usize + lens.props as usize;
+    let body = lengths.body as usize;
+    let name = 91 + body + lengths.topic as usize + lengths.props as usize;
     if u32_at(bytes, 4) != MAGIC {
         return false;
     }
@@ -86,17 +86,17 @@ fn are_props(text: &[u8]) -> bool
 fn view_of(bytes: &[u8]) -> Option<View<'_>>
     ensures { result ≡ parsed bytes.now }
 {
-    let lens = lens_of(bytes)?;
-    let from = 91 + lens.body as usize + lens.topic as usize;
-    let text = &bytes[from..from + lens.props as usize];
-    if !has_fields(bytes, &lens) || !is_spelled(bytes, &lens) || !are_props(text) {
+    let lengths = lengths_of(bytes)?;
+    let from = 91 + lengths.body as usize + lengths.topic as usize;
+    let text = &bytes[from..from + lengths.props as usize];
+    if !has_fields(bytes, &lengths) || !is_spelled(bytes, &lengths) || !are_props(text) {
         return None;
     }
     Some(View {
         bytes,
-        body: lens.body,
-        topic: lens.topic,
-        props: lens.props,
+        body: lengths.body,
+        topic: lengths.topic,
+        props: lengths.props,
     })
 }
 

@@ -1,8 +1,10 @@
 //! Which topics are legal: 1 to 127 characters, each of them `%`, `|`, `_`, `-`, a digit or an ASCII letter.
 
 ghost use Rattle.std.specs.Prelude.{◌≡◌};
-ghost use Rattle.record_codec.specs.Drafts.{is_named as is_named_of};
-ghost use Rattle.record_codec.specs.Layout.{all_topic_chars, is_legal as is_legal_of, is_topic_char as is_topic_char_of};
+ghost use Rattle.record_codec.specs.Layout.{all_topic_chars, is_legal as is_legal_of, is_named as is_named_of, is_topic_char as is_topic_char_of};
+
+/// The most bytes that a topic has.
+pub(crate) const TOPIC_MAX: usize = 127;
 
 fn is_topic_char(byte: u8) -> bool
     ensures { result ≡ is_topic_char_of byte }
@@ -34,10 +36,11 @@ pub(crate) fn is_named(topic: &[u8]) -> bool
     !topic.is_empty() && are_topic_chars(topic)
 }
 
+/// Whether a record may have the topic that these bytes spell.
 pub(crate) fn is_legal(topic: &[u8]) -> bool
     ensures { result ≡ is_legal_of topic.now }
 {
-    !topic.is_empty() && topic.len() < 128 && are_topic_chars(topic)
+    is_named(topic) && topic.len() <= TOPIC_MAX
 }
 
 /// Whether a record may have this topic.

@@ -6,7 +6,7 @@ ghost use Rattle.record_codec.specs.Layout.{size as size_of};
 ghost use Rattle.record_codec.specs.Props.{value_of};
 
 use crate::draft::{Draft, Place, Record};
-use crate::lens::{host_at, u32_at, u64_at};
+use crate::lengths::{host_at, u32_at, u64_at};
 use crate::props::{Props, text_of};
 use crate::scan::value_in;
 use mq_bytes::Rows;
@@ -42,18 +42,21 @@ impl<'a> View<'a> {
         u32_at(self.bytes, 0)
     }
 
+    /// The queue id.
     pub fn queue(&self) -> u32
         ensures { result ≡ self.now.queue }
     {
         u32_at(self.bytes, 12)
     }
 
+    /// The sender's flag, a signed number that the broker gives no meaning.
     pub fn flag(&self) -> i32
         ensures { result ≡ self.now.flag }
     {
         u32_at(self.bytes, 16).cast_signed()
     }
 
+    /// The record's number in its queue, from 0 on.
     pub fn queue_offset(&self) -> u64
         ensures value { result ≡ self.now.queue_offset }
         ensures low { result < 2 ^ 62 }
@@ -61,7 +64,7 @@ impl<'a> View<'a> {
         u64_at(self.bytes, 20)
     }
 
-    /// The physical offset.
+    /// The physical offset: where the record begins, in bytes from the start of the log.
     pub fn offset(&self) -> u64
         ensures value { result ≡ self.now.offset }
         ensures low { result < 2 ^ 62 }
@@ -69,6 +72,8 @@ impl<'a> View<'a> {
         u64_at(self.bytes, 28)
     }
 
+    /// The system flag. Bits 4 and 8 tell the kind of a transaction's record: 4 a half message, 8 its copy after a commit,
+    /// 12 a rollback. Bits 16 and 32, an address of 16 bytes for a host, aren't set.
     pub fn sysflag(&self) -> u32
         ensures { result ≡ self.now.sysflag }
     {
@@ -83,6 +88,7 @@ impl<'a> View<'a> {
         u64_at(self.bytes, 40)
     }
 
+    /// The sender's host: an IPv4 address of four bytes, and a port of four, the high byte first.
     pub fn born_host(&self) -> [u8; 8]
         ensures { result ≡ self.now.born_host }
     {
@@ -97,19 +103,21 @@ impl<'a> View<'a> {
         u64_at(self.bytes, 56)
     }
 
+    /// The broker's host, in the form of the born host.
     pub fn store_host(&self) -> [u8; 8]
         ensures { result ≡ self.now.store_host }
     {
         host_at(self.bytes, 64)
     }
 
+    /// How often the message was given to a consumer again, a signed number.
     pub fn reconsume(&self) -> i32
         ensures { result ≡ self.now.reconsume }
     {
         u32_at(self.bytes, 72).cast_signed()
     }
 
-    /// The prepared transaction offset.
+    /// The prepared transaction offset: of a copy of a half message, the physical offset of its half.
     pub fn prepared(&self) -> u64
         ensures value { result ≡ self.now.prepared }
         ensures low { result < 2 ^ 62 }
@@ -117,12 +125,14 @@ impl<'a> View<'a> {
         u64_at(self.bytes, 76)
     }
 
+    /// The bytes of the message, any of them.
     pub fn body(&self) -> &[u8]
         ensures { result.now ≡ self.now.body }
     {
         &self.bytes[88..88 + self.body as usize]
     }
 
+    /// The topic: 1 to 127 legal characters.
     pub fn topic(&self) -> &str
         ensures { result.now ≡ self.now.topic }
     {

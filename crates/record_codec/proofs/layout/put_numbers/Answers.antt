@@ -37,4 +37,5 @@ returns-clause-ranges c = record {
   reconsume = search rules;
   born_host = c.host_number.ensures.host;
   store_host = c.host_number-2.ensures.host;
+  body = search rules;
 }

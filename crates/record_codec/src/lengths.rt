@@ -2,12 +2,12 @@
 
 ghost use Rattle.std.specs.Prelude.{◌≡◌, ◌+◌, ◌<◌, ◌≤◌, ◌^◌, length, drop, take, option_map, Some};
 ghost use Rattle.std.specs.Int.{w16, w32, from_be_bytes};
-ghost use Rattle.record_codec.specs.LensViews.{lens_view};
-ghost use Rattle.record_codec.specs.Parsed.{n16, n32, n64, lens_in, lens_past_body as lens_past_body_of, lens_past_topic as lens_past_topic_of};
+ghost use Rattle.record_codec.specs.LengthsViews.{lengths_view};
+ghost use Rattle.record_codec.specs.Parsed.{n16, n32, n64, lengths_in, lengths_past_body as lengths_past_body_of, lengths_past_topic as lengths_past_topic_of};
 
 /// The lengths of the body, the topic, and the properties without the seal.
 #[derive(Drop)]
-pub(crate) struct Lens {
+pub(crate) struct Lengths {
     pub(crate) body: u32,
     pub(crate) topic: u8,
     pub(crate) props: u16,
@@ -50,40 +50,40 @@ pub(crate) fn host_at(bytes: &[u8], at: usize) -> [u8; 8]
     ]
 }
 
-#[tactic(auto, unfolding(crate::specs::Parsed::lens_past_topic))]
-fn lens_past_topic(bytes: &[u8], size: u32, body: u32, topic: u8) -> Option<Lens>
+#[tactic(auto, unfolding(crate::specs::Parsed::lengths_past_topic))]
+fn lengths_past_topic(bytes: &[u8], size: u32, body: u32, topic: u8) -> Option<Lengths>
     requires within { size ≤ length bytes.now }
     requires body { body + topic + 105 ≤ size }
-    ensures { option_map lens_view result ≡ lens_past_topic_of bytes.now size body topic }
+    ensures { option_map lengths_view result ≡ lengths_past_topic_of bytes.now size body topic }
 {
     let at = 89 + body as usize + topic as usize;
     let props = u16_at(bytes, at);
     if at + 2 + props as usize != size as usize {
         return None;
     }
-    Some(Lens {
+    Some(Lengths {
         body,
         topic,
         props: props - 14,
     })
 }
 
-#[tactic(auto, unfolding(crate::specs::Parsed::lens_past_body))]
-fn lens_past_body(bytes: &[u8], size: u32, body: u32) -> Option<Lens>
+#[tactic(auto, unfolding(crate::specs::Parsed::lengths_past_body))]
+fn lengths_past_body(bytes: &[u8], size: u32, body: u32) -> Option<Lengths>
     requires within { size ≤ length bytes.now }
     requires body { body + 105 ≤ size }
-    ensures { option_map lens_view result ≡ lens_past_body_of bytes.now size body }
+    ensures { option_map lengths_view result ≡ lengths_past_body_of bytes.now size body }
 {
     let topic = bytes[88 + body as usize];
     if size - 105 - body < topic as u32 {
         return None;
     }
-    lens_past_topic(bytes, size, body, topic)
+    lengths_past_topic(bytes, size, body, topic)
 }
 
-#[tactic(auto, unfolding(crate::specs::Parsed::lens_past_size, crate::specs::Parsed::lens_in))]
-pub(crate) fn lens_of(bytes: &[u8]) -> Option<Lens>
-    ensures { option_map lens_view result ≡ lens_in bytes.now }
+#[tactic(auto, unfolding(crate::specs::Parsed::lengths_past_size, crate::specs::Parsed::lengths_in))]
+pub(crate) fn lengths_of(bytes: &[u8]) -> Option<Lengths>
+    ensures { option_map lengths_view result ≡ lengths_in bytes.now }
 {
     if bytes.len() < 4 {
         return None;
@@ -96,5 +96,5 @@ pub(crate) fn lens_of(bytes: &[u8]) -> Option<Lens>
     if size - 105 < body {
         return None;
     }
-    lens_past_body(bytes, size, body)
+    lengths_past_body(bytes, size, body)
 }
