@@ -8,11 +8,11 @@ use Rattle.record_codec.specs.Layout.{size}
 use Rattle.log_model.specs.Log.{fits, Follows, IsWellFormed}
 use Rattle.log_model.specs.Segments.{Shape, opened, used, laid, grown, shape_of, base, end_in, segment_file, last_name, last_bytes}
 use Rattle.log_model.specs.Store.{StartsWith, EndsInBlank, AreEnded, opened_times, IsNext, Keeps, ComesNext, IsMisnamed, IsBroken, IsDamagedAt}
-use Rattle.log_model.proofs.Places.{placed_log, place_here, place_next, shape_of-append}
+use Rattle.log_model.proofs.Places.{empty_well_formed, placed_log, place_here, place_next, shape_of-append}
 use Rattle.log_model.proofs.FileNames.{IsNamed, named_low, names_apart, is_log_file}
 use Rattle.log_model.proofs.NameOrder.{Precedes, precede_once, files_precede}
 use Rattle.log_model.proofs.Longer.{find_name}
-use Rattle.log_model.proofs.Recovery.{Reads, KeepsRest, ComesAt, reads_first, rest_first, comes_same, nothing_comes, here_ends, next_stops, rest_more, keeps_rest, well_formed_push, empty_well_formed, times_closed, opened_inside}
+use Rattle.log_model.proofs.Recovery.{Reads, KeepsRest, ComesAt, reads_first, rest_first, comes_same, nothing_comes, here_ends, next_stops, rest_more, keeps_rest, well_formed_push, times_closed, opened_inside}
 
 none_some : {A : Type 0} (o : Option A) → o ≡ None → IsSome o → ⊥
 none_some None is some = absurd (cc)

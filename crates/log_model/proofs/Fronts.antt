@@ -8,7 +8,7 @@ use Rattle.record_codec.specs.Layout.{layout, size, front, sealed}
 use Rattle.record_codec.specs.Parsed.{parsed}
 use Rattle.record_codec.specs.Blanks.{blank_front}
 use Rattle.record_codec.proofs.Records.{parsed_again}
-use Rattle.log_model.proofs.LayoutLengths.{length-layout}
+use Rattle.record_codec.proofs.LayoutLengths.{length-layout}
 use Rattle.log_model.specs.Segments.{layouts, closed, AreClosed, blank_of}
 use Rattle.log_model.specs.Store.{StartsWith, EndsInBlank, AreEnded}
 use Rattle.log_model.proofs.Places.{AreRoomy}

@@ -1,4 +1,3 @@
-pub mod LayoutLengths
 pub mod Lists
 pub mod Places
 pub mod FileNames
@@ -8,6 +7,8 @@ pub mod Prefixes
 pub mod StoreLemmas
 pub mod Recovery
 pub mod Longer
+pub mod FirstFits
+pub mod LogFiles
 pub mod NameOrder
 pub mod Damage
 pub mod OneDamage

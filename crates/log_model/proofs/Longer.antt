@@ -1,16 +1,16 @@
 -- A longer log: its files begin with those of the shorter one, and a disk that stores the shorter one stores it too.
-use Rattle.std.proofs.Common.{◌≡◌, ◌≢◌, ◌⊎◌, inl, inr, ⊎_elim, ℕ, zero, suc, ◌<◌, ◌≤◌, true, false, bytes_eq, List, [], ◌∷◌, ◌++◌, length, take, Option, None, refl, sym, ◌∙◌, ap, subst, arith, length-append, length-take-le}
+use Rattle.std.proofs.Common.{◌≡◌, ◌≢◌, ◌⊎◌, inl, inr, ⊎_elim, ℕ, zero, suc, ◌/◌, ◌<◌, ◌≤◌, true, false, bytes_eq, List, [], ◌∷◌, ◌++◌, length, take, Option, None, refl, sym, ◌∙◌, ap, subst, arith, length-append}
 use Rattle.std.proofs.lemmas.Bool.{cases_Bool, cases_eq}
-use Rattle.std.proofs.lemmas.List.{take_all, take-take, take-append-le}
+use Rattle.std.proofs.lemmas.List.{take_all, take-append-le}
 use Rattle.std.proofs.lemmas.Slice.Eq.{bytes_eq-Decides}
 use Rattle.mq_outside.specs.Files.{Files, bytes_in, bytes_of}
-use Rattle.mq_outside.specs.Disk.{DiskState, IsCrashImage}
+use Rattle.mq_outside.specs.Disk.{DiskState, IsCrashImage, IsDurable}
 use Rattle.record_codec.specs.Entry.{Entry}
 use Rattle.record_codec.specs.Layout.{size}
-use Rattle.log_model.specs.Log.{fits, IsWellFormed}
-use Rattle.log_model.specs.Segments.{Shape, used, grown, laid, shape_of, segment_file, last_bytes, AreClosed, IsLogFile, AreSegmentFiles}
-use Rattle.log_model.specs.Store.{StoresAt, IsLaid}
-use Rattle.log_model.proofs.Places.{placed_log, well_formed_take, grown_here, grown_next, shape_of-append}
+use Rattle.log_model.specs.Log.{fits, end_of, IsWellFormed}
+use Rattle.log_model.specs.Segments.{Shape, opened, used, grown, laid, shape_of, segment_file, last_bytes, AreClosed, IsLogFile, AreSegmentFiles}
+use Rattle.log_model.specs.Store.{StoresAt, StoresLog, IsLaid}
+use Rattle.log_model.proofs.Places.{placed_log, placed_number, well_formed_take, grown_here, grown_next, shape_of-append}
 use Rattle.log_model.proofs.Fronts.{closed_ended}
 use Rattle.log_model.proofs.Recovery.{Reads, laid_reads}
 
@@ -85,30 +85,24 @@ files_begin S log more files longer name well short long in_folder =
 
 -- ---- a disk that stores a log stores each longer one
 
-take_longer : (log more : List Entry) (k : ℕ) → k ≤ length log → take k (log ++ more) ≡ take k log
-take_longer log more k within = take-append-le k log more within
-
 pub stores_longer : (S : ℕ) (log more : List Entry) (flushed : ℕ) (shape : Shape) (reach : ℕ) (disk : DiskState) → IsWellFormed S (log ++ more)
     → StoresAt S log flushed shape reach disk → StoresAt S (log ++ more) flushed shape reach disk
 stores_longer S log more flushed shape reach disk well stores = record {
   well_formed = well;
   within = omega (arith, stores.within, length-append log more);
-  laid = subst (λ (l : List Entry). IsLaid S l shape) (sym (take_longer log more flushed stores.within)) stores.laid;
+  laid = subst (λ (l : List Entry). IsLaid S l shape) (sym (take-append-le flushed log more stores.within)) stores.laid;
   each = stores.each;
 }
 
--- and each shorter one that has the flushed records
-pub stores_shorter : (S : ℕ) (log : List Entry) (flushed k : ℕ) (shape : Shape) (reach : ℕ) (disk : DiskState) → flushed ≤ k → k ≤ length log
-    → StoresAt S log flushed shape reach disk → StoresAt S (take k log) flushed shape reach disk
-stores_shorter S log flushed k shape reach disk low within stores = record {
-  well_formed = well_formed_take S k log stores.well_formed;
-  within = omega (arith, low, length-take-le k log within);
-  laid = subst (λ (l : List Entry). IsLaid S l shape) (sym (take-take flushed k log low)) stores.laid;
-  each = stores.each;
-}
-
--- the crash images agree in each file before the last
-pub stores_agree : (S : ℕ) (log : List Entry) (flushed : ℕ) (shape : Shape) (reach : ℕ) (disk : DiskState) (some other : Files) (k : ℕ) → StoresAt S log flushed shape reach disk
-    → IsCrashImage disk some → IsCrashImage disk other → k < length shape.older → some (segment_file S k) ≡ other (segment_file S k)
-stores_agree S log flushed shape reach disk some other k stores one two low =
-    closed_same S k shape.older some other low (stores.each.at some one).older (stores.each.at other two).older
+-- each crash image has the files before the one where the flushed records end as they are read
+pub stores_durable : (S : ℕ) (log : List Entry) (flushed k : ℕ) (disk : DiskState) → IsCrashImage disk disk.reads → StoresLog S log flushed disk
+    → k < end_of (take flushed log) / S → IsDurable (segment_file S k) disk
+stores_durable S log flushed k disk reads stores low files image =
+    let at = stores.at in
+    let placed = placed_log S (take flushed log) (well_formed_take S flushed log at.well_formed) in
+    let number = placed_number S (take flushed log) (shape_of S (take flushed log)) placed in
+    let within : k < length stores.shape.older = ⊎_elim
+    (λ (here : stores.shape ≡ shape_of S (take flushed log)). omega (arith, low, number, ap (λ (s : Shape). length s.older) here))
+    (λ (next : stores.shape ≡ opened (shape_of S (take flushed log))). omega (arith, low, number, ap (λ (s : Shape). length s.older) next))
+    at.laid in
+    closed_same S k stores.shape.older files disk.reads within (at.each.at files image).older (at.each.at disk.reads reads).older

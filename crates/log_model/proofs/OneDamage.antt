@@ -8,10 +8,10 @@ use Rattle.record_codec.specs.Layout.{size}
 use Rattle.log_model.specs.Log.{fits, Follows, IsWellFormed}
 use Rattle.log_model.specs.Segments.{Shape, opened, used, laid, grown, shape_of, base, end_in, segment_file, last_name, last_bytes}
 use Rattle.log_model.specs.Store.{StartsWith, EndsInBlank, AreEnded, opened_times, IsNext, ComesNext, ReadsTo, IsMisnamed, IsBroken, IsDamagedAt}
-use Rattle.log_model.proofs.Places.{grown_here, grown_next, shape_of-append}
+use Rattle.log_model.proofs.Places.{grown_next, grown_longer, laid_longer, empty_well_formed, shape_of-append}
 use Rattle.log_model.proofs.Fronts.{starts_no_blank}
 use Rattle.log_model.proofs.NameOrder.{precede_once}
-use Rattle.log_model.proofs.Recovery.{Reads, reads_first, comes_same, well_formed_push, empty_well_formed, times_closed, times_length, opened_inside, closed_blank}
+use Rattle.log_model.proofs.Recovery.{Reads, reads_first, comes_same, well_formed_push, times_closed, times_length, opened_inside, closed_blank}
 use Rattle.log_model.proofs.Damage.{BrokenRest, broken_more, broken_more-opens, broken_stops, ended_last, times_add}
 
 -- one file comes next
@@ -24,16 +24,6 @@ next_same S n files a b first second = ⊎_elim
     (cases_Bool (bytes_eq a b))
 
 -- ---- reading past a broken file
-
-grown_longer : (S : ℕ) (shape : Shape) (r : Entry) → length shape.older ≤ length (grown S shape r).older
-grown_longer S shape r = ⊎_elim
-    (λ (here : fits S (used shape) (size r) ≡ true). omega (arith, ap (λ (s : Shape). length s.older) (grown_here S shape r here)))
-    (λ (full : fits S (used shape) (size r) ≡ false). omega (arith, ap (λ (s : Shape). length s.older) (grown_next S shape r full)))
-    (cases_Bool (fits S (used shape) (size r)))
-
-laid_longer : (S : ℕ) (shape : Shape) (records : List Entry) → length shape.older ≤ length (laid S shape records).older
-laid_longer S shape [] = omega arith
-laid_longer S shape (r ∷ records) = omega (arith, grown_longer S shape r, laid_longer S (grown S shape r) records)
 
 -- what is read behind these records, past file m
 pub record PastRest (S : ℕ) (done rest : List Entry) (files : Files) (m : ℕ) : Type 0 where

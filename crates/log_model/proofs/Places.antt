@@ -1,12 +1,12 @@
 -- The segments of a well-formed log: each record has its place in the segment that the blank rule gives it.
-use Rattle.std.proofs.Common.{◌≡◌, ⊎_elim, ℕ, zero, suc, ◌+◌, ◌*◌, ◌/◌, ◌%◌, ◌^◌, ◌<◌, ◌≤◌, true, false, cond, List, [], ◌∷◌, ◌++◌, length, take, slice_get, Some, refl, sym, ◌∙◌, ap, subst, arith, append_assoc, append-nil, length-append}
+use Rattle.std.proofs.Common.{◌≡◌, ⊎_elim, ℕ, zero, suc, ◌+◌, ◌*◌, ◌/◌, ◌%◌, ◌^◌, ◌≤◌, true, false, cond, List, [], ◌∷◌, ◌++◌, length, take, slice_get, Some, refl, sym, ◌∙◌, ap, subst, arith, append_assoc, append-nil, length-append}
 use Rattle.std.proofs.lemmas.Bool.{leb-true, cases_Bool, cond-true, cond-false}
 use Rattle.std.proofs.lemmas.List.{take-take}
 use Rattle.std.proofs.lemmas.List.Concat.{flat_map-append}
 use Rattle.std.proofs.lemmas.Nat.{mod-mul-add, div-mul-add}
 use Rattle.record_codec.specs.Entry.{Entry}
 use Rattle.record_codec.specs.Layout.{layout, size}
-use Rattle.log_model.proofs.LayoutLengths.{length-layout}
+use Rattle.record_codec.proofs.LayoutLengths.{length-layout}
 use Rattle.log_model.specs.Log.{IsSegmentSize, fits, end_from, end_of, next_place, Follows, IsWellFormed}
 use Rattle.log_model.specs.Segments.{layouts, Shape, empty_shape, added, opened, used, grown, laid, shape_of, end_in}
 use Rattle.log_model.proofs.Lists.{get_take}
@@ -21,6 +21,11 @@ well_formed_take S k log well = record {
       subst (λ (l : List Entry). Follows S l r) (sym (take-take j k log (omega (arith, in_log.1)))) (well.each j r in_log.0);
 }
 
+-- the log without records
+pub empty_well_formed : (S : ℕ) → IsSegmentSize S → IsWellFormed S []
+empty_well_formed S segment = record { segment = segment; each = λ k r got. absurd (cc) }
+
+-- the end of a longer log goes on from that of the shorter one
 end_from-append : (place : ℕ) (log more : List Entry) → end_from place (log ++ more) ≡ end_from (end_from place log) more
 end_from-append place [] more = refl
 end_from-append place (r ∷ log) more = end_from-append (r.offset + size r) log more
@@ -54,6 +59,18 @@ laid-append S shape (x ∷ records) more = laid-append S (grown S shape x) recor
 pub shape_of-append : (S : ℕ) (log more : List Entry) → shape_of S (log ++ more) ≡ laid S (shape_of S log) more
 shape_of-append S log more = laid-append S empty_shape log more
 
+-- a record takes away no segment
+pub grown_longer : (S : ℕ) (shape : Shape) (r : Entry) → length shape.older ≤ length (grown S shape r).older
+grown_longer S shape r = ⊎_elim
+    (λ (here : fits S (used shape) (size r) ≡ true). omega (arith, ap (λ (s : Shape). length s.older) (grown_here S shape r here)))
+    (λ (full : fits S (used shape) (size r) ≡ false). omega (arith, ap (λ (s : Shape). length s.older) (grown_next S shape r full)))
+    (cases_Bool (fits S (used shape) (size r)))
+
+-- nor do several
+pub laid_longer : (S : ℕ) (shape : Shape) (records : List Entry) → length shape.older ≤ length (laid S shape records).older
+laid_longer S shape [] = omega arith
+laid_longer S shape (r ∷ records) = omega (arith, grown_longer S shape r, laid_longer S (grown S shape r) records)
+
 -- each segment before the last has room for a blank
 abbrev pub AreRoomy : ℕ → List (List Entry) → Type 0
 AreRoomy S [] = Unit {0}
@@ -71,12 +88,20 @@ pub record Placed (S : ℕ) (done : List Entry) (shape : Shape) : Type 0 where
   pub roomy : AreRoomy S shape.older
   pub all : all_of shape.older ++ shape.last ≡ done
 
+-- the records end in the last segment
+pub placed_number : (S : ℕ) (done : List Entry) (shape : Shape) → Placed S done shape → end_of done / S ≡ length shape.older
+placed_number S done shape placed = ap (λ (n : ℕ). n / S) placed.end ∙ div-mul-add (length shape.older) S (used shape) (omega (arith, placed.room))
+
+-- behind the bytes that it has
+pub placed_offset : (S : ℕ) (done : List Entry) (shape : Shape) → Placed S done shape → end_of done % S ≡ used shape
+placed_offset S done shape placed = ap (λ (n : ℕ). n % S) placed.end ∙ mod-mul-add (length shape.older) S (used shape) (omega (arith, placed.room))
+
+-- the next place, by the last segment
 next_of : (S : ℕ) (done : List Entry) (shape : Shape) (r : Entry) → Placed S done shape
     → next_place S done (size r) ≡ (cond (fits S (used shape) (size r)) (end_in S shape) ((length shape.older + 1) * S))
 next_of S done shape r placed =
-    let small : used shape < S = omega (arith, placed.room) in
-    let offset : end_of done % S ≡ used shape = ap (λ (n : ℕ). n % S) placed.end ∙ mod-mul-add (length shape.older) S (used shape) small in
-    let number : end_of done / S ≡ length shape.older = ap (λ (n : ℕ). n / S) placed.end ∙ div-mul-add (length shape.older) S (used shape) small in
+    let offset = placed_offset S done shape placed in
+    let number = placed_number S done shape placed in
     λ i. cond (fits S (offset i) (size r)) (placed.end i) ((number i + 1) * S)
 
 -- a record that follows stands at the end where it fits there

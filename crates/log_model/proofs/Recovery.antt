@@ -8,11 +8,11 @@ use Rattle.mq_outside.specs.Files.{Files, bytes_in, bytes_of}
 use Rattle.record_codec.specs.Entry.{Entry}
 use Rattle.record_codec.specs.Layout.{layout, size}
 use Rattle.record_codec.specs.Blanks.{blank_front}
-use Rattle.log_model.specs.Log.{IsSegmentSize, fits, Follows, IsWellFormed}
+use Rattle.log_model.specs.Log.{fits, Follows, IsWellFormed}
 use Rattle.log_model.specs.Segments.{layouts, Shape, added, opened, used, grown, laid, shape_of, end_in, segment_file, last_name, last_bytes, NoOther, AreSegmentFiles}
 use Rattle.log_model.specs.Store.{StartsWith, AreEnded, opened_times, IsNext, IsHonest, Keeps}
 use Rattle.log_model.proofs.Lists.{get_drop}
-use Rattle.log_model.proofs.Places.{placed_log, well_formed_take, place_here, place_next, layouts_push, grown_here, grown_next, shape_of-append}
+use Rattle.log_model.proofs.Places.{empty_well_formed, placed_log, well_formed_take, place_here, place_next, layouts_push, grown_here, grown_next, shape_of-append}
 use Rattle.log_model.proofs.FileNames.{named_less, next_absent, shape_named, shape_low}
 use Rattle.log_model.proofs.Fronts.{starts_same, starts_some, starts_no_blank, closed_ended}
 
@@ -318,9 +318,6 @@ rest_stands S files zero (x ∷ rest) done r well keeps got =
     subst (StandsAtPlace S files) (same_Some x r got) (comes_stands S done files x well (rest_first S done x rest files keeps))
 rest_stands S files (suc k) (x ∷ rest) done r well keeps got =
     rest_stands S files k rest (done ++ x ∷ []) r (well_formed_push S done x well (rest_first S done x rest files keeps).follows) (rest_more S done x rest files keeps) got
-
-pub empty_well_formed : (S : ℕ) → IsSegmentSize S → IsWellFormed S []
-empty_well_formed S segment = record { segment = segment; each = λ k r got. absurd (cc) }
 
 -- each record that recovery keeps stands where it says
 pub kept_stand : (S : ℕ) (records : List Entry) (files : Files) (k : ℕ) (r : Entry) → Keeps S records files → slice_get records k ≡ Some r → StandsAtPlace S files r

@@ -16,7 +16,7 @@ use Rattle.log_model.proofs.FileNames.{IsNamed, names_apart, next_absent, less_o
 -- ---- what a change of the last file leaves
 
 -- the older segments stay where a later file changes
-closed_stay : (S n : ℕ) (older : List (List Entry)) (old new : Files) → IsNamed S n → length older ≤ n
+pub closed_stay : (S n : ℕ) (older : List (List Entry)) (old new : Files) → IsNamed S n → length older ≤ n
     → ((other : List ℕ) → other ≢ segment_file S n → new other ≡ old other) → AreClosed S older old → AreClosed S older new
 closed_stay S n [] old new named low others are = are
 closed_stay S n (records ∷ older) old new named low others are = (

@@ -8,7 +8,7 @@ use Rattle.record_codec.specs.Entry.{Entry}
 use Rattle.log_model.specs.Log.{IsSegmentSize, IsWellFormed, end_of}
 use Rattle.log_model.specs.Segments.{blank_of, Shape, empty_shape, added, opened, used, shape_of, base, end_in, segment_file, AreFilesOf, AreSegmentFiles}
 use Rattle.log_model.specs.Store.{Stands, Has, IsAt, IsBatch, IsLaid, StoresAt, StoresLog, KeepsIfHonest}
-use Rattle.log_model.proofs.Places.{placed_log, well_formed_take, end_low}
+use Rattle.log_model.proofs.Places.{empty_well_formed, placed_log, well_formed_take, end_low}
 use Rattle.log_model.proofs.FileNames.{IsNamed, named_less, shape_named}
 use Rattle.log_model.proofs.Steps.{batch_stands, blank_opens, stands_exact, exact_stands, each_torn}
 use Rattle.log_model.proofs.Prefixes.{keeps_prefix}
@@ -119,9 +119,6 @@ exact_stores S log flushed disk well within each = record {
   each = record { at = λ files image. exact_stands S (shape_of S (take flushed log)) files (each.at files image) };
 }
 
-well_formed_empty : (S : ℕ) → IsSegmentSize S → IsWellFormed S []
-well_formed_empty S segment = record { segment = segment; each = λ k r got. absurd (cc) }
-
 -- without files there is the empty log
 pub no_files : (S : ℕ) (files : Files) → HasNoFile files → AreSegmentFiles S [] files
 no_files S files none = record { older = tt; last = ap bytes_in (none (segment_file S 0)); others = λ name in_folder apart. none name }
@@ -130,7 +127,7 @@ pub stores_empty : (S : ℕ) (disk : DiskState) → IsSegmentSize S → EachImag
 stores_empty S disk segment each = record {
   shape = empty_shape;
   reach = 0;
-  at = exact_stores S [] 0 disk (well_formed_empty S segment) (omega arith) (record { at = λ files image. no_files S files (each.at files image) });
+  at = exact_stores S [] 0 disk (empty_well_formed S segment) (omega arith) (record { at = λ files image. no_files S files (each.at files image) });
 }
 
 -- ---- after a crash

@@ -9,7 +9,7 @@ use Rattle.log_model.specs.Segments.{layouts}
 abbrev pub blank_between : ℕ → ℕ → Option (ℕ × ℕ)
 blank_between end place = if end == place then None else Some (end, place - end)
 
--- the batch has the log's records from the flushed number on, all of the segment of the first, and the blank before them
+-- the batch has records from the flushed number on, each in the segment of the first, and the blank before them
 pub record IsBatchOf (S : ℕ) (log : List Entry) (flushed : ℕ) (batch : Batch) : Type 0 where
   pub from : batch.from ≡ flushed
   pub some : 0 < batch.count

@@ -47,7 +47,7 @@ pub record IsPlain (r : Entry) : Type 0 where
   pub renewal : value_of (codes "TRAN_PREPARED_QUEUE_OFFSET") r.props ≡ None
 
 -- A record that a log may have: its queue is one of 1,024, and a copy of a half message, which the transaction bits 8 mark,
--- stands behind its half. Only plain messages are built so far: the other kinds are to be added here.
+-- stands behind its half. Only plain messages are built.
 pub record IsAdmissible (r : Entry) : Type 0 where
   pub queue : r.queue < 1024
   pub copy : bit_and r.sysflag 12 ≡ 8 → r.prepared < r.offset

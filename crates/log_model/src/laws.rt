@@ -1,14 +1,48 @@
 //! What holds of logs, of their segment files and of recovery. No call is made: the clauses speak of the definitions.
 
-ghost use Rattle.std.specs.Prelude.{◌≡◌, ◌≤◌, ◌/◌, ◌%◌, ◌++◌, List, [], ℕ, Some, length, take, drop, slice_get};
-ghost use Rattle.mq_outside.specs.Disk.{EachImage, IsCrashImage};
+ghost use Rattle.std.specs.Prelude.{◌≡◌, ◌⊎◌, ◌<◌, ◌≤◌, ◌+◌, ◌*◌, ◌/◌, ◌%◌, ◌^◌, ◌++◌, List, [], ℕ, suc, Some, IsSome, length, take, drop, slice_get};
+ghost use Rattle.mq_outside.specs.Disk.{EachImage, IsCrashImage, IsDurable};
 ghost use Rattle.mq_outside.specs.Files.{Files, HasNoFile, At, Shortened, bytes_of};
 ghost use Rattle.record_codec.specs.Entry.{Entry};
-ghost use Rattle.log_model.specs.Log.{IsSegmentSize, IsWellFormed};
+ghost use Rattle.log_model.specs.Log.{place_after, end_of, IsSegmentSize, IsWellFormed};
 ghost use Rattle.log_model.specs.Segments.{Shape, shape_of, segment_file, last_name, IsLogFile, AreSegmentFiles};
 ghost use Rattle.log_model.specs.Store.{StartsWith, IsDamagedAt, IsHonest, IsLaid, Keeps, KeepsPrefix, Stands, StoresLog};
 
 use mq_outside::Disk;
+
+/// The place of a record of n bytes is the first that fits, of the place where the log ends and the starts of segments behind it.
+pub fn a_place_is_the_first_that_fits()
+    ensures behind { (S end n : ℕ) → 0 < S → end ≤ place_after S end n }
+    ensures either { (S end n : ℕ) → 0 < S → (place_after S end n ≡ end) ⊎ (place_after S end n % S ≡ 0) }
+    ensures fits { (S end n : ℕ) → n + 8 ≤ S → place_after S end n % S + n + 8 ≤ S }
+    ensures first { (S end n place : ℕ) → 0 < S → end ≤ place → (place ≡ end) ⊎ (place % S ≡ 0) → place % S + n + 8 ≤ S
+        → place_after S end n ≤ place }
+{}
+
+/// Each log has segment files.
+pub fn each_log_has_files()
+    ensures { (S : ℕ) (log : List Entry) → IsWellFormed S log → (files : Files) × AreSegmentFiles S log files }
+{}
+
+/// The file of the segment where a log ends has no byte behind its records.
+pub fn the_last_file_ends_with_the_log()
+    ensures { (S : ℕ) (log : List Entry) (files : Files) → IsWellFormed S log → AreSegmentFiles S log files
+        → length (bytes_of files (segment_file S (end_of log / S))) ≡ end_of log % S }
+{}
+
+/// The file of each segment before that one has a segment's size, and so has each file behind which another stands.
+pub fn files_before_the_last_are_full()
+    ensures before { (S : ℕ) (log : List Entry) (files : Files) (k : ℕ) → IsWellFormed S log → AreSegmentFiles S log files
+        → k < end_of log / S → length (bytes_of files (segment_file S k)) ≡ S }
+    ensures behind { (S : ℕ) (log : List Entry) (files : Files) (k : ℕ) → IsWellFormed S log → AreSegmentFiles S log files
+        → suc k * S < 2 ^ 64 → IsSome (files (segment_file S (suc k))) → length (bytes_of files (segment_file S k)) ≡ S }
+{}
+
+/// Where a disk stores a log, each crash leaves the files before the one where the flushed records end as they are read.
+pub fn images_agree_before_the_last_file<D: Disk>(disk: &D)
+    ensures { D.tells → (S : ℕ) (log : List Entry) (flushed k : ℕ) → StoresLog S log flushed (D.state disk.now)
+        → k < end_of (take flushed log) / S → IsDurable (segment_file S k) (D.state disk.now) }
+{}
 
 /// Each honest crash of a disk that stores a log leaves a prefix of the log with all that is flushed.
 pub fn crashes_leave_a_prefix<D: Disk>(disk: &D)

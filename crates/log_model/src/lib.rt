@@ -12,11 +12,13 @@ pub use admissible::{is_admissible, is_system_topic};
 pub use batch::{Batch, Receipt};
 pub use fault::LoadFault;
 pub use laws::{
-    a_crashed_disk_stores_the_log, an_empty_disk_stores_the_empty_log, crashes_leave_a_prefix,
-    cut_files_are_honest, damage_has_one_place, files_only_grow, files_recover_to_their_log,
-    files_tell_their_log, kept_files_are_honest, kept_files_are_undamaged, kept_is_well_formed,
+    a_crashed_disk_stores_the_log, a_place_is_the_first_that_fits,
+    an_empty_disk_stores_the_empty_log, crashes_leave_a_prefix, cut_files_are_honest,
+    damage_has_one_place, each_log_has_files, files_before_the_last_are_full, files_only_grow,
+    files_recover_to_their_log, files_tell_their_log, images_agree_before_the_last_file,
+    kept_files_are_honest, kept_files_are_undamaged, kept_is_well_formed,
     kept_records_stand_at_their_places, recovery_is_idempotent, recovery_is_unique,
-    torn_ends_leave_a_prefix,
+    the_last_file_ends_with_the_log, torn_ends_leave_a_prefix,
 };
 pub use place::next_place;
 pub use queues::queue_of;
