@@ -1,5 +1,5 @@
 -- A header that is spelled in binary form is read as it was.
-use Rattle.std.proofs.Common.{◌≡◌, lt-ltb, ℕ, zero, suc, ◌+◌, ◌^◌, ◌<◌, ◌≤◌, List, [], ◌∷◌, ◌++◌, length, map, take, drop, true, false, ltb, eqb, eq-eqb, Option, Some, option_map, ℤ, nat_cmp, Less, Greater, refl, sym, ap, subst, ◌∙◌, append_assoc, append-nil, arith, length-append}
+use Rattle.std.proofs.Common.{◌≡◌, lt-ltb, ℕ, zero, suc, ◌+◌, ◌^◌, ◌<◌, ◌≤◌, List, [], ◌∷◌, ◌++◌, length, take, drop, true, false, ltb, eqb, eq-eqb, Option, Some, option_map, ℤ, nat_cmp, Greater, refl, sym, ap, subst, ◌∙◌, append_assoc, append-nil, arith, length-append}
 use Rattle.std.specs.Prelude.{FitsSigned, All}
 use Rattle.std.specs.Ordering.{ordering_reverse}
 use Rattle.std.specs.Cmp.Lexicographic.{slice_cmp}
@@ -18,6 +18,7 @@ use Rattle.remoting_frame.specs.BinaryForm.{IsBinary}
 use Rattle.remoting_frame.proofs.WireNumbers.{wide16, wide32, part_at, rest_at}
 use Rattle.remoting_frame.proofs.BinaryReading.{Pair, text_is, pair_of_parts, header_of_parts}
 use Rattle.remoting_frame.proofs.BinaryWriting.{length-pairs_text}
+use Rattle.remoting_frame.proofs.HeaderTexts.{below_middle}
 
 -- ---- one pair
 
@@ -90,10 +91,6 @@ pub binary_pairs_again : (ps : List Pair) → AllByRecursion FitsPair ps → bin
 binary_pairs_again ps fits = pairs_again ps (length (pairs_text ps)) fits (omega arith)
 
 -- ---- pairs in order stay as they are
-
-below_middle : (first : Pair) (ps : List Pair) (e : Pair) (more : List Pair) → AllByRecursion (λ y. slice_cmp nat_cmp first.0 y ≡ Less) (map (λ p. p.0) (ps ++ e ∷ more)) → slice_cmp nat_cmp first.0 e.0 ≡ Less
-below_middle first [] e more h = h.0
-below_middle first (x ∷ ps) e more h = below_middle first ps e more h.1
 
 put_last : (done : List Pair) (e : Pair) (more : List Pair) → IsInOrder (done ++ e ∷ more) → put_pair done e ≡ done ++ e ∷ []
 unfolding IsStrictlySortedBy

@@ -10,6 +10,7 @@ use Rattle.std.specs.Int.{w16, w32, cast_signed}
 use Rattle.std.specs.Str.{IsUtf8, is_utf8}
 use Rattle.std.proofs.lemmas.Str.{IsUtf8-from_is_utf8, is_utf8-from_IsUtf8}
 use Rattle.std.proofs.lemmas.List.{take_rest}
+use Rattle.std.proofs.lemmas.Option.{same_Some}
 use Rattle.remoting_frame.specs.Gives.{◌>>=◌}
 use Rattle.remoting_frame.specs.Head.{IsInOrder}
 use Rattle.remoting_frame.specs.NameMaps.{pairs_view}
@@ -41,9 +42,6 @@ pub bind_some : {A B : Type 0} (o : Option A) (f : A → Option B) (y : B) → (
 bind_some (Some x) f y e = (x, refl, e)
 bind_some None f y e = absurd cc
 
-some_is : {A : Type 0} (x y : A) → Some x ≡ Some y → x ≡ y
-some_is x y e = cc
-
 -- what a pair that is read is
 pub pair_parts : (bytes : List ℕ) (x : Pair × List ℕ) → first_pair bytes ≡ Some x
     → (lens : ℕ × ℕ) × (lens_of bytes ≡ Some lens) × (text_of (take lens.0 (drop 2 bytes)) ≡ Some x.0.0) × (text_of (take lens.1 (drop (6 + lens.0) bytes)) ≡ Some x.0.1) × (x.1 ≡ drop (6 + lens.0 + lens.1) bytes)
@@ -52,7 +50,7 @@ pair_parts bytes x e =
     let lens = bind_some (lens_of bytes) _ x e in
     let name = bind_some (text_of (take lens.0.0 (drop 2 bytes))) _ x lens.2 in
     let value = bind_some (text_of (take lens.0.1 (drop (6 + lens.0.0) bytes))) _ x name.2 in
-    let same : ((name.0, value.0), drop (6 + lens.0.0 + lens.0.1) bytes) ≡ x = some_is _ x value.2 in
+    let same : ((name.0, value.0), drop (6 + lens.0.0 + lens.0.1) bytes) ≡ x = same_Some _ x value.2 in
     (lens.0, lens.1, name.1 ∙ ap (λ (p : Pair × List ℕ). Some p.0.0) same, value.1 ∙ ap (λ (p : Pair × List ℕ). Some p.0.1) same, sym (ap (λ (p : Pair × List ℕ). p.1) same))
 
 pub pair_of_parts : (bytes : List ℕ) (n v : ℕ) (name value : List ℕ) → lens_of bytes ≡ Some (n, v) → text_of (take n (drop 2 bytes)) ≡ Some name → text_of (take v (drop (6 + n) bytes)) ≡ Some value
@@ -114,7 +112,7 @@ put_behind pairs p None = refl
 put_some : (pairs : List Pair) (bytes : List ℕ) (o : Option (Pair × List ℕ)) (next : List Pair × List ℕ) → option_map (λ first. (put_pair pairs first.0, first.1)) o ≡ Some next
     → (x : Pair × List ℕ) × (o ≡ Some x) × (next.0 ≡ put_pair pairs x.0) × (next.1 ≡ x.1)
 put_some pairs bytes (Some x) next e =
-    let same = some_is _ next e in
+    let same = same_Some _ next e in
     (x, refl, sym (ap (λ (w : List Pair × List ℕ). w.0) same), sym (ap (λ (w : List Pair × List ℕ). w.1) same))
 put_some pairs bytes None next e = absurd cc
 

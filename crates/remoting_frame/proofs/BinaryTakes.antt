@@ -8,12 +8,14 @@ use Rattle.std.proofs.lemmas.Bool.{ltb-false, ltb-true, eqb-true}
 use Rattle.std.proofs.lemmas.Str.{IsUtf8-from_is_utf8}
 use Rattle.std.proofs.lemmas.List.{take-append-drop, length-take-le, drop-drop}
 use Rattle.std.proofs.lemmas.Int.{of_z-to_z}
+use Rattle.std.proofs.lemmas.Option.{same_Some}
 use Rattle.std.proofs.Math.Seq.{drop-cons}
 use Rattle.std.proofs.Math.Facts.{sfits_to_z}
+use Rattle.mq_bytes.specs.Bytes.{AreBytes}
 use Rattle.remoting_frame.specs.Head.{Head, pairs_size}
 use Rattle.remoting_frame.specs.Binary.{number_at, text_of, lens_of, name_len_of, value_len_of, first_pair, pairs_within, binary_pairs, by_name, remark_len_of, remark_fits, ext_len_of, binary_header}
 use Rattle.remoting_frame.specs.BinaryText.{sized, pair_text, pairs_text, sized_pairs, numbers_text, header_bytes, FitsPair, FitsLengths}
-use Rattle.remoting_frame.specs.BinaryForm.{AreBytes, IsBinary}
+use Rattle.remoting_frame.specs.BinaryForm.{IsBinary}
 use Rattle.remoting_frame.proofs.WireNumbers.{wide16, wide32, AreBytes-take, AreBytes-drop}
 use Rattle.remoting_frame.proofs.BinaryReading.{Pair, bind_some, pair_parts}
 use Rattle.remoting_frame.proofs.BinaryWriting.{length-pairs_text}
@@ -33,9 +35,6 @@ neither : (a b : Bool) → (not a || b) ≡ false → (a ≡ true) × (b ≡ fal
 neither true b e = (refl, e)
 neither false b e = absurd cc
 
-some_is : {A : Type 0} (x y : A) → Some x ≡ Some y → x ≡ y
-some_is x y e = cc
-
 -- ---- one pair
 
 record LensParts (bytes : List ℕ) (lens : ℕ × ℕ) : Type 0 where
@@ -53,13 +52,13 @@ lens_parts bytes lens e =
     let b = past_none (ltb (length bytes) (6 + name)) _ lens a.1 in
     let c = past_none (not (ltb value (2 ^ 31)) || ltb (length bytes) (6 + name + value)) _ lens b.1 in
     let d = neither (ltb value (2 ^ 31)) (ltb (length bytes) (6 + name + value)) c.0 in
-    subst (LensParts bytes) (some_is (name, value) lens c.1) (record { long = ltb-false _ _ d.1; value = ltb-true _ _ d.0; name_is = refl; value_is = refl })
+    subst (LensParts bytes) (same_Some (name, value) lens c.1) (record { long = ltb-false _ _ d.1; value = ltb-true _ _ d.0; name_is = refl; value_is = refl })
 
 text_parts : (bytes text : List ℕ) → text_of bytes ≡ Some text → (bytes ≡ text) × IsUtf8 text
 unfolding text_of
 text_parts bytes text e =
     let p = past_test (is_utf8 bytes) _ text e in
-    let same = some_is bytes text p.1 in
+    let same = same_Some bytes text p.1 in
     (same, subst IsUtf8 same (IsUtf8-from_is_utf8 bytes p.0))
 
 -- a number's bytes, where the number is there
@@ -107,11 +106,11 @@ pair_takes bytes x fits e =
 -- ---- all pairs
 
 map_some : {A B : Type 0} (f : A → B) (o : Option A) (y : B) → option_map f o ≡ Some y → (x : A) × (o ≡ Some x) × (f x ≡ y)
-map_some f (Some x) y e = (x, refl, some_is _ y e)
+map_some f (Some x) y e = (x, refl, same_Some _ y e)
 map_some f None y e = absurd cc
 
 pairs_take : (n : ℕ) (bytes : List ℕ) (ps : List Pair) → AreBytes bytes → pairs_within n bytes ≡ Some ps → (bytes ≡ pairs_text ps) × AllByRecursion FitsPair ps
-pairs_take n [] ps fits e = subst (λ (w : List Pair). ([] ≡ pairs_text w) × AllByRecursion FitsPair w) (some_is [] ps e) (refl, tt)
+pairs_take n [] ps fits e = subst (λ (w : List Pair). ([] ≡ pairs_text w) × AllByRecursion FitsPair w) (same_Some [] ps e) (refl, tt)
 pairs_take zero (b ∷ bytes) ps fits e = absurd cc
 pairs_take (suc n) (b ∷ bytes) ps fits e =
     let first = bind_some (first_pair (b ∷ bytes)) (λ first. option_map (λ others. first.0 ∷ others) (pairs_within n first.1)) ps e in
@@ -140,7 +139,7 @@ len_parts bytes r e =
     let c = past_test (ltb ext (2 ^ 31)) _ r b.1 in
     let d = past_test (eqb (length bytes) (21 + remark + ext)) _ r c.1 in
     let t = neither (ltb remark (2 ^ 31)) (ltb (length bytes) (21 + remark)) b.0 in
-    subst (LenParts bytes) (some_is remark r d.1) (record { ext = ext; remark = ltb-true _ _ t.0; few = ltb-true _ _ c.0; all = eqb-true _ _ d.0; remark_is = refl; ext_is = refl })
+    subst (LenParts bytes) (same_Some remark r d.1) (record { ext = ext; remark = ltb-true _ _ t.0; few = ltb-true _ _ c.0; all = eqb-true _ _ d.0; remark_is = refl; ext_is = refl })
 
 record HeaderParts (bytes : List ℕ) (h : Head) : Type 0 where
   len : ℕ
@@ -161,7 +160,7 @@ header_parts bytes h e =
     let remark = bind_some (text_of (take len.0 (drop 17 bytes))) _ h len.2 in
     let ext = bind_some (option_map by_name (binary_pairs (drop (21 + len.0) bytes))) _ h remark.2 in
     let pairs = map_some by_name (binary_pairs (drop (21 + len.0) bytes)) ext.0 ext.1 in
-    subst (HeaderParts bytes) (some_is _ h ext.2) (record { len = len.0; pairs = pairs.0; len_is = len.1; remark_is = remark.1; pairs_are = pairs.1; last = sym pairs.2; code = refl; version = refl; opaque = refl; flag = refl })
+    subst (HeaderParts bytes) (same_Some _ h ext.2) (record { len = len.0; pairs = pairs.0; len_is = len.1; remark_is = remark.1; pairs_are = pairs.1; last = sym pairs.2; code = refl; version = refl; opaque = refl; flag = refl })
 
 -- a signed number's bytes
 back16 : (z : ℤ) (n : ℕ) → n < 2 ^ 16 → z ≡ cast_signed w16 n → n ≡ cast_unsigned w16 z

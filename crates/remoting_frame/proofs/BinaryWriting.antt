@@ -5,7 +5,7 @@ use Rattle.std.specs.Int.{w16, w32, to_be_bytes, cast_unsigned}
 use Rattle.std.specs.List.{AllByRecursion}
 use Rattle.std.proofs.Math.Seq.{take-append_seam}
 use Rattle.std.proofs.lemmas.List.{take-take, take_more}
-use Rattle.remoting_frame.specs.Head.{Head, pairs_size, IsShort}
+use Rattle.remoting_frame.specs.Head.{Head, pairs_size}
 use Rattle.remoting_frame.specs.Appends.{KeepsFront}
 use Rattle.remoting_frame.specs.Headers.{words, front_bytes}
 use Rattle.remoting_frame.specs.declared.frame.Form.TheVariants.{Binary}
@@ -109,14 +109,15 @@ unfolding header_bytes
 header_whole h old first second third numbers remark ext n r e a b c =
     c ∙ ap (λ (w : List ℕ). w ++ sized_pairs ext) (b ∙ ap (λ (w : List ℕ). w ++ sized remark) a) ∙ rw (n, r, e) (ap (λ (w : List ℕ). w ++ sized_pairs h.ext) (append_assoc old (numbers_of h 7) (sized h.remark)) ∙ append_assoc old (numbers_of h 7 ++ sized h.remark) (sized_pairs h.ext))
 
--- ---- short headers
+-- ---- names of short headers
 
 get_or_self : (ps : List Pair) (k : ℕ) (d : Pair) → k < length ps → get_or ps k d ≡ get_or ps k (get_or ps k d)
 get_or_self [] k d lt = absurd (omega arith)
 get_or_self (p ∷ ps) zero d lt = refl
 get_or_self (p ∷ ps) (suc k) d lt = get_or_self ps k d (omega arith)
 
-pub short_fits : (h : Head) → IsShort h → FitsLengths h
+-- with at most 65,536 bytes of remark and pairs, each name has a length of two bytes
+pub short_fits : (h : Head) → length h.remark + pairs_size h.ext ≤ 65536 → FitsLengths h
 short_fits h short = record {
   remark = omega (arith, short);
   pairs = omega (arith, short);

@@ -8,7 +8,7 @@ use Rattle.remoting_frame.specs.Head.{Head}
 use Rattle.remoting_frame.specs.Headers.{header_in, header_text, form_byte, words, frame_bytes}
 use Rattle.remoting_frame.specs.Frames.{Front, form_of, with_header, with_form, with_length, first_of, whole, then_whole, next_of}
 use Rattle.remoting_frame.specs.FrameForm.{IsFrame}
-use Rattle.remoting_frame.specs.BinaryForm.{AreBytes}
+use Rattle.mq_bytes.specs.Bytes.{AreBytes}
 use Rattle.remoting_frame.specs.declared.frame.Form.{Form}
 use Rattle.remoting_frame.specs.declared.frame.Form.TheVariants.{Json, Binary}
 use Rattle.remoting_frame.specs.declared.frame.Frame.{Frame}

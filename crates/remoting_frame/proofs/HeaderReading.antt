@@ -2,6 +2,7 @@
 use Rattle.std.proofs.Common.{◌≡◌, ℕ, ◌++◌, ◌∷◌, [], List, Bool, true, false, cond, Option, Some, None, ◌⊎◌, inl, inr, map, string_bytes, string_cmp, nat_cmp, Less, subst, refl, sym, ap, append_assoc}
 use Rattle.std.specs.Str.{IsUtf8, is_utf8}
 use Rattle.std.proofs.lemmas.Str.{IsUtf8-from_is_utf8, is_utf8-from_IsUtf8}
+use Rattle.std.proofs.lemmas.Option.{same_Some}
 use Rattle.std.specs.Cmp.Lexicographic.{slice_cmp}
 use Rattle.std.specs.List.{AllByRecursion}
 use Rattle.std.specs.List.Sorted.{IsStrictlySortedBy}
@@ -51,13 +52,10 @@ parted k (number n) ms ps e = absurd cc
 parted k (array ds) ms ps e = absurd cc
 parted k (object os) ms ps e = absurd cc
 
-some_is : {A : Type 0} (x y : A) → Some x ≡ Some y → x ≡ y
-some_is x y e = cc
-
 -- what holds of each key holds of each name
 all_kept : (P : List ℕ → Type 0) (es : List Entry) (ps : List (List ℕ × List ℕ)) → AllByRecursion (λ k. P (string_bytes k)) (keys_of es) → pairs_of (members_view es) ≡ Some ps
     → AllByRecursion P (map (λ p. p.0) ps)
-all_kept P [] ps h e = subst (λ (w : List (List ℕ × List ℕ)). AllByRecursion P (map (λ p. p.0) w)) (some_is [] ps e) tt
+all_kept P [] ps h e = subst (λ (w : List (List ℕ × List ℕ)). AllByRecursion P (map (λ p. p.0) w)) (same_Some [] ps e) tt
 all_kept P (x ∷ es) ps h e =
     let w = parted (string_bytes x.0) (view x.1) (members_view es) ps e in
     elim w.2 [
@@ -67,7 +65,7 @@ all_kept P (x ∷ es) ps h e =
 
 pub in_order : (es : List Entry) (ps : List (List ℕ × List ℕ)) → IsStrictlySortedBy string_cmp (keys_of es) → pairs_of (members_view es) ≡ Some ps → IsInOrder ps
 unfolding IsStrictlySortedBy
-in_order [] ps h e = subst IsInOrder (some_is [] ps e) tt
+in_order [] ps h e = subst IsInOrder (same_Some [] ps e) tt
 in_order (x ∷ es) ps h e =
     let w = parted (string_bytes x.0) (view x.1) (members_view es) ps e in
     elim w.2 [

@@ -23,7 +23,8 @@ use Rattle.remoting_frame.proofs.HeaderReading.{data_is}
 abbrev Pair : Type 0
 Pair = List ℕ × List ℕ
 
-below_middle : (first : Pair) (ps : List Pair) (e : Pair) (more : List Pair) → AllByRecursion (λ y. slice_cmp nat_cmp first.0 y ≡ Less) (map (λ p. p.0) (ps ++ e ∷ more)) → slice_cmp nat_cmp first.0 e.0 ≡ Less
+-- of pairs in order the first is below each other
+pub below_middle : (first : Pair) (ps : List Pair) (e : Pair) (more : List Pair) → AllByRecursion (λ y. slice_cmp nat_cmp first.0 y ≡ Less) (map (λ p. p.0) (ps ++ e ∷ more)) → slice_cmp nat_cmp first.0 e.0 ≡ Less
 below_middle first [] e more h = h.0
 below_middle first (x ∷ ps) e more h = below_middle first ps e more h.1
 

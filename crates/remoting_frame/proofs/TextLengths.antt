@@ -93,7 +93,7 @@ length-flag_on h fits =
     let flag = length-member_of true (codes "flag") (number (of_integer h.flag)) (language_on h) 11 (6 * length h.remark + 403) (length-number h.flag fits.flag) (omega (arith, language)) in
     omega (arith, flag)
 
-pub length-json_text : (h : Head) → Has32Bits h → IsShort h → length (json_text h) < 2 ^ 19
+pub length-json_text : (h : Head) → Has32Bits h → IsShort h → length (json_text h) < 2 ^ 20
 unfolding header_data
 length-json_text h fits short =
     let ext : length (compact_text (object (texts h.ext))) ≤ 6 * pairs_size h.ext + 2 = omega (arith, length-pairs h.ext false) in

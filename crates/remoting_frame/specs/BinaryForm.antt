@@ -1,5 +1,5 @@
 -- When bytes are a header in binary form, said of the bytes as a whole.
-use Rattle.std.specs.Prelude.{◌≡◌, ℕ, ◌^◌, ◌<◌, List, [], ◌∷◌, length, FitsSigned, slice_index, Bool, Option, Some, None, is_some, if◌then◌else◌}
+use Rattle.std.specs.Prelude.{◌≡◌, ℕ, ◌^◌, ◌<◌, List, [], ◌∷◌, length, FitsSigned, Bool, Option, Some, None, is_some, if◌then◌else◌}
 use Rattle.std.specs.Ordering.{nat_cmp, is_eq}
 use Rattle.std.specs.Cmp.Lexicographic.{slice_cmp}
 use Rattle.std.specs.Int.{w32}
@@ -8,9 +8,6 @@ use Rattle.std.specs.Str.{IsUtf8}
 use Rattle.remoting_frame.specs.Head.{Head, pairs_size}
 use Rattle.remoting_frame.specs.Binary.{by_name}
 use Rattle.remoting_frame.specs.BinaryText.{header_bytes, FitsPair, Has16Bits}
-
-abbrev pub AreBytes : List ℕ → Type 0
-AreBytes bytes = (i : ℕ) → slice_index bytes i < 256
 
 -- The bytes are the header's fields in their places with some byte for the language, and behind them pairs, of which
 -- each name's last makes the header's.

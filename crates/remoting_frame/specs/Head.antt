@@ -21,6 +21,6 @@ abbrev pub pairs_size : List (List ℕ × List ℕ) → ℕ
 pairs_size [] = 0
 pairs_size (p ∷ pairs) = 6 + length p.0 + length p.1 + pairs_size pairs
 
--- the remark and the pairs have together at most 65,536 bytes
+-- the remark and the pairs have together at most 131,072 bytes
 abbrev pub IsShort : Head → Type 0
-IsShort h = length h.remark + pairs_size h.ext ≤ 65536
+IsShort h = length h.remark + pairs_size h.ext ≤ 131072

@@ -3,6 +3,12 @@
 use crate::header::Header;
 use mq_bytes::Rows;
 
+/// The most bytes that may follow the length of a frame.
+pub(crate) const FRAME_MAX: u32 = 0x0100_0000;
+
+/// What a form counts in the word that it shares with the header's length, which has three bytes.
+pub(crate) const FORM_UNIT: u32 = 0x0100_0000;
+
 /// How a header is written.
 #[derive(Clone, Copy, Debug, PartialEq, Eq)]
 pub enum Form {

@@ -17,7 +17,7 @@ ghost use Rattle.remoting_frame.specs.Fronts.{front_view};
 ghost use Rattle.remoting_frame.specs.Frames.{Answers, first_of, with_word, with_form};
 
 use crate::fault::{FrameFault, HeaderFault};
-use crate::frame::Form;
+use crate::frame::{FORM_UNIT, FRAME_MAX, Form};
 use crate::front::FrameFront;
 use crate::header::Header;
 use crate::numbers::u32_at;
@@ -64,8 +64,8 @@ fn past_word(
     requires within { len ≤ 16777216 }
     ensures { Answers front_view result (with_word at bytes.now len word) }
 {
-    let header_len = word % 16777216;
-    match word / 16777216 {
+    let header_len = word % FORM_UNIT;
+    match word / FORM_UNIT {
         0 => past_form(alloc, at, bytes, len, Form::Json, header_len),
         1 => past_form(alloc, at, bytes, len, Form::Binary, header_len),
         _ => Err(FrameFault::BadForm(at)),
@@ -85,7 +85,7 @@ pub(crate) fn front_at(
         return Ok(None);
     }
     let len = u32_at(bytes, 0);
-    if len < 4 || len > 16777216 {
+    if len < 4 || len > FRAME_MAX {
         return Err(FrameFault::BadLength(at));
     }
     if bytes.len() < 8 {

@@ -3,7 +3,7 @@
 ghost use Rattle.std.specs.Prelude.{◌≡◌, ◌+◌, ◌<◌, ◌^◌, ◌++◌, length, OnOk, OnErr, Some};
 ghost use Rattle.remoting_frame.specs.Head.{IsShort};
 ghost use Rattle.remoting_frame.specs.Appends.{KeepsFront};
-ghost use Rattle.remoting_frame.specs.BinaryText.{Has16Bits, AreTexts, binary_text};
+ghost use Rattle.remoting_frame.specs.BinaryText.{Has16Bits, FitsLengths, AreTexts, binary_text};
 ghost use Rattle.remoting_frame.specs.Binary.{binary_header};
 ghost use Rattle.remoting_frame.specs.Json.{json_header};
 ghost use Rattle.remoting_frame.specs.Written.{json_text};
@@ -11,6 +11,7 @@ ghost use Rattle.remoting_frame.specs.Headers.{words, front_bytes};
 ghost use Rattle.remoting_frame.specs.declared.frame.Form.TheVariants.{Json, Binary};
 
 use crate::binary_writer::{push_header, size_of};
+use crate::frame::FORM_UNIT;
 use crate::header::Header;
 use crate::json_writer::text_of;
 use std::alloc::{AllocError, Global};
@@ -25,7 +26,7 @@ fn push_words(form: u32, header_len: u32, body: u32, out: &mut Vec<u8>) -> Resul
     ensures err { OnErr result (KeepsFront out.old.items out.new.items) }
 {
     out.extend_from_slice(&(4 + header_len + body).to_be_bytes())?;
-    out.extend_from_slice(&(form * 16777216 + header_len).to_be_bytes())
+    out.extend_from_slice(&(form * FORM_UNIT + header_len).to_be_bytes())
 }
 
 fn push_front(form: u32, header: &[u8], body: u32, out: &mut Vec<u8>) -> Result<(), AllocError>
@@ -41,6 +42,7 @@ fn push_front(form: u32, header: &[u8], body: u32, out: &mut Vec<u8>) -> Result<
 
 fn push_binary_front(header: &Header, body: u32, out: &mut Vec<u8>) -> Result<(), AllocError>
     requires bits { Has16Bits header.now }
+    requires lengths { FitsLengths header.now }
     requires short { IsShort header.now }
     requires within { body < 2 ^ 30 }
     ensures ok { OnOk result (out.new.items ≡ out.old.items ++ front_bytes Binary header.now body) }
@@ -60,11 +62,12 @@ pub(crate) fn write_binary_front(
     out: &mut Vec<u8>,
 ) -> Result<(), AllocError>
     requires bits { Has16Bits header.now }
+    requires lengths { FitsLengths header.now }
     requires short { IsShort header.now }
     requires within { body < 2 ^ 30 }
     ensures front { OnOk result (out.new.items ≡ out.old.items ++ front_bytes Binary header.now body) }
     ensures again { OnOk result (binary_header (binary_text header.now) ≡ Some header.now) }
-    ensures small { OnOk result (length (binary_text header.now) < 2 ^ 19) }
+    ensures small { OnOk result (length (binary_text header.now) < 2 ^ 20) }
     ensures err { OnErr result (out.new.items ≡ out.old.items) }
 {
     // Read once, so that their 32 bits are known of them below.
@@ -90,7 +93,7 @@ pub(crate) fn write_json_front(
     requires within { body < 2 ^ 30 }
     ensures front { OnOk result (out.new.items ≡ out.old.items ++ front_bytes Json header.now body) }
     ensures again { OnOk result (json_header (json_text header.now) ≡ Some header.now) }
-    ensures small { OnOk result (length (json_text header.now) < 2 ^ 19) }
+    ensures small { OnOk result (length (json_text header.now) < 2 ^ 20) }
     ensures err { OnErr result (out.new.items ≡ out.old.items) }
 {
     let text = text_of(alloc, header)?;

@@ -22,11 +22,17 @@ use std::marker::Model;
 /// The sender's language, which headers also name, is read over, and written as `OTHER`.
 #[derive(Drop)]
 pub struct Header {
+    /// What a request asks for, or in a reply what came of it: 0 is success.
     pub code: i32,
+    /// The version of the program that sends it.
     pub version: i32,
+    /// The sender's number of a request, which the reply repeats.
     pub opaque: i32,
+    /// Bit 0 is set in a reply, bit 1 in a request that wants none.
     pub flag: i32,
+    /// What went wrong, mostly; an empty remark and none are the same.
     pub remark: Text,
+    /// The fields: names with their values.
     pub ext: Rows<(Text, Text)>,
 }
 
@@ -78,11 +84,12 @@ impl Header {
         out: &mut Vec<u8>,
     ) -> Result<(), AllocError>
         requires bits { form ≡ Form.Binary → Has16Bits self.now }
+        requires lengths { form ≡ Form.Binary → FitsLengths self.now }
         requires short { IsShort self.now }
         requires within { body < 2 ^ 30 }
         ensures front { OnOk result (out.new.items ≡ out.old.items ++ front_bytes form self.now body) }
         ensures again { OnOk result (header_in form (header_text form self.now) ≡ Some self.now) }
-        ensures small { OnOk result (length (header_text form self.now) < 2 ^ 19) }
+        ensures small { OnOk result (length (header_text form self.now) < 2 ^ 20) }
         ensures err { OnErr result (out.new.items ≡ out.old.items) }
     {
         match form {

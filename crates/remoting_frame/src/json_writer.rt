@@ -75,7 +75,7 @@ fn value_of(alloc: Global, header: &Header) -> Result<Value, AllocError>
 pub(crate) fn text_of(alloc: Global, header: &Header) -> Result<String, AllocError>
     ensures text { IfOk result (λ s. string_bytes s ≡ json_text header.now) }
     ensures again { OnOk result (json_header (json_text header.now) ≡ Some header.now) }
-    ensures short { OnOk result (IsShort header.now → length (json_text header.now) < 2 ^ 19) }
+    ensures short { OnOk result (IsShort header.now → length (json_text header.now) < 2 ^ 20) }
 {
     // Read once, so that their 32 bits are known of them below.
     let _numbers = (header.code, header.version, header.opaque, header.flag);

@@ -1,13 +1,14 @@
 //! What holds of the bytes of frames and of binary headers. The functions do nothing: each stands for its law.
 
 ghost use Rattle.std.specs.Prelude.{◌≡◌, ℕ, ◌+◌, ◌≤◌, ◌++◌, List, length, Some, Ok, Err};
+ghost use Rattle.mq_bytes.specs.Bytes.{AreBytes};
 ghost use Rattle.remoting_frame.specs.Head.{Head, IsInOrder};
 ghost use Rattle.remoting_frame.specs.Headers.{header_in, header_text, frame_bytes};
 ghost use Rattle.remoting_frame.specs.Frames.{next_of};
 ghost use Rattle.remoting_frame.specs.FrameForm.{IsFrame};
 ghost use Rattle.remoting_frame.specs.FaultForm.{HasFault};
 ghost use Rattle.remoting_frame.specs.Binary.{binary_header, by_name};
-ghost use Rattle.remoting_frame.specs.BinaryForm.{AreBytes, IsBinary, value_of, last_value};
+ghost use Rattle.remoting_frame.specs.BinaryForm.{IsBinary, value_of, last_value};
 ghost use Rattle.remoting_frame.specs.declared.frame.Frame.{Frame};
 ghost use Rattle.remoting_frame.specs.declared.frame.Form.{Form};
 ghost use Rattle.remoting_frame.specs.declared.fault.FrameFault.{FrameFault};

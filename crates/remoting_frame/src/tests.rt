@@ -2,7 +2,7 @@
 
 ghost use Rattle.std.specs.Prelude.{◌<◌, ◌≤◌, length, IfOk};
 ghost use Rattle.remoting_frame.specs.Head.{IsShort};
-ghost use Rattle.remoting_frame.specs.BinaryText.{Has16Bits};
+ghost use Rattle.remoting_frame.specs.BinaryText.{Has16Bits, FitsLengths};
 
 use crate::{Cutter, Form, FrameFault, Header, HeaderFault};
 use mq_bytes::{Rows, Text};
@@ -32,6 +32,7 @@ fn send_frame(alloc: Global) -> Result<Vec<u8>, AllocError> {
 
 fn refusal(alloc: Global) -> Result<Header, AllocError>
     ensures short { IfOk result IsShort }
+    ensures lengths { IfOk result FitsLengths }
     ensures bits { IfOk result Has16Bits }
 {
     let remark = Text::of(String::from_str(alloc, "code 999")?);

@@ -1,10 +1,7 @@
 use Rattle.std.proofs.Common.{◌≡◌, ◌+◌, length, rules}
 use Rattle.remoting_frame.specs.Head.{pairs_size}
-use Rattle.remoting_frame.proofs.BinaryWriting.{short_fits, front_whole}
+use Rattle.remoting_frame.proofs.BinaryWriting.{front_whole}
 use Rattle.remoting_frame.proofs.front_writer.push_binary_front.Goals as goal
-
-pub push_header-requires-clause-lengths : goal.push_header-requires-clause-lengths
-push_header-requires-clause-lengths c = short_fits c.args.header.now c.requires.short
 
 pub returns-clause-ok : goal.returns-clause-ok
 returns-clause-ok c =
