@@ -8,9 +8,10 @@ ghost use Rattle.std.specs.Borrow.{Lends, sem};
 ghost use Rattle.mq_outside.specs.Counts.{CountsFailure};
 ghost use Rattle.mq_outside.specs.Disk.{EachImage, Throughout};
 ghost use Rattle.record_codec.specs.Entry.{Entry};
-ghost use Rattle.log_model.specs.Segments.{Shape, shape_of, AreSegmentFiles};
+ghost use Rattle.log_model.specs.Segments.{Shape, shape_of, AreSegmentFiles, IsLogFile};
 ghost use Rattle.log_model.specs.Store.{KeepsIfHonest};
-ghost use Rattle.segment_files.specs.Turn.{IsInside, WritesAt, HasRecords, GoesOn, CanRetry, is_due, base_behind, reach_behind, syncs_of};
+ghost use Rattle.segment_files.specs.Outside.{IsOutsideOf};
+ghost use Rattle.segment_files.specs.Turn.{IsInside, WritesAt, HasRecords, GoesOn, CanRetry, is_due, base_behind, unless_opened, syncs_of};
 ghost use Rattle.group_flush.specs.contracts.flusher.Flusher.{the_row};
 
 use log_model::{Batch, Receipt};
@@ -58,25 +59,29 @@ impl<D: Disk> Flusher<D> {
         ensures still { D.tells → (S : ℕ) (log : List Entry) (flushed : ℕ) (shape : Shape) (reach : ℕ)
             → WritesAt S log flushed shape reach self.old.segments.file.base self.old.segments.file.offset (D.state self.old.segments.disk)
             → GoesOn S log flushed shape (is_due self.old.segments.file.base batch.blank) batch.place batch.blank batch.count batch.bytes
-            → OnErr result (CanRetry S log flushed self.new.segments.file.base self.new.segments.file.offset (D.state self.new.segments.disk) batch.place batch.blank batch.count batch.bytes) }
+            → OnErr result (CanRetry S log flushed (max (unless_opened (is_due self.old.segments.file.base batch.blank) reach) (unless_opened (is_due self.old.segments.file.base batch.blank) self.old.segments.file.offset + length batch.bytes)) self.new.segments.file.base self.new.segments.file.offset (D.state self.new.segments.disk) batch.place batch.blank batch.count batch.bytes) }
 
         // After Ok the batch is flushed too, and where nothing longer stood behind it every image is exactly the log's files.
         ensures flushed { D.tells → (S : ℕ) (log : List Entry) (flushed : ℕ) (shape : Shape) (reach : ℕ)
             → WritesAt S log flushed shape reach self.old.segments.file.base self.old.segments.file.offset (D.state self.old.segments.disk)
             → GoesOn S log flushed shape (is_due self.old.segments.file.base batch.blank) batch.place batch.blank batch.count batch.bytes
-            → OnOk result (WritesAt S log (flushed + batch.count) (shape_of S (take (flushed + batch.count) log)) (max (reach_behind (is_due self.old.segments.file.base batch.blank) reach) self.new.segments.file.offset) self.new.segments.file.base self.new.segments.file.offset (D.state self.new.segments.disk)) }
+            → OnOk result (WritesAt S log (flushed + batch.count) (shape_of S (take (flushed + batch.count) log)) (max (unless_opened (is_due self.old.segments.file.base batch.blank) reach) self.new.segments.file.offset) self.new.segments.file.base self.new.segments.file.offset (D.state self.new.segments.disk)) }
         ensures exact { D.tells → (S : ℕ) (log : List Entry) (flushed : ℕ) (shape : Shape) (reach : ℕ)
             → WritesAt S log flushed shape reach self.old.segments.file.base self.old.segments.file.offset (D.state self.old.segments.disk)
             → GoesOn S log flushed shape (is_due self.old.segments.file.base batch.blank) batch.place batch.blank batch.count batch.bytes
-            → reach_behind (is_due self.old.segments.file.base batch.blank) reach ≤ self.new.segments.file.offset
+            → unless_opened (is_due self.old.segments.file.base batch.blank) reach ≤ self.new.segments.file.offset
             → OnOk result (EachImage (AreSegmentFiles S (take (flushed + batch.count) log)) (D.state self.new.segments.disk)) }
+
+        // Files outside the log's folder stay.
+        ensures outside { D.tells → (name : List ℕ) → (IsLogFile name → ⊥) → (D.state self.new.segments.disk).reads name ≡ (D.state self.old.segments.disk).reads name }
+        ensures outside_images { D.tells → Throughout (D.state self.old.segments.disk) (D.state self.new.segments.disk) (IsOutsideOf (D.state self.old.segments.disk)) }
 
         // What was written, and where the next bytes go.
         ensures range { IfOk result (λ receipt. (receipt.from ≡ batch.from) × (receipt.count ≡ batch.count)
             × (receipt.piece.base ≡ self.new.segments.file.base) × (receipt.piece.from + length batch.bytes ≡ self.new.segments.file.offset) × (receipt.piece.len ≡ length batch.bytes)) }
         ensures held { D.tells → IfOk result (λ receipt. receipt.piece.held ≡ Some batch.bytes) }
         ensures moved { OnOk result ((self.new.segments.file.base ≡ base_behind (is_due self.old.segments.file.base batch.blank) batch.place self.old.segments.file.base)
-            × (self.new.segments.file.offset ≡ reach_behind (is_due self.old.segments.file.base batch.blank) self.old.segments.file.offset + length batch.bytes)) }
+            × (self.new.segments.file.offset ≡ unless_opened (is_due self.old.segments.file.base batch.blank) self.old.segments.file.offset + length batch.bytes)) }
         ensures room { OnErr result (self.new.segments.file.offset ≤ self.old.segments.file.offset) }
         ensures inside { D.tells → IsInside self.new.segments.file.base self.new.segments.file.offset (D.state self.new.segments.disk) }
         ensures segment { self.new.segments.segment ≡ self.old.segments.segment }

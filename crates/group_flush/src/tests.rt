@@ -1,3 +1,5 @@
+//! A turn that fails, and the same batch again.
+
 ghost use Rattle.std.specs.Prelude.{◌≡◌, ◌≤◌, length, IfOk};
 
 use crate::{FlushFault, Flusher};

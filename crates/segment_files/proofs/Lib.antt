@@ -1,3 +1,4 @@
+pub mod Outside
 mod Pieces
 mod Standing
 pub mod Turns

@@ -8,7 +8,7 @@ use Rattle.record_codec.specs.declared.draft.Record.{Record}
 use Rattle.record_codec.specs.Entry.{Entry}
 use Rattle.record_codec.specs.Layout.{layout, size, IsRecord}
 use Rattle.record_codec.proofs.Records.{no_prefix}
-use Rattle.log_model.proofs.LayoutLengths.{length-layout}
+use Rattle.record_codec.proofs.LayoutLengths.{length-layout}
 use Rattle.log_model.specs.declared.fault.LoadFault.{LoadFault}
 use Rattle.log_model.specs.declared.fault.LoadFault.TheVariants.{Damaged, Failed, Memory}
 use Rattle.log_model.specs.Queues.{said_by, IsStored}

@@ -18,7 +18,7 @@ use Rattle.log_model.proofs.Places.{placed_log, well_formed_take}
 use Rattle.log_model.proofs.Steps.{each_torn, each_more, each_has, stands_more, length-blank_of}
 use Rattle.log_model.proofs.StoreLemmas.{laid_room, stores_named, stores_still, stores_batch, stores_opened, stores_exact}
 use Rattle.log_model.proofs.Prefixes.{keeps_prefix}
-use Rattle.segment_files.specs.Turn.{IsInside, WritesAt, IsBehind, HasRecords, is_due, shape_behind, Opens, GoesOn, CanRetry}
+use Rattle.segment_files.specs.Turn.{IsInside, WritesAt, IsBehind, HasRecords, is_due, shape_behind, unless_opened, Opens, GoesOn, CanRetry}
 
 -- the place of a blank, or 0 where there is none
 abbrev first_of : Option (ℕ × ℕ) → ℕ
@@ -151,21 +151,24 @@ not_due S log flushed shape was now place (Some b) room first opens next = ⊎_e
     (cases_Bool (nat_le was b.0))
 
 -- after a fault before the blank was synced
-pub retry_first : {S : ℕ} {log : List Entry} {flushed : ℕ} {shape : Shape} {reach was was_offset now now_offset place count : ℕ} {blank : Option (ℕ × ℕ)} {batch : List ℕ} {new : DiskState}
-    → GoesOn S log flushed shape (is_due was blank) place blank count batch → WritesAt S log flushed shape reach was was_offset new → now ≡ was → now_offset ≡ was_offset
-    → CanRetry S log flushed now now_offset new place blank count batch
-retry_first {S = S} {log = log} {flushed = flushed} {shape = shape} {reach = reach} {was = was} {now_offset = now_offset} {place = place} {count = count} {blank = blank} {batch = batch} {new = new} goes writes same same_offset = record {
+pub retry_first : {S : ℕ} {log : List Entry} {flushed : ℕ} {shape : Shape} {reach was was_offset now now_offset place count : ℕ} {blank : Option (ℕ × ℕ)} {batch : List ℕ} {new : DiskState} (most : ℕ)
+    → GoesOn S log flushed shape (is_due was blank) place blank count batch → WritesAt S log flushed shape reach was was_offset new → is_due was blank ≡ true → now ≡ was → now_offset ≡ was_offset
+    → CanRetry S log flushed most now now_offset new place blank count batch
+retry_first {S = S} {log = log} {flushed = flushed} {shape = shape} {reach = reach} {was = was} {now = now} {now_offset = now_offset} {place = place} {count = count} {blank = blank} {batch = batch} {new = new} most goes writes due same same_offset = record {
   shape = shape;
   reach = reach;
   writes = subst (λ (b : ℕ). WritesAt S log flushed shape reach b now_offset new) (sym same) (subst (λ (o : ℕ). WritesAt S log flushed shape reach was o new) (sym same_offset) writes);
   goes_on = subst (λ (b : ℕ). GoesOn S log flushed shape (is_due b blank) place blank count batch) (sym same) goes;
+  short =
+      let still : is_due now blank ≡ true = ap (λ (b : ℕ). is_due b blank) same ∙ due in
+      omega (arith, ap (λ (d : Bool). unless_opened d reach) still);
 }
 
 -- after a fault behind it
-pub retry_second : {S : ℕ} {log : List Entry} {flushed : ℕ} {shape : Shape} {reach more was was_offset now now_offset place count : ℕ} {blank : Option (ℕ × ℕ)} {batch : List ℕ} {old new : DiskState}
+pub retry_second : {S : ℕ} {log : List Entry} {flushed : ℕ} {shape : Shape} {reach more was was_offset now now_offset place count : ℕ} {blank : Option (ℕ × ℕ)} {batch : List ℕ} {old new : DiskState} (most : ℕ)
     → WritesAt S log flushed shape reach was was_offset old → GoesOn S log flushed shape (is_due was blank) place blank count batch
-    → WritesAt S log flushed (shape_behind (is_due was blank) shape) more now now_offset new → CanRetry S log flushed now now_offset new place blank count batch
-retry_second {S = S} {log = log} {flushed = flushed} {shape = shape} {more = more} {was = was} {now = now} {place = place} {count = count} {blank = blank} {batch = batch} first goes writes =
+    → WritesAt S log flushed (shape_behind (is_due was blank) shape) more now now_offset new → more ≤ most → CanRetry S log flushed most now now_offset new place blank count batch
+retry_second {S = S} {log = log} {flushed = flushed} {shape = shape} {more = more} {was = was} {now = now} {place = place} {count = count} {blank = blank} {batch = batch} most first goes writes short =
     let next : Shape = shape_behind (is_due was blank) shape in
     let room : used shape + 8 ≤ S = laid_room S log flushed shape first.stores.well_formed first.stores.laid in
     let stands : is_due now blank ≡ false = not_due S log flushed shape was now place blank room first.place.last goes.opens writes.place.last in
@@ -177,7 +180,20 @@ retry_second {S = S} {log = log} {flushed = flushed} {shape = shape} {more = mor
         records = subst (λ (d : Bool). IsBatch S log flushed count (shape_behind d next) batch) (sym stands) goes.records;
         opens = λ due. let full : false ≡ true = sym stands ∙ due in absurd (cc);
       };
+      short = omega (arith, ap (λ (d : Bool). unless_opened d more) stands, short);
     }
+
+-- where the records of the last file end behind a blank if one is due
+used_behind : (due : Bool) (shape : Shape) (offset : ℕ) → offset ≡ used shape → used (shape_behind due shape) ≡ unless_opened due offset
+used_behind true shape offset is = refl
+used_behind false shape offset is = sym is
+
+-- the batch ends at the same offset, however often it comes again
+pub batch_ends : {S : ℕ} {log : List Entry} {flushed : ℕ} {shape : Shape} {reach file_base offset place count : ℕ} {blank : Option (ℕ × ℕ)} {batch : List ℕ} {disk : DiskState}
+    → WritesAt S log flushed shape reach file_base offset disk → GoesOn S log flushed shape (is_due file_base blank) place blank count batch
+    → unless_opened (is_due file_base blank) offset + length batch ≡ used (shape_of S (take (flushed + count) log))
+batch_ends {shape = shape} {file_base = file_base} {offset = offset} {blank = blank} writes goes =
+    omega (arith, used_batch goes.records, used_behind (is_due file_base blank) shape offset writes.place.end)
 
 -- ---- where the next bytes go
 

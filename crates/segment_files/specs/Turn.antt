@@ -46,12 +46,13 @@ abbrev pub is_due : ℕ → Option (ℕ × ℕ) → Bool
 is_due file_base None = false
 is_due file_base (Some blank) = nat_le file_base blank.0
 
--- the segments, and the reach of the last one, behind a blank if one is due
+-- the segments behind a blank if one is due
 abbrev pub shape_behind : Bool → Shape → Shape
 shape_behind due shape = if due then opened shape else shape
 
-abbrev pub reach_behind : Bool → ℕ → ℕ
-reach_behind due reach = if due then 0 else reach
+-- the reach of the last file, or an offset in it, behind a blank if one is due: a new file has 0
+abbrev pub unless_opened : Bool → ℕ → ℕ
+unless_opened due n = if due then 0 else n
 
 -- the base of the file, where a batch that opens a new one begins at this place
 abbrev pub base_behind : Bool → ℕ → ℕ → ℕ
@@ -72,9 +73,11 @@ pub record GoesOn (S : ℕ) (log : List Entry) (flushed : ℕ) (shape : Shape) (
   pub records : IsBatch S log flushed count (shape_behind due shape) batch
   pub opens : due ≡ true → Opens S log flushed shape place blank
 
--- the log is stored as before, and the same batch goes on behind its flushed records
-pub record CanRetry (S : ℕ) (log : List Entry) (flushed file_base offset : ℕ) (disk : DiskState) (place : ℕ) (blank : Option (ℕ × ℕ)) (count : ℕ) (batch : List ℕ) : Type 0 where
+-- The log is stored as before, and the same batch goes on behind its flushed records. Nothing stands past so many bytes of the
+-- file that the batch comes into.
+pub record CanRetry (S : ℕ) (log : List Entry) (flushed most file_base offset : ℕ) (disk : DiskState) (place : ℕ) (blank : Option (ℕ × ℕ)) (count : ℕ) (batch : List ℕ) : Type 0 where
   pub shape : Shape
   pub reach : ℕ
   pub writes : WritesAt S log flushed shape reach file_base offset disk
   pub goes_on : GoesOn S log flushed shape (is_due file_base blank) place blank count batch
+  pub short : unless_opened (is_due file_base blank) reach ≤ most

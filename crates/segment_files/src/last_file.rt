@@ -8,9 +8,10 @@ ghost use Rattle.std.specs.Prelude.{◌≡◌, true, ◌+◌, ◌-◌, ◌*◌, 
 ghost use Rattle.mq_outside.specs.Counts.{CountsFailure};
 ghost use Rattle.mq_outside.specs.Disk.{EachImage, Throughout};
 ghost use Rattle.record_codec.specs.Entry.{Entry};
-ghost use Rattle.log_model.specs.Segments.{Shape, added, opened, used, base, shape_of, AreSegmentFiles};
+ghost use Rattle.log_model.specs.Segments.{Shape, added, opened, used, base, shape_of, AreSegmentFiles, IsLogFile};
 ghost use Rattle.log_model.specs.Store.{IsBatch, KeepsIfHonest};
-ghost use Rattle.segment_files.specs.Turn.{IsInside, WritesAt, HasRecords, Opens, GoesOn, CanRetry, is_due, shape_behind, base_behind, reach_behind, syncs_of};
+ghost use Rattle.segment_files.specs.Outside.{IsOutsideOf, StaysOutside};
+ghost use Rattle.segment_files.specs.Turn.{IsInside, WritesAt, HasRecords, Opens, GoesOn, CanRetry, is_due, shape_behind, base_behind, unless_opened, syncs_of};
 
 use crate::blank::write_blank;
 use bytes::Bytes;
@@ -55,6 +56,7 @@ impl LastFile {
         ensures opened { D.tells → (S : ℕ) (log : List Entry) (flushed : ℕ) (shape : Shape) (reach : ℕ)
             → WritesAt S log flushed shape reach self.old.base self.old.offset (D.state disk.old) → shape ≡ shape_of S (take flushed log) → size ≡ S - used shape
             → next ≡ base S (opened shape) → OnOk result (WritesAt S log flushed (opened shape) 0 self.new.base self.new.offset (D.state disk.new)) }
+        ensures outside { D.tells → StaysOutside (D.state disk.old) (D.state disk.new) }
         ensures inside { D.tells → IsInside self.new.base self.new.offset (D.state disk.new) }
         ensures moved { OnOk result ((self.new.base ≡ next) × (self.new.offset ≡ 0)) }
         ensures stays { OnErr result ((self.new.base ≡ self.old.base) × (self.new.offset ≡ self.old.offset)) }
@@ -83,6 +85,7 @@ impl LastFile {
         ensures flushed { D.tells → (S : ℕ) (log : List Entry) (flushed count : ℕ) (shape : Shape) (reach : ℕ)
             → WritesAt S log flushed shape reach self.old.base self.old.offset (D.state disk.old) → IsBatch S log flushed count shape bytes
             → OnOk result (WritesAt S log (flushed + count) (shape_of S (take (flushed + count) log)) (max reach (self.old.offset + length bytes)) self.new.base self.new.offset (D.state disk.new)) }
+        ensures outside { D.tells → StaysOutside (D.state disk.old) (D.state disk.new) }
         ensures inside { D.tells → IsInside self.new.base self.new.offset (D.state disk.new) }
         ensures moved { OnOk result (self.new.offset ≡ self.old.offset + length bytes) }
         ensures stays { OnErr result (self.new.offset ≡ self.old.offset) }
@@ -118,10 +121,12 @@ impl LastFile {
             → WritesAt S log flushed shape S self.old.base self.old.offset (D.state disk.new) }
         ensures opened { D.tells → (S : ℕ) (log : List Entry) (flushed : ℕ) (shape : Shape) (reach : ℕ)
             → WritesAt S log flushed shape reach self.old.base self.old.offset (D.state disk.old) → (is_due self.old.base blank ≡ true → Opens S log flushed shape place blank)
-            → OnOk result (WritesAt S log flushed (shape_behind (is_due self.old.base blank) shape) (reach_behind (is_due self.old.base blank) reach) self.new.base self.new.offset (D.state disk.new)) }
+            → OnOk result (WritesAt S log flushed (shape_behind (is_due self.old.base blank) shape) (unless_opened (is_due self.old.base blank) reach) self.new.base self.new.offset (D.state disk.new)) }
+        ensures outside { D.tells → StaysOutside (D.state disk.old) (D.state disk.new) }
         ensures inside { D.tells → IsInside self.new.base self.new.offset (D.state disk.new) }
-        ensures moved { OnOk result ((self.new.base ≡ base_behind (is_due self.old.base blank) place self.old.base) × (self.new.offset ≡ reach_behind (is_due self.old.base blank) self.old.offset)) }
+        ensures moved { OnOk result ((self.new.base ≡ base_behind (is_due self.old.base blank) place self.old.base) × (self.new.offset ≡ unless_opened (is_due self.old.base blank) self.old.offset)) }
         ensures stays { OnErr result ((self.new.base ≡ self.old.base) × (self.new.offset ≡ self.old.offset)) }
+        ensures due { OnErr result (is_due self.old.base blank ≡ true) }
         ensures cause { CountsFailure result (D.faults disk.old) (D.faults disk.new) }
         ensures syncs { D.syncs disk.new + 1 ≤ D.syncs disk.old + syncs_of (is_due self.old.base blank) }
     {
@@ -154,25 +159,29 @@ impl LastFile {
         ensures still { D.tells → (S : ℕ) (log : List Entry) (flushed : ℕ) (shape : Shape) (reach : ℕ)
             → WritesAt S log flushed shape reach self.old.base self.old.offset (D.state disk.old)
             → GoesOn S log flushed shape (is_due self.old.base batch.blank) batch.place batch.blank batch.count batch.bytes
-            → OnErr result (CanRetry S log flushed self.new.base self.new.offset (D.state disk.new) batch.place batch.blank batch.count batch.bytes) }
+            → OnErr result (CanRetry S log flushed (max (unless_opened (is_due self.old.base batch.blank) reach) (unless_opened (is_due self.old.base batch.blank) self.old.offset + length batch.bytes)) self.new.base self.new.offset (D.state disk.new) batch.place batch.blank batch.count batch.bytes) }
 
         // After Ok the batch is flushed too, and where nothing longer stood behind it every image is exactly the log's files.
         ensures flushed { D.tells → (S : ℕ) (log : List Entry) (flushed : ℕ) (shape : Shape) (reach : ℕ)
             → WritesAt S log flushed shape reach self.old.base self.old.offset (D.state disk.old)
             → GoesOn S log flushed shape (is_due self.old.base batch.blank) batch.place batch.blank batch.count batch.bytes
-            → OnOk result (WritesAt S log (flushed + batch.count) (shape_of S (take (flushed + batch.count) log)) (max (reach_behind (is_due self.old.base batch.blank) reach) self.new.offset) self.new.base self.new.offset (D.state disk.new)) }
+            → OnOk result (WritesAt S log (flushed + batch.count) (shape_of S (take (flushed + batch.count) log)) (max (unless_opened (is_due self.old.base batch.blank) reach) self.new.offset) self.new.base self.new.offset (D.state disk.new)) }
         ensures exact { D.tells → (S : ℕ) (log : List Entry) (flushed : ℕ) (shape : Shape) (reach : ℕ)
             → WritesAt S log flushed shape reach self.old.base self.old.offset (D.state disk.old)
             → GoesOn S log flushed shape (is_due self.old.base batch.blank) batch.place batch.blank batch.count batch.bytes
-            → reach_behind (is_due self.old.base batch.blank) reach ≤ self.new.offset
+            → unless_opened (is_due self.old.base batch.blank) reach ≤ self.new.offset
             → OnOk result (EachImage (AreSegmentFiles S (take (flushed + batch.count) log)) (D.state disk.new)) }
+
+        // Files outside the log's folder stay.
+        ensures outside { D.tells → (name : List ℕ) → (IsLogFile name → ⊥) → (D.state disk.new).reads name ≡ (D.state disk.old).reads name }
+        ensures outside_images { D.tells → Throughout (D.state disk.old) (D.state disk.new) (IsOutsideOf (D.state disk.old)) }
 
         // What was written, and where the next bytes go.
         ensures range { IfOk result (λ receipt. (receipt.from ≡ batch.from) × (receipt.count ≡ batch.count)
             × (receipt.piece.base ≡ self.new.base) × (receipt.piece.from + length batch.bytes ≡ self.new.offset) × (receipt.piece.len ≡ length batch.bytes)) }
         ensures held { D.tells → IfOk result (λ receipt. receipt.piece.held ≡ Some batch.bytes) }
         ensures moved { OnOk result ((self.new.base ≡ base_behind (is_due self.old.base batch.blank) batch.place self.old.base)
-            × (self.new.offset ≡ reach_behind (is_due self.old.base batch.blank) self.old.offset + length batch.bytes)) }
+            × (self.new.offset ≡ unless_opened (is_due self.old.base batch.blank) self.old.offset + length batch.bytes)) }
         ensures room { OnErr result (self.new.offset ≤ self.old.offset) }
         ensures inside { D.tells → IsInside self.new.base self.new.offset (D.state disk.new) }
         ensures cause { CountsFailure result (D.faults disk.old) (D.faults disk.new) }

@@ -5,6 +5,7 @@ mod blank;
 mod last_file;
 mod read;
 mod segments;
+mod size;
 #[cfg(test)]
 mod tests;
 

@@ -8,14 +8,16 @@ ghost use Rattle.record_codec.specs.Entry.{Entry};
 ghost use Rattle.log_model.specs.Faults.{CountsLoadFault};
 ghost use Rattle.log_model.specs.Log.{end_of};
 ghost use Rattle.log_model.specs.Queues.{said_by, IsStored};
-ghost use Rattle.log_model.specs.Segments.{Shape, shape_of, AreSegmentFiles};
+ghost use Rattle.log_model.specs.Segments.{Shape, shape_of, AreSegmentFiles, IsLogFile};
 ghost use Rattle.log_model.specs.Store.{StoresAt, KeepsIfHonest};
+ghost use Rattle.segment_files.specs.Outside.{IsOutsideOf};
 ghost use Rattle.segment_files.specs.Reading.{IsRecordAt, TellsDamage};
-ghost use Rattle.segment_files.specs.Turn.{IsInside, WritesAt, HasRecords, GoesOn, CanRetry, is_due, base_behind, reach_behind, syncs_of};
+ghost use Rattle.segment_files.specs.Turn.{IsInside, WritesAt, HasRecords, GoesOn, CanRetry, is_due, base_behind, unless_opened, syncs_of};
 ghost use Rattle.segment_files.specs.contracts.segments.Segments.{the_row};
 
 use crate::last_file::LastFile;
 use crate::read::read_record;
+use crate::size::SegmentSize;
 use log_model::{Batch, LoadFault, Receipt};
 use mq_outside::{Disk, Failed};
 use record_codec::Record;
@@ -25,8 +27,7 @@ use std::alloc::Global;
 #[derive(Drop)]
 pub struct Segments<D: Disk> {
     disk: D,
-    // How many bytes a segment has.
-    segment: u32,
+    segment: SegmentSize,
     file: LastFile,
 }
 
@@ -35,7 +36,7 @@ impl<D: Disk> Segments<D> {
     pub fn open(disk: D, segment: u32, end: u64) -> Segments<D>
         requires { 0 < segment }
         ensures disk { result.disk ≡ disk }
-        ensures segment { result.segment ≡ segment }
+        ensures segment { result.segment.bytes ≡ segment }
         ensures place { (result.file.base ≡ end / segment * segment) × (result.file.offset ≡ end % segment) }
 
         // The disk stores the log up to there.
@@ -46,7 +47,7 @@ impl<D: Disk> Segments<D> {
     {
         Segments {
             disk,
-            segment,
+            segment: SegmentSize { bytes: segment },
             file: LastFile::at(segment, end),
         }
     }
@@ -71,25 +72,29 @@ impl<D: Disk> Segments<D> {
         ensures still { D.tells → (S : ℕ) (log : List Entry) (flushed : ℕ) (shape : Shape) (reach : ℕ)
             → WritesAt S log flushed shape reach self.old.file.base self.old.file.offset (D.state self.old.disk)
             → GoesOn S log flushed shape (is_due self.old.file.base batch.blank) batch.place batch.blank batch.count batch.bytes
-            → OnErr result (CanRetry S log flushed self.new.file.base self.new.file.offset (D.state self.new.disk) batch.place batch.blank batch.count batch.bytes) }
+            → OnErr result (CanRetry S log flushed (max (unless_opened (is_due self.old.file.base batch.blank) reach) (unless_opened (is_due self.old.file.base batch.blank) self.old.file.offset + length batch.bytes)) self.new.file.base self.new.file.offset (D.state self.new.disk) batch.place batch.blank batch.count batch.bytes) }
 
         // After Ok the batch is flushed too, and where nothing longer stood behind it every image is exactly the log's files.
         ensures flushed { D.tells → (S : ℕ) (log : List Entry) (flushed : ℕ) (shape : Shape) (reach : ℕ)
             → WritesAt S log flushed shape reach self.old.file.base self.old.file.offset (D.state self.old.disk)
             → GoesOn S log flushed shape (is_due self.old.file.base batch.blank) batch.place batch.blank batch.count batch.bytes
-            → OnOk result (WritesAt S log (flushed + batch.count) (shape_of S (take (flushed + batch.count) log)) (max (reach_behind (is_due self.old.file.base batch.blank) reach) self.new.file.offset) self.new.file.base self.new.file.offset (D.state self.new.disk)) }
+            → OnOk result (WritesAt S log (flushed + batch.count) (shape_of S (take (flushed + batch.count) log)) (max (unless_opened (is_due self.old.file.base batch.blank) reach) self.new.file.offset) self.new.file.base self.new.file.offset (D.state self.new.disk)) }
         ensures exact { D.tells → (S : ℕ) (log : List Entry) (flushed : ℕ) (shape : Shape) (reach : ℕ)
             → WritesAt S log flushed shape reach self.old.file.base self.old.file.offset (D.state self.old.disk)
             → GoesOn S log flushed shape (is_due self.old.file.base batch.blank) batch.place batch.blank batch.count batch.bytes
-            → reach_behind (is_due self.old.file.base batch.blank) reach ≤ self.new.file.offset
+            → unless_opened (is_due self.old.file.base batch.blank) reach ≤ self.new.file.offset
             → OnOk result (EachImage (AreSegmentFiles S (take (flushed + batch.count) log)) (D.state self.new.disk)) }
+
+        // Files outside the log's folder stay.
+        ensures outside { D.tells → (name : List ℕ) → (IsLogFile name → ⊥) → (D.state self.new.disk).reads name ≡ (D.state self.old.disk).reads name }
+        ensures outside_images { D.tells → Throughout (D.state self.old.disk) (D.state self.new.disk) (IsOutsideOf (D.state self.old.disk)) }
 
         // What was written, and where the next bytes go.
         ensures range { IfOk result (λ receipt. (receipt.from ≡ batch.from) × (receipt.count ≡ batch.count)
             × (receipt.piece.base ≡ self.new.file.base) × (receipt.piece.from + length batch.bytes ≡ self.new.file.offset) × (receipt.piece.len ≡ length batch.bytes)) }
         ensures held { D.tells → IfOk result (λ receipt. receipt.piece.held ≡ Some batch.bytes) }
         ensures moved { OnOk result ((self.new.file.base ≡ base_behind (is_due self.old.file.base batch.blank) batch.place self.old.file.base)
-            × (self.new.file.offset ≡ reach_behind (is_due self.old.file.base batch.blank) self.old.file.offset + length batch.bytes)) }
+            × (self.new.file.offset ≡ unless_opened (is_due self.old.file.base batch.blank) self.old.file.offset + length batch.bytes)) }
         ensures room { OnErr result (self.new.file.offset ≤ self.old.file.offset) }
         ensures inside { D.tells → IsInside self.new.file.base self.new.file.offset (D.state self.new.disk) }
         ensures segment { self.new.segment ≡ self.old.segment }
@@ -101,10 +106,9 @@ impl<D: Disk> Segments<D> {
 
     /// The record of `size` bytes at this place of the log. `Damaged` is answered exactly where other bytes stand there.
     pub fn read_record(&mut self, alloc: Global, place: u64, size: u32) -> Result<Record, LoadFault>
-        requires { 0 < self.old.segment }
-        ensures stands { D.tells → IfOk result (λ r. IsRecordAt self.old.segment place size (D.state self.old.disk) (said_by r)) }
+        ensures stands { D.tells → IfOk result (λ r. IsRecordAt self.old.segment.bytes place size (D.state self.old.disk) (said_by r)) }
         ensures stored { IfOk result (λ r. IsStored r × (r.size ≡ size)) }
-        ensures damaged { D.tells → IfErr result (TellsDamage self.old.segment place size (D.state self.old.disk)) }
+        ensures damaged { D.tells → IfErr result (TellsDamage self.old.segment.bytes place size (D.state self.old.disk)) }
 
         // The disk is only read, and the next bytes go where they went.
         ensures rests { D.tells → Rests (D.state self.old.disk) (D.state self.new.disk) }
@@ -112,7 +116,7 @@ impl<D: Disk> Segments<D> {
         ensures cause { CountsLoadFault result (D.faults self.old.disk) (D.faults self.new.disk) }
         ensures syncs { D.syncs self.new.disk ≡ D.syncs self.old.disk }
     {
-        read_record(&mut self.disk, alloc, self.segment, place, size)
+        read_record(&mut self.disk, alloc, self.segment.bytes, place, size)
     }
 
     /// How often the disk failed.

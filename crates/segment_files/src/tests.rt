@@ -1,4 +1,6 @@
-ghost use Rattle.std.specs.Prelude.{◌≡◌, ◌+◌, ◌<◌, ◌≤◌, length, IfOk, OnOk};
+//! Batches and records in two segments, byte for byte, with each call of the disk as the one that fails.
+
+ghost use Rattle.std.specs.Prelude.{◌+◌, ◌≤◌, length, IfOk, OnOk};
 ghost use Rattle.segment_files.specs.Turn.{IsInside};
 
 use crate::Segments;
@@ -59,10 +61,7 @@ fn is_damaged<D: Disk>(
     place: u64,
     size: u32,
     file: u64,
-) -> bool
-    requires { 0 < segments.old.segment }
-    ensures { segments.new.segment ≡ segments.old.segment }
-{
+) -> bool {
     match segments.read_record(alloc, place, size) {
         Err(LoadFault::Damaged(told, name)) => {
             told == place && name.as_str() == LogFile::of(file).as_str()

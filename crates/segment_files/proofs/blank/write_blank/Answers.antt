@@ -3,6 +3,7 @@ use Rattle.std.proofs.lemmas.List.{length-take, length-replicate}
 use Rattle.mq_outside.specs.Files.{bytes_of, overwritten}
 use Rattle.mq_outside.proofs.Moments.{at_start}
 use Rattle.log_model.specs.Store.{Stands}
+use Rattle.segment_files.proofs.Outside.{outside_start, outside_call}
 use Rattle.segment_files.proofs.Pieces.{writes_on, blank_next}
 use Rattle.segment_files.proofs.blank.write_blank.Goals as goal
 
@@ -18,6 +19,7 @@ loop-done-init g c = record {
       ∙ ap (λ (l : List ℕ). Some (overwritten c.args.at l (bytes_of (g.D.Disk.state c.args.disk.now).reads c.args.name.now))) c.front_of.ensures;
   any_moment = λ tells S shape reach behind low each.
       writes_on behind (omega arith) (omega (arith, ap length c.front_of.ensures, low)) (c.write_at.ensures.moves tells) (at_start _ (Stands S shape reach) each);
+  outside = λ tells inside. outside_call inside (outside_start (g.D.Disk.state c.args.disk.now)) (c.write_at.ensures.moves tells);
   faults = c.in_ok-write_at.ensures.cause;
   syncs = c.write_at.ensures.syncs;
 }
@@ -34,6 +36,13 @@ loop-done-preserved g c = record {
       c.requires.zeros (omega (arith, c.min-piece.ensures)) (c.requires.inside tells) c.loop-done.invariant.low (c.loop-done.invariant.written tells) (c.in_ok-write_at-2.ensures.written tells);
   any_moment = λ tells S shape reach behind low each.
       writes_on behind (omega arith) (omega (arith, length-take c.min-piece.result c.args.zeros.now, length-replicate {A = ℕ} (c.args.size - 8) 0, low, c.loop-done.invariant.within, c.loop-done.invariant.low, c.min-piece.ensures, c.from-end.ensures, c.loop-done-test.true)) (c.write_at-in-loop-done.ensures.moves tells) (c.loop-done.invariant.any_moment tells S shape reach behind low each);
+  outside = λ tells inside. outside_call inside (c.loop-done.invariant.outside tells inside) (c.write_at-in-loop-done.ensures.moves tells);
   faults = c.in_ok-write_at-2.ensures.cause ∙ c.loop-done.invariant.faults;
   syncs = c.write_at-in-loop-done.ensures.syncs ∙ c.loop-done.invariant.syncs;
 }
+
+pub returns-in_err-write_at-clause-outside : goal.returns-in_err-write_at-clause-outside
+returns-in_err-write_at-clause-outside g c tells inside = outside_call inside (outside_start (g.D.Disk.state c.args.disk.now)) (c.write_at.ensures.moves tells)
+
+pub returns-in_err-write_at-2-clause-outside : goal.returns-in_err-write_at-2-clause-outside
+returns-in_err-write_at-2-clause-outside g c tells inside = outside_call inside (c.loop-done.invariant.outside tells inside) (c.write_at-in-loop-done.ensures.moves tells)

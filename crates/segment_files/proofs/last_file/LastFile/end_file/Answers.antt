@@ -1,5 +1,6 @@
 use Rattle.std.proofs.Common.{◌∙◌, arith}
 use Rattle.mq_outside.proofs.Moments.{at_end}
+use Rattle.segment_files.proofs.Outside.{in_folder, outside_same}
 use Rattle.segment_files.proofs.Turns.{has_records, same_on, writes_still, end_behind, blank_fits, each_to_end, writes_opened}
 use Rattle.segment_files.proofs.last_file.LastFile.end_file.Goals as goal
 
@@ -44,3 +45,14 @@ returns-clause-still g c tells S log flushed shape reach writes is fills =
     let behind = end_behind writes (c.as_str-name.ensures ∙ c.of-file.ensures) in
     let written = c.write_blank.ensures.any_moment tells S shape S behind (blank_fits writes fills) (each_to_end writes) in
     writes_still writes (omega arith) (same_on written (c.sync.ensures.moves tells))
+
+pub returns-in_err-write_blank-clause-outside : goal.returns-in_err-write_blank-clause-outside
+returns-in_err-write_blank-clause-outside g c tells = c.write_blank.ensures.outside tells (in_folder c.args.self.now.base (c.as_str-name.ensures ∙ c.of-file.ensures))
+
+pub returns-in_err-sync-clause-outside : goal.returns-in_err-sync-clause-outside
+returns-in_err-sync-clause-outside g c tells =
+    outside_same (c.write_blank.ensures.outside tells (in_folder c.args.self.now.base (c.as_str-name.ensures ∙ c.of-file.ensures))) (c.sync.ensures.moves tells)
+
+pub returns-clause-outside : goal.returns-clause-outside
+returns-clause-outside g c tells =
+    outside_same (c.write_blank.ensures.outside tells (in_folder c.args.self.now.base (c.as_str-name.ensures ∙ c.of-file.ensures))) (c.sync.ensures.moves tells)

@@ -3,6 +3,7 @@ use Rattle.log_model.specs.Segments.{shape_of}
 use Rattle.segment_files.specs.Turn.{WritesAt}
 use Rattle.mq_outside.specs.Files.{bytes_of, overwritten}
 use Rattle.mq_outside.proofs.Moments.{at_end}
+use Rattle.segment_files.proofs.Outside.{in_folder, outside_start, outside_same, outside_call}
 use Rattle.segment_files.proofs.Pieces.{each_piece}
 use Rattle.segment_files.proofs.Turns.{has_records, same_on, writes_still, writes_same, batch_low, write_stands, writes_batch}
 use Rattle.segment_files.proofs.last_file.LastFile.store.Goals as goal
@@ -51,3 +52,17 @@ pub returns-clause-still : goal.returns-clause-still
 returns-clause-still g c tells S log flushed count shape reach writes is =
     let written = write_stands (length c.args.bytes) writes (c.as_str-name.ensures ∙ c.of-file.ensures) (ap length c.deref.ensures) (c.write_at.ensures.moves tells) in
     writes_still writes (batch_low writes is) (same_on (same_on written (c.sync.ensures.moves tells)) (c.freeze.ensures.moves tells))
+
+pub returns-in_err-write_at-clause-outside : goal.returns-in_err-write_at-clause-outside
+returns-in_err-write_at-clause-outside g c tells =
+    outside_call (in_folder c.args.self.now.base (c.as_str-name.ensures ∙ c.of-file.ensures)) (outside_start (g.D.Disk.state c.args.disk.now)) (c.write_at.ensures.moves tells)
+
+pub returns-in_err-sync-clause-outside : goal.returns-in_err-sync-clause-outside
+returns-in_err-sync-clause-outside g c tells =
+    let written = outside_call (in_folder c.args.self.now.base (c.as_str-name.ensures ∙ c.of-file.ensures)) (outside_start (g.D.Disk.state c.args.disk.now)) (c.write_at.ensures.moves tells) in
+    outside_same written (c.sync.ensures.moves tells)
+
+pub returns-clause-outside : goal.returns-clause-outside
+returns-clause-outside g c tells =
+    let written = outside_call (in_folder c.args.self.now.base (c.as_str-name.ensures ∙ c.of-file.ensures)) (outside_start (g.D.Disk.state c.args.disk.now)) (c.write_at.ensures.moves tells) in
+    outside_same (outside_same written (c.sync.ensures.moves tells)) (c.freeze.ensures.moves tells)

@@ -1,4 +1,3 @@
-use Rattle.std.proofs.Common.{ℕ}
 use Rattle.segment_files.proofs.Turns.{writes_from, writes_inside}
 use Rattle.segment_files.proofs.segments.Segments.open.Goals as goal
 
