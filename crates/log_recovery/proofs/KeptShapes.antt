@@ -8,22 +8,12 @@ use Rattle.record_codec.specs.Layout.{size}
 use Rattle.log_model.specs.Log.{fits, Follows, IsWellFormed}
 use Rattle.log_model.specs.Segments.{layouts, Shape, empty_shape, added, opened, used, grown, laid, shape_of, last_name, last_bytes, AreClosed}
 use Rattle.log_model.specs.Store.{StartsWith, AreEnded, opened_times, Keeps, Stands, IsLaid}
-use Rattle.log_model.proofs.Places.{placed_log, well_formed_take, shape_of-append, grown_here, grown_next, used_push, used_first}
+use Rattle.log_model.proofs.Places.{placed_log, well_formed_take, shape_of-append, grown_here, grown_next, used_push, used_first, laid_longer}
 use Rattle.log_model.proofs.FileNames.{IsNamed, named_less, names_apart, is_log_file, shape_named}
 use Rattle.log_model.proofs.Fronts.{starts_no_blank, closed_ended}
 use Rattle.log_model.proofs.Recovery.{Reads, opened_reads, closed_blank, reads_first}
 
 -- ---- segments that grow
-
-grown_longer : (S : ℕ) (shape : Shape) (r : Entry) → length shape.older ≤ length (grown S shape r).older
-grown_longer S shape r = ⊎_elim
-    (λ (here : fits S (used shape) (size r) ≡ true). omega (arith, ap (λ (s : Shape). length s.older) (grown_here S shape r here)))
-    (λ (full : fits S (used shape) (size r) ≡ false). omega (arith, ap (λ (s : Shape). length s.older) (grown_next S shape r full)))
-    (cases_Bool (fits S (used shape) (size r)))
-
-laid_longer : (S : ℕ) (shape : Shape) (records : List Entry) → length shape.older ≤ length (laid S shape records).older
-laid_longer S shape [] = omega arith
-laid_longer S shape (r ∷ records) = omega (arith, grown_longer S shape r, laid_longer S (grown S shape r) records)
 
 -- as long as no segment is opened, the older ones stay, and the last one grows
 pub record Extends (first second : Shape) : Type 0 where

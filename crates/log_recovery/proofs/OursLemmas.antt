@@ -13,8 +13,9 @@ use Rattle.log_model.proofs.FileNames.{IsNamed, is_log_file}
 use Rattle.log_model.proofs.Recovery.{keeps_unique}
 use Rattle.log_model.proofs.Prefixes.{keeps_prefix}
 use Rattle.log_model.proofs.StoreLemmas.{stores_again}
+use Rattle.segment_files.specs.Outside.{IsOutsideOf}
 use Rattle.segment_files.specs.Turn.{HasRecords}
-use Rattle.log_recovery.specs.Recovered.{Recovered, IsOutsideOf}
+use Rattle.log_recovery.specs.Recovered.{Recovered}
 use Rattle.log_recovery.specs.Settle.{ComesFrom, IsPruned, CutsTo, IsTrimmed, Settles, IsSettledAt}
 use Rattle.log_recovery.proofs.KeptShapes.{EndIn, kept_reads, where_kept}
 use Rattle.log_recovery.proofs.ImageLemmas.{pruned_stands, standing, reaching, trimmed_stands, settled_stands, standing_laid}
@@ -141,7 +142,7 @@ module _ (S : ℕ) (log records : List Entry) (flushed n : ℕ) (first old new :
                 let cut : CutsTo (segment_file S (length (shape_of S kept).older)) (used (shape_of S kept)) old.reads files =
                 subst (λ (l : List Entry). CutsTo (segment_file S (length (shape_of S l).older)) (used (shape_of S l)) old.reads files) same settled.last in
                 settled_stands S log flushed prefix.number stores.shape stores.reach n named behind_kept files ends (trimmed_on files settled.trimmed)
-                (cut ∙ ap (λ (f : Files). take (used (shape_of S kept)) (bytes_of f (segment_file S (length (shape_of S kept).older)))) rests.same ∙ (kept_reads S kept first.reads prefix.keeps).last);
+                (cut.bytes ∙ ap (λ (f : Files). take (used (shape_of S kept)) (bytes_of f (segment_file S (length (shape_of S kept).older)))) rests.same ∙ (kept_reads S kept first.reads prefix.keeps).last);
           };
         };
       }

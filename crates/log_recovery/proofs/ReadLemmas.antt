@@ -8,10 +8,10 @@ use Rattle.record_codec.specs.Layout.{layout, size}
 use Rattle.log_model.specs.Log.{IsSegmentSize, fits, IsWellFormed}
 use Rattle.log_model.specs.Segments.{layouts, Shape, empty_shape, added, opened, used, shape_of, base, segment_file, last_name, last_bytes, IsLogFile}
 use Rattle.log_model.specs.Store.{StartsWith, EndsInBlank, IsNext, ReadsTo, ComesNext, IsDamagedAt, Keeps, opened_times}
-use Rattle.log_model.proofs.Places.{placed_log, place_here, place_next, layouts_push, grown_here, grown_next, shape_of-append}
+use Rattle.log_model.proofs.Places.{empty_well_formed, placed_log, place_here, place_next, layouts_push, grown_here, grown_next, shape_of-append}
 use Rattle.log_model.proofs.FileNames.{next_absent, is_log_file}
 use Rattle.log_model.proofs.Fronts.{starts_some}
-use Rattle.log_model.proofs.Recovery.{well_formed_push, empty_well_formed, times_length}
+use Rattle.log_model.proofs.Recovery.{well_formed_push, times_length}
 use Rattle.log_recovery.specs.Names.{AreNamed, NoFurther, IsOdd}
 
 -- before the first record

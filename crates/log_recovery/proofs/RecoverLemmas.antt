@@ -1,5 +1,5 @@
 -- What recovery leaves on the disk, from what was read and how the files were settled.
-use Rattle.std.proofs.Common.{◌≡◌, ◌≢◌, ◌⊎◌, ⊎_elim, ℕ, suc, ◌+◌, ◌-◌, ◌*◌, ◌/◌, ◌%◌, ◌^◌, ◌<◌, ◌≤◌, max, List, [], length, take, Option, Some, None, IsSome, sym, ◌∙◌, ap, subst, arith}
+use Rattle.std.proofs.Common.{◌≡◌, ◌≢◌, ◌⊎◌, ⊎_elim, ℕ, suc, ◌+◌, ◌-◌, ◌*◌, ◌/◌, ◌%◌, ◌^◌, ◌<◌, ◌≤◌, max, List, [], length, Option, Some, None, IsSome, sym, ◌∙◌, ap, subst, arith}
 use Rattle.std.proofs.lemmas.Bool.{cases_lt}
 use Rattle.std.proofs.lemmas.List.{length-take}
 use Rattle.std.proofs.lemmas.Nat.{mod-mul-add, div-mul-add}
@@ -110,7 +110,7 @@ module _ (S count n : ℕ) (records : List Entry) (read before files : Files) (n
       (find_name S n name)
 
   pub exact_image : IsCutTo S records read files
-  exact_image = record { older = stays; last = cut ∙ (kept_reads S records read keeps).last; others = no_other }
+  exact_image = record { older = stays; last = cut.bytes ∙ (kept_reads S records read keeps).last; there = cut.there; others = no_other }
 
 -- ---- from what was read
 
@@ -152,5 +152,5 @@ exact_each S count end n before after first old new log rests named low behind i
           let m : ℕ = length (shape_of S log.records).older in
           exact_image S count n log.records first.reads from.before files named log.keeps low behind log.named log.all (read_there S count end first.reads before after log)
           (is_settled.at from.before was) from.changed
-          (settled.last ∙ ap (λ (f : Files). take (used (shape_of S log.records)) (bytes_of f (segment_file S m))) rests.same);
+          (subst (λ (f : Files). CutsTo (segment_file S m) (used (shape_of S log.records)) f files) rests.same settled.last);
     })

@@ -1,5 +1,5 @@
 -- What the steps of the settling make of the crash images.
-use Rattle.std.proofs.Common.{◌≡◌, ◌≢◌, ◌⊎◌, inl, inr, ⊎_elim, ℕ, ◌<◌, ◌≤◌, true, false, bytes_eq, List, length, take, Option, None, refl, sym, ◌∙◌, ap, subst, arith}
+use Rattle.std.proofs.Common.{◌≡◌, ◌≢◌, ◌⊎◌, inl, inr, ⊎_elim, ℕ, ◌<◌, ◌≤◌, true, false, bytes_eq, List, length, take, Option, None, IsSome, refl, sym, ◌∙◌, ap, subst, arith}
 use Rattle.std.proofs.lemmas.Bool.{cases_Bool, cases_eq}
 use Rattle.std.proofs.lemmas.List.{take_all, take-take, length-take}
 use Rattle.std.proofs.lemmas.Slice.Eq.{bytes_eq-Decides}
@@ -111,9 +111,16 @@ pub cut_none : (len long : ℕ) (old new : Files) (name : List ℕ) → long ≡
 cut_none len long old new name is short same = ap (λ (f : Files). bytes_of f name) same ∙ sym (take_all len (bytes_of old name) (omega (arith, is, short)))
 
 -- after the sync each image has the first bytes
-pub cut_each : (name : List ℕ) (len : ℕ) (read : Files) {mid new : DiskState} → bytes_of mid.reads name ≡ take len (bytes_of read name) → Moves Same mid new → IsDurable name new
-    → EachImage (CutsTo name len read) new
-cut_each name len read cut moves durable = record { at = λ files image. ap bytes_in (durable files image ∙ ap (λ (f : Files). f name) moves.reads) ∙ cut }
+pub cut_each : (name : List ℕ) (len : ℕ) (read : Files) {mid new : DiskState} → bytes_of mid.reads name ≡ take len (bytes_of read name) → IsCut name len read mid.reads
+    → Moves Same mid new → IsDurable name new → EachImage (CutsTo name len read) new
+cut_each name len read {mid} cut step moves durable = record {
+  at = λ files image.
+      let same : files name ≡ mid.reads name = durable files image ∙ ap (λ (f : Files). f name) moves.reads in
+      record {
+        bytes = ap bytes_in same ∙ cut;
+        there = (λ some. step.here.there.1 (subst IsSome same some), λ some. subst IsSome (sym same) (step.here.there.0 some));
+      };
+}
 
 -- ---- both
 
@@ -147,13 +154,18 @@ settles_cut S m n len old mid new first gone image second =
     }
 
 pub settled_each : (S m n len : ℕ) (old mid new : DiskState) → Turns (IsPruned S m n) old mid → EachImage (IsGone S m n) mid
-    → Turns (IsCut (segment_file S m) len) mid new → bytes_of mid.reads (segment_file S m) ≡ bytes_of old.reads (segment_file S m) → EachImage (CutsTo (segment_file S m) len mid.reads) new
+    → Turns (IsCut (segment_file S m) len) mid new → mid.reads (segment_file S m) ≡ old.reads (segment_file S m) → EachImage (CutsTo (segment_file S m) len mid.reads) new
     → EachImage (IsSettledAt S m n len old) new
 settled_each S m n len old mid new first gone second same cut = record {
-  at = λ files image. record {
-    trimmed = trimmed_of S m n len old mid first gone files ((at_end second.images).at files image);
-    last = cut.at files image ∙ ap (λ (l : List ℕ). take len l) same;
-  };
+  at = λ files image.
+      let last = cut.at files image in
+      record {
+        trimmed = trimmed_of S m n len old mid first gone files ((at_end second.images).at files image);
+        last = record {
+          bytes = last.bytes ∙ ap (λ (o : Option (List ℕ)). take len (bytes_in o)) same;
+          there = (λ some. subst IsSome same (last.there.0 some), λ some. last.there.1 (subst IsSome (sym same) some));
+        };
+      };
 }
 
 -- the file of segment m itself stays by the removals

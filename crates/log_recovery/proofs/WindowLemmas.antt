@@ -10,7 +10,7 @@ use Rattle.record_codec.specs.Parsed.{n32}
 use Rattle.record_codec.specs.Blanks.{blank_front}
 use Rattle.log_model.specs.Segments.{layouts}
 use Rattle.log_model.specs.Store.{StartsWith, EndsInBlank}
-use Rattle.log_model.proofs.LayoutLengths.{length-layout}
+use Rattle.record_codec.proofs.LayoutLengths.{length-layout}
 use Rattle.log_recovery.specs.declared.window.Window.{Window}
 use Rattle.log_recovery.specs.Scan.{Shows}
 

@@ -1,14 +1,15 @@
 -- What recovery hands out, what it makes of the files, and what it answers.
-use Rattle.std.specs.Prelude.{◌≡◌, ◌≢◌, ◌⊎◌, ℕ, ◌<◌, ◌≤◌, List, [], length, take, IsSome, IsTrue, Result, Ok, Err}
+use Rattle.std.specs.Prelude.{◌≡◌, ◌≢◌, ◌⊎◌, ◌↔◌, ℕ, ◌<◌, ◌≤◌, List, [], length, take, IsSome, IsTrue, Result, Ok, Err}
 use Rattle.std.specs.Ordering.{nat_cmp, is_lt}
 use Rattle.std.specs.Cmp.Lexicographic.{slice_cmp}
 use Rattle.mq_outside.specs.Counts.{Rises}
 use Rattle.mq_outside.specs.Files.{Files}
-use Rattle.mq_outside.specs.Disk.{DiskState, IsCrashImage, EachImage}
+use Rattle.mq_outside.specs.Disk.{DiskState, EachImage}
 use Rattle.record_codec.specs.Entry.{Entry}
 use Rattle.log_model.specs.Log.{end_of}
-use Rattle.log_model.specs.Segments.{used, shape_of, segment_file, last_bytes, layouts, IsLogFile, NoOther}
+use Rattle.log_model.specs.Segments.{used, shape_of, segment_file, last_name, last_bytes, layouts, IsLogFile, NoOther}
 use Rattle.log_model.specs.Store.{Keeps, StoresAt}
+pub use Rattle.segment_files.specs.Outside.{IsOutsideOf}
 use Rattle.log_recovery.specs.declared.fault.RecoverFault.{RecoverFault}
 use Rattle.log_recovery.specs.declared.fault.RecoverFault.TheVariants.{Damaged, Failed, Memory}
 
@@ -27,6 +28,13 @@ OnDamage (Err (Damaged place name)) P = P place name
 OnDamage (Err Failed) P = Unit {0}
 OnDamage (Err Memory) P = Unit {0}
 
+-- what holds at want of memory
+abbrev pub OnMemory : {A : Type 0} → Result A RecoverFault → Type 0 → Type 0
+OnMemory (Ok _) P = Unit {0}
+OnMemory (Err (Damaged place name)) P = Unit {0}
+OnMemory (Err Failed) P = Unit {0}
+OnMemory (Err Memory) P = P
+
 -- the count of the disk's faults rises exactly at Failed: damage and want of memory leave it
 abbrev pub CountsRecoverFault : {A : Type 0} → Result A RecoverFault → ℕ → ℕ → Type 0
 CountsRecoverFault (Ok _) old new = new ≡ old
@@ -43,10 +51,12 @@ pub record IsLastFile (files : Files) (name : List ℕ) : Type 0 where
 abbrev pub IsSettled : DiskState → Type 0
 IsSettled disk = EachImage (λ files. (name : List ℕ) → IsLogFile name → (files name ≡ disk.reads name) ⊎ IsLastFile disk.reads name) disk
 
--- The files are those of these records alone: as they were read before the last, and in the last nothing behind its records.
+-- The files are those of these records alone: as they were read before the last, and in the last, which is there where it was
+-- read, nothing behind its records.
 pub record IsCutTo (S : ℕ) (records : List Entry) (read files : Files) : Type 0 where
   pub older : (k : ℕ) → k < length (shape_of S records).older → files (segment_file S k) ≡ read (segment_file S k)
   pub last : last_bytes S (shape_of S records) files ≡ layouts (shape_of S records).last
+  pub there : IsSome (files (last_name S (shape_of S records))) ↔ IsSome (read (last_name S (shape_of S records)))
   pub others : NoOther S (length (shape_of S records).older) files
 
 -- Recovery of a disk that stores a log: a prefix of it with all that was flushed was handed to the visitor, and is now the
@@ -58,9 +68,3 @@ pub record Recovered (S : ℕ) (log : List Entry) (flushed : ℕ) (before after 
   pub handed : before [] → after (take number log)
   pub ends : end ≡ end_of (take number log)
   pub stores : StoresAt S (take number log) number (shape_of S (take number log)) (used (shape_of S (take number log))) disk
-
--- what a crash may leave of files outside the log's folder is what it might have left before
-pub record IsOutsideOf (old : DiskState) (files : Files) : Type 0 where
-  pub before : Files
-  pub image : IsCrashImage old before
-  pub same : (name : List ℕ) → (IsLogFile name → ⊥) → files name ≡ before name

@@ -1,5 +1,5 @@
 -- What recovery makes of the files, step by step.
-use Rattle.std.specs.Prelude.{◌≡◌, ◌⊎◌, ℕ, ◌<◌, ◌≤◌, List, take, None}
+use Rattle.std.specs.Prelude.{◌≡◌, ◌⊎◌, ◌↔◌, ℕ, ◌<◌, ◌≤◌, List, take, None, IsSome}
 use Rattle.mq_outside.specs.Files.{Files, bytes_of, At, Shortened}
 use Rattle.mq_outside.specs.Disk.{DiskState, IsCrashImage, EachImage, Throughout}
 use Rattle.log_model.specs.Segments.{segment_file}
@@ -27,9 +27,10 @@ IsGone S m n files = (k : ℕ) → m < k → k ≤ n → files (segment_file S k
 abbrev pub IsCut : List ℕ → ℕ → Files → Files → Type 0
 IsCut name len old new = At name (Shortened len) old new
 
--- this file has its first bytes, so many, of what was read of it
-abbrev pub CutsTo : List ℕ → ℕ → Files → Files → Type 0
-CutsTo name len read files = bytes_of files name ≡ take len (bytes_of read name)
+-- this file has its first bytes, so many, of what was read of it, and it is there where it was read
+pub record CutsTo (name : List ℕ) (len : ℕ) (read files : Files) : Type 0 where
+  pub bytes : bytes_of files name ≡ take len (bytes_of read name)
+  pub there : IsSome (files name) ↔ IsSome (read name)
 
 -- the files behind segment m are gone, and then its file is cut
 pub record IsTrimmed (S m n len : ℕ) (old new : Files) : Type 0 where

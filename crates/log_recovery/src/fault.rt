@@ -13,9 +13,9 @@ use std::alloc::AllocError;
 pub enum RecoverFault {
     /// The files are damaged at this physical offset, in the file of this path. They are in order before it. Nothing was changed.
     Damaged(u64, Text),
-    /// The disk failed. Its count of faults rose in this call.
+    /// The disk failed. Its count of faults rose in this call. What was flushed still stands.
     Failed,
-    /// There was no memory.
+    /// There was no memory, or the visitor had none. Nothing was changed.
     Memory,
 }
 

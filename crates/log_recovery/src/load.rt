@@ -1,17 +1,14 @@
 //! Reads a file so far that the next record is whole in the window.
 
 ghost use Rattle.std.specs.Prelude.{◌≡◌, ◌+◌, ◌^◌, ◌≤◌, List, ℕ, length, OnOk};
-ghost use Rattle.mq_outside.specs.Disk.{Rests};
 ghost use Rattle.mq_outside.specs.Files.{bytes_of};
-ghost use Rattle.log_recovery.specs.Recovered.{CountsRecoverFault, OnDamage};
+ghost use Rattle.log_recovery.specs.Reads.{OnlyReads};
+ghost use Rattle.log_recovery.specs.Recovered.{OnDamage};
 ghost use Rattle.log_recovery.specs.Scan.{Shows, EndsBefore};
 
 use crate::fault::RecoverFault;
-use crate::window::{Window, size_in};
+use crate::window::{FRONT, Window, size_in};
 use mq_outside::Disk;
-
-// The size and the magic, which begin a record.
-const FRONT: u64 = 8;
 
 // Reads a record of this size that is longer than the window, where the file has so many bytes.
 fn extend<D: Disk>(
@@ -26,10 +23,8 @@ fn extend<D: Disk>(
     ensures from { OnOk result (window.new.from ≤ at) }
     ensures shows { D.tells → (bytes : List ℕ) → bytes_of (D.state disk.old).reads name.now ≡ bytes → Shows window.old bytes → OnOk result (Shows window.new bytes) }
     ensures whole { D.tells → (bytes : List ℕ) → bytes_of (D.state disk.old).reads name.now ≡ bytes → at + size ≤ length bytes → OnOk result (at + size ≤ window.new.from + window.new.held) }
-    ensures rests { D.tells → Rests (D.state disk.old) (D.state disk.new) }
-    ensures cause { CountsRecoverFault result (D.faults disk.old) (D.faults disk.new) }
     ensures damage { OnDamage result (λ place name. ⊥) }
-    ensures syncs { D.syncs disk.new ≡ D.syncs disk.old }
+    ensures only_reads { OnlyReads D.Disk result disk.old disk.new }
 {
     let long = disk.len(name)?;
     if long < at + u64::from(size) {
@@ -52,10 +47,8 @@ fn reach<D: Disk>(
     ensures from { OnOk result (window.new.from ≤ at) }
     ensures shows { D.tells → (bytes : List ℕ) → bytes_of (D.state disk.old).reads name.now ≡ bytes → Shows window.old bytes → OnOk result (Shows window.new bytes) }
     ensures front { D.tells → (bytes : List ℕ) → bytes_of (D.state disk.old).reads name.now ≡ bytes → at + 8 ≤ length bytes → OnOk result (at + 8 ≤ window.new.from + window.new.held) }
-    ensures rests { D.tells → Rests (D.state disk.old) (D.state disk.new) }
-    ensures cause { CountsRecoverFault result (D.faults disk.old) (D.faults disk.new) }
     ensures damage { OnDamage result (λ place name. ⊥) }
-    ensures syncs { D.syncs disk.new ≡ D.syncs disk.old }
+    ensures only_reads { OnlyReads D.Disk result disk.old disk.new }
 {
     if at + FRONT <= window.end() {
         return Ok(());
@@ -77,10 +70,8 @@ pub(crate) fn load<D: Disk>(
     ensures from { OnOk result (window.new.from ≤ at) }
     ensures shows { D.tells → (bytes : List ℕ) → bytes_of (D.state disk.old).reads name.now ≡ bytes → Shows window.old bytes → OnOk result (Shows window.new bytes) }
     ensures whole { D.tells → (bytes : List ℕ) → bytes_of (D.state disk.old).reads name.now ≡ bytes → Shows window.old bytes → OnOk result (EndsBefore bytes at room (window.new.from + window.new.held)) }
-    ensures rests { D.tells → Rests (D.state disk.old) (D.state disk.new) }
-    ensures cause { CountsRecoverFault result (D.faults disk.old) (D.faults disk.new) }
     ensures damage { OnDamage result (λ place name. ⊥) }
-    ensures syncs { D.syncs disk.new ≡ D.syncs disk.old }
+    ensures only_reads { OnlyReads D.Disk result disk.old disk.new }
 {
     reach(window, disk, name, at)?;
     let size = size_in(window.front(at));

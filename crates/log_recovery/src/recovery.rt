@@ -1,13 +1,14 @@
 //! Recovery of the log's files.
 
-ghost use Rattle.std.specs.Prelude.{◌≡◌, ◌+◌, ◌*◌, ◌/◌, ◌%◌, ◌≤◌, List, ℕ, take, IfOk};
+ghost use Rattle.std.specs.Prelude.{◌≡◌, ◌+◌, ◌*◌, ◌/◌, ◌%◌, ◌^◌, ◌≤◌, List, ℕ, take, IfOk};
 ghost use Rattle.mq_outside.specs.Disk.{EachImage, Rests, Throughout};
 ghost use Rattle.record_codec.specs.Entry.{Entry};
 ghost use Rattle.log_model.specs.Log.{IsSegmentSize};
 ghost use Rattle.log_model.specs.Segments.{IsLogFile};
 ghost use Rattle.log_model.specs.Store.{Keeps, IsDamagedAt, IsHonest, StoresLog, KeepsIfHonest};
+ghost use Rattle.segment_files.specs.Outside.{IsOutsideOf};
 ghost use Rattle.segment_files.specs.Turn.{IsInside, HasRecords};
-ghost use Rattle.log_recovery.specs.Recovered.{Kept, Recovered, IsCutTo, IsSettled, IsOutsideOf, OnDamage, CountsRecoverFault};
+ghost use Rattle.log_recovery.specs.Recovered.{Kept, Recovered, IsCutTo, IsSettled, OnDamage, OnMemory, CountsRecoverFault};
 
 use crate::fault::RecoverFault;
 use crate::scan::read_log;
@@ -16,7 +17,12 @@ use crate::visitor::Visit;
 use mq_outside::Disk;
 use std::alloc::Global;
 
-/// Recovers the log from its files: hands each kept record to `each`, cuts off what stands behind them, and answers where they end.
+/// Recovers the log from its files: hands each kept record to `each`, cuts off what stands behind them, and answers the
+/// physical offset where they end.
+///
+/// At `Err` the log isn't open. It may be recovered again, with a visitor that has no records yet. What was flushed still
+/// stands, at `Failed` too, where some of what stood behind the kept records may be gone. At `Damaged` and at `Memory`
+/// nothing was changed.
 pub fn recover<D: Disk, V: Visit>(
     alloc: Global,
     disk: &mut D,
@@ -27,9 +33,11 @@ pub fn recover<D: Disk, V: Visit>(
 
     // What is kept of any files, and when they are damaged.
     ensures kept { D.tells → IfOk result (Kept segment (D.state disk.old).reads (V.stands each.old) (V.stands each.new)) }
+    ensures low { IfOk result (λ end. end ≤ 2 ^ 62) }
     ensures inside { D.tells → IfOk result (λ end. IsInside (end / segment * segment) (end % segment) (D.state disk.new)) }
     ensures damaged { D.tells → OnDamage result (IsDamagedAt segment (D.state disk.old).reads) }
     ensures untouched { D.tells → OnDamage result (λ place name. Rests (D.state disk.old) (D.state disk.new)) }
+    ensures untouched_memory { D.tells → OnMemory result (Rests (D.state disk.old) (D.state disk.new)) }
 
     // A crash afterwards leaves the kept records and nothing behind them.
     ensures exact { D.tells → IsSettled (D.state disk.old) → IfOk result (λ end. (records : List Entry) → Keeps segment records (D.state disk.old).reads

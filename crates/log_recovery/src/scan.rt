@@ -1,7 +1,6 @@
 //! Reads the records of one file after another, as long as each follows those before it.
 
 ghost use Rattle.std.specs.Prelude.{◌≡◌, ◌⊎◌, ◌+◌, ◌*◌, ◌^◌, ◌<◌, ◌≤◌, [], ◌++◌, List, ℕ, true, false, take, length, IfOk, OnOk};
-ghost use Rattle.mq_outside.specs.Disk.{Rests};
 ghost use Rattle.mq_outside.specs.Files.{Files, bytes_of};
 ghost use Rattle.mq_bytes.specs.Names.{log_file};
 ghost use Rattle.record_codec.specs.Blanks.{blank_front};
@@ -9,7 +8,8 @@ ghost use Rattle.record_codec.specs.Entry.{Entry};
 ghost use Rattle.log_model.specs.Log.{IsSegmentSize};
 ghost use Rattle.log_model.specs.Segments.{Shape, layouts, segment_file};
 ghost use Rattle.log_model.specs.Store.{ComesNext, EndsInBlank, IsDamagedAt};
-ghost use Rattle.log_recovery.specs.Recovered.{CountsRecoverFault, OnDamage};
+ghost use Rattle.log_recovery.specs.Reads.{OnlyReads};
+ghost use Rattle.log_recovery.specs.Recovered.{OnDamage};
 ghost use Rattle.log_recovery.specs.Scan.{Shows, Stood, StepsTo, Stops, ScansTo, Opened, ReadLog};
 ghost use Rattle.log_recovery.specs.Tails.{HasTail};
 ghost use Rattle.log_recovery.specs.Names.{AreNamed, NoFurther};
@@ -54,10 +54,8 @@ fn step<D: Disk, V: Visit>(
     ensures next { D.tells → (files : Files) (records : List Entry) (shape : Shape) → (D.state disk.old).reads ≡ files → Shows scan.old.window (bytes_of files (log_file base))
         → Stood segment files records shape scan.old.tail base at
         → IfOk result (λ n. StepsTo segment files records shape scan.new.tail (V.stands each.old) (V.stands each.new) n ⊎ Stops segment files records shape scan.new.tail (V.stands each.old) (V.stands each.new) n) }
-    ensures rests { D.tells → Rests (D.state disk.old) (D.state disk.new) }
-    ensures cause { CountsRecoverFault result (D.faults disk.old) (D.faults disk.new) }
     ensures damage { OnDamage result (λ place name. ⊥) }
-    ensures syncs { D.syncs disk.new ≡ D.syncs disk.old }
+    ensures only_reads { OnlyReads D.Disk result disk.old disk.new }
 {
     load(&mut scan.window, disk, name, at, segment)?;
     let Some(view) = test(scan.window.front(at)) else {
@@ -89,10 +87,8 @@ fn scan_file<D: Disk, V: Visit>(
     ensures scanned { D.tells → (files : Files) (records : List Entry) (shape : Shape) → (D.state disk.old).reads ≡ files
         → Stood segment files records shape scan.old.tail base 0
         → IfOk result (ScansTo segment files records scan.new.tail base (V.stands each.old) (V.stands each.new)) }
-    ensures rests { D.tells → Rests (D.state disk.old) (D.state disk.new) }
-    ensures cause { CountsRecoverFault result (D.faults disk.old) (D.faults disk.new) }
     ensures damage { OnDamage result (λ place name. ⊥) }
-    ensures syncs { D.syncs disk.new ≡ D.syncs disk.old }
+    ensures only_reads { OnlyReads D.Disk result disk.old disk.new }
 {
     let file = LogFile::of(base);
     let name = file.as_str();
@@ -129,10 +125,8 @@ fn ends_in_blank<D: Disk>(
 ) -> Result<bool, RecoverFault>
     ensures ended { D.tells → (bytes : List ℕ) (records : List Entry) → bytes_of (D.state disk.old).reads (log_file base) ≡ bytes → at ≡ length (layouts records) → at + 8 ≤ segment
         → take at bytes ≡ layouts records → IfOk result (λ is. (is ≡ true → EndsInBlank segment records bytes) × (is ≡ false → EndsInBlank segment records bytes → ⊥)) }
-    ensures rests { D.tells → Rests (D.state disk.old) (D.state disk.new) }
-    ensures cause { CountsRecoverFault result (D.faults disk.old) (D.faults disk.new) }
     ensures damage { OnDamage result (λ place name. ⊥) }
-    ensures syncs { D.syncs disk.new ≡ D.syncs disk.old }
+    ensures only_reads { OnlyReads D.Disk result disk.old disk.new }
 {
     let file = LogFile::of(base);
     let name = file.as_str();
@@ -169,9 +163,7 @@ fn read_ended<D: Disk, V: Visit>(
     ensures damaged { D.tells → (files : Files) (records : List Entry) (shape : Shape) (behind : List ℕ) → (D.state disk.old).reads ≡ files
         → Stood segment files records shape scan.old.tail base 0 → base < 2 ^ 63 → ComesNext segment (length shape.older) files (log_file base) → ComesNext segment (length shape.older + 1) files behind
         → OnDamage result (IsDamagedAt segment files) }
-    ensures rests { D.tells → Rests (D.state disk.old) (D.state disk.new) }
-    ensures cause { CountsRecoverFault result (D.faults disk.old) (D.faults disk.new) }
-    ensures syncs { D.syncs disk.new ≡ D.syncs disk.old }
+    ensures only_reads { OnlyReads D.Disk result disk.old disk.new }
 {
     let at = scan_file(alloc, disk, segment, base, scan, each)?;
     let is_ended = ends_in_blank(disk, segment, base, at)?;
@@ -196,9 +188,7 @@ fn read_front<D: Disk, V: Visit>(
         → OnOk result (Opened segment files [] count scan.new.tail (V.stands each.old) (V.stands each.new)) }
     ensures damaged { D.tells → (files : Files) (behind : List ℕ) → (D.state disk.old).reads ≡ files → HasTail [] scan.old.tail → AreNamed segment count files → ComesNext segment count files behind
         → OnDamage result (IsDamagedAt segment files) }
-    ensures rests { D.tells → Rests (D.state disk.old) (D.state disk.new) }
-    ensures cause { CountsRecoverFault result (D.faults disk.old) (D.faults disk.new) }
-    ensures syncs { D.syncs disk.new ≡ D.syncs disk.old }
+    ensures only_reads { OnlyReads D.Disk result disk.old disk.new }
 {
     for i in 0..count {
         read_ended(alloc, disk, segment, i * u64::from(segment), scan, each)?;
@@ -229,9 +219,7 @@ fn read_all<D: Disk, V: Visit>(
         → IfOk result (ReadLog segment files (V.stands each.old) (V.stands each.new) count) }
     ensures damaged { D.tells → (files : Files) → (D.state disk.old).reads ≡ files → HasTail [] scan.old.tail → AreNamed segment count files → NoFurther segment count files
         → OnDamage result (IsDamagedAt segment files) }
-    ensures rests { D.tells → Rests (D.state disk.old) (D.state disk.new) }
-    ensures cause { CountsRecoverFault result (D.faults disk.old) (D.faults disk.new) }
-    ensures syncs { D.syncs disk.new ≡ D.syncs disk.old }
+    ensures only_reads { OnlyReads D.Disk result disk.old disk.new }
 {
     if count == 0 {
         return Ok(scan.tail.end);
@@ -254,9 +242,7 @@ pub(crate) fn read_log<D: Disk, V: Visit>(
     ensures count { IfOk result (λ log. (k : ℕ) → k < log.count → k * segment < 2 ^ 63) }
     ensures read { D.tells → IfOk result (λ log. ReadLog segment (D.state disk.old).reads (V.stands each.old) (V.stands each.new) log.count log.end) }
     ensures damaged { D.tells → OnDamage result (IsDamagedAt segment (D.state disk.old).reads) }
-    ensures rests { D.tells → Rests (D.state disk.old) (D.state disk.new) }
-    ensures cause { CountsRecoverFault result (D.faults disk.old) (D.faults disk.new) }
-    ensures syncs { D.syncs disk.new ≡ D.syncs disk.old }
+    ensures only_reads { OnlyReads D.Disk result disk.old disk.new }
 {
     let names = disk.list(alloc)?;
     let order = order_of(&names, segment);

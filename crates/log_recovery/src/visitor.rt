@@ -12,7 +12,7 @@ pub trait Visit {
     /// That these are the records that it was handed.
     ghost stands: { Self → List Entry → Type 0 };
 
-    /// Takes the record behind those that it was handed.
+    /// Takes the record behind those that it was handed. `Err` ends the recovery, which answers `Memory`.
     fn record(&mut self, view: &View<'_>) -> Result<(), AllocError>
         ensures { (S : ℕ) (records : List Entry) → Follows S records view.now → stands self.old records → OnOk result (stands self.new (records ++ view.now ∷ [])) };
 }

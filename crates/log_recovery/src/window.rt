@@ -16,6 +16,9 @@ const PIECE: usize = 1 << 20;
 
 const MAGIC: u32 = 0xDAA3_20A7;
 
+/// The size and the magic, which begin a record, have so many bytes.
+pub(crate) const FRONT: u64 = 8;
+
 /// A piece of a file.
 #[derive(Drop)]
 pub(crate) struct Window {
@@ -40,7 +43,7 @@ fn u32_at(bytes: &[u8], at: usize) -> u32
 pub(crate) fn size_in(front: &[u8]) -> u32
     ensures { 8 ≤ length front.now → n32 front.now 4 ≡ magic → result ≡ n32 front.now 0 }
 {
-    if front.len() < 8 || u32_at(front, 4) != MAGIC {
+    if (front.len() as u64) < FRONT || u32_at(front, 4) != MAGIC {
         return 0;
     }
     u32_at(front, 0)

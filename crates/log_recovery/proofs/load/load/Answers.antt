@@ -26,6 +26,6 @@ returns-clause-whole g c = λ tells bytes reads was r rest one stands small.
     let shows = c.in_ok-reach.ensures.shows tells bytes reads was in
     let front = c.in_ok-reach.ensures.front tells bytes reads (omega (arith, inside, long_enough r)) in
     let is : c.size_in-size.result ≡ size r = size_shown c.reach.new.window bytes c.args.at c.size_in-size.result c.front.result.now r rest shows c.in_ok-reach.ensures.from front c.front.ensures c.size_in-size.ensures one stands in
-    let again : bytes_of (g.D.Disk.state c.reach.new.disk).reads c.args.name.now ≡ bytes = ap (λ (f : Files). bytes_of f c.args.name.now) (c.reach.ensures.rests tells).same ∙ reads in
+    let again : bytes_of (g.D.Disk.state c.reach.new.disk).reads c.args.name.now ≡ bytes = ap (λ (f : Files). bytes_of f c.args.name.now) (c.reach.ensures.only_reads.rests tells).same ∙ reads in
     let whole = c.in_ok-extend.ensures.whole tells bytes again (omega (arith, is, inside)) in
     omega (arith, is, whole)

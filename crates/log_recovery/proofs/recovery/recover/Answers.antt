@@ -10,24 +10,24 @@ use Rattle.log_recovery.proofs.recovery.recover.Goals as goal
 -- ---- the files were not read
 
 pub returns-in_err-log-clause-still : goal.returns-in_err-log-clause-still
-returns-in_err-log-clause-still g c = λ tells log flushed stores honest. rests_stores c.args.segment log flushed _ _ (c.read_log.ensures.rests tells) stores
+returns-in_err-log-clause-still g c = λ tells log flushed stores honest. rests_stores c.args.segment log flushed _ _ (c.read_log.ensures.only_reads.rests tells) stores
 
 pub returns-in_err-log-clause-any_moment : goal.returns-in_err-log-clause-any_moment
-returns-in_err-log-clause-any_moment g c = λ tells log flushed stores honest. rests_records c.args.segment log flushed _ _ (c.read_log.ensures.rests tells) stores
+returns-in_err-log-clause-any_moment g c = λ tells log flushed stores honest. rests_records c.args.segment log flushed _ _ (c.read_log.ensures.only_reads.rests tells) stores
 
 pub returns-in_err-log-clause-honest : goal.returns-in_err-log-clause-honest
-returns-in_err-log-clause-honest g c = λ tells log flushed stores honest. records_honest c.args.segment log flushed _ _ stores (rests_records c.args.segment log flushed _ _ (c.read_log.ensures.rests tells) stores)
+returns-in_err-log-clause-honest g c = λ tells log flushed stores honest. records_honest c.args.segment log flushed _ _ stores (rests_records c.args.segment log flushed _ _ (c.read_log.ensures.only_reads.rests tells) stores)
 
 pub returns-in_err-log-clause-outside : goal.returns-in_err-log-clause-outside
-returns-in_err-log-clause-outside g c = λ tells name not. ap (λ (f : Files). f name) (c.read_log.ensures.rests tells).same
+returns-in_err-log-clause-outside g c = λ tells name not. ap (λ (f : Files). f name) (c.read_log.ensures.only_reads.rests tells).same
 
 pub returns-in_err-log-clause-outside_images : goal.returns-in_err-log-clause-outside_images
-returns-in_err-log-clause-outside_images g c = λ tells. rests_outside _ _ (c.read_log.ensures.rests tells)
+returns-in_err-log-clause-outside_images g c = λ tells. rests_outside _ _ (c.read_log.ensures.only_reads.rests tells)
 
 -- ---- the files were read
 
 pub settle-requires-clause-within : goal.settle-requires-clause-within
-settle-requires-clause-within g c = λ tells. read_within c.args.segment c.in_ok-log.log.count c.in_ok-log.log.end _ _ _ _ (c.in_ok-log.ensures.read tells) (c.read_log.ensures.rests tells).same
+settle-requires-clause-within g c = λ tells. read_within c.args.segment c.in_ok-log.log.count c.in_ok-log.log.end _ _ _ _ (c.in_ok-log.ensures.read tells) (c.read_log.ensures.only_reads.rests tells).same
 
 pub returns-in_err-settle-clause-still : goal.returns-in_err-settle-clause-still
 returns-in_err-settle-clause-still g c = λ tells log flushed stores honest.
@@ -42,7 +42,7 @@ returns-in_err-settle-clause-still g c = λ tells log flushed stores honest.
     let n : ℕ = max (end / S + 1) (count - 1) in
     let named = top_named S end count c.requires.size c.in_ok-log.ensures.low c.in_ok-log.ensures.count in
     let behind : length (shape_of S read.records).older < n = omega (arith, at.0) in
-    let rests = c.read_log.ensures.rests tells in
+    let rests = c.read_log.ensures.only_reads.rests tells in
     let settles = settles_here S end n (length (shape_of S read.records).older) (used (shape_of S read.records)) old new at (c.settle.ensures.settles tells) in
     settles_stores S log read.records flushed n first old new rests read.keeps named behind (g.met.D.Disk.reads_is_image c.args.disk.now tells) stores honest settles
 
@@ -59,7 +59,7 @@ returns-in_err-settle-clause-any_moment g c = λ tells log flushed stores honest
     let n : ℕ = max (end / S + 1) (count - 1) in
     let named = top_named S end count c.requires.size c.in_ok-log.ensures.low c.in_ok-log.ensures.count in
     let behind : length (shape_of S read.records).older < n = omega (arith, at.0) in
-    let rests = c.read_log.ensures.rests tells in
+    let rests = c.read_log.ensures.only_reads.rests tells in
     let settles = settles_here S end n (length (shape_of S read.records).older) (used (shape_of S read.records)) old new at (c.settle.ensures.settles tells) in
     settles_records S log read.records flushed n first old new rests read.keeps named behind (g.met.D.Disk.reads_is_image c.args.disk.now tells) stores honest settles
 
@@ -76,15 +76,15 @@ returns-in_err-settle-clause-honest g c = λ tells log flushed stores honest.
     let n : ℕ = max (end / S + 1) (count - 1) in
     let named = top_named S end count c.requires.size c.in_ok-log.ensures.low c.in_ok-log.ensures.count in
     let behind : length (shape_of S read.records).older < n = omega (arith, at.0) in
-    let rests = c.read_log.ensures.rests tells in
+    let rests = c.read_log.ensures.only_reads.rests tells in
     let settles = settles_here S end n (length (shape_of S read.records).older) (used (shape_of S read.records)) old new at (c.settle.ensures.settles tells) in
     records_honest S log flushed first new stores (settles_records S log read.records flushed n first old new rests read.keeps named behind (g.met.D.Disk.reads_is_image c.args.disk.now tells) stores honest settles)
 
 pub returns-in_err-settle-clause-outside : goal.returns-in_err-settle-clause-outside
-returns-in_err-settle-clause-outside g c = λ tells name not. settles_reads c.args.segment _ _ _ _ _ (c.settle.ensures.settles tells) name not ∙ ap (λ (f : Files). f name) (c.read_log.ensures.rests tells).same
+returns-in_err-settle-clause-outside g c = λ tells name not. settles_reads c.args.segment _ _ _ _ _ (c.settle.ensures.settles tells) name not ∙ ap (λ (f : Files). f name) (c.read_log.ensures.only_reads.rests tells).same
 
 pub returns-in_err-settle-clause-outside_images : goal.returns-in_err-settle-clause-outside_images
-returns-in_err-settle-clause-outside_images g c = λ tells. settles_outside c.args.segment _ _ _ _ _ _ (c.read_log.ensures.rests tells) (c.settle.ensures.settles tells)
+returns-in_err-settle-clause-outside_images g c = λ tells. settles_outside c.args.segment _ _ _ _ _ _ (c.read_log.ensures.only_reads.rests tells) (c.settle.ensures.settles tells)
 
 pub returns-clause-still : goal.returns-clause-still
 returns-clause-still g c = λ tells log flushed stores honest.
@@ -99,7 +99,7 @@ returns-clause-still g c = λ tells log flushed stores honest.
     let n : ℕ = max (end / S + 1) (count - 1) in
     let named = top_named S end count c.requires.size c.in_ok-log.ensures.low c.in_ok-log.ensures.count in
     let behind : length (shape_of S read.records).older < n = omega (arith, at.0) in
-    let rests = c.read_log.ensures.rests tells in
+    let rests = c.read_log.ensures.only_reads.rests tells in
     let settles = settles_here S end n (length (shape_of S read.records).older) (used (shape_of S read.records)) old new at (c.settle.ensures.settles tells) in
     settles_stores S log read.records flushed n first old new rests read.keeps named behind (g.met.D.Disk.reads_is_image c.args.disk.now tells) stores honest settles
 
@@ -116,7 +116,7 @@ returns-clause-any_moment g c = λ tells log flushed stores honest.
     let n : ℕ = max (end / S + 1) (count - 1) in
     let named = top_named S end count c.requires.size c.in_ok-log.ensures.low c.in_ok-log.ensures.count in
     let behind : length (shape_of S read.records).older < n = omega (arith, at.0) in
-    let rests = c.read_log.ensures.rests tells in
+    let rests = c.read_log.ensures.only_reads.rests tells in
     let settles = settles_here S end n (length (shape_of S read.records).older) (used (shape_of S read.records)) old new at (c.settle.ensures.settles tells) in
     settles_records S log read.records flushed n first old new rests read.keeps named behind (g.met.D.Disk.reads_is_image c.args.disk.now tells) stores honest settles
 
@@ -133,15 +133,15 @@ returns-clause-honest g c = λ tells log flushed stores honest.
     let n : ℕ = max (end / S + 1) (count - 1) in
     let named = top_named S end count c.requires.size c.in_ok-log.ensures.low c.in_ok-log.ensures.count in
     let behind : length (shape_of S read.records).older < n = omega (arith, at.0) in
-    let rests = c.read_log.ensures.rests tells in
+    let rests = c.read_log.ensures.only_reads.rests tells in
     let settles = settles_here S end n (length (shape_of S read.records).older) (used (shape_of S read.records)) old new at (c.settle.ensures.settles tells) in
     records_honest S log flushed first new stores (settles_records S log read.records flushed n first old new rests read.keeps named behind (g.met.D.Disk.reads_is_image c.args.disk.now tells) stores honest settles)
 
 pub returns-clause-outside : goal.returns-clause-outside
-returns-clause-outside g c = λ tells name not. settles_reads c.args.segment _ _ _ _ _ (c.settle.ensures.settles tells) name not ∙ ap (λ (f : Files). f name) (c.read_log.ensures.rests tells).same
+returns-clause-outside g c = λ tells name not. settles_reads c.args.segment _ _ _ _ _ (c.settle.ensures.settles tells) name not ∙ ap (λ (f : Files). f name) (c.read_log.ensures.only_reads.rests tells).same
 
 pub returns-clause-outside_images : goal.returns-clause-outside_images
-returns-clause-outside_images g c = λ tells. settles_outside c.args.segment _ _ _ _ _ _ (c.read_log.ensures.rests tells) (c.settle.ensures.settles tells)
+returns-clause-outside_images g c = λ tells. settles_outside c.args.segment _ _ _ _ _ _ (c.read_log.ensures.only_reads.rests tells) (c.settle.ensures.settles tells)
 
 pub returns-clause-kept : goal.returns-clause-kept
 returns-clause-kept g c = λ tells. let read = c.in_ok-log.ensures.read tells in record { records = read.records; keeps = read.keeps; handed = read.handed; ends = read.ends }
@@ -152,9 +152,9 @@ returns-clause-inside g c = λ tells.
     let end : ℕ = c.in_ok-log.log.end in
     let old : DiskState = g.D.Disk.state c.read_log.new.disk in
     let new : DiskState = g.D.Disk.state c.settle.new.disk in
-    let within = read_within S c.in_ok-log.log.count end _ _ _ _ (c.in_ok-log.ensures.read tells) (c.read_log.ensures.rests tells).same in
+    let within = read_within S c.in_ok-log.log.count end _ _ _ _ (c.in_ok-log.ensures.read tells) (c.read_log.ensures.only_reads.rests tells).same in
     let last = (c.in_ok-settle.ensures.settled tells).at new.reads (g.met.D.Disk.reads_is_image c.settle.new.disk tells) in
-    omega (arith, ap (λ (l : List ℕ). length l) last.last, length-take-le (end % S) (bytes_of old.reads (segment_file S (end / S))) within)
+    omega (arith, ap (λ (l : List ℕ). length l) last.last.bytes, length-take-le (end % S) (bytes_of old.reads (segment_file S (end / S))) within)
 
 pub returns-clause-exact : goal.returns-clause-exact
 returns-clause-exact g c = λ tells is_settled records keeps.
@@ -169,7 +169,7 @@ returns-clause-exact g c = λ tells is_settled records keeps.
     let n : ℕ = max (end / S + 1) (count - 1) in
     let named = top_named S end count c.requires.size c.in_ok-log.ensures.low c.in_ok-log.ensures.count in
     let behind : length (shape_of S read.records).older < n = omega (arith, at.0) in
-    let rests = c.read_log.ensures.rests tells in
+    let rests = c.read_log.ensures.only_reads.rests tells in
     let settled = settled_here S end n (length (shape_of S read.records).older) (used (shape_of S read.records)) old new at (c.in_ok-settle.ensures.settled tells) in
     exact_each S count end n _ _ first old new read rests named (omega arith) behind is_settled settled records keeps
 
@@ -186,6 +186,6 @@ returns-clause-ours g c = λ tells log flushed stores honest.
     let n : ℕ = max (end / S + 1) (count - 1) in
     let named = top_named S end count c.requires.size c.in_ok-log.ensures.low c.in_ok-log.ensures.count in
     let behind : length (shape_of S read.records).older < n = omega (arith, at.0) in
-    let rests = c.read_log.ensures.rests tells in
+    let rests = c.read_log.ensures.only_reads.rests tells in
     let settled = settled_here S end n (length (shape_of S read.records).older) (used (shape_of S read.records)) old new at (c.in_ok-settle.ensures.settled tells) in
     settled_recovered S log read.records flushed n first old new rests read.keeps named behind (g.met.D.Disk.reads_is_image c.args.disk.now tells) stores honest end _ _ read.ends read.handed settled

@@ -23,7 +23,7 @@ returns-clause-read g c = λ tells files reads left named all.
     let low : file_base < 2 ^ 63 = omega (arith, is, c.requires.low last (omega (arith, one))) in
     let so_far = c.in_ok-read_front.ensures.opened tells files reads left (λ k less. named k (omega (arith, less, one))) in
     let stood = front_stood S last file_base files [] c.read_front.new.scan.tail _ _ so_far is low in
-    let to = c.in_ok-scan_file.ensures.scanned tells files so_far.records so_far.shape ((c.read_front.ensures.rests tells).same ∙ reads) stood in
+    let to = c.in_ok-scan_file.ensures.scanned tells files so_far.records so_far.shape ((c.read_front.ensures.only_reads.rests tells).same ∙ reads) stood in
     subst (λ (n : ℕ). ReadLog S files (g.V.Visit.stands c.args.each.now) (g.V.Visit.stands c.scan_file.new.each) n c.scan_file.new.scan.tail.end) (sym one)
     (all_read S last files c.read_front.new.scan.tail c.scan_file.new.scan.tail _ _ _ file_base c.in_ok-scan_file.field-0 so_far is
     (subst (λ (n : ℕ). AreNamed S n files) one named) (subst (λ (n : ℕ). NoFurther S n files) one all) to)

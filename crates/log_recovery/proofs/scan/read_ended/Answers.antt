@@ -12,7 +12,7 @@ returns-then-not-is_ended-clause-damaged g c = λ tells files records shape behi
     let to = c.in_ok-at.ensures.scanned tells files records shape reads stood in
     let last = to.scanned in
     let bytes : List ℕ = bytes_of files (log_file c.args.base) in
-    let read : bytes_of (g.D.Disk.state c.scan_file.new.disk).reads (log_file c.args.base) ≡ bytes = ap (λ (f : Files). bytes_of f (log_file c.args.base)) ((c.scan_file.ensures.rests tells).same ∙ reads) in
+    let read : bytes_of (g.D.Disk.state c.scan_file.new.disk).reads (log_file c.args.base) ≡ bytes = ap (λ (f : Files). bytes_of f (log_file c.args.base)) ((c.scan_file.ensures.only_reads.rests tells).same ∙ reads) in
     let room : c.in_ok-at.at + 8 ≤ S = omega (arith, last.stood.here, reads_room S last.records last.shape files last.stood.reads) in
     let blank = c.in_ok-is_ended.ensures.ended tells bytes last.shape.last read last.stood.here room (stood_front S files last.records last.shape c.scan_file.new.scan.tail c.args.base c.in_ok-at.at last.stood) in
     let broken = file_broken S files records shape c.args.scan.now.tail c.scan_file.new.scan.tail c.args.base _ _ c.in_ok-at.at stood to behind next further (blank.1 c.if-not-is_ended.true) in
@@ -26,7 +26,7 @@ returns-clause-opened g c = λ tells files records shape reads stood low next.
     let to = c.in_ok-at.ensures.scanned tells files records shape reads stood in
     let last = to.scanned in
     let bytes : List ℕ = bytes_of files (log_file c.args.base) in
-    let read : bytes_of (g.D.Disk.state c.scan_file.new.disk).reads (log_file c.args.base) ≡ bytes = ap (λ (f : Files). bytes_of f (log_file c.args.base)) ((c.scan_file.ensures.rests tells).same ∙ reads) in
+    let read : bytes_of (g.D.Disk.state c.scan_file.new.disk).reads (log_file c.args.base) ≡ bytes = ap (λ (f : Files). bytes_of f (log_file c.args.base)) ((c.scan_file.ensures.only_reads.rests tells).same ∙ reads) in
     let room : c.in_ok-at.at + 8 ≤ S = omega (arith, last.stood.here, reads_room S last.records last.shape files last.stood.reads) in
     let blank = c.in_ok-is_ended.ensures.ended tells bytes last.shape.last read last.stood.here room (stood_front S files last.records last.shape c.scan_file.new.scan.tail c.args.base c.in_ok-at.at last.stood) in
     file_ended S files records shape c.args.scan.now.tail c.scan_file.new.scan.tail c.args.base _ _ c.in_ok-at.at stood to next (blank.0 c.if-not-is_ended.false)

@@ -40,9 +40,9 @@ loop-i-preserved g c = record {
       let next = front_next S i file_base c.args.count files [] c.loop-i.scan.tail _ _ so_far is c.loop-i-test.true named in
       front_more S i files [] c.loop-i.scan.tail c.read_ended.new.scan.tail _ _ _ so_far
       (c.in_ok-read_ended.ensures.opened tells files so_far.records so_far.shape ((c.loop-i.invariant.rests tells).same ∙ reads) stood low next);
-  rests = λ tells. rests_then (c.loop-i.invariant.rests tells) (c.read_ended.ensures.rests tells);
-  faults = c.in_ok-read_ended.ensures.cause ∙ c.loop-i.invariant.faults;
-  syncs = c.read_ended.ensures.syncs ∙ c.loop-i.invariant.syncs;
+  rests = λ tells. rests_then (c.loop-i.invariant.rests tells) (c.read_ended.ensures.only_reads.rests tells);
+  faults = c.in_ok-read_ended.ensures.only_reads.cause ∙ c.loop-i.invariant.faults;
+  syncs = c.read_ended.ensures.only_reads.syncs ∙ c.loop-i.invariant.syncs;
 }
 
 pub returns-clause-opened : goal.returns-clause-opened

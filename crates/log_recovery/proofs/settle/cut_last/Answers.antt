@@ -25,4 +25,4 @@ returns-clause-cut g c = λ tells.
     let name : List ℕ = c.as_str-name.result.now in
     let named : name ≡ log_file c.args.base = c.as_str-name.ensures ∙ c.of-file.ensures in
     subst (λ (n : List ℕ). EachImage (CutsTo n c.args.len (g.D.Disk.state c.args.disk.now).reads) (g.D.Disk.state c.sync.new.self)) named
-    (cut_each name c.args.len (g.D.Disk.state c.args.disk.now).reads (c.in_ok-shorten.ensures.cut tells) (c.sync.ensures.moves tells) (c.in_ok-sync.ensures.durable tells))
+    (cut_each name c.args.len (g.D.Disk.state c.args.disk.now).reads (c.in_ok-shorten.ensures.cut tells) (c.shorten.ensures.turns tells).reads (c.sync.ensures.moves tells) (c.in_ok-sync.ensures.durable tells))

@@ -44,5 +44,5 @@ returns-clause-settled g c = λ tells.
     let same = pruned_kept S c.args.kept c.args.top _ _ named (c.remove_behind.ensures.turns tells).reads in
     settled_each S c.args.kept c.args.top c.args.len _ (g.D.Disk.state c.remove_behind.new.disk) _ (c.remove_behind.ensures.turns tells) (c.in_ok-remove_behind.ensures.gone tells)
     (subst (λ (n : List ℕ). Turns (IsCut n c.args.len) (g.D.Disk.state c.remove_behind.new.disk) (g.D.Disk.state c.cut_last.new.disk)) base (c.cut_last.ensures.turns tells))
-    (ap bytes_in same)
+    same
     (subst (λ (n : List ℕ). EachImage (CutsTo n c.args.len (g.D.Disk.state c.remove_behind.new.disk).reads) (g.D.Disk.state c.cut_last.new.disk)) base (c.in_ok-cut_last.ensures.cut tells))
