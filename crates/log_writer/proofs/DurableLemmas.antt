@@ -8,21 +8,21 @@ use Rattle.mq_outside.specs.Disk.{DiskState, EachImage, Throughout}
 use Rattle.mq_outside.proofs.Moments.{weaker, chained}
 use Rattle.record_codec.specs.Entry.{Entry}
 use Rattle.log_model.specs.Log.{IsWellFormed}
-use Rattle.log_model.specs.Segments.{shape_of}
-use Rattle.log_model.specs.Store.{KeepsIfHonest}
+use Rattle.log_model.specs.Segments.{used, shape_of}
+use Rattle.log_model.specs.Store.{Stands, KeepsIfHonest}
 use Rattle.log_model.proofs.Prefixes.{keeps_prefix}
 use Rattle.segment_files.specs.Turn.{HasRecords}
-use Rattle.log_writer.specs.Durable.{Stores, Flushed, entries_of, flushed_by, log_with, HasFirst, Flushes, KeepsFlushed}
+use Rattle.log_writer.specs.Durable.{Stores, Flushed, entries_of, flushed_by, log_with, HasFirst, StoresFirst, Flushes}
 use Rattle.log_writer.specs.declared.writer.LogWriter.{LogWriter}
 
 -- each image of a disk that stores a log has its records
 pub each_stored : {S : ℕ} {log : List Entry} {writer : LogWriter} {disk : DiskState} → Stores S log writer disk → EachImage (HasRecords S log) disk
 each_stored {S = S} {log = log} stores = record {
-  at = λ files image. record { shape = shape_of S log; reach = stores.reach; laid = inl refl; stands = stores.writes.stores.each.at files image };
+  at = λ files image. record { shape = shape_of S log; reach = used (shape_of S log); laid = inl refl; stands = stores.writes.stores.each.at files image };
 }
 
 -- files that have the first records of a log are kept to them, where they are honest for any longer log
-pub keeps_first : (S : ℕ) (log : List Entry) (number : ℕ) (files : Files) → IsWellFormed S log → number ≤ length log → HasRecords S (take number log) files → KeepsIfHonest S log number files
+keeps_first : (S : ℕ) (log : List Entry) (number : ℕ) (files : Files) → IsWellFormed S log → number ≤ length log → HasRecords S (take number log) files → KeepsIfHonest S log number files
 keeps_first S log number files well within has honest = keeps_prefix S log number files has.shape has.reach well within has.laid has.stands honest
 
 keeps_least : (S : ℕ) (log : List Entry) (least number : ℕ) (files : Files) → least ≤ number → KeepsIfHonest S log number files → KeepsIfHonest S log least files
@@ -30,11 +30,12 @@ keeps_least S log least number files low keeps honest =
     let kept = keeps (λ k shape r above within looks next. honest k shape r (omega (arith, above, low)) within looks next) in
     record { number = kept.number; low = omega (arith, kept.low, low); high = kept.high; keeps = kept.keeps }
 
--- and of a longer log
-pub front_same : (log more : List Entry) (number : ℕ) → number ≤ length log → take number (log ++ more) ≡ take number log
+-- the front of a longer log
+front_same : (log more : List Entry) (number : ℕ) → number ≤ length log → take number (log ++ more) ≡ take number log
 front_same log more number within = take-append-le number log more within
 
-has_more : (S : ℕ) (log more : List Entry) (least : ℕ) (files : Files) → HasFirst S log least files → HasFirst S (log ++ more) least files
+-- and of a longer log
+pub has_more : (S : ℕ) (log more : List Entry) (least : ℕ) (files : Files) → HasFirst S log least files → HasFirst S (log ++ more) least files
 has_more S log more least files first = record {
   number = first.number;
   low = first.low;
@@ -50,9 +51,31 @@ has_all S log least files within has = record {
   has = subst (λ (l : List Entry). HasRecords S l files) (sym (take_all (length log) log (omega arith))) has;
 }
 
+-- what recovery keeps of files with the first records of a log
+pub first_keeps : (S : ℕ) (log : List Entry) (least : ℕ) (files : Files) → IsWellFormed S log → HasFirst S log least files → KeepsIfHonest S log least files
+first_keeps S log least files well first = keeps_least S log least first.number files first.low (keeps_first S log first.number files well first.high first.has)
+
+-- a disk with these files alone stores the log
+pub first_stores : (S : ℕ) (log : List Entry) (least : ℕ) (files : Files) (disk : DiskState) → IsWellFormed S log → HasFirst S log least files → EachImage (λ image. image ≡ files) disk
+    → StoresFirst S log least disk
+first_stores S log least files disk well first left = record {
+  number = first.number;
+  low = first.low;
+  stores = record {
+    shape = first.has.shape;
+    reach = first.has.reach;
+    at = record {
+      well_formed = well;
+      within = first.high;
+      laid = first.has.laid;
+      each = record { at = λ image there. subst (Stands S first.has.shape first.has.reach) (sym (left.at image there)) first.has.stands };
+    };
+  };
+}
+
 -- ---- counts
 
-most : (m : ℕ) (done : List Flushed) → flushed_by m done ≤ length done
+pub most : (m : ℕ) (done : List Flushed) → flushed_by m done ≤ length done
 most m done = count_by-le-length (λ (x : Flushed). nat_le x.moment m) done
 
 flushed_by-push : (m : ℕ) (done : List Flushed) (d : Flushed) → flushed_by m (done ++ d ∷ []) ≡ flushed_by m done + cond (nat_le d.moment m) 1 0
@@ -61,7 +84,7 @@ flushed_by-push m done d = omega (arith, sum_by-append (λ (x : Flushed). cond (
 log_with-push : (log : List Entry) (done : List Flushed) (d : Flushed) → log_with log (done ++ d ∷ []) ≡ log_with log done ++ d.entry ∷ []
 log_with-push log done d = ap (λ (l : List Entry). log ++ l) (map-append (λ (x : Flushed). x.entry) done (d ∷ [])) ∙ sym (append_assoc log (entries_of done) (d.entry ∷ []))
 
-length-log_with : (log : List Entry) (done : List Flushed) → length (log_with log done) ≡ length log + length done
+pub length-log_with : (log : List Entry) (done : List Flushed) → length (log_with log done) ≡ length log + length done
 length-log_with log done = length-append log (entries_of done) ∙ ap (λ (n : ℕ). length log + n) (length-map done (λ (x : Flushed). x.entry))
 
 -- ---- the run
@@ -117,10 +140,3 @@ flushes_sent {S = S} {log = log} {before = before} {done = done} {old = old} {ne
           (here.at files (subst (λ (k : ℕ). new.image_at k files) same image)))
           (cases_lt m new.moment));
     }
-
--- what a run keeps, of any log that goes on with more records
-pub flushes_keep : {S : ℕ} {log : List Entry} {before : ℕ} {done : List Flushed} {old new : DiskState} (more : List Entry) → Flushes S log before done old new
-    → IsWellFormed S (log_with log done ++ more) → KeepsFlushed S (log_with log done ++ more) before done old new
-flushes_keep {S = S} {log = log} {before = before} {done = done} more flushes well m files low high image =
-    let first = has_more S (log_with log done) more (before + flushed_by m done) files (flushes.each m files low high image) in
-    keeps_least S (log_with log done ++ more) (before + flushed_by m done) first.number files first.low (keeps_first S (log_with log done ++ more) first.number files well first.high first.has)

@@ -28,7 +28,6 @@ stores_open S log number disk writer all stores size stands base_is offset_is =
     record {
       size = size;
       stands = stands;
-      reach = used (shape_of S log);
       writes = subst (λ (l : List Entry). WritesAt S log (length log) (shape_of S l) (used (shape_of S log)) writer.file.base writer.file.offset disk) whole writes;
     }
 

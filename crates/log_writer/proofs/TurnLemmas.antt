@@ -1,5 +1,5 @@
 -- One turn of the flusher, for a batch behind a log that is all flushed.
-use Rattle.std.proofs.Common.{◌≡◌, ◌⊎◌, ⊎_elim, ◌∙◌, ℕ, ◌+◌, ◌++◌, List, [], ◌∷◌, length, take, Bool, true, false, Option, refl, ap, sym, subst, arith, length-append}
+use Rattle.std.proofs.Common.{◌≡◌, ◌⊎◌, ⊎_elim, ◌∙◌, ℕ, ◌+◌, max, ◌++◌, List, [], ◌∷◌, length, take, Bool, true, false, Option, refl, ap, sym, subst, arith, length-append}
 use Rattle.std.proofs.lemmas.List.{length_push, take_at, take_all}
 use Rattle.std.proofs.lemmas.Bool.{le-leb}
 use Rattle.mq_outside.specs.Files.{Files}
@@ -9,13 +9,13 @@ use Rattle.record_codec.specs.declared.draft.Draft.{Draft}
 use Rattle.record_codec.specs.declared.draft.Place.{Place}
 use Rattle.log_model.specs.declared.batch.Batch.{Batch}
 use Rattle.log_model.specs.Log.{IsWellFormed}
-use Rattle.log_model.specs.Segments.{Shape, opened, base, end_in, shape_of}
+use Rattle.log_model.specs.Segments.{Shape, opened, used, base, end_in, shape_of}
 use Rattle.log_model.specs.Store.{StoresLog, KeepsIfHonest, IsBatch}
 use Rattle.log_model.specs.Batches.{IsBatchOf}
 use Rattle.log_model.proofs.BatchLemmas.{batch_goes, GoesHere, GoesNext}
 use Rattle.log_model.proofs.Longer.{stores_longer}
 use Rattle.log_model.proofs.Prefixes.{keeps_prefix}
-use Rattle.segment_files.specs.Turn.{WritesAt, HasRecords, GoesOn, CanRetry, is_due, shape_behind}
+use Rattle.segment_files.specs.Turn.{WritesAt, HasRecords, GoesOn, CanRetry, is_due, shape_behind, unless_opened}
 use Rattle.log_writer.specs.Tails.{StandsFor}
 use Rattle.log_writer.specs.Places.{next_entry, with_next, IsAppended}
 use Rattle.log_writer.specs.Durable.{Stores}
@@ -60,8 +60,7 @@ writes_longer S log r reach file_base offset disk well writes =
 
 -- what a turn of the flusher starts from, for this record behind the log
 pub record Starts (S : ℕ) (log : List Entry) (r : Entry) (batch : Batch) (file_base offset : ℕ) (disk : DiskState) : Type 0 where
-  pub reach : ℕ
-  pub writes : WritesAt S (log ++ r ∷ []) (length log) (shape_of S (take (length log) (log ++ r ∷ []))) reach file_base offset disk
+  pub writes : WritesAt S (log ++ r ∷ []) (length log) (shape_of S (take (length log) (log ++ r ∷ []))) (used (shape_of S log)) file_base offset disk
   pub goes : GoesOn S (log ++ r ∷ []) (length log) (shape_of S (take (length log) (log ++ r ∷ []))) (is_due file_base batch.blank) batch.place batch.blank batch.count batch.bytes
 
 -- what was appended, in the segments of the disk
@@ -78,32 +77,42 @@ starts S log draft reading tail at batch writer disk stores appended well_formed
     let here = appended_in S writer.tail.segment log draft reading tail at batch stores.size appended in
     let well : IsWellFormed S (log ++ r ∷ []) =
     subst (λ (k : ℕ). IsWellFormed k log → IsWellFormed k (with_next k log draft reading)) stores.size well_formed stores.writes.stores.well_formed in
-    let writes = writes_longer S log r stores.reach writer.file.base writer.file.offset disk well stores.writes in
-    record { reach = stores.reach; writes = writes; goes = batch_goes_on S (log ++ r ∷ []) (length log) batch writer.file.base well here.is writes.place.last }
+    let writes = writes_longer S log r (used (shape_of S log)) writer.file.base writer.file.offset disk well stores.writes in
+    record { writes = writes; goes = batch_goes_on S (log ++ r ∷ []) (length log) batch writer.file.base well here.is writes.place.last }
 
 -- the records at the front of a longer log
 pub has_front : (S : ℕ) (log : List Entry) (r : Entry) {old new : DiskState} → Throughout old new (HasRecords S (take (length log) (log ++ r ∷ []))) → Throughout old new (HasRecords S log)
 has_front S log r {old = old} {new = new} so_far = subst (λ (l : List Entry). Throughout old new (HasRecords S l)) (front_is log r) so_far
 
+-- behind a batch that went where the records ended nothing was written
+behind_batch : (due : Bool) (before offset now n : ℕ) → offset ≡ before → now ≡ unless_opened due offset + n → max (unless_opened due before) now ≡ now
+behind_batch true before offset now n same moved = omega arith
+behind_batch false before offset now n same moved = omega (arith, same, moved)
+
 -- the record was flushed
-pub stores_sent : (S : ℕ) (log : List Entry) (r : Entry) (writer : LogWriter) (count reach : ℕ) (disk : DiskState) → count ≡ 1 → writer.tail.segment ≡ S → StandsFor writer.tail (log ++ r ∷ [])
-    → WritesAt S (log ++ r ∷ []) (length log + count) (shape_of S (take (length log + count) (log ++ r ∷ []))) reach writer.file.base writer.file.offset disk
+pub stores_sent : (S : ℕ) (log : List Entry) (r : Entry) (writer : LogWriter) (count offset n : ℕ) (due : Bool) (disk : DiskState) → count ≡ 1 → writer.tail.segment ≡ S → StandsFor writer.tail (log ++ r ∷ [])
+    → offset ≡ used (shape_of S log) → writer.file.offset ≡ unless_opened due offset + n
+    → WritesAt S (log ++ r ∷ []) (length log + count) (shape_of S (take (length log + count) (log ++ r ∷ []))) (max (unless_opened due (used (shape_of S log))) writer.file.offset)
+    writer.file.base writer.file.offset disk
     → Stores S (log ++ r ∷ []) writer disk
-stores_sent S log r writer count reach disk one size stands writes =
-    let number : length log + count ≡ length (log ++ r ∷ []) = omega (arith, one, length_push log r) in
-    let whole : take (length (log ++ r ∷ [])) (log ++ r ∷ []) ≡ log ++ r ∷ [] = take_all (length (log ++ r ∷ [])) (log ++ r ∷ []) (omega arith) in
+stores_sent S log r writer count offset n due disk one size stands end moved writes =
+    let longer : List Entry = log ++ r ∷ [] in
+    let number : length log + count ≡ length longer = omega (arith, one, length_push log r) in
+    let whole : take (length longer) longer ≡ longer = take_all (length longer) longer (omega arith) in
+    let all : take (length log + count) longer ≡ longer = ap (λ (k : ℕ). take k longer) number ∙ whole in
+    let reach = behind_batch due (used (shape_of S log)) offset writer.file.offset n end moved ∙ writes.place.end ∙ ap (λ (l : List Entry). used (shape_of S l)) all in
     record {
       size = size;
       stands = stands;
-      reach = reach;
-      writes = subst (λ (l : List Entry). WritesAt S (log ++ r ∷ []) (length (log ++ r ∷ [])) (shape_of S l) reach writer.file.base writer.file.offset disk) whole
-          (subst (λ (n : ℕ). WritesAt S (log ++ r ∷ []) n (shape_of S (take n (log ++ r ∷ []))) reach writer.file.base writer.file.offset disk) number writes);
+      writes = subst (λ (k : ℕ). WritesAt S longer (length longer) (shape_of S longer) k writer.file.base writer.file.offset disk) reach
+          (subst (λ (l : List Entry). WritesAt S longer (length longer) (shape_of S l) (max (unless_opened due (used (shape_of S log))) writer.file.offset) writer.file.base writer.file.offset disk) all
+          (subst (λ (k : ℕ). WritesAt S longer k (shape_of S (take (length log + count) longer)) (max (unless_opened due (used (shape_of S log))) writer.file.offset) writer.file.base writer.file.offset disk) number writes));
     }
 
 -- the record was not flushed
-pub stores_failed : (S : ℕ) (log : List Entry) (flushed file_base offset : ℕ) (disk : DiskState) (place : ℕ) (blank : Option (ℕ × ℕ)) (count : ℕ) (bytes : List ℕ)
-    → CanRetry S log flushed file_base offset disk place blank count bytes → StoresLog S log flushed disk
-stores_failed S log flushed file_base offset disk place blank count bytes retry = record { shape = retry.shape; reach = retry.reach; at = retry.writes.stores }
+pub stores_failed : (S : ℕ) (log : List Entry) (flushed most file_base offset : ℕ) (disk : DiskState) (place : ℕ) (blank : Option (ℕ × ℕ)) (count : ℕ) (bytes : List ℕ)
+    → CanRetry S log flushed most file_base offset disk place blank count bytes → StoresLog S log flushed disk
+stores_failed S log flushed most file_base offset disk place blank count bytes retry = record { shape = retry.shape; reach = retry.reach; at = retry.writes.stores }
 
 -- the records at the front of any longer log are kept of each honest image
 pub keeps_front : (S : ℕ) (log more : List Entry) (files : Files) → IsWellFormed S (log ++ more) → HasRecords S log files → KeepsIfHonest S (log ++ more) (length log) files

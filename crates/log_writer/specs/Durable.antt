@@ -4,8 +4,8 @@ use Rattle.std.specs.List.{count_by}
 use Rattle.mq_outside.specs.Files.{Files}
 use Rattle.mq_outside.specs.Disk.{DiskState, Throughout}
 use Rattle.record_codec.specs.Entry.{Entry}
-use Rattle.log_model.specs.Segments.{shape_of}
-use Rattle.log_model.specs.Store.{KeepsIfHonest}
+use Rattle.log_model.specs.Segments.{used, shape_of}
+use Rattle.log_model.specs.Store.{StoresLog}
 use Rattle.segment_files.specs.Turn.{IsInside, WritesAt, HasRecords}
 use Rattle.log_writer.specs.Tails.{StandsFor}
 use Rattle.log_writer.specs.declared.writer.LogWriter.{LogWriter}
@@ -15,12 +15,11 @@ pub record CanGoOn (tells : Type 0) (writer : LogWriter) (disk : DiskState) : Ty
   pub room : writer.file.offset ≤ writer.tail.end
   pub inside : tells → IsInside writer.file.base writer.file.offset disk
 
--- The disk stores the log, all of it flushed, and the writer goes on behind it.
+-- The disk stores the log, all of it flushed and nothing behind it, and the writer goes on there.
 pub record Stores (S : ℕ) (log : List Entry) (writer : LogWriter) (disk : DiskState) : Type 0 where
   pub size : writer.tail.segment ≡ S
   pub stands : StandsFor writer.tail log
-  pub reach : ℕ
-  pub writes : WritesAt S log (length log) (shape_of S log) reach writer.file.base writer.file.offset disk
+  pub writes : WritesAt S log (length log) (shape_of S log) (used (shape_of S log)) writer.file.base writer.file.offset disk
 
 -- A log that was opened: a prefix of it with all that was flushed is stored, and all of that is flushed now.
 pub record Opened (S : ℕ) (log : List Entry) (flushed : ℕ) (disk : DiskState) (writer : LogWriter) : Type 0 where
@@ -55,14 +54,15 @@ pub record HasFirst (S : ℕ) (log : List Entry) (least : ℕ) (files : Files) :
   pub high : number ≤ length log
   pub has : HasRecords S (take number log) files
 
+-- the disk stores the log with at least so many of its records flushed
+pub record StoresFirst (S : ℕ) (log : List Entry) (least : ℕ) (disk : DiskState) : Type 0 where
+  pub number : ℕ
+  pub low : least ≤ number
+  pub stores : StoresLog S log number disk
+
 -- These records were put behind the log, one after another, while the disk went from one state to another. At each moment
 -- each crash leaves what was flushed before the run, and what was flushed in it by then.
 pub record Flushes (S : ℕ) (log : List Entry) (before : ℕ) (done : List Flushed) (old new : DiskState) : Type 0 where
   pub within : before ≤ length log
   pub kept : Throughout old new (HasFirst S (log_with log done) before)
   pub each : (m : ℕ) (files : Files) → old.moment ≤ m → m ≤ new.moment → new.image_at m files → HasFirst S (log_with log done) (before + flushed_by m done) files
-
--- At each moment of a run each image that is honest for this log keeps what was flushed before the run, and in it by then.
-abbrev pub KeepsFlushed : ℕ → List Entry → ℕ → List Flushed → DiskState → DiskState → Type 0
-KeepsFlushed S log before done old new = (m : ℕ) (files : Files) → old.moment ≤ m → m ≤ new.moment → new.image_at m files
-    → KeepsIfHonest S log (before + flushed_by m done) files

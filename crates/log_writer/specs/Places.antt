@@ -39,7 +39,7 @@ abbrev pub HasRoom : ℕ → List Entry → ℕ → Type 0
 HasRoom S log n = next_place S log n + n ≤ 2 ^ 62
 
 -- A draft whose record may stand behind any log where there is room: it can be written into a segment, and is a plain
--- message to one of 1,024 queues, which neither begins nor ends a transaction that was kept apart.
+-- message to one of 1,024 queues and no copy of a half message.
 pub record IsPlainDraft (S : ℕ) (draft : Draft) : Type 0 where
   pub passes : draft_fault S draft ≡ None
   pub born : draft.born < 2 ^ 62

@@ -3,6 +3,7 @@
 
 mod append;
 mod counts;
+mod laws;
 mod opening;
 mod tail;
 #[cfg(test)]
@@ -11,5 +12,6 @@ mod visit;
 mod writer;
 
 pub use append::{AppendFault, Appended};
+pub use laws::{first_records_are_kept, what_a_crash_left_stores_the_log};
 pub use tail::LogTail;
 pub use writer::{LogWriter, Outcome};

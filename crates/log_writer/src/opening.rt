@@ -1,13 +1,14 @@
 //! Opens a log: recovers it from its files, and goes on where it ends.
 
-ghost use Rattle.std.specs.Prelude.{◌≡◌, List, ℕ, take, IfOk};
+ghost use Rattle.std.specs.Prelude.{◌≡◌, ◌+◌, ◌≤◌, List, ℕ, take, IfOk};
 ghost use Rattle.mq_outside.specs.Disk.{Throughout, Rests};
 ghost use Rattle.record_codec.specs.Entry.{Entry};
 ghost use Rattle.log_model.specs.Log.{IsSegmentSize};
 ghost use Rattle.log_model.specs.Segments.{IsLogFile};
 ghost use Rattle.log_model.specs.Store.{IsDamagedAt, IsHonest, StoresLog, KeepsIfHonest};
+ghost use Rattle.segment_files.specs.Outside.{IsOutsideOf};
 ghost use Rattle.segment_files.specs.Turn.{HasRecords};
-ghost use Rattle.log_recovery.specs.Recovered.{IsOutsideOf, OnDamage, CountsRecoverFault};
+ghost use Rattle.log_recovery.specs.Recovered.{OnDamage, OnMemory, CountsRecoverFault};
 ghost use Rattle.log_writer.specs.Openings.{GoesOnBehind};
 ghost use Rattle.log_writer.specs.Durable.{CanGoOn, Opened};
 
@@ -33,6 +34,7 @@ impl LogWriter {
         ensures kept { D.tells → IfOk result (GoesOnBehind segment (D.state disk.old).reads) }
         ensures damaged { D.tells → OnDamage result (IsDamagedAt segment (D.state disk.old).reads) }
         ensures untouched { D.tells → OnDamage result (λ place name. Rests (D.state disk.old) (D.state disk.new)) }
+        ensures untouched_memory { D.tells → OnMemory result (Rests (D.state disk.old) (D.state disk.new)) }
 
         // A disk that stores a log, and is read honestly, stores a prefix with all that was flushed, and that is flushed now.
         ensures ours { D.tells → (log : List Entry) (flushed : ℕ) → StoresLog segment log flushed (D.state disk.old) → IsHonest segment log flushed (D.state disk.old).reads
@@ -50,6 +52,7 @@ impl LogWriter {
         ensures outside { D.tells → (name : List ℕ) → (IsLogFile name → ⊥) → (D.state disk.new).reads name ≡ (D.state disk.old).reads name }
         ensures outside_images { D.tells → Throughout (D.state disk.old) (D.state disk.new) (IsOutsideOf (D.state disk.old)) }
         ensures cause { CountsRecoverFault result (D.faults disk.old) (D.faults disk.new) }
+        ensures syncs { D.syncs disk.new ≤ D.syncs disk.old + 1 }
     {
         let mut tail = LogTail::new(alloc, segment);
         match recover(alloc, disk, segment, &mut tail) {

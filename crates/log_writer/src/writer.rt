@@ -3,11 +3,12 @@
 //! `open -> ready [append_and_flush: Sent, LogEnd, Memory] -> failed [append_and_flush: NotFlushed]`: after a failed flush
 //! the disk may lack the record that the tail has, so nothing more is to be put behind it in this run.
 
-ghost use Rattle.std.specs.Prelude.{◌≡◌, ◌<◌, ◌^◌, ◌++◌, List, ℕ, length};
+ghost use Rattle.std.specs.Prelude.{◌≡◌, ◌+◌, ◌<◌, ◌≤◌, ◌^◌, ◌++◌, List, ℕ, length};
 ghost use Rattle.mq_outside.specs.Disk.{Throughout};
 ghost use Rattle.record_codec.specs.Entry.{Entry};
 ghost use Rattle.log_model.specs.Log.{IsWellFormed};
 ghost use Rattle.log_model.specs.Store.{StoresLog, KeepsIfHonest};
+ghost use Rattle.segment_files.specs.Outside.{StaysOutside};
 ghost use Rattle.segment_files.specs.Turn.{HasRecords};
 ghost use Rattle.log_writer.specs.Tails.{StandsFor};
 ghost use Rattle.log_writer.specs.Places.{with_next, IsPlainDraft};
@@ -49,7 +50,7 @@ impl LogWriter {
         self.tail.segment
     }
 
-    /// Puts the record of this draft behind the log, and syncs it.
+    /// Puts the record of this draft behind the log, and syncs it. The reading is in milliseconds.
     pub fn append_and_flush<D: Disk>(
         &mut self,
         alloc: Global,
@@ -80,6 +81,10 @@ impl LogWriter {
             → OnNotFlushed result (StoresLog S (with_next S log draft.now reading) (length log) (D.state disk.new)) }
         ensures still { D.tells → (S : ℕ) (log : List Entry) → Stores S log self.old (D.state disk.old) → OnUnwritten result (Stores S log self.new (D.state disk.new)) }
         ensures unwritten { OnUnwritten result (disk.new ≡ disk.old) }
+
+        // Files outside the log's folder stay. A blank takes a sync, and the record takes one.
+        ensures outside { D.tells → StaysOutside (D.state disk.old) (D.state disk.new) }
+        ensures syncs { D.syncs disk.new ≤ D.syncs disk.old + 2 }
     {
         let appended = match self.tail.append(alloc, draft, reading) {
             Ok(appended) => appended,

@@ -1,7 +1,7 @@
 use Rattle.std.proofs.Common.{◌<◌, ◌^◌, ap, arith, ℕ, List, length}
 use Rattle.record_codec.specs.Drafts.{entry_of}
 use Rattle.record_codec.proofs.DraftLemmas.{IsEncodable-from}
-use Rattle.log_model.proofs.LayoutLengths.{length-layout}
+use Rattle.record_codec.proofs.LayoutLengths.{length-layout}
 use Rattle.log_writer.proofs.FollowLemmas.{appended, next_well_formed}
 use Rattle.log_writer.proofs.tail.LogTail.append.Goals as goal
 
