@@ -1,5 +1,6 @@
 -- The first of several faults.
 use Rattle.std.proofs.Common.{◌≡◌, Option, Some, None, Result, Ok, Err, sym, ap, refl}
+use Rattle.std.specs.Prelude.{IsErrAnd}
 use Rattle.request_fields.specs.Faults.{or_later}
 use Rattle.request_fields.specs.Gives.{Tells, Gives}
 use Rattle.request_fields.specs.Reading.{Reads, faultless}
@@ -27,6 +28,11 @@ told_later fault first later e h = rw e h
 pub none_of_both : (first later : Option RequestFault) → first ≡ None → later ≡ None → or_later first later ≡ None
 unfolding or_later
 none_of_both first later e f = rw e f
+
+-- the fault that `?` hands on is told as it was
+pub handed_on : {X : Type 0} (result : Result X RequestFault) (e : RequestFault) (fault : Option RequestFault) (value : X) → IsErrAnd result (λ x. x ≡ e) → Tells e fault → Gives result fault value
+handed_on (Ok x) e fault value h told = absurd h
+handed_on (Err x) e fault value h told = rw h told
 
 -- what gives the fields' request or their first fault reads the request
 pub reads_given : (result : Result Request RequestFault) (fault : Option RequestFault) (said : Request) → Gives result fault said → Reads result (faultless fault said)

@@ -1,2 +1,4 @@
 pub mod Later
 pub mod Items
+pub mod FirstFaults
+pub mod FoundValues

@@ -27,3 +27,8 @@ Fails body.Memory there = Unit {0}
 abbrev pub Finds : {X Y : Type 0} → (X → Y) → Result X BodyFault → Option Y → Type 0
 Finds view (Ok x) there = there ≡ Some (view x)
 Finds view (Err e) there = Fails e there
+
+-- what a fault of a body is as one of a request
+abbrev pub request_fault : BodyFault → RequestFault
+request_fault body.Bad = BadBody
+request_fault body.Memory = Memory

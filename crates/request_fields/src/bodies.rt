@@ -5,7 +5,6 @@ ghost use Rattle.request_fields.specs.Reading.{Reads, of_body};
 ghost use Rattle.request_fields.specs.declared.request.Request.TheVariants.{Beat, Lock, Unlock};
 
 use crate::beat::beat;
-use crate::body_fault::BodyFault;
 use crate::fault::RequestFault;
 use crate::lock::lock_fields;
 use crate::request::Request;
@@ -14,29 +13,17 @@ use std::alloc::Global;
 pub(crate) fn heartbeat(alloc: Global, body: &[u8]) -> Result<Request, RequestFault>
     ensures { Reads result (of_body Beat (beat_in body.now)) }
 {
-    match beat(alloc, body) {
-        Ok(said) => Ok(Request::Beat(said)),
-        Err(BodyFault::Bad) => Err(RequestFault::BadBody),
-        Err(BodyFault::Memory) => Err(RequestFault::Memory),
-    }
+    Ok(Request::Beat(beat(alloc, body)?))
 }
 
 pub(crate) fn lock(alloc: Global, body: &[u8]) -> Result<Request, RequestFault>
     ensures { Reads result (of_body Lock (lock_in body.now)) }
 {
-    match lock_fields(alloc, body) {
-        Ok(said) => Ok(Request::Lock(said)),
-        Err(BodyFault::Bad) => Err(RequestFault::BadBody),
-        Err(BodyFault::Memory) => Err(RequestFault::Memory),
-    }
+    Ok(Request::Lock(lock_fields(alloc, body)?))
 }
 
 pub(crate) fn unlock(alloc: Global, body: &[u8]) -> Result<Request, RequestFault>
     ensures { Reads result (of_body Unlock (lock_in body.now)) }
 {
-    match lock_fields(alloc, body) {
-        Ok(said) => Ok(Request::Unlock(said)),
-        Err(BodyFault::Bad) => Err(RequestFault::BadBody),
-        Err(BodyFault::Memory) => Err(RequestFault::Memory),
-    }
+    Ok(Request::Unlock(lock_fields(alloc, body)?))
 }

@@ -1,8 +1,10 @@
 //! Why a frame is no request.
 
 ghost use Rattle.std.specs.Prelude.{◌≡◌};
+ghost use Rattle.request_fields.specs.Gives.{request_fault};
 ghost use Rattle.request_fields.specs.declared.fault.RequestFault.TheVariants.{Memory};
 
+use crate::body_fault::BodyFault;
 use mq_bytes::Text;
 use std::alloc::{AllocError, AllocFailed};
 
@@ -41,5 +43,16 @@ impl<T: Drop> From<AllocFailed<T>> for RequestFault {
 
     fn from(_e: AllocFailed<T>) -> RequestFault {
         RequestFault::Memory
+    }
+}
+
+impl From<BodyFault> for RequestFault {
+    ghost from_gives = { λ fault e. e ≡ request_fault fault };
+
+    fn from(fault: BodyFault) -> RequestFault {
+        match fault {
+            BodyFault::Bad => RequestFault::BadBody,
+            BodyFault::Memory => RequestFault::Memory,
+        }
     }
 }

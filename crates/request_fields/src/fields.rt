@@ -4,8 +4,9 @@
 use mq_bytes::{QueueName, Rows, Text};
 use std::marker::Model;
 
-/// A pull: at most `most` messages of the queue from an offset on. `suspend` is in milliseconds, and `commit` an offset
-/// to be stored where it is not negative.
+/// A pull: at most `most` messages of the queue, from the queue offset `from` on. `commit` is a queue offset to be
+/// stored, where it is not negative, and `suspend` how long the pull may wait, in milliseconds. `sysflag` has bits:
+/// 1 says that `commit` counts, 2 that the pull may wait, 4 that `subscription` counts.
 #[derive(Drop)]
 pub struct PullFields {
     pub group: Text,
@@ -30,7 +31,7 @@ impl Model for PullFields {
     ghost invariant = { λ x. KeepsPull (record { group = x.group; topic = x.topic; queue = x.queue; from = x.from; most = x.most; sysflag = x.sysflag; commit = x.commit; suspend = x.suspend; subscription = x.subscription; expression = x.expression }) };
 }
 
-/// A query by key: at most `most` messages, stored between two times in milliseconds.
+/// A query by key: at most `most` messages, stored from the time `from` to the time `to`, both in milliseconds.
 #[derive(Drop)]
 pub struct QueryFields {
     pub topic: Text,
@@ -48,7 +49,7 @@ impl Model for QueryFields {
     ghost view = { λ x. record { topic = x.topic; key = x.key; most = x.most; from = x.from; to = x.to } };
 }
 
-/// Which offset a group has stored for a queue.
+/// Which queue offset a group has stored for a queue.
 #[derive(Drop)]
 pub struct OffsetFields {
     pub group: Text,
@@ -66,7 +67,7 @@ impl Model for OffsetFields {
     ghost invariant = { λ x. KeepsOffset (record { group = x.group; topic = x.topic; queue = x.queue }) };
 }
 
-/// The offset that a group stores for a queue.
+/// The queue offset that a group stores for a queue.
 #[derive(Drop)]
 pub struct SetOffsetFields {
     pub group: Text,
@@ -85,7 +86,7 @@ impl Model for SetOffsetFields {
     ghost invariant = { λ x. KeepsSetOffset (record { group = x.group; topic = x.topic; queue = x.queue; offset = x.offset }) };
 }
 
-/// A topic to be made, with the numbers of its queues, each 1 to 1,024.
+/// A topic to be made, with the numbers of its queues for readers and for writers, each 1 to 1,024.
 #[derive(Drop)]
 pub struct TopicFields {
     pub topic: Text,
@@ -103,7 +104,7 @@ impl Model for TopicFields {
     ghost invariant = { λ x. KeepsTopic (record { topic = x.topic; read = x.read; write = x.write }) };
 }
 
-/// Which offset of a queue a time in milliseconds has.
+/// Which offset of a queue the time has, which is in milliseconds.
 #[derive(Drop)]
 pub struct SearchFields {
     pub topic: Text,
@@ -138,7 +139,7 @@ impl Model for QueueFields {
     ghost invariant = { λ x. KeepsQueue (record { topic = x.topic; queue = x.queue }) };
 }
 
-/// The place of a record.
+/// The place of a record, in bytes from the start of the log.
 #[derive(Drop)]
 pub struct ViewFields {
     pub offset: u64,
@@ -172,7 +173,8 @@ impl Model for UnregisterFields {
     ghost invariant = { λ x. KeepsUnregister (record { client = x.client; producer = x.producer; consumer = x.consumer }) };
 }
 
-/// A producer's verdict on the half message with this queue offset and place: 8 commits it, 12 rolls it back, 0 leaves it.
+/// A producer's verdict on the half message with this queue offset, at this place in bytes from the start of the log:
+/// 8 commits it, 12 rolls it back, 0 leaves it.
 #[derive(Drop)]
 pub struct EndFields {
     pub group: Text,

@@ -2,6 +2,7 @@
 //!
 //! | kind    | texts                                           |
 //! |---------|-------------------------------------------------|
+//! | text    | any                                             |
 //! | name    | 1 to 120 bytes, none of them 1 or 2             |
 //! | i32     | a decimal of 32 signed bits                     |
 //! | i64     | a decimal of 64 signed bits                     |
@@ -9,6 +10,7 @@
 //! | time    | a decimal from 0 to 2^62 - 1                    |
 //! | count   | a decimal from 1 to 1,024                       |
 //! | verdict | a decimal, 0, 8 or 12                           |
+//! | untrue  | any but `true`                                  |
 //!
 //! What a decimal is, `read_decimal` says.
 

@@ -9,6 +9,7 @@ ghost use Rattle.request_fields.specs.Gives.{Finds};
 ghost use Rattle.request_fields.specs.Bodies.{if_name, items_or_none, few_items, if_few};
 
 use crate::body_fault::BodyFault;
+use crate::texts::copy_of;
 use mq_bytes::Text;
 use serde_json::Value;
 use std::alloc::Global;
@@ -34,7 +35,7 @@ pub(crate) fn text_in(alloc: Global, value: Option<&Value>) -> Result<Text, Body
     ensures { Finds (λ t. t) result (option_and_then as_str (option_map (λ v. view v.now) value.entry)) }
 {
     match value {
-        Some(Value::String(text)) => Ok(Text::of(text.clone()?)),
+        Some(Value::String(text)) => Ok(copy_of(alloc, text.as_str())?),
         _ => Err(BodyFault::Bad),
     }
 }

@@ -2,14 +2,16 @@
 
 ghost use Rattle.std.specs.Prelude.{◌≡◌, None, IfOk};
 ghost use Rattle.request_fields.specs.Kinds.{name as name_kind, i32 as i32_kind, i64 as i64_kind, untrue as untrue_kind};
-ghost use Rattle.request_fields.specs.Values.{field as field_of, text_at, i32_or, i64_or};
+ghost use Rattle.record_codec.specs.Props.{value_of};
+ghost use Rattle.request_fields.specs.Values.{text_at, i32_or, i64_or};
 ghost use Rattle.request_fields.specs.Faults.{optional_fault};
 ghost use Rattle.request_fields.specs.Gives.{Gives};
 ghost use Rattle.request_fields.specs.Requests.{IsFieldNameOrEmpty};
 
 use crate::fault::RequestFault;
 use crate::kinds::{i32_in, is_name};
-use crate::needed::{bad_number, field, text_from};
+use crate::needed::{bad_number, field, given};
+use crate::texts::copy_of;
 use mq_bytes::{Text, read_decimal};
 use remoting_frame::Header;
 use std::alloc::Global;
@@ -25,7 +27,7 @@ pub(crate) fn optional_text(
 {
     match field(header, name) {
         None => Ok(Text::of(String::new(alloc))),
-        Some(text) => text_from(alloc, text),
+        Some(text) => Ok(copy_of(alloc, text)?),
     }
 }
 
@@ -35,7 +37,7 @@ pub(crate) fn optional_name(
     header: &Header,
     name: &str,
 ) -> Result<Text, RequestFault>
-    ensures value { Gives result (optional_fault name_kind name.now (field_of name.now header.now.ext)) (text_at name.now header.now.ext) }
+    ensures value { Gives result (optional_fault name_kind name.now (value_of name.now header.now.ext)) (text_at name.now header.now.ext) }
     ensures kept { IfOk result IsFieldNameOrEmpty }
 {
     let Some(text) = field(header, name) else {
@@ -44,7 +46,7 @@ pub(crate) fn optional_name(
     if !is_name(text) {
         return Err(bad_number(alloc, name));
     }
-    text_from(alloc, text)
+    Ok(copy_of(alloc, text)?)
 }
 
 #[tactic(auto, unfolding(crate::specs::Faults::given_fault, crate::specs::Faults::kind_fault, crate::specs::Values::i32_or))]
@@ -54,15 +56,12 @@ pub(crate) fn optional_i32(
     name: &str,
     default: i32,
 ) -> Result<i32, RequestFault>
-    ensures value { Gives result (optional_fault i32_kind name.now (field_of name.now header.now.ext)) (i32_or default name.now header.now.ext) }
+    ensures value { Gives result (optional_fault i32_kind name.now (value_of name.now header.now.ext)) (i32_or default name.now header.now.ext) }
 {
     let Some(text) = field(header, name) else {
         return Ok(default);
     };
-    match i32_in(text) {
-        Some(number) => Ok(number),
-        None => Err(bad_number(alloc, name)),
-    }
+    given(alloc, name, i32_in(text))
 }
 
 #[tactic(auto, unfolding(crate::specs::Faults::given_fault, crate::specs::Faults::kind_fault, crate::specs::Values::i64_or))]
@@ -72,15 +71,12 @@ pub(crate) fn optional_i64(
     name: &str,
     default: i64,
 ) -> Result<i64, RequestFault>
-    ensures value { Gives result (optional_fault i64_kind name.now (field_of name.now header.now.ext)) (i64_or default name.now header.now.ext) }
+    ensures value { Gives result (optional_fault i64_kind name.now (value_of name.now header.now.ext)) (i64_or default name.now header.now.ext) }
 {
     let Some(text) = field(header, name) else {
         return Ok(default);
     };
-    match read_decimal(text) {
-        Some(number) => Ok(number),
-        None => Err(bad_number(alloc, name)),
-    }
+    given(alloc, name, read_decimal(text))
 }
 
 /// Only that the text is not `true` counts.
@@ -90,7 +86,7 @@ pub(crate) fn optional_untrue(
     header: &Header,
     name: &str,
 ) -> Result<(), RequestFault>
-    ensures { Gives result (optional_fault untrue_kind name.now (field_of name.now header.now.ext)) tt }
+    ensures { Gives result (optional_fault untrue_kind name.now (value_of name.now header.now.ext)) tt }
 {
     match field(header, name) {
         Some("true") => Err(bad_number(alloc, name)),

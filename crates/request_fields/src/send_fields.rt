@@ -3,7 +3,11 @@
 use mq_bytes::{Rows, Text};
 use std::marker::Model;
 
-/// A message, as its producer sends it. `queue` is any number of 32 signed bits, `born` is in milliseconds.
+/// A message, as its producer sends it. `queue` is any number of 32 signed bits, `born` is in milliseconds. `props` are
+/// name, byte 1, value, byte 2 for each property, if the producer keeps to that. `flag` is the producer's own.
+/// `sysflag` has bits: 1 for a packed body, 2 for several tags, 4 and 8 for transactions (4 prepared, 8 committed, 12
+/// rolled back), 16 and 32 for hosts with addresses of 16 bytes. `default_queues` is how many queues a new topic
+/// gets, and `reconsume` how often the message was sent back.
 #[derive(Drop)]
 pub struct SendFields {
     pub group: Text,

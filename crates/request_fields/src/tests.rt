@@ -6,11 +6,15 @@ use remoting_frame::{Form, Frame, Header};
 use std::alloc::Global;
 use std::test::Fail;
 
-fn frame_of(alloc: Global, header: &str, body: &str) -> Result<Frame, Fail> {
-    let header = Header::read(alloc, Form::Json, header.as_bytes())
+// A pull, with an absent offset to store and an absent time to wait.
+const PULL: &[u8] =
+    br#"{"code":11,"opaque":1,"extFields":{"consumerGroup":"G","topic":"T","queueId":"2147483647","queueOffset":"-5","maxMsgNums":"32","sysFlag":"6","subscription":"*"}}"#;
+
+fn frame_of(alloc: Global, header: &[u8], body: &[u8]) -> Result<Frame, Fail> {
+    let header = Header::read(alloc, Form::Json, header)
         .ok()
         .ok_or("a header")?;
-    let body = Rows::of(Vec::from_slice(alloc, body.as_bytes())?);
+    let body = Rows::of(Vec::from_slice(alloc, body)?);
     Ok(Frame {
         at: 0,
         form: Form::Json,
@@ -51,235 +55,290 @@ fn words_of(fault: &RequestFault) -> (&'static str, &str) {
     }
 }
 
-// A header, a body, and the variant that they are. There are 17.
-fn request_at(row: usize) -> (&'static str, &'static str, &'static str) {
-    match row {
-        0 => (
-            "{\"code\":10,\"opaque\":1,\"extFields\":{\"bornTimestamp\":\"4611686018427387903\",\"defaultTopic\":\"TBW102\",\"defaultTopicQueueNums\":\"4\",\"flag\":\"-1\",\"producerGroup\":\"P\",\"queueId\":\"0\",\"sysFlag\":\"2\",\"topic\":\"T\",\"properties\":\"A\",\"reconsumeTimes\":\"3\"}}",
-            "hi",
-            "send",
-        ),
-        1 => (
-            "{\"code\":310,\"opaque\":1,\"extFields\":{\"a\":\"P\",\"b\":\"T\",\"e\":\"0\",\"f\":\"2\",\"g\":\"7\",\"h\":\"5\",\"m\":\"false\"}}",
-            "",
-            "send",
-        ),
-        2 => (
-            "{\"code\":11,\"opaque\":1,\"extFields\":{\"consumerGroup\":\"G\",\"topic\":\"T\",\"queueId\":\"2147483647\",\"queueOffset\":\"-5\",\"maxMsgNums\":\"32\",\"sysFlag\":\"6\",\"subscription\":\"*\"}}",
-            "",
-            "pull",
-        ),
-        3 => (
-            "{\"code\":12,\"opaque\":1,\"extFields\":{\"topic\":\"T\",\"key\":\"k\",\"maxNum\":\"32\",\"beginTimestamp\":\"0\",\"endTimestamp\":\"9000\"}}",
-            "",
-            "query",
-        ),
-        4 => (
-            "{\"code\":14,\"opaque\":1,\"extFields\":{\"consumerGroup\":\"G\",\"topic\":\"T\",\"queueId\":\"1\"}}",
-            "",
-            "offset",
-        ),
-        5 => (
-            "{\"code\":15,\"opaque\":1,\"extFields\":{\"consumerGroup\":\"G\",\"topic\":\"T\",\"queueId\":\"1\",\"commitOffset\":\"9\"}}",
-            "",
-            "set",
-        ),
-        6 => (
-            "{\"code\":17,\"opaque\":1,\"extFields\":{\"topic\":\"T\",\"readQueueNums\":\"1\",\"writeQueueNums\":\"1024\"}}",
-            "",
-            "topic",
-        ),
-        7 => (
-            "{\"code\":29,\"opaque\":1,\"extFields\":{\"topic\":\"T\",\"queueId\":\"1\",\"timestamp\":\"1001\"}}",
-            "",
-            "search",
-        ),
-        8 => (
-            "{\"code\":30,\"opaque\":1,\"extFields\":{\"topic\":\"T\",\"queueId\":\"1\"}}",
-            "",
-            "max",
-        ),
-        9 => (
-            "{\"code\":31,\"opaque\":1,\"extFields\":{\"topic\":\"T\",\"queueId\":\"1\"}}",
-            "",
-            "min",
-        ),
-        10 => (
-            "{\"code\":33,\"opaque\":1,\"extFields\":{\"offset\":\"108\"}}",
-            "",
-            "view",
-        ),
-        11 => (
-            "{\"code\":34,\"opaque\":1,\"extFields\":{}}",
-            "{\"clientID\":\"\",\"clientID\":\"c\",\"producerDataSet\":[{\"groupName\":\"P\"}],\"consumerDataSet\":[{\"groupName\":\"G\",\"subscriptionDataSet\":[{\"topic\":\"T\",\"subString\":\"*\"}]},{\"groupName\":\"H\"}]}",
-            "beat",
-        ),
-        12 => (
-            "{\"code\":35,\"opaque\":1,\"extFields\":{\"clientID\":\"c\",\"consumerGroup\":\"G\"}}",
-            "",
-            "leave",
-        ),
-        13 => (
-            "{\"code\":37,\"opaque\":1,\"extFields\":{\"producerGroup\":\"P\",\"tranStateTableOffset\":\"1\",\"commitLogOffset\":\"178\",\"commitOrRollback\":\"12\",\"msgId\":\"m\"}}",
-            "",
-            "end",
-        ),
-        14 => (
-            "{\"code\":41,\"opaque\":1,\"extFields\":{}}",
-            "{\"consumerGroup\":\"G\",\"clientId\":\"c\",\"mqSet\":[{\"topic\":\"T\",\"brokerName\":\"b\",\"queueId\":0}]}",
-            "lock",
-        ),
-        15 => (
-            "{\"code\":42,\"opaque\":1,\"extFields\":{}}",
-            "{\"consumerGroup\":\"G\",\"clientId\":\"c\",\"mqSet\":[]}",
-            "unlock",
-        ),
-        _ => (
-            "{\"code\":35,\"opaque\":1,\"extFields\":{\"clientID\":\"abcdefghijklmnopqrstuvwxyz0123456789ABCDabcdefghijklmnopqrstuvwxyz0123456789ABCDabcdefghijklmnopqrstuvwxyz0123456789ABCD\"}}",
-            "",
-            "leave",
-        ),
-    }
+// The word of the request that the header and the body are.
+fn word_at(alloc: Global, header: &[u8], body: &[u8]) -> Result<&'static str, Fail> {
+    let frame = frame_of(alloc, header, body)?;
+    let request = Request::read(alloc, &frame)?;
+    Ok(word_of(&request))
+}
+
+// Whether the first fault of the header and the body has this word, and this field.
+fn is_told(
+    alloc: Global,
+    header: &[u8],
+    body: &[u8],
+    word: &str,
+    name: &str,
+) -> Result<bool, Fail> {
+    let frame = frame_of(alloc, header, body)?;
+    let Err(fault) = Request::read(alloc, &frame) else {
+        return Ok(false);
+    };
+    let (told, field) = words_of(&fault);
+    Ok(told == word && field == name)
 }
 
 #[test]
-fn each_code_has_its_request(rt: HostRuntime) -> Result<(), Fail> {
-    for row in 0..17 {
-        let (header, body, word) = request_at(row);
-        let frame = frame_of(rt.alloc(), header, body)?;
-        let request = Request::read(rt.alloc(), &frame)?;
-        assert!(rt; word_of(&request) == word, "at row {row}");
+fn both_codes_of_a_send_are_read(rt: HostRuntime) -> Result<(), Fail> {
+    let rows: [(&[u8], &[u8], &str); 2] = [
+        (
+            br#"{"code":10,"opaque":1,"extFields":{"bornTimestamp":"4611686018427387903","defaultTopic":"TBW102","defaultTopicQueueNums":"4","flag":"-1","producerGroup":"P","queueId":"0","sysFlag":"2","topic":"T","properties":"A","reconsumeTimes":"3"}}"#,
+            b"hi",
+            "send",
+        ),
+        (
+            br#"{"code":310,"opaque":1,"extFields":{"a":"P","b":"T","e":"0","f":"2","g":"7","h":"5","m":"false"}}"#,
+            b"",
+            "send",
+        ),
+    ];
+    for (header, body, word) in rows {
+        assert_eq!(rt; word_at(rt.alloc(), header, body)?, word);
     }
     Ok(())
 }
 
-// A header, a body, and their first fault. There are 17.
-fn fault_at(row: usize) -> (&'static str, &'static str, &'static str, &'static str) {
-    match row {
-        0 => (
-            "{\"code\":999,\"opaque\":1,\"extFields\":{}}",
-            "",
-            "unsupported",
-            "",
+#[test]
+fn a_pull_and_a_query_are_read(rt: HostRuntime) -> Result<(), Fail> {
+    let rows: [(&[u8], &str); 2] = [
+        (PULL, "pull"),
+        (
+            br#"{"code":12,"opaque":1,"extFields":{"topic":"T","key":"k","maxNum":"32","beginTimestamp":"0","endTimestamp":"9000"}}"#,
+            "query",
         ),
-        1 => (
-            "{\"code\":30,\"opaque\":1,\"extFields\":{\"topic\":\"T\"}}",
-            "",
-            "missing",
-            "queueId",
-        ),
-        2 => (
-            "{\"code\":30,\"opaque\":1,\"extFields\":{\"topic\":\"T\",\"queueId\":\"x\"}}",
-            "",
-            "bad",
-            "queueId",
-        ),
-        3 => (
-            "{\"code\":30,\"opaque\":1,\"extFields\":{\"topic\":\"T\",\"queueId\":\"2147483648\"}}",
-            "",
-            "bad",
-            "queueId",
-        ),
-        4 => (
-            "{\"code\":33,\"opaque\":1,\"extFields\":{\"offset\":\"4611686018427387904\"}}",
-            "",
-            "bad",
-            "offset",
-        ),
-        5 => (
-            "{\"code\":34,\"opaque\":1,\"extFields\":{}}",
-            "{",
-            "body",
-            "",
-        ),
-        6 => (
-            "{\"code\":34,\"opaque\":1,\"extFields\":{}}",
-            "{\"clientID\":\"c\",\"clientID\":\"\"}",
-            "body",
-            "",
-        ),
-        7 => (
-            "{\"code\":37,\"opaque\":1,\"extFields\":{\"producerGroup\":\"P\",\"tranStateTableOffset\":\"0\",\"commitLogOffset\":\"0\",\"commitOrRollback\":\"5\"}}",
-            "",
-            "bad",
-            "commitOrRollback",
-        ),
-        8 => (
-            "{\"code\":10,\"opaque\":1,\"extFields\":{\"batch\":\"true\",\"bornTimestamp\":\"0\",\"producerGroup\":\"P\",\"queueId\":\"0\",\"sysFlag\":\"0\",\"topic\":\"T\"}}",
-            "",
-            "missing",
-            "flag",
-        ),
-        9 => (
-            "{\"code\":310,\"opaque\":1,\"extFields\":{\"a\":\"P\",\"b\":\"T\",\"e\":\"0\",\"f\":\"2\",\"g\":\"7\",\"h\":\"5\",\"m\":\"true\"}}",
-            "",
-            "bad",
-            "m",
-        ),
-        10 => (
-            "{\"code\":35,\"opaque\":1,\"extFields\":{\"clientID\":\"c\",\"producerGroup\":\"\"}}",
-            "",
-            "bad",
-            "producerGroup",
-        ),
-        11 => (
-            "{\"code\":17,\"opaque\":1,\"extFields\":{\"topic\":\"T\",\"readQueueNums\":\"0\",\"writeQueueNums\":\"1025\"}}",
-            "",
-            "bad",
-            "readQueueNums",
-        ),
-        12 => (
-            "{\"code\":41,\"opaque\":1,\"extFields\":{}}",
-            "{\"consumerGroup\":\"G\",\"clientId\":\"c\"}",
-            "body",
-            "",
-        ),
-        13 => (
-            "{\"code\":41,\"opaque\":1,\"extFields\":{}}",
-            "{\"consumerGroup\":\"G\",\"clientId\":\"c\",\"mqSet\":null}",
-            "body",
-            "",
-        ),
-        14 => (
-            "{\"code\":42,\"opaque\":1,\"extFields\":{}}",
-            "{\"consumerGroup\":\"G\",\"clientId\":\"c\",\"mqSet\":[{\"topic\":\"a b\",\"brokerName\":\"b\",\"queueId\":0}]}",
-            "body",
-            "",
-        ),
-        15 => (
-            "{\"code\":41,\"opaque\":1,\"extFields\":{}}",
-            "{\"consumerGroup\":\"G\",\"clientId\":\"c\",\"mqSet\":[{\"topic\":\"T\",\"brokerName\":\"b\",\"queueId\":1.0}]}",
-            "body",
-            "",
-        ),
-        _ => (
-            "{\"code\":35,\"opaque\":1,\"extFields\":{\"clientID\":\"abcdefghijklmnopqrstuvwxyz0123456789ABCDabcdefghijklmnopqrstuvwxyz0123456789ABCDabcdefghijklmnopqrstuvwxyz0123456789ABCDx\"}}",
-            "",
-            "bad",
-            "clientID",
-        ),
+    ];
+    for (header, word) in rows {
+        assert_eq!(rt; word_at(rt.alloc(), header, b"")?, word);
     }
+    Ok(())
 }
 
 #[test]
-fn the_first_fault_is_told(rt: HostRuntime) -> Result<(), Fail> {
-    for row in 0..17 {
-        let (header, body, word, name) = fault_at(row);
-        let frame = frame_of(rt.alloc(), header, body)?;
-        let Err(fault) = Request::read(rt.alloc(), &frame) else {
-            return Err(Fail::from("a fault"));
-        };
-        let (told, field) = words_of(&fault);
-        assert!(rt; told == word, "at row {row}");
-        assert!(rt; field == name, "at row {row}");
+fn offsets_topics_and_times_are_read(rt: HostRuntime) -> Result<(), Fail> {
+    let rows: [(&[u8], &str); 4] = [
+        (
+            br#"{"code":14,"opaque":1,"extFields":{"consumerGroup":"G","topic":"T","queueId":"1"}}"#,
+            "offset",
+        ),
+        (
+            br#"{"code":15,"opaque":1,"extFields":{"consumerGroup":"G","topic":"T","queueId":"1","commitOffset":"9"}}"#,
+            "set",
+        ),
+        (
+            br#"{"code":17,"opaque":1,"extFields":{"topic":"T","readQueueNums":"1","writeQueueNums":"1024"}}"#,
+            "topic",
+        ),
+        (
+            br#"{"code":29,"opaque":1,"extFields":{"topic":"T","queueId":"1","timestamp":"1001"}}"#,
+            "search",
+        ),
+    ];
+    for (header, word) in rows {
+        assert_eq!(rt; word_at(rt.alloc(), header, b"")?, word);
+    }
+    Ok(())
+}
+
+#[test]
+fn ends_of_queues_and_places_are_read(rt: HostRuntime) -> Result<(), Fail> {
+    let rows: [(&[u8], &str); 3] = [
+        (
+            br#"{"code":30,"opaque":1,"extFields":{"topic":"T","queueId":"1"}}"#,
+            "max",
+        ),
+        (
+            br#"{"code":31,"opaque":1,"extFields":{"topic":"T","queueId":"1"}}"#,
+            "min",
+        ),
+        (
+            br#"{"code":33,"opaque":1,"extFields":{"offset":"108"}}"#,
+            "view",
+        ),
+    ];
+    for (header, word) in rows {
+        assert_eq!(rt; word_at(rt.alloc(), header, b"")?, word);
+    }
+    Ok(())
+}
+
+#[test]
+fn clients_that_leave_and_verdicts_are_read(rt: HostRuntime) -> Result<(), Fail> {
+    let rows: [(&[u8], &str); 3] = [
+        (
+            br#"{"code":35,"opaque":1,"extFields":{"clientID":"c","consumerGroup":"G"}}"#,
+            "leave",
+        ),
+        (
+            br#"{"code":35,"opaque":1,"extFields":{"clientID":"abcdefghijklmnopqrstuvwxyz0123456789ABCDabcdefghijklmnopqrstuvwxyz0123456789ABCDabcdefghijklmnopqrstuvwxyz0123456789ABCD"}}"#,
+            "leave",
+        ),
+        (
+            br#"{"code":37,"opaque":1,"extFields":{"producerGroup":"P","tranStateTableOffset":"1","commitLogOffset":"178","commitOrRollback":"12","msgId":"m"}}"#,
+            "end",
+        ),
+    ];
+    for (header, word) in rows {
+        assert_eq!(rt; word_at(rt.alloc(), header, b"")?, word);
+    }
+    Ok(())
+}
+
+#[test]
+fn heartbeats_and_locks_are_read(rt: HostRuntime) -> Result<(), Fail> {
+    let rows: [(&[u8], &[u8], &str); 3] = [
+        (
+            br#"{"code":34,"opaque":1,"extFields":{}}"#,
+            br#"{"clientID":"","clientID":"c","producerDataSet":[{"groupName":"P"}],"consumerDataSet":[{"groupName":"G","subscriptionDataSet":[{"topic":"T","subString":"*"}]},{"groupName":"H"}]}"#,
+            "beat",
+        ),
+        (
+            br#"{"code":41,"opaque":1,"extFields":{}}"#,
+            br#"{"consumerGroup":"G","clientId":"c","mqSet":[{"topic":"T","brokerName":"b","queueId":0}]}"#,
+            "lock",
+        ),
+        (
+            br#"{"code":42,"opaque":1,"extFields":{}}"#,
+            br#"{"consumerGroup":"G","clientId":"c","mqSet":[]}"#,
+            "unlock",
+        ),
+    ];
+    for (header, body, word) in rows {
+        assert_eq!(rt; word_at(rt.alloc(), header, body)?, word);
+    }
+    Ok(())
+}
+
+#[test]
+fn an_unknown_code_and_absent_fields_are_told(rt: HostRuntime) -> Result<(), Fail> {
+    let rows: [(&[u8], &str, &str); 3] = [
+        (
+            br#"{"code":999,"opaque":1,"extFields":{}}"#,
+            "unsupported",
+            "",
+        ),
+        (
+            br#"{"code":30,"opaque":1,"extFields":{"topic":"T"}}"#,
+            "missing",
+            "queueId",
+        ),
+        (
+            br#"{"code":10,"opaque":1,"extFields":{"batch":"true","bornTimestamp":"0","producerGroup":"P","queueId":"0","sysFlag":"0","topic":"T"}}"#,
+            "missing",
+            "flag",
+        ),
+    ];
+    for (header, word, name) in rows {
+        assert!(rt;
+            is_told(rt.alloc(), header, b"", word, name)?,
+            "{word} {name}"
+        );
+    }
+    Ok(())
+}
+
+#[test]
+fn numbers_past_their_ranges_are_told(rt: HostRuntime) -> Result<(), Fail> {
+    let rows: [(&[u8], &str, &str); 4] = [
+        (
+            br#"{"code":30,"opaque":1,"extFields":{"topic":"T","queueId":"x"}}"#,
+            "bad",
+            "queueId",
+        ),
+        (
+            br#"{"code":30,"opaque":1,"extFields":{"topic":"T","queueId":"2147483648"}}"#,
+            "bad",
+            "queueId",
+        ),
+        (
+            br#"{"code":33,"opaque":1,"extFields":{"offset":"4611686018427387904"}}"#,
+            "bad",
+            "offset",
+        ),
+        (
+            br#"{"code":17,"opaque":1,"extFields":{"topic":"T","readQueueNums":"0","writeQueueNums":"1025"}}"#,
+            "bad",
+            "readQueueNums",
+        ),
+    ];
+    for (header, word, name) in rows {
+        assert!(rt;
+            is_told(rt.alloc(), header, b"", word, name)?,
+            "{word} {name}"
+        );
+    }
+    Ok(())
+}
+
+#[test]
+fn batches_verdicts_and_names_that_are_none_are_told(rt: HostRuntime) -> Result<(), Fail> {
+    let rows: [(&[u8], &str, &str); 4] = [
+        (
+            br#"{"code":310,"opaque":1,"extFields":{"a":"P","b":"T","e":"0","f":"2","g":"7","h":"5","m":"true"}}"#,
+            "bad",
+            "m",
+        ),
+        (
+            br#"{"code":37,"opaque":1,"extFields":{"producerGroup":"P","tranStateTableOffset":"0","commitLogOffset":"0","commitOrRollback":"5"}}"#,
+            "bad",
+            "commitOrRollback",
+        ),
+        (
+            br#"{"code":35,"opaque":1,"extFields":{"clientID":"c","producerGroup":""}}"#,
+            "bad",
+            "producerGroup",
+        ),
+        (
+            br#"{"code":35,"opaque":1,"extFields":{"clientID":"abcdefghijklmnopqrstuvwxyz0123456789ABCDabcdefghijklmnopqrstuvwxyz0123456789ABCDabcdefghijklmnopqrstuvwxyz0123456789ABCDx"}}"#,
+            "bad",
+            "clientID",
+        ),
+    ];
+    for (header, word, name) in rows {
+        assert!(rt;
+            is_told(rt.alloc(), header, b"", word, name)?,
+            "{word} {name}"
+        );
+    }
+    Ok(())
+}
+
+#[test]
+fn bodies_of_other_forms_are_told(rt: HostRuntime) -> Result<(), Fail> {
+    let rows: [(&[u8], &[u8]); 6] = [
+        (br#"{"code":34,"opaque":1,"extFields":{}}"#, b"{"),
+        (
+            br#"{"code":34,"opaque":1,"extFields":{}}"#,
+            br#"{"clientID":"c","clientID":""}"#,
+        ),
+        (
+            br#"{"code":41,"opaque":1,"extFields":{}}"#,
+            br#"{"consumerGroup":"G","clientId":"c"}"#,
+        ),
+        (
+            br#"{"code":41,"opaque":1,"extFields":{}}"#,
+            br#"{"consumerGroup":"G","clientId":"c","mqSet":null}"#,
+        ),
+        (
+            br#"{"code":42,"opaque":1,"extFields":{}}"#,
+            br#"{"consumerGroup":"G","clientId":"c","mqSet":[{"topic":"a b","brokerName":"b","queueId":0}]}"#,
+        ),
+        (
+            br#"{"code":41,"opaque":1,"extFields":{}}"#,
+            br#"{"consumerGroup":"G","clientId":"c","mqSet":[{"topic":"T","brokerName":"b","queueId":1.0}]}"#,
+        ),
+    ];
+    for (header, body) in rows {
+        assert!(rt;
+            is_told(rt.alloc(), header, body, "body", "")?,
+            "at {body:?}"
+        );
     }
     Ok(())
 }
 
 #[test]
 fn a_pull_keeps_its_fields_and_defaults(rt: HostRuntime) -> Result<(), Fail> {
-    let (header, body, _) = request_at(2);
-    let frame = frame_of(rt.alloc(), header, body)?;
+    let frame = frame_of(rt.alloc(), PULL, b"")?;
     let Ok(Request::Pull(pull)) = Request::read(rt.alloc(), &frame) else {
         return Err(Fail::from("a pull"));
     };
