@@ -1,7 +1,6 @@
 -- The fields of check-backs, and the records that go with them.
-use Rattle.std.proofs.Common.{◌≡◌, ◌∙◌, ℕ, ℤ, pos, ◌+◌, ◌^◌, ◌<◌, ◌≤◌, ◌++◌, List, [], ◌∷◌, codes, length, refl, ap, sym, subst, arith, length-append, FitsSigned, w32, Bool, true, false, cond, Option, Some}
+use Rattle.std.proofs.Common.{◌≡◌, ◌∙◌, ℕ, ℤ, pos, ◌+◌, ◌^◌, ◌<◌, ◌≤◌, ◌++◌, List, [], ◌∷◌, codes, length, refl, ap, sym, arith, append_assoc, length-append, Bool, true, false, cond, Option, Some}
 use Rattle.std.proofs.lemmas.Fmt.{length-decimal-le}
-use Rattle.std.proofs.lemmas.List.{append-nil}
 use Rattle.std.specs.List.Sorted.{IsStrictlySortedBy}
 use Rattle.std.specs.Int.{w64, to_be_bytes}
 use Rattle.std.specs.Str.{bytes_eq}
@@ -10,18 +9,17 @@ use Rattle.mq_bytes.specs.Decimal.{digits_of, decimal_value}
 use Rattle.mq_bytes.specs.Ids.{message_id_of}
 use Rattle.mq_bytes.proofs.DecimalLaws.{decimal_value-decimal}
 use Rattle.mq_bytes.proofs.HexLemmas.{length-hex_of}
-use Rattle.record_codec.specs.Entry.{Entry}
-use Rattle.record_codec.specs.Layout.{layout, IsRecord}
-use Rattle.record_codec.specs.Parsed.{parsed}
+use Rattle.record_codec.specs.Drafts.{entry_of, draft_size}
+use Rattle.record_codec.specs.Layout.{layout}
 use Rattle.record_codec.specs.Props.{written, pair_text, value_of}
+use Rattle.record_codec.specs.declared.draft.Draft.{Draft}
 use Rattle.record_codec.specs.declared.draft.Record.{Record}
 use Rattle.record_codec.proofs.DraftLemmas.{HasNoFault-from}
-use Rattle.record_codec.proofs.Records.{parsed_again}
+use Rattle.record_codec.proofs.LayoutLengths.{length-layout}
 use Rattle.remoting_frame.specs.Head.{Head, IsInOrder, pairs_size}
-use Rattle.remoting_frame.specs.Written.{json_text}
-use Rattle.remoting_frame.proofs.HeaderTexts.{has_32_bits}
-use Rattle.reply_fields.specs.Asks.{text_or, ask_fields, IsAsked}
-use Rattle.reply_fields.proofs.HeaderLengths.{length-header}
+use Rattle.remoting_frame.specs.Headers.{front_bytes}
+use Rattle.remoting_frame.specs.declared.frame.Form.TheVariants.{Json}
+use Rattle.reply_fields.specs.Asks.{text_or, real_draft, ask_fields, ask_head, ask_bytes, IsAsked}
 
 pub ask_in_order : (r : Record) → IsInOrder (ask_fields r)
 unfolding IsStrictlySortedBy
@@ -30,10 +28,6 @@ ask_in_order r = ((refl, (refl, (refl, (refl, tt)))), ((refl, (refl, (refl, tt))
 -- digits without a leading zero are read as their number
 pub number_read : (text : List ℕ) → text ≡ digits_of (digits_value 10 text) → digits_value 10 text < 1024 → decimal_value text ≡ Some (pos (digits_value 10 text))
 number_read text plain low = ap decimal_value plain ∙ decimal_value-decimal (pos (digits_value 10 text)) (omega (arith, low))
-
--- a record is read again from its bytes
-pub read-again : (bytes : List ℕ) (r : Entry) → IsRecord r → bytes ≡ layout r → parsed bytes ≡ Some r
-read-again bytes r a_record is = ap parsed (is ∙ sym (append-nil (layout r))) ∙ parsed_again r [] a_record
 
 -- ---- lengths
 
@@ -62,15 +56,20 @@ length-fields r asked eight =
     let place = r.place in
     let props = r.draft.props in
     let id = length-id r.draft.store_host place.offset eight in
-    let fault = HasNoFault-from (2 ^ 30) r.draft asked.stored.passes in
+    let fault = HasNoFault-from (2 ^ 30) (real_draft r.draft) asked.encodable.passes in
     let sender = length-value (codes "UNIQ_KEY") (message_id_of r.draft.store_host place.offset) props in
     let transaction = length-value (codes "UNIQ_KEY") [] props in
-    omega (arith, id, fault.props, sender, transaction, length-digits place.offset asked.stored.offset, length-digits place.queue_offset asked.stored.queue_offset)
+    omega (arith, id, fault.props, sender, transaction, length-digits place.offset asked.encodable.offset, length-digits place.queue_offset asked.encodable.queue_offset)
 
--- a header that is a check-back's is far from too long for a frame
-pub length-ask : (r : Record) (opaque z : ℤ) (remark : List ℕ) (ext : List (List ℕ × List ℕ)) → z ≡ opaque → remark ≡ [] → ext ≡ ask_fields r → FitsSigned w32 opaque → IsAsked r → length r.draft.store_host ≡ 8
-    → length (json_text (record { code = pos 39; version = pos 0; opaque = z; flag = pos 2; remark = remark; ext = ext })) < 2 ^ 24
-length-ask r opaque z remark ext same none fields fits asked eight =
-    let head : Head = record { code = pos 39; version = pos 0; opaque = z; flag = pos 2; remark = remark; ext = ext } in
-    let bits = has_32_bits head (omega arith) (omega arith) (subst (FitsSigned w32) (sym same) fits) (omega arith) in
-    omega (arith, length-header head bits, ap length none, ap pairs_size fields, length-fields r asked eight)
+-- a header that is a check-back's is short
+pub short_ask : (r : Record) (remark : List ℕ) (ext : List (List ℕ × List ℕ)) → remark ≡ [] → ext ≡ ask_fields r → IsAsked r → length r.draft.store_host ≡ 8 → length remark + pairs_size ext ≤ 131072
+short_ask r remark ext none fields asked eight = omega (arith, ap length none, ap pairs_size fields, length-fields r asked eight)
+
+-- a front, and behind it the record of the message, is the frame of the check-back
+pub appends-ask : (r : Record) (opaque : ℤ) (head : Head) (message : Draft) (size : ℕ) (old front new : List ℕ) → head ≡ ask_head r opaque → message ≡ real_draft r.draft → size ≡ draft_size message
+    → front ≡ old ++ front_bytes Json head size → new ≡ front ++ layout (entry_of message r.place) → new ≡ old ++ ask_bytes opaque r
+appends-ask r opaque head message size old front new asks says sized begun added =
+    let body : List ℕ = layout (entry_of (real_draft r.draft) r.place) in
+    let len : size ≡ length body = sized ∙ ap draft_size says ∙ sym (length-layout (entry_of (real_draft r.draft) r.place)) in
+    let began : front ≡ old ++ front_bytes Json (ask_head r opaque) (length body) = rw (← asks, ← len) begun in
+    added ∙ ap (λ (d : Draft). front ++ layout (entry_of d r.place)) says ∙ ap (λ (l : List ℕ). l ++ body) began ∙ append_assoc old (front_bytes Json (ask_head r opaque) (length body)) body

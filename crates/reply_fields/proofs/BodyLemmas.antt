@@ -96,7 +96,7 @@ goes_on-within first len [] within on = omega arith
 goes_on-within first len (Held bytes ∷ slices) within on = absurd on.0
 goes_on-within first len (Kept next ∷ slices) within on =
     let at : next.at ≡ first.at + len = on.0.at in
-    let end : next.at + next.len ≤ first.piece.len = on.0.within in
+    let end : next.at + next.len ≤ first.piece.len = omega (arith, next.within, on.0.piece.len) in
     omega (arith, body_len-cons (Kept next) slices, goes_on-within first (len + next.len) slices (omega arith) on.1)
 
 -- the bytes of a piece, where it has them, from a place on

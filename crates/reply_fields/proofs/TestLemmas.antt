@@ -35,16 +35,12 @@ half_record topic body props = record { draft = half_draft topic body props; pla
 abbrev known_draft : Draft
 known_draft = half_draft (codes "RMQ_SYS_TRANS_HALF_TOPIC") (codes "hi") half_props
 
-stored : IsEncodable known_draft half_place
-unfolding draft_fault
-stored = record { passes = refl; born = lit< tt; prepared = lit< tt; queue_offset = lit< tt; offset = lit< tt; store = lit< tt; unsealed = refl }
-
 sent : IsEncodable (real_draft known_draft) half_place
 unfolding draft_fault
 sent = record { passes = refl; born = lit< tt; prepared = lit< tt; queue_offset = lit< tt; offset = lit< tt; store = lit< tt; unsealed = refl }
 
 known : IsAsked (half_record (codes "RMQ_SYS_TRANS_HALF_TOPIC") (codes "hi") half_props)
-known = record { stored = stored; topic = refl; queue = lit< tt; decimal = ap Some (sym (decimal_digit 0 (lit< tt))); encodable = sent }
+known = record { topic = refl; queue = lit< tt; decimal = ap Some (sym (decimal_digit 0 (lit< tt))); encodable = sent }
 
 pub half-asked : (topic body : List ℕ) (props : List (List ℕ × List ℕ)) → topic ≡ codes "RMQ_SYS_TRANS_HALF_TOPIC" → body ≡ codes "hi" → props ≡ half_props → IsAsked (half_record topic body props)
 half-asked topic body props t b p =

@@ -41,10 +41,9 @@ real_draft d = record {
   props = d.props;
 }
 
--- What each check-back keeps of its record: it stands in the log, its topic is legal, its queue is below 1,024 and
--- written in decimal, and it can be written as the message that it will be.
+-- What each check-back keeps of its record: its topic is legal, its queue is below 1,024 and written in decimal, and it
+-- can be written as the message that it will be.
 pub record IsAsked (r : Record) : Type 0 where
-  pub stored : IsEncodable r.draft r.place
   pub topic : is_legal (real_topic r.draft.props) ≡ true
   pub queue : real_queue r.draft.props < 1024
   pub decimal : value_of (codes "REAL_QID") r.draft.props ≡ Some (digits_of (real_queue r.draft.props))

@@ -11,27 +11,28 @@
 //! | `tranStateTableOffset` | the record's queue offset                                 |
 //! | `transactionId`        | the property `UNIQ_KEY`, or else empty                    |
 
-ghost use Rattle.std.specs.Prelude.{◌≡◌, ◌<◌, ◌^◌, ◌++◌, length, codes, IfOk, OnOk, OnErr, Some};
+ghost use Rattle.std.specs.Prelude.{◌≡◌, ◌<◌, ◌^◌, ◌++◌, length, codes, IfOk, OnOk, OnErr, Some, None};
 ghost use Rattle.std.specs.Str.Parse.{digits_value};
 ghost use Rattle.mq_bytes.specs.Decimal.{digits_of};
 ghost use Rattle.mq_bytes.specs.Ids.{message_id_of};
-ghost use Rattle.record_codec.specs.Drafts.{entry_of, IsEncodable};
+ghost use Rattle.record_codec.specs.Drafts.{draft_fault, draft_size};
 ghost use Rattle.record_codec.specs.Props.{value_of};
-ghost use Rattle.remoting_frame.specs.Head.{IsInOrder};
+ghost use Rattle.remoting_frame.specs.Head.{IsInOrder, IsShort};
 ghost use Rattle.remoting_frame.specs.Headers.{header_in, header_text};
 ghost use Rattle.remoting_frame.specs.declared.frame.Form.TheVariants.{Json};
 ghost use Rattle.reply_fields.specs.Asks.{text_or, real_topic as real_topic_of, real_queue as real_queue_of, real_draft, offset_id as offset_id_of, ask_fields, ask_head, ask_bytes, IsAsked};
 
-use crate::ask_frame::write_frame;
-use crate::copies::record_of;
 use mq_bytes::{Rows, Text, message_id, read_decimal};
-use record_codec::{Props, Record};
-use remoting_frame::Header;
+use record_codec::{Draft, Props, Record, encode};
+use remoting_frame::{Form, Header};
 use std::alloc::{AllocError, Global};
 use std::marker::Model;
 
-/// A check-back to a link, for a producer group. `view` is the newest record of the half message; it stands in the log,
-/// has a legal topic `REAL_TOPIC` and a decimal `REAL_QID` below 1,024, and can be written with these.
+/// The greatest segment.
+const SEGMENT_MAX: u32 = 1 << 30;
+
+/// A check-back to a link, for a producer group. `view` is the newest record of the half message; it has a legal topic
+/// `REAL_TOPIC` and a decimal `REAL_QID` below 1,024, and can be written with these.
 #[derive(Drop)]
 pub struct Ask {
     pub link: u32,
@@ -80,23 +81,37 @@ fn real_queue(props: &Props) -> u32
     number_in(props.get("REAL_QID").unwrap_or(""))
 }
 
-// The record as the message that it will be.
-fn message_of(alloc: Global, view: &Record) -> Result<Record, AllocError>
+// The half message as the message that it will be.
+fn message_of(alloc: Global, view: &Record) -> Result<Draft, AllocError>
     requires { IsAsked view.now }
-    ensures message { IfOk result (λ message. entry_of message.draft message.place ≡ entry_of (real_draft view.now.draft) view.now.place) }
-    ensures encodable { IfOk result (λ message. IsEncodable message.draft message.place) }
+    ensures { IfOk result (λ message. message ≡ real_draft view.now.draft) }
 {
-    let topic = real_topic(alloc, &view.draft.props)?;
-    let queue = real_queue(&view.draft.props);
-    let copy = record_of(alloc, view)?;
-    let mut draft = copy.draft;
-    draft.topic = topic;
-    draft.queue = queue;
-    Ok(Record {
-        draft,
-        place: copy.place,
-        size: copy.size,
+    let half = &view.draft;
+    Ok(Draft {
+        topic: real_topic(alloc, &half.props)?,
+        queue: real_queue(&half.props),
+        flag: half.flag,
+        sysflag: half.sysflag,
+        born: half.born,
+        born_host: half.born_host,
+        store_host: half.store_host,
+        reconsume: half.reconsume,
+        prepared: half.prepared,
+        body: Rows::of(Vec::from_slice(alloc, half.body.as_slice())?),
+        props: half.props.copy(alloc)?,
     })
+}
+
+// How many bytes the record of the message has.
+fn size_of(message: &Draft) -> u32
+    requires { draft_fault (2 ^ 30) message.now ≡ None }
+    ensures size { result ≡ draft_size message.now }
+    ensures within { result < 2 ^ 30 }
+{
+    match message.check(SEGMENT_MAX) {
+        Ok(size) => size,
+        Err(_) => unreachable!(),
+    }
 }
 
 fn text(alloc: Global, text: &str) -> Result<Text, AllocError>
@@ -170,7 +185,7 @@ fn fields_of(alloc: Global, view: &Record) -> Result<Rows<(Text, Text)>, AllocEr
 fn header_of(alloc: Global, view: &Record, opaque: i32) -> Result<Header, AllocError>
     requires { IsAsked view.now }
     ensures header { IfOk result (λ header. header ≡ ask_head view.now opaque) }
-    ensures short { IfOk result (λ header. length (header_text Json header) < 2 ^ 24) }
+    ensures short { IfOk result IsShort }
 {
     let ext = fields_of(alloc, view)?;
     let remark = Text::of(String::new(alloc));
@@ -193,7 +208,14 @@ impl Ask {
     {
         let header = header_of(alloc, &self.view, opaque)?;
         let message = message_of(alloc, &self.view)?;
-        write_frame(alloc, &header, &message, out)?;
-        Ok(())
+        let start = out.len();
+        header.write_front(alloc, Form::Json, size_of(&message), out)?;
+        match encode(&message, &self.view.place, out) {
+            Ok(()) => Ok(()),
+            Err(_) => {
+                out.truncate(start);
+                Err(AllocError)
+            }
+        }
     }
 }

@@ -4,7 +4,7 @@ ghost use Rattle.std.specs.Prelude.{◌≡◌, ◌+◌, ◌≤◌, ◌<◌, ◌^
 ghost use Rattle.mq_outside.specs.Counts.{CountsFailure, CountsDiskFault};
 ghost use Rattle.reply_fields.specs.Ranges.{RisesAtMost};
 ghost use Rattle.reply_fields.specs.Slices.{slice_len, body_len, kept_count, IsBody, AppendsBody};
-ghost use Rattle.reply_fields.specs.Stretches.{HasSame, Adjoins, GoesOn, GoOn, IsStretch};
+ghost use Rattle.reply_fields.specs.Stretches.{IsSamePiece, HasSame, Adjoins, GoesOn, GoOn, IsStretch};
 
 use crate::slice::{Slice, StoredRange};
 use bytes::Bytes;
@@ -40,10 +40,10 @@ fn are_same(first: &Bytes, next: &Bytes, at: usize, len: usize) -> bool
     &first.as_slice()[at..at + len] == &next.as_slice()[at..at + len]
 }
 
-// Whether a range of the second piece can be read from the first.
+// Whether the two are one piece, and a range of the second can be read from the first.
 fn has_same(first: &Frozen, next: &Frozen, at: u64, len: u32) -> bool
     requires within { at + len ≤ next.now.len }
-    ensures within { IsTrue result → at + len ≤ first.now.len }
+    ensures piece { IsTrue result → IsSamePiece first.now next.now }
     ensures fits { IsTrue result → at + len < 2 ^ 64 }
     ensures same { IsTrue result → HasSame first.now.held next.now.held at len }
 {

@@ -2,7 +2,6 @@
 #![tactic(auto)]
 
 mod ask;
-mod ask_frame;
 mod body;
 mod copies;
 mod refusals;

@@ -1,10 +1,12 @@
 //! A reply: what a client is told of its request, and how it is written.
 
-ghost use Rattle.std.specs.Prelude.{◌≡◌, ◌<◌, ◌^◌, ◌++◌, OnOk, OnErr, IfOk, Some};
+ghost use Rattle.std.specs.Prelude.{◌≡◌, ◌+◌, ◌<◌, ◌≤◌, ◌^◌, ◌++◌, length, FitsSigned, OnOk, OnErr, IfOk, Some};
+ghost use Rattle.std.specs.Int.{w16};
 ghost use Rattle.mq_outside.specs.Counts.{CountsDiskFault};
 ghost use Rattle.remoting_frame.specs.BinaryText.{Has16Bits};
-ghost use Rattle.remoting_frame.specs.Head.{IsShort};
+ghost use Rattle.remoting_frame.specs.Head.{pairs_size};
 ghost use Rattle.remoting_frame.specs.Headers.{header_in, header_text, front_bytes};
+ghost use Rattle.reply_fields.specs.Parts.{plain as plain_of};
 ghost use Rattle.reply_fields.specs.Ranges.{RisesAtMost};
 ghost use Rattle.reply_fields.specs.Replies.{reply_head, AppendsReply};
 ghost use Rattle.reply_fields.specs.Slices.{body_len, kept_count, AppendsBody};
@@ -45,10 +47,25 @@ impl Model for Reply {
 const FRONT_ROOM: usize = 512;
 
 impl Reply {
+    /// A reply that is a code and a remark, of at most 65,536 bytes, with no fields and no body.
+    #[tactic(auto, using(crate::proofs::ReplyLemmas::none_in_order))]
+    pub fn plain(alloc: Global, code: i32, remark: &str) -> Result<Reply, AllocError>
+        requires code { FitsSigned w16 code }
+        requires short { length remark.now ≤ 65536 }
+        ensures { IfOk result (λ reply. reply ≡ plain_of code remark.now) }
+    {
+        Ok(Reply {
+            code,
+            remark: Text::of(String::from_str(alloc, remark)?),
+            ext: Rows::of(Vec::new(alloc)),
+            body: Rows::of(Vec::new(alloc)),
+        })
+    }
+
     // The header of this reply.
     fn header(&self, alloc: Global, opaque: i32) -> Result<Header, AllocError>
         ensures header { IfOk result (λ header. header ≡ reply_head self.now opaque) }
-        ensures short { IfOk result IsShort }
+        ensures short { IfOk result (λ header. length header.remark + pairs_size header.ext ≤ 65536) }
         ensures bits { IfOk result Has16Bits }
     {
         Ok(Header {
@@ -62,6 +79,7 @@ impl Reply {
     }
 
     // Appends the front of the frame, which `size` bytes are to follow.
+    #[tactic(auto, using(remoting_frame::proofs::BinaryWriting::short_fits))]
     fn write_front(
         &self,
         alloc: Global,
