@@ -1,13 +1,14 @@
 -- What is taken of a send can be written.
 use Rattle.std.proofs.Common.{◌≡◌, ℕ, ◌+◌, ◌^◌, ◌<◌, ◌≤◌, List, length, codes, Bool, true, false, cond, not, Option, Some, None, refl, ap, ◌∙◌, arith}
-use Rattle.std.specs.Prelude.{bit_and, eqb}
-use Rattle.std.proofs.lemmas.Bool.{and_parts, and_from, not-false, ltb-false, ltb-true, le-ltb, eqb-true, eq-eqb}
+use Rattle.std.specs.Prelude.{bit_and}
+use Rattle.std.proofs.lemmas.Bool.{and_parts, not-false, ltb-false, ltb-true, le-ltb, eqb-true, eq-eqb}
 use Rattle.std.specs.Int.Bits.{and_zero_r}
 use Rattle.std.proofs.lemmas.Nat.{and_assoc}
+use Rattle.std.proofs.lemmas.List.Elements.{filter_passes}
 use Rattle.record_codec.specs.Props.{written}
 use Rattle.record_codec.specs.LaxProps.{read_props}
-use Rattle.record_codec.specs.Layout.{all_topic_chars, is_legal, are_hosts_short}
-use Rattle.record_codec.specs.Drafts.{draft_fault, draft_size, is_named}
+use Rattle.record_codec.specs.Layout.{is_named, is_legal, are_hosts_short}
+use Rattle.record_codec.specs.Drafts.{draft_fault, draft_size}
 use Rattle.log_model.specs.Log.{is_system_topic}
 use Rattle.request_fields.specs.Requests.{SendSaid}
 use Rattle.send_rules.specs.Kinds.{flag_of}
@@ -64,11 +65,10 @@ unfolding draft_fault
 writable segment born_host store_host send h born =
     let fine = is_fine segment send h in
     let legal = and_parts _ _ fine.topic in
-    let lengths = and_parts _ _ legal.0 in
-    let short : length send.topic < 128 = ltb-true _ _ lengths.1 in
+    let short : length send.topic < 128 = ltb-true _ _ legal.1 in
     let ps = read_props send.props in
     let within : length (written (kept_props ps)) ≤ length send.props + 1 = kept_within (λ p. not (is_among reserved p.0)) send.props in
-    let named : not (is_named send.topic) ≡ false = ap not (and_from _ _ lengths.0 legal.1) in
+    let named : not (is_named send.topic) ≡ false = ap not legal.0 in
     let topic = le-ltb 127 (length send.topic) (omega (arith, short)) in
     let hosts : not (are_hosts_short (plain_flag (flag_of send))) ≡ false = ap not (hosts_stay (flag_of send) fine.hosts) in
     let body = le-ltb 4194304 (length send.body) fine.body in
@@ -83,5 +83,6 @@ writable segment born_host store_host send h born =
       topic = fine.own;
       transaction = no_transaction (flag_of send);
       delivery = (gone (codes "DELAY_FROM") ps refl).value;
+      free = filter_passes (λ p. not (is_among reserved p.0)) ps;
       renewal = (gone (codes "TRAN_PREPARED_QUEUE_OFFSET") ps refl).value;
     }

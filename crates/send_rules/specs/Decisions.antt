@@ -1,11 +1,11 @@
 -- What is decided of a send: why it is refused, or what its record says.
-use Rattle.std.specs.Prelude.{◌≡◌, ℕ, ◌^◌, ◌<◌, List, codes, bit_and, false, Option, Some, None}
+use Rattle.std.specs.Prelude.{◌≡◌, ℕ, ◌^◌, ◌<◌, List, codes, bit_and, not, true, false, Option, Some, None, All}
 use Rattle.record_codec.specs.Props.{value_of, has_name}
 use Rattle.record_codec.specs.Drafts.{draft_fault}
 use Rattle.record_codec.specs.declared.draft.Draft.{Draft}
 use Rattle.log_model.specs.Log.{is_system_topic}
 use Rattle.request_fields.specs.Requests.{SendSaid}
-use Rattle.send_rules.specs.Records.{draft_of}
+use Rattle.send_rules.specs.Records.{reserved, is_among, draft_of}
 use Rattle.send_rules.specs.Refusals.{refusal_of}
 use Rattle.send_rules.specs.declared.refusal.Refusal.{Refusal}
 use Rattle.send_rules.specs.declared.decision.Decision.{Decision}
@@ -21,7 +21,7 @@ abbrev pub decision_of : ℕ → List ℕ → List ℕ → SendSaid → Decision
 decision_of segment born_host store_host send = decided (refusal_of segment send) (draft_of born_host store_host send)
 
 -- The draft can be written into any segment of this size, and the record is that of a plain message in the first queue of a
--- topic that isn't the broker's own.
+-- topic that isn't the broker's own, with none of the names of properties that the broker keeps for itself.
 pub record IsWritable (segment : ℕ) (draft : Draft) : Type 0 where
   pub passes : draft_fault segment draft ≡ None
   pub queue : draft.queue ≡ 0
@@ -31,6 +31,7 @@ pub record IsWritable (segment : ℕ) (draft : Draft) : Type 0 where
   pub topic : is_system_topic draft.topic ≡ false
   pub transaction : bit_and draft.sysflag 12 ≡ 0
   pub delivery : value_of (codes "DELAY_FROM") draft.props ≡ None
+  pub free : All (λ p. not (is_among reserved p.0) ≡ true) draft.props
   pub renewal : value_of (codes "TRAN_PREPARED_QUEUE_OFFSET") draft.props ≡ None
 
 -- what is taken can be written

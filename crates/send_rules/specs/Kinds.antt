@@ -47,5 +47,5 @@ abbrev pub is_unawaited : SendSaid → Bool
 is_unawaited send = says (codes "WAIT") (codes "false") (read_props send.props)
 
 -- a form that the broker doesn't serve yet
-abbrev pub is_unbuilt : SendSaid → Bool
-is_unbuilt send = is_positive send.queue || (length send.default_topic == 0) || is_unawaited send || is_half send || is_delayed send
+abbrev pub is_unserved : SendSaid → Bool
+is_unserved send = is_positive send.queue || (length send.default_topic == 0) || is_unawaited send || is_half send || is_delayed send

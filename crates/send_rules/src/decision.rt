@@ -12,7 +12,9 @@ use std::alloc::{AllocError, Global};
 /// A send is refused, or taken with what its record says.
 #[derive(Drop)]
 pub enum Decision {
+    /// It is refused for this reason.
     Refused(Refusal),
+    /// Its record says this, wherever it will stand.
     Taken(Draft),
 }
 

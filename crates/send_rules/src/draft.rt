@@ -7,16 +7,6 @@ ghost use Rattle.send_rules.specs.Records.{kept_props, draft_of as draft_of_send
 use record_codec::{Draft, Props};
 use request_fields::SendFields;
 
-/// The names of properties that the broker keeps for itself. They are dropped from each send.
-const RESERVED: [&str; 6] = [
-    "SEAL",
-    "REAL_TOPIC",
-    "REAL_QID",
-    "DELAY_FROM",
-    "TRAN_PREPARED_QUEUE_OFFSET",
-    "TRANSACTION_CHECK_TIMES",
-];
-
 /// All bits of the system flag but those that tell of a transaction.
 const PLAIN_BITS: u32 = 0xFFFF_FFF3;
 
@@ -28,6 +18,7 @@ pub struct Setup {
     pub host: [u8; 8],
 }
 
+// The names of properties that the broker keeps for itself are dropped from each send.
 fn drop_reserved(props: &mut Props)
     ensures { props.new ≡ kept_props props.old }
 {

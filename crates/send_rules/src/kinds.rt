@@ -3,7 +3,7 @@
 ghost use Rattle.std.specs.Prelude.{◌≡◌, codes, ℕ, List};
 ghost use Rattle.record_codec.specs.Props.{value_of};
 ghost use Rattle.record_codec.specs.LaxProps.{read_props};
-ghost use Rattle.send_rules.specs.Kinds.{says as says_of, is_level as is_level_of, is_half as is_half_of, is_unbuilt as is_unbuilt_of};
+ghost use Rattle.send_rules.specs.Kinds.{says as says_of, is_level as is_level_of, is_half as is_half_of, is_unserved as is_unserved_of};
 
 use mq_bytes::read_decimal;
 use record_codec::Props;
@@ -47,9 +47,9 @@ fn is_half(send: &SendFields, props: &Props) -> bool
 
 /// Whether it is of a form that the broker doesn't serve yet: to a queue other than the first, without a default topic,
 /// with a reply that waits for no flush, a half message, or a delayed one.
-pub(crate) fn is_unbuilt(send: &SendFields, props: &Props) -> bool
+pub(crate) fn is_unserved(send: &SendFields, props: &Props) -> bool
     requires { props.now ≡ read_props send.now.props }
-    ensures { result ≡ is_unbuilt_of send.now }
+    ensures { result ≡ is_unserved_of send.now }
 {
     send.queue > 0
         || send.default_topic.as_str().is_empty()

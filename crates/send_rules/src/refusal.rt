@@ -2,7 +2,7 @@
 //!
 //! | refusal       | when                                                                            |
 //! |---------------|---------------------------------------------------------------------------------|
-//! | `NotBuilt`    | it is of a form that isn't served yet (`kinds.rt`)                               |
+//! | `NotServed`   | it is of a form that isn't served yet (`kinds.rt`)                               |
 //! | `Topic`       | the topic is empty, longer than 127 bytes or has an illegal character           |
 //! | `SysFlag`     | the system flag says that a host has an address of 16 bytes                     |
 //! | `Body`        | the body passes 4,194,304 bytes                                                 |
@@ -14,7 +14,7 @@ ghost use Rattle.std.specs.Prelude.{◌≡◌, ◌≤◌, ◌^◌};
 ghost use Rattle.record_codec.specs.LaxProps.{read_props};
 ghost use Rattle.send_rules.specs.Refusals.{refusal_of as refusal_of_send};
 
-use crate::kinds::is_unbuilt;
+use crate::kinds::is_unserved;
 use log_model::is_system_topic;
 use record_codec::{Props, is_legal_topic};
 use request_fields::SendFields;
@@ -22,12 +22,19 @@ use request_fields::SendFields;
 /// Why a send is not taken.
 #[derive(Debug, Clone, Copy, PartialEq, Eq)]
 pub enum Refusal {
-    NotBuilt,
+    /// It is of a form that isn't served yet.
+    NotServed,
+    /// The topic isn't legal.
     Topic,
+    /// The system flag says that a host has an address of 16 bytes.
     SysFlag,
+    /// The body is too long.
     Body,
+    /// The property text is too long.
     Properties,
+    /// Its record may not fit into a segment.
     Record,
+    /// The topic is one that the broker keeps for itself.
     SystemTopic,
 }
 
@@ -48,8 +55,8 @@ pub(crate) fn refusal_of(send: &SendFields, props: &Props, segment: u32) -> Opti
 {
     let body = send.body.as_slice().len();
     let properties = send.props.as_str().len();
-    if is_unbuilt(send, props) {
-        return Some(Refusal::NotBuilt);
+    if is_unserved(send, props) {
+        return Some(Refusal::NotServed);
     }
     if !is_legal_topic(send.topic.as_str()) {
         return Some(Refusal::Topic);

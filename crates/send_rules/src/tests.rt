@@ -74,42 +74,42 @@ fn is_refused(alloc: Global, sample: Sample, reason: Refusal) -> Result<bool, Al
 #[test]
 fn the_first_refusal_that_holds_is_told(rt: HostRuntime) -> Result<(), Fail> {
     let rows = [
-        (Sample { queue: 1, ..PLAIN }, Refusal::NotBuilt),
+        (Sample { queue: 1, ..PLAIN }, Refusal::NotServed),
         (
             Sample {
                 default_topic: "",
                 topic: "a b",
                 ..PLAIN
             },
-            Refusal::NotBuilt,
+            Refusal::NotServed,
         ),
         (
             Sample {
                 props: "WAIT\x01FALSE",
                 ..PLAIN
             },
-            Refusal::NotBuilt,
+            Refusal::NotServed,
         ),
         (
             Sample {
                 props: "TRAN_MSG\x01True\x02",
                 ..PLAIN
             },
-            Refusal::NotBuilt,
+            Refusal::NotServed,
         ),
         (
             Sample {
                 sysflag: 4,
                 ..PLAIN
             },
-            Refusal::NotBuilt,
+            Refusal::NotServed,
         ),
         (
             Sample {
                 props: "DELAY\x0119",
                 ..PLAIN
             },
-            Refusal::NotBuilt,
+            Refusal::NotServed,
         ),
         (
             Sample {

@@ -1,4 +1,4 @@
-use Rattle.std.proofs.Common.{◌∙◌, ℕ, List, ap, codes}
+use Rattle.std.proofs.Common.{◌∙◌, ap, codes}
 use Rattle.record_codec.specs.Props.{without}
 use Rattle.send_rules.proofs.Kept.{reserved_dropped}
 use Rattle.send_rules.proofs.draft.drop_reserved.Goals as goal
