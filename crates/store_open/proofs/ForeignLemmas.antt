@@ -1,10 +1,11 @@
 -- When a store is another's.
-use Rattle.std.proofs.Common.{◌≡◌, ◌≢◌, ◌⊎◌, inl, inr, ℕ, List, [], ◌∷◌, Option, Some, None, refl, subst, arith}
+use Rattle.std.proofs.Common.{◌≡◌, ◌≢◌, ◌⊎◌, inl, inr, ℕ, List, [], ◌∷◌, Option, Some, None, refl, sym, subst, arith}
 use Rattle.std.specs.Prelude.{slice_get, unwrap_or, IfSome, IsSome}
 use Rattle.std.specs.List.{Contains}
 use Rattle.mq_outside.specs.Files.{Files, Lists, HasNoFile}
-use Rattle.store_open.specs.Openings.{FORMAT, IsFirstFile, IsForeign}
-use Rattle.store_open.specs.Formats.{IsFormatFor}
+use Rattle.mq_outside.specs.Disk.{DiskState, IsDurable}
+use Rattle.store_open.specs.Openings.{FORMAT, IsFirstFile, IsForeign, IsSegmentOf, IsOpened, format_after}
+use Rattle.store_open.specs.Formats.{format_text, IsFormatFor, NEW_SEGMENT, NEW_SLOTS, NEW_ENTRIES}
 use Rattle.store_open.specs.declared.status.Status.{Status}
 
 -- where no other size was asked for, it is the one that the format says
@@ -37,11 +38,6 @@ absent (Some b) not_there = absurd (not_there refl)
 pub none_listed : (files : Files) → Lists files [] → HasNoFile files
 none_listed files listed name = absent (files name) (λ there. let contained = (listed.each name).1 there in omega (arith, contained.1))
 
--- a store without a format and without a file is nobody else's
-pub own_empty : (files : Files) (kept : Option (List ℕ)) (asked : Option ℕ) (name : List ℕ) (names : List (List ℕ)) → kept ≡ None → names ≡ [] → Lists files names → IsForeign files kept asked name → ⊥
-own_empty files None asked name names none empty listed foreign = no_first_file files name (none_listed files (subst (λ (listed : List (List ℕ)). Lists files listed) empty listed)) foreign
-own_empty files (Some text) asked name names none empty listed foreign = cc
-
 -- the status of a text that is no format, or one of another size
 pub foreign_format : (files : Files) (kept : Option (List ℕ)) (text : List ℕ) (asked : Option ℕ) (status : Status) → kept ≡ Some text
     → (status.code ≡ 7) ⊎ ((status.code ≡ 6) × (status.name ≡ FORMAT) × ((segment : ℕ) → IsFormatFor text asked segment → ⊥)) → status.code ≡ 6 → IsForeign files kept asked status.name
@@ -50,3 +46,13 @@ foreign_format files (Some stored) text asked status is (inl seven) six = absurd
 foreign_format files (Some stored) text asked status is (inr foreign) six =
     let same : stored ≡ text = cc in
     (foreign.1, λ segment format. foreign.2 segment (subst (λ (t : List ℕ). IsFormatFor t asked segment) same format))
+
+-- a store that is new: its format was written
+pub new_opened : (asked : Option ℕ) (segment : ℕ) (disk : Type 0) (files : Files) (keep : Type 0) (old new : DiskState) → (keep → old.reads FORMAT ≡ None) → segment ≡ unwrap_or asked NEW_SEGMENT
+    → (disk → HasNoFile files) → (keep → new.reads FORMAT ≡ Some (format_text segment NEW_SLOTS NEW_ENTRIES)) → (keep → IsDurable FORMAT new) → IsOpened asked segment disk files keep old new
+new_opened asked segment disk files keep old new none size empty written durable = record {
+  size = λ told. subst (λ (kept : Option (List ℕ)). IsSegmentOf kept asked segment) (sym (none told)) size;
+  own = λ told kept name foreign. no_first_file files name (empty told) (subst (λ (text : Option (List ℕ)). IsForeign files text asked name) (none kept) foreign);
+  stands = λ told. subst (λ (kept : Option (List ℕ)). new.reads FORMAT ≡ Some (format_after kept segment)) (sym (none told)) (written told);
+  stays = λ told gone. durable told;
+}

@@ -2,6 +2,7 @@
 use Rattle.std.specs.Prelude.{◌≡◌, ◌⊎◌, ℕ, List, codes, Option, Some, None, slice_get, unwrap_or}
 use Rattle.mq_outside.specs.Counts.{Rises}
 use Rattle.mq_outside.specs.Files.{Files, Lists}
+use Rattle.mq_outside.specs.Disk.{DiskState, IsDurable}
 use Rattle.store_open.specs.Formats.{format_text, IsFormatFor, NEW_SEGMENT, NEW_SLOTS, NEW_ENTRIES}
 use Rattle.store_open.specs.declared.status.Status.{Status}
 
@@ -29,6 +30,14 @@ format_after (Some text) segment = text
 abbrev pub IsForeign : Files → Option (List ℕ) → Option ℕ → List ℕ → Type 0
 IsForeign files None asked name = IsFirstFile files name
 IsForeign files (Some text) asked name = (name ≡ FORMAT) × ((segment : ℕ) → IsFormatFor text asked segment → ⊥)
+
+-- A store that was opened in segments of this size: it is nobody else's, its format stands, and one that was written now stays.
+-- What is said of the disk and of the keep is said where these tell what they hold.
+pub record IsOpened (asked : Option ℕ) (segment : ℕ) (disk : Type 0) (files : Files) (keep : Type 0) (old new : DiskState) : Type 0 where
+  pub size : keep → IsSegmentOf (old.reads FORMAT) asked segment
+  pub own : disk → keep → (name : List ℕ) → IsForeign files (old.reads FORMAT) asked name → ⊥
+  pub stands : keep → new.reads FORMAT ≡ Some (format_after (old.reads FORMAT) segment)
+  pub stays : keep → old.reads FORMAT ≡ None → IsDurable FORMAT new
 
 -- the counts of the disk and of the keep
 abbrev pub OpeningCause : Status → ℕ → ℕ → ℕ → ℕ → Type 0

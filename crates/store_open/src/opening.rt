@@ -9,7 +9,7 @@ ghost use Rattle.mq_outside.specs.Files.{HasNoFile, Same};
 ghost use Rattle.mq_outside.specs.Disk.{IsDurable, Moves};
 ghost use Rattle.log_model.specs.Log.{IsSegmentSize};
 ghost use Rattle.store_open.specs.Formats.{format_text, IsFormatFor, NEW_ENTRIES, NEW_SLOTS};
-ghost use Rattle.store_open.specs.Openings.{FORMAT, IsForeign, IsSegmentOf, OpeningCause, format_after};
+ghost use Rattle.store_open.specs.Openings.{FORMAT, IsForeign, IsOpened, OpeningCause};
 
 use crate::format::{GREATEST_SEGMENT, read_format, write_format};
 use crate::status::Status;
@@ -69,16 +69,13 @@ pub fn open_format<D: Disk, P: Keep>(
     keep: &mut P,
     asked: Option<u32>,
 ) -> Result<u32, Status>
-    // The size, and where it comes from.
-    ensures is { P.tells → IfOk result (λ segment. IsSegmentOf ((P.state keep.old).reads FORMAT) asked segment) }
+    // The size, where it comes from, and the format that stands behind the call.
+    ensures opened { IfOk result (λ segment. IsOpened asked segment D.tells (D.state disk.old).reads P.tells (P.state keep.old) (P.state keep.new)) }
     ensures size { IfSome asked (λ bytes. IsSegmentSize bytes) → IfOk result (λ segment. IsSegmentSize segment) }
-    ensures format { P.tells → IfOk result (λ segment. (P.state keep.new).reads FORMAT ≡ Some (format_after ((P.state keep.old).reads FORMAT) segment)) }
-    ensures durable { P.tells → (P.state keep.old).reads FORMAT ≡ None → OnOk result (IsDurable FORMAT (P.state keep.new)) }
     ensures empty { D.tells → P.tells → (P.state keep.old).reads FORMAT ≡ None → OnOk result (HasNoFile (D.state disk.old).reads) }
 
-    // Status 6 tells exactly what makes the store another's, and no such store is opened.
+    // Status 6 tells what makes the store another's, and no such store is opened.
     ensures foreign { D.tells → P.tells → IfErr result (λ status. status.code ≡ 6 → IsForeign (D.state disk.old).reads ((P.state keep.old).reads FORMAT) asked status.name) }
-    ensures own { D.tells → P.tells → OnOk result ((name : List ℕ) → IsForeign (D.state disk.old).reads ((P.state keep.old).reads FORMAT) asked name → ⊥) }
     ensures cause { IfErr result (λ status. OpeningCause status (D.faults disk.old) (D.faults disk.new) (P.faults keep.old) (P.faults keep.new)) }
 
     // Nothing else changes: not the disk, no other text of the keep, and no format that stands.

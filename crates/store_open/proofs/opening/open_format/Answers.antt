@@ -1,9 +1,10 @@
-use Rattle.std.proofs.Common.{◌∙◌, ℕ, List, Option, Some, sym, ap, map}
+use Rattle.std.proofs.Common.{◌∙◌, ℕ, List, Option, Some, sym, subst, ap, map}
 use Rattle.std.specs.Prelude.{Vec, string_bytes}
 use Rattle.std.specs.Option.{option_map}
 use Rattle.std.specs.declared.alloc.Global.{Global}
 use Rattle.std.specs.declared.string.String.{String}
-use Rattle.store_open.proofs.ForeignLemmas.{own_empty, foreign_format}
+use Rattle.mq_outside.specs.Files.{Lists}
+use Rattle.store_open.proofs.ForeignLemmas.{none_listed, new_opened, foreign_format}
 use Rattle.store_open.proofs.opening.open_format.Goals as goal
 
 pub returns-in-Err-clause-foreign : goal.returns-in-Err-clause-foreign
@@ -11,8 +12,11 @@ returns-in-Err-clause-foreign g c = λ told kept.
     let there = sym (c.in-Ok-load.ensures.bytes kept) ∙ ap (λ (o : Option (Vec ℕ Global)). option_map (λ v. v.items) o) c.in-Some.is ∙ ap Some (sym c.as_slice.ensures.value) in
     foreign_format _ _ _ _ c.in-Err.status there c.in-Err.ensures.other
 
-pub returns-clause-own : goal.returns-clause-own
-returns-clause-own g c = λ told kept name.
-    let gone = sym (c.in-Ok-load.ensures.bytes kept) ∙ ap (λ (o : Option (Vec ℕ Global)). option_map (λ v. v.items) o) c.in_default.is in
+pub returns-clause-opened : goal.returns-clause-opened
+returns-clause-opened g c =
     let empty = sym c.as_slice-2.ensures.value ∙ c.in_ok-foreign_file.ensures.none in
-    own_empty _ _ c.args.asked name _ gone (ap (λ (names : List (String Global)). map (λ name. string_bytes name) names) empty) (c.in-Ok.ensures.names told)
+    let no_name = ap (λ (names : List (String Global)). map (λ name. string_bytes name) names) empty in
+    new_opened c.args.asked _ _ _ _ _ _
+    (λ told. sym (c.in-Ok-load.ensures.bytes told) ∙ ap (λ (o : Option (Vec ℕ Global)). option_map (λ v. v.items) o) c.in_default.is) c.unwrap_or-segment.ensures
+    (λ told. none_listed _ (subst (λ (names : List (List ℕ)). Lists (g.D.Disk.state c.args.disk.now).reads names) no_name (c.in-Ok.ensures.names told)))
+    c.in_ok-put_format.ensures.done c.in_ok-put_format.ensures.durable
