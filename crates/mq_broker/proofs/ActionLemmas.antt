@@ -1,5 +1,5 @@
 -- What a frame asks of the log, by what was read of it.
-use Rattle.std.proofs.Common.{◌≡◌, ◌∙◌, ℕ, ◌+◌, ◌^◌, List, Bool, true, Some, None, Result, Ok, Err, ⊎_elim, refl, ap, sym, subst, arith}
+use Rattle.std.proofs.Common.{◌≡◌, ◌∙◌, ℕ, ◌+◌, ◌^◌, List, length, Bool, true, Some, None, Result, Ok, Err, ⊎_elim, refl, ap, sym, subst, arith}
 use Rattle.std.specs.Prelude.{IfOk, if◌then◌else◌}
 use Rattle.std.proofs.lemmas.Bool.{le-leb, lt-leb}
 use Rattle.mq_outside.specs.Disk.{DiskState}
@@ -13,16 +13,17 @@ use Rattle.request_fields.specs.declared.fault.RequestFault.{RequestFault}
 use Rattle.request_fields.specs.declared.fault.RequestFault.TheVariants as faults
 use Rattle.reply_fields.specs.Refusals.{fault_reply}
 use Rattle.log_model.specs.Log.{next_place}
+use Rattle.log_model.specs.Store.{StoresLog}
 use Rattle.log_writer.specs.Tails.{StandsFor}
 use Rattle.log_writer.specs.Places.{next_entry, with_next, HasRoom}
-use Rattle.log_writer.specs.Outcomes.{IsOutcome, OnSent, OnUnwritten}
+use Rattle.log_writer.specs.Outcomes.{IsOutcome, OnSent, OnNotFlushed, OnUnwritten}
 use Rattle.log_writer.specs.Durable.{Stores}
 use Rattle.log_writer.specs.declared.tail.LogTail.{LogTail}
 use Rattle.log_writer.specs.declared.writer.LogWriter.{LogWriter}
 use Rattle.log_writer.specs.declared.writer.Outcome.{Outcome as Written}
 use Rattle.log_writer.specs.declared.writer.Outcome.TheVariants as written
 use Rattle.mq_broker.specs.Actions.{is_send, action_of_read, action_for}
-use Rattle.mq_broker.specs.Answers.{outcome_of, IsAnswerTo, UnlessFailed}
+use Rattle.mq_broker.specs.Answers.{outcome_of, IsAnswerTo, UnlessFailed, IfFailed}
 use Rattle.mq_broker.specs.Replies.{log_end, not_served}
 use Rattle.mq_broker.specs.Run.{has_room, appended_by, with_record}
 use Rattle.mq_broker.specs.declared.action.Action.{Action}
@@ -119,3 +120,26 @@ pub stored_behind : (S : ℕ) (log : List Entry) (reading : ℕ) (draft : Draft)
 stored_behind S log reading draft tail writer disk outcome answer action asked is answers sent still =
     subst (λ (a : Action). UnlessFailed answer (Stores S (with_record log (appended_by S log reading a (outcome_of answer))) writer disk)) asked
     (stored_for S log reading draft tail writer disk outcome answer is answers sent still)
+
+failed_for : (S : ℕ) (log : List Entry) (reading : ℕ) (draft : Draft) (tail : LogTail) (disk : DiskState) (outcome : Written) (answer : Answer)
+    → IsOutcome S log draft reading tail outcome → IsAnswerTo outcome answer → OnNotFlushed outcome (StoresLog S (with_next S log draft reading) (length log) disk)
+    → IfFailed answer (StoresLog S (log_behind S log reading draft answer) (length log) disk)
+failed_for S log reading draft tail disk (written.Sent place) answer is answers failed =
+    subst (λ (a : Answer). IfFailed a (StoresLog S (log_behind S log reading draft a) (length log) disk)) (sym answers) tt
+failed_for S log reading draft tail disk (written.NotFlushed place count) answer is answers failed =
+    subst (λ (a : Answer). IfFailed a (StoresLog S (log_behind S log reading draft a) (length log) disk)) (sym answers)
+    (subst (λ (l : List Entry). StoresLog S l (length log) disk) (sym (fits S log reading draft is.0)) failed)
+failed_for S log reading draft tail disk written.LogEnd answer is answers failed = ⊎_elim
+    (λ (told : answer ≡ Told log_end). subst (λ (a : Answer). IfFailed a (StoresLog S (log_behind S log reading draft a) (length log) disk)) (sym told) tt)
+    (λ (memory : answer ≡ NoMemory). subst (λ (a : Answer). IfFailed a (StoresLog S (log_behind S log reading draft a) (length log) disk)) (sym memory) tt)
+    answers
+failed_for S log reading draft tail disk written.Memory answer is answers failed =
+    subst (λ (a : Answer). IfFailed a (StoresLog S (log_behind S log reading draft a) (length log) disk)) (sym answers) tt
+
+-- a record whose flush failed
+pub failed_behind : (S : ℕ) (log : List Entry) (reading : ℕ) (draft : Draft) (tail : LogTail) (disk : DiskState) (outcome : Written) (answer : Answer) (action : Action)
+    → Appends draft ≡ action → IsOutcome S log draft reading tail outcome → IsAnswerTo outcome answer → OnNotFlushed outcome (StoresLog S (with_next S log draft reading) (length log) disk)
+    → IfFailed answer (StoresLog S (with_record log (appended_by S log reading action (outcome_of answer))) (length log) disk)
+failed_behind S log reading draft tail disk outcome answer action asked is answers failed =
+    subst (λ (a : Action). IfFailed answer (StoresLog S (with_record log (appended_by S log reading a (outcome_of answer))) (length log) disk)) asked
+    (failed_for S log reading draft tail disk outcome answer is answers failed)

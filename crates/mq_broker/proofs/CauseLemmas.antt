@@ -7,7 +7,7 @@ use Rattle.log_recovery.specs.declared.fault.RecoverFault.TheVariants.{Damaged, 
 use Rattle.store_open.specs.Openings.{OpeningCause}
 use Rattle.store_open.specs.declared.status.Status.{Status}
 use Rattle.mq_broker.specs.Causes.{CountsPipe}
-use Rattle.mq_broker.specs.Promise.{Tells, TellsFault, Causes}
+use Rattle.mq_broker.specs.Promise.{StatusTells, StatusTellsFault, Causes}
 use Rattle.mq_broker.specs.declared.stop.Stop.TheVariants as stops
 use Rattle.mq_broker.specs.declared.stop.Halt.{Halt}
 use Rattle.mq_broker.specs.declared.stop.Halt.TheVariants.{BadFrame, Read, Stopped}
@@ -58,7 +58,7 @@ opening_refused status disk disk_then keep keep_then (inr (inr (inl seven))) = i
 opening_refused status disk disk_then keep keep_then (inr (inr (inr kept))) = inr (inr (inr (kept.0, kept.1)))
 
 -- what ended the reading has its cause, where the opening left the disk's count
-pub pipe_causes : (status : Status) (result : Result (Unit {0}) Halt) (source source_then sink sink_then disk disk_mid disk_then keep keep_then clock clock_then : ℕ) → Tells status result → disk_mid ≡ disk
+pub pipe_causes : (status : Status) (result : Result (Unit {0}) Halt) (source source_then sink sink_then disk disk_mid disk_then keep keep_then clock clock_then : ℕ) → StatusTells status result → disk_mid ≡ disk
     → CountsPipe result source source_then sink sink_then disk_mid disk_then clock clock_then
     → Causes status source source_then sink sink_then disk disk_then keep keep_then clock clock_then
 pipe_causes status (Ok u) source source_then sink sink_then disk disk_mid disk_then keep keep_then clock clock_then tells same counts =
@@ -100,7 +100,7 @@ pipe_causes status (Err (Stopped stops.Clock)) source source_then sink sink_then
     tells
 
 -- a run's status is none of usage and foreign
-pub told_code : (status : Status) (result : Result (Unit {0}) Halt) → Tells status result → (status.code ≢ 1) × (status.code ≢ 6)
+pub told_code : (status : Status) (result : Result (Unit {0}) Halt) → StatusTells status result → (status.code ≢ 1) × (status.code ≢ 6)
 told_code status (Ok u) tells = (λ e. omega (arith, tells, e), λ e. omega (arith, tells, e))
 told_code status (Err (BadFrame place)) tells = let code = tells.0 in (λ e. omega (arith, code, e), λ e. omega (arith, code, e))
 told_code status (Err Read) tells = (λ e. omega (arith, tells, e), λ e. omega (arith, tells, e))
@@ -121,7 +121,7 @@ opening_code status disk disk_then keep keep_then (inr (inr (inr kept))) = λ e.
 
 -- ---- a log that was not recovered
 
-pub fault_causes : (status : Status) (fault : RecoverFault) (source source_then sink sink_then disk disk_mid disk_then keep keep_then clock clock_then : ℕ) → TellsFault status fault → disk_mid ≡ disk
+pub fault_causes : (status : Status) (fault : RecoverFault) (source source_then sink sink_then disk disk_mid disk_then keep keep_then clock clock_then : ℕ) → StatusTellsFault status fault → disk_mid ≡ disk
     → CountsRecoverFault {A = Unit {0}} (Err fault) disk_mid disk_then → Causes status source source_then sink sink_then disk disk_then keep keep_then clock clock_then
 fault_causes status (Damaged place name) source source_then sink sink_then disk disk_mid disk_then keep keep_then clock clock_then tells same counts =
     quiet status 8 source source_then sink sink_then disk disk_then keep keep_then clock clock_then tells.0 (omega arith) (λ e. omega (arith, e)) (λ e. omega (arith, e)) (λ e. omega (arith, e))
@@ -136,13 +136,13 @@ fault_causes status NoMemory source source_then sink sink_then disk disk_mid dis
     quiet status 7 source source_then sink sink_then disk disk_then keep keep_then clock clock_then tells (omega arith) (λ e. omega (arith, e)) (λ e. omega (arith, e)) (λ e. omega (arith, e))
 
 -- its status is none of usage and foreign
-pub fault_code : (status : Status) (fault : RecoverFault) → TellsFault status fault → (status.code ≢ 1) × (status.code ≢ 6)
+pub fault_code : (status : Status) (fault : RecoverFault) → StatusTellsFault status fault → (status.code ≢ 1) × (status.code ≢ 6)
 fault_code status (Damaged place name) tells = let code = tells.0 in (λ e. omega (arith, code, e), λ e. omega (arith, code, e))
 fault_code status DiskFailed tells = (λ e. omega (arith, tells, e), λ e. omega (arith, tells, e))
 fault_code status NoMemory tells = (λ e. omega (arith, tells, e), λ e. omega (arith, tells, e))
 
 -- what holds where damage is told holds of the status that tells it
-pub damage_told : (status : Status) (fault : RecoverFault) (P : ℕ → List ℕ → Type 0) → TellsFault status fault → OnDamage {A = Unit {0}} (Err fault) P → status.code ≡ 8 → P status.place status.name
+pub damage_told : (status : Status) (fault : RecoverFault) (P : ℕ → List ℕ → Type 0) → StatusTellsFault status fault → OnDamage {A = Unit {0}} (Err fault) P → status.code ≡ 8 → P status.place status.name
 damage_told status (Damaged place name) P tells damaged code =
     subst (λ (n : ℕ). P n status.name) (sym tells.1) (subst (λ (t : List ℕ). P place t) (sym tells.2) damaged)
 damage_told status DiskFailed P tells damaged code = absurd (omega (arith, tells, code))

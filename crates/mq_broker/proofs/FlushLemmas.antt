@@ -1,7 +1,7 @@
 -- What a crash leaves of one run of records behind another.
-use Rattle.std.proofs.Common.{◌≡◌, ⊎_elim, ◌∙◌, ℕ, ◌+◌, ◌<◌, ◌≤◌, ◌++◌, List, [], ◌∷◌, Option, Some, None, length, take, nat_le, cond, refl, ap, sym, subst, arith, append_assoc, length-append}
-use Rattle.std.proofs.lemmas.List.{map-append, append-nil, length-map, take_all}
-use Rattle.std.proofs.lemmas.List.Sums.{sum_by-cons, sum_by-append, count_by-le-length}
+use Rattle.std.proofs.Common.{◌≡◌, ⊎_elim, ◌∙◌, ℕ, ◌+◌, ◌<◌, ◌≤◌, ◌++◌, List, [], ◌∷◌, Option, Some, None, length, take, nat_le, cond, refl, ap, sym, subst, arith, append_assoc}
+use Rattle.std.proofs.lemmas.List.{map-append, append-nil, take_all}
+use Rattle.std.proofs.lemmas.List.Sums.{sum_by-cons, sum_by-append}
 use Rattle.std.proofs.lemmas.Bool.{cases_lt, cond-false, lt-leb}
 use Rattle.std.specs.List.{AllByRecursion}
 use Rattle.mq_outside.specs.Files.{Files}
@@ -9,13 +9,14 @@ use Rattle.mq_outside.specs.Disk.{DiskState, EachImage, Throughout}
 use Rattle.mq_outside.proofs.Moments.{weaker, chained, at_start}
 use Rattle.record_codec.specs.Entry.{Entry}
 use Rattle.log_model.specs.Store.{StoresLog}
-use Rattle.log_model.specs.Segments.{shape_of}
+use Rattle.log_model.specs.Segments.{used, shape_of}
+use Rattle.log_model.proofs.StoreLemmas.{stores_exact}
 use Rattle.segment_files.specs.Turn.{HasRecords}
 use Rattle.log_writer.specs.Durable.{Flushed, entries_of, flushed_by, log_with, HasFirst, Flushes}
-use Rattle.log_writer.proofs.DurableLemmas.{each_stored, front_same, flushes_start, flushes_on, flushes_sent}
+use Rattle.log_writer.proofs.DurableLemmas.{each_stored, has_more, most, length-log_with, flushes_start, flushes_on, flushes_sent}
 use Rattle.mq_broker.specs.Outcomes.{Event}
 use Rattle.mq_broker.specs.Run.{appended, with_record, step, run, flushed_before, flushed_of}
-use Rattle.mq_broker.specs.Progress.{OpenLog, IsStored, GoesOn, Stays}
+use Rattle.mq_broker.specs.Progress.{OpenLog, IsStored, IsExactAt, GoesTurnByTurn, GoesOn, Stays}
 
 -- ---- lists of flushed records
 
@@ -34,21 +35,7 @@ none_by m moment (d ∷ two) early late =
     let both : one + flushed_by m two ≡ 0 = omega (arith, here, rest) in
     sum_by-cons (λ (x : Flushed). cond (nat_le x.moment m) 1 0) d two ∙ both
 
-most : (m : ℕ) (done : List Flushed) → flushed_by m done ≤ length done
-most m done = count_by-le-length (λ (d : Flushed). nat_le d.moment m) done
-
-length-log_with : (log : List Entry) (done : List Flushed) → length (log_with log done) ≡ length log + length done
-length-log_with log done = length-append log (entries_of done) ∙ ap (λ (n : ℕ). length log + n) (length-map done (λ (d : Flushed). d.entry))
-
 -- ---- one run behind another
-
-has_longer : (S : ℕ) (log more : List Entry) (least : ℕ) (files : Files) → HasFirst S log least files → HasFirst S (log ++ more) least files
-has_longer S log more least files first = record {
-  number = first.number;
-  low = first.low;
-  high = omega (arith, first.high, length-append log more);
-  has = subst (λ (l : List Entry). HasRecords S l files) (sym (front_same log more first.number first.high)) first.has;
-}
 
 has_least : (S : ℕ) (log : List Entry) (least less : ℕ) (files : Files) → less ≤ least → HasFirst S log least files → HasFirst S log less files
 has_least S log least less files le first = record { number = first.number; low = omega (arith, first.low, le); high = first.high; has = first.has }
@@ -62,13 +49,13 @@ flushes_then S log before one two old mid new first then late =
     record {
       within = first.within;
       kept = chained
-          (weaker first.kept (λ files has. subst (λ (l : List Entry). HasFirst S l before files) whole (has_longer S (log_with log one) (entries_of two) before files has)))
+          (weaker first.kept (λ files has. subst (λ (l : List Entry). HasFirst S l before files) whole (has_more S (log_with log one) (entries_of two) before files has)))
           (weaker then.kept (λ files has. subst (λ (l : List Entry). HasFirst S l before files) whole (has_least S (log_with (log_with log one) two) (length (log_with log one)) before files few has)));
       each = λ m files low high image. subst (λ (l : List Entry). HasFirst S l (before + flushed_by m (one ++ two)) files) whole (⊎_elim
           (λ (early : m < mid.moment).
           let count : before + flushed_by m one ≡ before + flushed_by m (one ++ two) = omega (arith, flushed_by-append m one two, none_by m mid.moment two early late) in
           subst (λ (n : ℕ). HasFirst S (log_with (log_with log one) two) n files) count
-          (has_longer S (log_with log one) (entries_of two) (before + flushed_by m one) files
+          (has_more S (log_with log one) (entries_of two) (before + flushed_by m one) files
           (first.each m files low (omega (arith, early)) (then.kept.past m files (omega (arith, early)) image))))
           (λ (now : mid.moment ≤ m). has_least S (log_with (log_with log one) two) (length (log_with log one) + flushed_by m two) (before + flushed_by m (one ++ two)) files
           (omega (arith, flushed_by-append m one two, most m one, first.within, length-log_with log one))
@@ -102,6 +89,36 @@ log_with-flushed_of S log [] = append-nil log
 log_with-flushed_of S log (event ∷ events) =
     log_with-before log (appended S log event) event.moment (flushed_of S (step S log event) events) ∙ log_with-flushed_of S (step S log event) events
 
+-- ---- turns
+
+-- an open log's files are exactly its own
+pub exact_now : (S : ℕ) (log : List Entry) (at : OpenLog) → IsStored S log at → IsExactAt S log at.disk.moment at.disk
+exact_now S log at stored = λ files image. (stores_exact S log (length log) (shape_of S log) at.disk stored.writes.stores).at files image
+
+-- and were so at that moment, looked at later
+pub exact_then : (S : ℕ) (log : List Entry) (at : OpenLog) (new : DiskState) (P : Files → Type 0) → IsStored S log at → Throughout at.disk new P → IsExactAt S log at.disk.moment new
+exact_then S log at new P stored so_far = λ files image. exact_now S log at stored files (so_far.past at.disk.moment files (omega arith) image)
+
+turns_end : (S : ℕ) (log : List Entry) (at : ℕ) (events : List Event) (disk : DiskState) → GoesTurnByTurn S log at events disk → at ≤ disk.moment
+turns_end S log at [] disk turns = turns.1
+turns_end S log at (event ∷ events) disk turns = omega (arith, turns.1, turns_end S (step S log event) event.moment events disk turns.2)
+
+turns_late : (S : ℕ) (log : List Entry) (from at : ℕ) (events : List Event) (disk : DiskState) → from ≤ at → GoesTurnByTurn S log at events disk
+    → AllByRecursion (λ event. from ≤ event.moment) events
+turns_late S log from at [] disk low turns = tt
+turns_late S log from at (event ∷ events) disk low turns =
+    let later : from ≤ event.moment = omega (arith, low, turns.1) in
+    (later, turns_late S (step S log event) from event.moment events disk later turns.2)
+
+-- turns behind turns
+turns_then : (S : ℕ) (log : List Entry) (at : ℕ) (first second : List Event) (mid new : DiskState) (P : Files → Type 0) → Throughout mid new P
+    → GoesTurnByTurn S log at first mid → GoesTurnByTurn S (run S log first) mid.moment second new → GoesTurnByTurn S log at (first ++ second) new
+turns_then S log at [] [] mid new P so_far one two = ((λ files image. one.0 files (so_far.past at files one.1 image)), omega (arith, one.1, two.1))
+turns_then S log at [] (event ∷ second) mid new P so_far one two = ((λ files image. one.0 files (so_far.past at files one.1 image)), omega (arith, one.1, two.1), two.2)
+turns_then S log at (event ∷ first) second mid new P so_far one two =
+    let early : at ≤ mid.moment = turns_end S log at (event ∷ first) mid one in
+    ((λ files image. one.0 files (so_far.past at files early image)), one.1, turns_then S (step S log event) event.moment first second mid new P so_far one.2 two)
+
 late_before : (moment : ℕ) (o : Option Entry) (at : ℕ) (more : List Flushed) → moment ≤ at → AllByRecursion (λ d. moment ≤ d.moment) more → AllByRecursion (λ d. moment ≤ d.moment) (flushed_before o at more)
 late_before moment None at more le each = each
 late_before moment (Some r) at more le each = (le, each)
@@ -111,16 +128,11 @@ late_flushed S log moment [] late = tt
 late_flushed S log moment (event ∷ events) late =
     late_before moment (appended S log event) event.moment (flushed_of S (step S log event) events) late.0 (late_flushed S (step S log event) moment events late.1)
 
-late-append : (moment later : ℕ) (first second : List Event) → moment ≤ later → AllByRecursion (λ event. moment ≤ event.moment) first → AllByRecursion (λ event. later ≤ event.moment) second
-    → AllByRecursion (λ event. moment ≤ event.moment) (first ++ second)
-late-append moment later [] [] le one two = tt
-late-append moment later [] (event ∷ second) le one two = (omega (arith, le, two.0), late-append moment later [] second le one two.1)
-late-append moment later (event ∷ first) second le one two = (one.0, late-append moment later first second le one.1 two)
-
 flushes_events : (S : ℕ) (log : List Entry) (first second : List Event) (old mid new : DiskState) → Flushes S log (length log) (flushed_of S log first) old mid
-    → Flushes S (run S log first) (length (run S log first)) (flushed_of S (run S log first) second) mid new → AllByRecursion (λ event. mid.moment ≤ event.moment) second
+    → Flushes S (run S log first) (length (run S log first)) (flushed_of S (run S log first) second) mid new → GoesTurnByTurn S (run S log first) mid.moment second new
     → Flushes S log (length log) (flushed_of S log (first ++ second)) old new
-flushes_events S log first second old mid new one two late =
+flushes_events S log first second old mid new one two turns =
+    let late = turns_late S (run S log first) mid.moment mid.moment second new (omega arith) turns in
     let same = log_with-flushed_of S log first in
     let here = subst (λ (l : List Entry). Flushes S l (length l) (flushed_of S (run S log first) second) mid new) (sym same) two in
     subst (λ (l : List Flushed). Flushes S log (length log) l old new) (sym (flushed_of-append S log first second))
@@ -130,8 +142,8 @@ flushes_events S log first second old mid new one two late =
 pub goes_on_then : (S : ℕ) (log : List Entry) (first second : List Event) (old mid new : OpenLog) → GoesOn S log first old mid → GoesOn S (run S log first) second mid new
     → GoesOn S log (first ++ second) old new
 goes_on_then S log first second old mid new one two = record {
-  flushes = flushes_events S log first second old.disk mid.disk new.disk one.flushes two.flushes two.late;
-  late = late-append old.disk.moment mid.disk.moment first second one.flushes.kept.later one.late two.late;
+  flushes = flushes_events S log first second old.disk mid.disk new.disk one.flushes two.flushes two.turns;
+  turns = turns_then S log old.disk.moment first second mid.disk new.disk _ two.flushes.kept one.turns two.turns;
   stored = subst (λ (l : List Entry). IsStored S l new) (sym (run-append S log first second)) two.stored;
 }
 
@@ -142,8 +154,8 @@ stays_then S log first second last old mid new one two =
     let all : run S log ((first ++ second) ++ last) ≡ run S (run S log first) (second ++ last) = ap (λ (l : List Event). run S log l) (append_assoc first second last) ∙ run-append S log first (second ++ last) in
     let flushed = run-append S log first second in
     record {
-      flushes = flushes_events S log first second old.disk mid.disk new.disk one.flushes two.flushes two.late;
-      late = late-append old.disk.moment mid.disk.moment first second one.flushes.kept.later one.late two.late;
+      flushes = flushes_events S log first second old.disk mid.disk new.disk one.flushes two.flushes two.turns;
+      turns = turns_then S log old.disk.moment first second mid.disk new.disk _ two.flushes.kept one.turns two.turns;
       stored = subst (λ (l : List Entry). StoresLog S l (length (run S log (first ++ second))) new.disk) (sym all)
           (subst (λ (l : List Entry). StoresLog S (run S (run S log first) (second ++ last)) (length l) new.disk) (sym flushed) two.stored);
     }
@@ -172,4 +184,4 @@ flushes_one S log (Some r) old new stored kept then =
 
 -- the log that an open one stores
 pub stored_log : (S : ℕ) (log : List Entry) (at : OpenLog) → IsStored S log at → StoresLog S log (length log) at.disk
-stored_log S log at stored = record { shape = shape_of S log; reach = stored.reach; at = stored.writes.stores }
+stored_log S log at stored = record { shape = shape_of S log; reach = used (shape_of S log); at = stored.writes.stores }

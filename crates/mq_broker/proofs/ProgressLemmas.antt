@@ -16,12 +16,12 @@ use Rattle.mq_broker.specs.Outcomes.{FlushFailed, Event}
 use Rattle.mq_broker.specs.Run.{is_response, requests_of, appended, step, flushed_before, run, written_for, written}
 use Rattle.mq_broker.specs.Answers.{outcome_of, IsAnswer, CountsFlush, UnlessFailed, IfFailed, HasFailed}
 use Rattle.mq_broker.specs.Causes.{CountsWrite}
-use Rattle.mq_broker.specs.Progress.{OpenLog, StandsAt, IsStored, IsFineOutcome, IsFine, readings_of, GoesOn, Stays, Ran, Failed, AtMostOne, IsLast, Wrote, Ended}
+use Rattle.mq_broker.specs.Progress.{OpenLog, StandsAt, IsStored, IsExactAt, IsFineOutcome, IsFine, readings_of, GoesOn, Stays, Ran, Failed, AtMostOne, IsLast, Wrote, Ended}
 use Rattle.mq_broker.specs.declared.answer.Answer.{Answer}
 use Rattle.mq_broker.specs.declared.answer.Answer.TheVariants.{Told, Sent, NotFlushed, NoMemory}
 use Rattle.mq_broker.specs.declared.stop.Stop.{Stop}
 use Rattle.mq_broker.specs.declared.stop.Stop.TheVariants as stops
-use Rattle.mq_broker.proofs.FlushLemmas.{run-append, goes_on_then, stays_then, flushes_none, flushes_quiet, flushes_one, stored_log}
+use Rattle.mq_broker.proofs.FlushLemmas.{exact_now, exact_then, run-append, goes_on_then, stays_then, flushes_none, flushes_quiet, flushes_one, stored_log}
 
 -- the event of a request by its answer
 abbrev pub event_of : Frame → ℕ → Answer → ℕ → Event
@@ -47,22 +47,30 @@ one_goes_on : (S : ℕ) (log : List Entry) (event : Event) (old new : OpenLog) �
     → IsStored S (step S log event) new → GoesOn S log (event ∷ []) old new
 one_goes_on S log event old new now before kept stored = record {
   flushes = subst (λ (m : ℕ). Flushes S log (length log) (flushed_before (appended S log event) m []) old.disk new.disk) (sym now) (flushes_one S log (appended S log event) old new before kept stored);
-  late = (omega (arith, now, kept.later), tt);
+  turns = (
+    exact_then S log old new.disk (HasRecords S log) before kept,
+    omega (arith, now, kept.later),
+    (subst (λ (m : ℕ). IsExactAt S (step S log event) m new.disk) (sym now) (exact_now S (step S log event) new stored), omega (arith, now)),
+  );
   stored = stored;
 }
 
 -- the same where nothing comes behind it
 one_stays : (S : ℕ) (log : List Entry) (event : Event) (old new : OpenLog) → GoesOn S log (event ∷ []) old new → Stays S log (event ∷ []) [] old new
-one_stays S log event old new on = record { flushes = on.flushes; late = on.late; stored = stored_log S (step S log event) new on.stored }
+one_stays S log event old new on = record { flushes = on.flushes; turns = on.turns; stored = stored_log S (step S log event) new on.stored }
 
 -- the flush of the event's record failed
 one_fails : (S : ℕ) (log : List Entry) (event : Event) (old new : OpenLog) → IsStored S log old → Throughout old.disk new.disk (HasRecords S log)
     → StoresLog S (step S log event) (length log) new.disk → Stays S log [] (event ∷ []) old new
-one_fails S log event old new before kept stored = record { flushes = flushes_quiet S log old new.disk before kept; late = tt; stored = stored }
+one_fails S log event old new before kept stored = record {
+  flushes = flushes_quiet S log old new.disk before kept;
+  turns = (exact_then S log old new.disk (HasRecords S log) before kept, kept.later);
+  stored = stored;
+}
 
 -- nothing was carried out
 none_stays : (S : ℕ) (log : List Entry) (at : OpenLog) → IsStored S log at → Stays S log [] [] at at
-none_stays S log at stored = record { flushes = flushes_none S log at stored; late = tt; stored = stored_log S log at stored }
+none_stays S log at stored = record { flushes = flushes_none S log at stored; turns = (exact_now S log at stored, omega arith); stored = stored_log S log at stored }
 
 -- a request was served
 pub one_ran : (S : ℕ) (log : List Entry) (frame : Frame) (reading : ℕ) (answer : Answer) (sink : Type 0) (taken taken_then : List ℕ) (disk : Type 0) (old new : OpenLog)
@@ -278,7 +286,7 @@ ran_nothing S log frames sink taken disk old clock readings none stands = record
   stands = stands;
   answered = λ told. sym (append-nil taken);
   read = λ told. sym (append-nil readings);
-  durable = λ told before. record { flushes = flushes_none S log old before; late = tt; stored = before };
+  durable = λ told before. record { flushes = flushes_none S log old before; turns = (exact_now S log old before, omega arith); stored = before };
 }
 
 -- a response is skipped

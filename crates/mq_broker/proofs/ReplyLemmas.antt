@@ -1,18 +1,14 @@
 -- The fields of replies are in order, and the headers of replies are short.
-use Rattle.std.proofs.Common.{◌≡◌, ℕ, ℤ, pos, negsuc, ◌^◌, ◌<◌, ◌≤◌, ◌++◌, List, [], codes, length, refl, arith, length-append, FitsSigned, w32}
-use Rattle.std.proofs.lemmas.Fmt.{length-decimal-le, length_signed_le}
+use Rattle.std.proofs.Common.{◌≡◌, ℕ, ◌^◌, ◌<◌, ◌≤◌, ◌++◌, List, codes, length, refl, arith, length-append}
+use Rattle.std.proofs.lemmas.Fmt.{length-decimal-le}
 use Rattle.std.specs.List.Sorted.{IsStrictlySortedBy}
 use Rattle.std.specs.Int.{w64, to_be_bytes}
-use Rattle.mq_bytes.specs.Decimal.{decimal, digits_of}
+use Rattle.mq_bytes.specs.Decimal.{digits_of}
 use Rattle.mq_bytes.specs.Ids.{message_id_of}
 use Rattle.mq_bytes.proofs.HexLemmas.{length-hex_of}
 use Rattle.remoting_frame.specs.Head.{IsInOrder, pairs_size}
 use Rattle.mq_broker.specs.Actions.{store_host}
 use Rattle.mq_broker.specs.Replies.{sent_fields}
-
-pub none_in_order : IsInOrder []
-unfolding IsStrictlySortedBy
-none_in_order = tt
 
 pub sent_in_order : (host : List ℕ) (place queue_offset : ℕ) → IsInOrder (sent_fields host place queue_offset)
 unfolding IsStrictlySortedBy
@@ -24,14 +20,6 @@ length-message_id_of host place eight = omega (arith, eight, length-hex_of (host
 
 length-digits_of : (n : ℕ) → n < 2 ^ 64 → length (digits_of n) ≤ 20
 length-digits_of n small = length-decimal-le 20 n (omega arith) (omega (arith, small)) small
-
--- a code of 32 bits has at most 11 digits
-length-code : (code : ℤ) → FitsSigned w32 code → length (decimal code) ≤ 11
-length-code (pos n) fits = length_signed_le 10 (pos n) (omega (arith, fits)) (omega (arith, fits))
-length-code (negsuc n) fits = length_signed_le 10 (negsuc n) (omega (arith, fits)) (omega (arith, fits))
-
-pub length_code_remark : (code : ℤ) → FitsSigned w32 code → length (codes "code " ++ decimal code) ≤ 100
-length_code_remark code fits = omega (arith, length-append (codes "code ") (decimal code), length-code code fits)
 
 pub sent_fields_are_short : (place queue_offset : ℕ) → queue_offset < 2 ^ 64 → pairs_size (sent_fields store_host place queue_offset) ≤ 200
 sent_fields_are_short place queue_offset small = omega (arith, length-message_id_of store_host place refl, length-digits_of queue_offset small)

@@ -2,15 +2,17 @@
 use Rattle.std.specs.Prelude.{◌≡◌, ◌≢◌, ℕ, ◌≤◌, ◌++◌, List, [], ◌∷◌, length, map, Some}
 use Rattle.std.specs.List.{AllByRecursion}
 use Rattle.mq_outside.specs.Counts.{Rises}
+use Rattle.mq_outside.specs.Files.{Files}
 use Rattle.mq_outside.specs.Disk.{DiskState}
 use Rattle.record_codec.specs.Entry.{Entry}
 use Rattle.remoting_frame.specs.declared.frame.Frame.{Frame}
+use Rattle.log_model.specs.Segments.{AreSegmentFiles}
 use Rattle.log_model.specs.Store.{StoresLog}
 use Rattle.log_writer.specs.Tails.{StandsFor}
 use Rattle.log_writer.specs.Durable.{CanGoOn, Stores, Flushes}
 use Rattle.log_writer.specs.declared.writer.LogWriter.{LogWriter}
 use Rattle.mq_broker.specs.Outcomes.{Outcome, Done, FlushFailed, NoMemory, Event}
-use Rattle.mq_broker.specs.Run.{requests_of, appended, run, written, flushed_of}
+use Rattle.mq_broker.specs.Run.{requests_of, appended, step, run, written, flushed_of}
 use Rattle.mq_broker.specs.declared.stop.Stop.{Stop}
 use Rattle.mq_broker.specs.declared.stop.Stop.TheVariants as stops
 
@@ -55,16 +57,26 @@ IsFine event = IsFineOutcome event.outcome
 abbrev pub readings_of : List Event → List ℕ
 readings_of = map (λ event. event.reading)
 
--- The events' records were flushed, each by the moment at which it was answered, and the disk stores the log with them.
+-- a crash at this moment leaves exactly the files of this log
+abbrev pub IsExactAt : ℕ → List Entry → ℕ → DiskState → Type 0
+IsExactAt S log at disk = (files : Files) → disk.image_at at files → AreSegmentFiles S log files
+
+-- At this moment a crash leaves exactly the files of the log, and then each event has its moment, one behind another: a crash
+-- there leaves exactly the files of the log as it is behind the event.
+abbrev pub GoesTurnByTurn : ℕ → List Entry → ℕ → List Event → DiskState → Type 0
+GoesTurnByTurn S log at [] disk = IsExactAt S log at disk × (at ≤ disk.moment)
+GoesTurnByTurn S log at (event ∷ events) disk = IsExactAt S log at disk × (at ≤ event.moment) × GoesTurnByTurn S (step S log event) event.moment events disk
+
+-- The events' records were flushed, each by the moment of its event, and the disk stores the log with them.
 pub record GoesOn (S : ℕ) (log : List Entry) (events : List Event) (old new : OpenLog) : Type 0 where
   pub flushes : Flushes S log (length log) (flushed_of S log events) old.disk new.disk
-  pub late : AllByRecursion (λ event. old.disk.moment ≤ event.moment) events
+  pub turns : GoesTurnByTurn S log old.disk.moment events new.disk
   pub stored : IsStored S (run S log events) new
 
 -- The same where the last one, if there is one, is an event whose flush failed: its record is no more than appended.
 pub record Stays (S : ℕ) (log : List Entry) (events last : List Event) (old new : OpenLog) : Type 0 where
   pub flushes : Flushes S log (length log) (flushed_of S log events) old.disk new.disk
-  pub late : AllByRecursion (λ event. old.disk.moment ≤ event.moment) events
+  pub turns : GoesTurnByTurn S log old.disk.moment events new.disk
   pub stored : StoresLog S (run S log (events ++ last)) (length (run S log events)) new.disk
 
 -- The requests among the frames were carried out, each with its reading, and were answered, and no flush failed. What is said
@@ -93,17 +105,17 @@ IsLast stops.Disk last = last ≢ []
 IsLast stops.Sink last = Unit {0}
 IsLast stops.Memory last = Unit {0}
 
--- All was written but where writing ended the reading.
-abbrev pub IsWritten : Stop → List ℕ → Type 0
-IsWritten stops.Clock unwritten = unwritten ≡ []
-IsWritten stops.Disk unwritten = unwritten ≡ []
-IsWritten stops.Sink unwritten = Unit {0}
-IsWritten stops.Memory unwritten = Unit {0}
+-- Nothing is missing but where writing ended the reading.
+abbrev pub IsWhole : Stop → List ℕ → Type 0
+IsWhole stops.Clock unwritten = unwritten ≡ []
+IsWhole stops.Disk unwritten = unwritten ≡ []
+IsWhole stops.Sink unwritten = Unit {0}
+IsWhole stops.Memory unwritten = Unit {0}
 
 -- of these bytes the sink took those at the front
 pub record Wrote (stop : Stop) (taken taken_then bytes : List ℕ) : Type 0 where
   pub unwritten : List ℕ
-  pub whole : IsWritten stop unwritten
+  pub whole : IsWhole stop unwritten
   pub front : taken_then ++ unwritten ≡ taken ++ bytes
 
 -- The same where this ended the reading. The last request carried out may be one whose flush failed, and of what was to be

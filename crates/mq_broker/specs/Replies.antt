@@ -1,36 +1,34 @@
 -- The replies of the broker.
 use Rattle.std.specs.Prelude.{ℕ, ◌++◌, List, [], ◌∷◌, ℤ, pos, codes}
-use Rattle.mq_bytes.specs.Decimal.{decimal, digits_of}
+use Rattle.mq_bytes.specs.Decimal.{digits_of}
 use Rattle.mq_bytes.specs.Ids.{message_id_of}
-use Rattle.reply_fields.specs.Parts.{ReplyParts}
+use Rattle.request_fields.specs.declared.fault.RequestFault.TheVariants.{Unsupported, Memory as NoMemory}
+use Rattle.reply_fields.specs.Parts.{ReplyParts, plain}
+use Rattle.reply_fields.specs.Refusals.{fault_reply}
 use Rattle.send_rules.specs.declared.refusal.Refusal.{Refusal}
-use Rattle.send_rules.specs.declared.refusal.Refusal.TheVariants.{NotBuilt, Topic, SysFlag, Body, Properties, Record, SystemTopic}
-
--- a code and a remark, with no fields and no body
-abbrev pub remarked : ℤ → List ℕ → ReplyParts
-remarked code remark = record { code = code; remark = remark; ext = []; body = [] }
+use Rattle.send_rules.specs.declared.refusal.Refusal.TheVariants.{NotServed, Topic, SysFlag, Body, Properties, Record, SystemTopic}
 
 -- a request that isn't served
 abbrev pub not_served : ℤ → ReplyParts
-not_served code = remarked (pos 3) (codes "code " ++ decimal code)
+not_served code = fault_reply (Unsupported code)
 
 -- a send that is refused
 abbrev pub refused : ℤ → Refusal → ReplyParts
-refused code NotBuilt = not_served code
-refused code Topic = remarked (pos 13) (codes "topic")
-refused code SysFlag = remarked (pos 13) (codes "sysFlag")
-refused code Body = remarked (pos 13) (codes "body")
-refused code Properties = remarked (pos 13) (codes "properties")
-refused code Record = remarked (pos 13) (codes "record")
-refused code SystemTopic = remarked (pos 16) (codes "system topic")
+refused code NotServed = not_served code
+refused code Topic = plain (pos 13) (codes "topic")
+refused code SysFlag = plain (pos 13) (codes "sysFlag")
+refused code Body = plain (pos 13) (codes "body")
+refused code Properties = plain (pos 13) (codes "properties")
+refused code Record = plain (pos 13) (codes "record")
+refused code SystemTopic = plain (pos 16) (codes "system topic")
 
 -- a record would end past the greatest place
 abbrev pub log_end : ReplyParts
-log_end = remarked (pos 14) (codes "log end")
+log_end = plain (pos 14) (codes "log end")
 
 -- there was no memory for the request
 abbrev pub no_memory : ReplyParts
-no_memory = remarked (pos 901) (codes "memory")
+no_memory = fault_reply NoMemory
 
 -- the fields that tell where a record stands: its id, by the host that stores it and its place, and its offset in queue 0
 abbrev pub sent_fields : List ℕ → ℕ → ℕ → List (List ℕ × List ℕ)

@@ -4,6 +4,7 @@ ghost use Rattle.std.specs.Prelude.{◌≡◌, ◌^◌, ◌<◌, List, ℕ, leng
 ghost use Rattle.mq_outside.specs.Disk.{Throughout};
 ghost use Rattle.record_codec.specs.Entry.{Entry};
 ghost use Rattle.log_model.specs.Store.{StoresLog};
+ghost use Rattle.segment_files.specs.Outside.{StaysOutside};
 ghost use Rattle.segment_files.specs.Turn.{HasRecords};
 ghost use Rattle.mq_broker.specs.Actions.{action_for};
 ghost use Rattle.mq_broker.specs.Answers.{outcome_of, IsAnswer, IsAnswerTo, CountsFlush, UnlessFailed, IfFailed};
@@ -35,6 +36,7 @@ fn answer_of(alloc: Global, outcome: Outcome) -> Answer
 }
 
 /// Carries out a request at the clock's reading. After a failed flush nothing may be carried out any more.
+#[tactic(auto, using(segment_files::proofs::Outside::outside_start))]
 pub(crate) fn carry_out<D: Disk>(
     alloc: Global,
     writer: &mut LogWriter,
@@ -52,6 +54,7 @@ pub(crate) fn carry_out<D: Disk>(
     ensures stands { (S : ℕ) (log : List Entry) → StandsAt S log writer.old
         → StandsAt S (with_record log (appended_by S log reading (action_for S frame.now) (outcome_of result))) writer.new }
     ensures cause { CountsFlush result (D.faults disk.old) (D.faults disk.new) }
+    ensures outside { D.tells → StaysOutside (D.state disk.old) (D.state disk.new) }
 
     // A crash at any moment leaves what was flushed before, and what was flushed now once the answer says so.
     ensures any_moment { D.tells → (S : ℕ) (log : List Entry) → IsStored S log (open_log writer.old (D.state disk.old))

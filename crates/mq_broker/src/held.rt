@@ -3,6 +3,7 @@
 ghost use Rattle.std.specs.Prelude.{◌≡◌, List, Ok, None, OnOk, MatchResult, ℕ};
 ghost use Rattle.record_codec.specs.Entry.{Entry};
 ghost use Rattle.remoting_frame.specs.Frames.{next_of};
+ghost use Rattle.segment_files.specs.Outside.{StaysOutside};
 ghost use Rattle.mq_broker.specs.Causes.{CountsHalt};
 ghost use Rattle.mq_broker.specs.Progress.{open_log, StandsAt, CanTake};
 ghost use Rattle.mq_broker.specs.Pipes.{ServedHeld, HaltedHeld, NextFrame};
@@ -43,6 +44,7 @@ pub(crate) fn serve_held<K: Sink, D: Disk, C: Clock>(
     ensures waits { OnOk result (next_of cutter.new.at cutter.new.bytes ≡ Ok None) }
     ensures open { CanTake D.tells (open_log broker.new.writer (D.state disk.new)) }
     ensures cause { CountsHalt result (K.faults sink.old) (K.faults sink.new) (D.faults disk.old) (D.faults disk.new) (C.faults clock.old) (C.faults clock.new) }
+    ensures outside { D.tells → StaysOutside (D.state disk.old) (D.state disk.new) }
 {
     loop {
         let frame = match next_frame(alloc, cutter) {

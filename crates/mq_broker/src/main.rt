@@ -7,6 +7,7 @@ mod answer;
 mod broker;
 mod carry;
 mod held;
+mod laws;
 mod pipe;
 mod reply;
 mod request;

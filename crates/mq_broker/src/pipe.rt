@@ -3,6 +3,7 @@
 ghost use Rattle.std.specs.Prelude.{◌≡◌, ◌^◌, ◌≤◌, ◌<◌, ◌+◌, ◌++◌, List, [], OnErr, IfOk, length, take, ℕ};
 ghost use Rattle.mq_outside.specs.Counts.{CountsFailure};
 ghost use Rattle.record_codec.specs.Entry.{Entry};
+ghost use Rattle.segment_files.specs.Outside.{StaysOutside};
 ghost use Rattle.mq_broker.specs.Progress.{open_log, StandsAt, CanTake};
 ghost use Rattle.mq_broker.specs.Causes.{CountsPipe};
 ghost use Rattle.mq_broker.specs.Pipes.{Piped, EndsHere};
@@ -79,6 +80,7 @@ fn serve_stream<S: Source, K: Sink, D: Disk, C: Clock>(
     ensures served { (segment : ℕ) (log : List Entry) → StandsAt segment log broker.old.writer → Piped result segment log S.tells (S.given source.old) (S.given source.new) (S.left source.new)
         K.tells (K.taken sink.old) (K.taken sink.new) D.tells (open_log broker.old.writer (D.state disk.old)) (open_log broker.new.writer (D.state disk.new)) C.tells (C.readings clock.old) (C.readings clock.new) (D.faults disk.old) (D.faults disk.new) }
     ensures cause { CountsPipe result (S.faults source.old) (S.faults source.new) (K.faults sink.old) (K.faults sink.new) (D.faults disk.old) (D.faults disk.new) (C.faults clock.old) (C.faults clock.new) }
+    ensures outside { D.tells → StaysOutside (D.state disk.old) (D.state disk.new) }
 {
     let mut total: u64 = 0;
     while total < LIMIT {
@@ -103,6 +105,7 @@ fn serve_stream<S: Source, K: Sink, D: Disk, C: Clock>(
 }
 
 /// Serves the requests of the source, up to its end or to what ends the reading before.
+#[tactic(auto, using(segment_files::proofs::Outside::outside_start))]
 pub(crate) fn serve_all<S: Source, K: Sink, D: Disk, C: Clock>(
     alloc: Global,
     broker: &mut Broker,
@@ -115,6 +118,7 @@ pub(crate) fn serve_all<S: Source, K: Sink, D: Disk, C: Clock>(
     ensures served { (segment : ℕ) (log : List Entry) → StandsAt segment log broker.old.writer → Piped result segment log S.tells (S.given source.old) (S.given source.new) (S.left source.new)
         K.tells (K.taken sink.old) (K.taken sink.new) D.tells (open_log broker.old.writer (D.state disk.old)) (open_log broker.new.writer (D.state disk.new)) C.tells (C.readings clock.old) (C.readings clock.new) (D.faults disk.old) (D.faults disk.new) }
     ensures cause { CountsPipe result (S.faults source.old) (S.faults source.new) (K.faults sink.old) (K.faults sink.new) (D.faults disk.old) (D.faults disk.new) (C.faults clock.old) (C.faults clock.new) }
+    ensures outside { D.tells → StaysOutside (D.state disk.old) (D.state disk.new) }
 {
     let Ok(mut input) = vec![in alloc; 0u8; PIECE] else {
         return Err(Halt::Stopped(Stop::Memory));

@@ -11,20 +11,20 @@
 //! |   14 | `log end`      |                                   | the record would end past the greatest place, 2^62  |
 //! |  901 | `memory`       |                                   | there was no memory for the request                 |
 
-ghost use Rattle.std.specs.Prelude.{◌≡◌, ◌≤◌, List, [], Option, FitsSigned, IfOk, length};
-ghost use Rattle.std.specs.Int.{w16};
+ghost use Rattle.std.specs.Prelude.{◌≡◌, ◌≤◌, List, [], Option, IfOk};
 ghost use Rattle.record_codec.specs.Entry.{Entry};
 ghost use Rattle.remoting_frame.specs.Head.{IsInOrder, pairs_size};
 ghost use Rattle.reply_fields.specs.Parts.{ReplyParts};
 ghost use Rattle.mq_broker.specs.Actions.{store_host};
 ghost use Rattle.mq_broker.specs.Answers.{IsAnswer};
-ghost use Rattle.mq_broker.specs.Replies.{remarked as remarked_of, not_served as not_served_of, refused as refused_of, sent_fields as sent_fields_of, sent as sent_of, not_flushed as not_flushed_of, no_memory as no_memory_of, log_end as log_end_of};
+ghost use Rattle.mq_broker.specs.Replies.{not_served as not_served_of, refused as refused_of, sent_fields as sent_fields_of, sent as sent_of, not_flushed as not_flushed_of, log_end as log_end_of};
 
 use crate::action::STORE_HOST;
 use crate::answer::Answer;
 use mq_bytes::{Rows, Text, message_id};
 use record_codec::Place;
 use reply_fields::Reply;
+use request_fields::RequestFault;
 use send_rules::Refusal;
 use std::alloc::{AllocError, Global};
 
@@ -34,28 +34,11 @@ fn text(alloc: Global, text: &str) -> Result<Text, AllocError>
     Ok(Text::of(String::from_str(alloc, text)?))
 }
 
-// A code and a remark, with no fields and no body.
-#[tactic(auto, using(crate::proofs::ReplyLemmas::none_in_order))]
-fn remarked(alloc: Global, code: i32, remark: Text) -> Reply
-    requires code { FitsSigned w16 code }
-    requires short { length remark ≤ 100 }
-    ensures { result ≡ remarked_of code remark }
-{
-    Reply {
-        code,
-        remark,
-        ext: Rows::of(Vec::new(alloc)),
-        body: Rows::of(Vec::new(alloc)),
-    }
-}
-
 /// A request of this code isn't served.
-#[tactic(auto, using(crate::proofs::ReplyLemmas::length_code_remark))]
 pub(crate) fn not_served(alloc: Global, code: i32) -> Result<Reply, AllocError>
     ensures { IfOk result (λ reply. reply ≡ not_served_of code) }
 {
-    let remark = format!(in alloc; "code {code}")?;
-    Ok(remarked(alloc, 3, Text::of(remark)))
+    Reply::of_fault(alloc, &RequestFault::Unsupported(code))
 }
 
 /// A send of this code is refused.
@@ -63,13 +46,13 @@ pub(crate) fn refused(alloc: Global, code: i32, refusal: Refusal) -> Result<Repl
     ensures { IfOk result (λ reply. reply ≡ refused_of code refusal) }
 {
     match refusal {
-        Refusal::NotBuilt => not_served(alloc, code),
-        Refusal::Topic => Ok(remarked(alloc, 13, text(alloc, "topic")?)),
-        Refusal::SysFlag => Ok(remarked(alloc, 13, text(alloc, "sysFlag")?)),
-        Refusal::Body => Ok(remarked(alloc, 13, text(alloc, "body")?)),
-        Refusal::Properties => Ok(remarked(alloc, 13, text(alloc, "properties")?)),
-        Refusal::Record => Ok(remarked(alloc, 13, text(alloc, "record")?)),
-        Refusal::SystemTopic => Ok(remarked(alloc, 16, text(alloc, "system topic")?)),
+        Refusal::NotServed => not_served(alloc, code),
+        Refusal::Topic => Reply::plain(alloc, 13, "topic"),
+        Refusal::SysFlag => Reply::plain(alloc, 13, "sysFlag"),
+        Refusal::Body => Reply::plain(alloc, 13, "body"),
+        Refusal::Properties => Reply::plain(alloc, 13, "properties"),
+        Refusal::Record => Reply::plain(alloc, 13, "record"),
+        Refusal::SystemTopic => Reply::plain(alloc, 16, "system topic"),
     }
 }
 
@@ -77,14 +60,7 @@ pub(crate) fn refused(alloc: Global, code: i32, refusal: Refusal) -> Result<Repl
 pub(crate) fn log_end(alloc: Global) -> Result<Reply, AllocError>
     ensures { IfOk result (λ reply. reply ≡ log_end_of) }
 {
-    Ok(remarked(alloc, 14, text(alloc, "log end")?))
-}
-
-// There was no memory for the request.
-fn no_memory(alloc: Global) -> Result<Reply, AllocError>
-    ensures { IfOk result (λ reply. reply ≡ no_memory_of) }
-{
-    Ok(remarked(alloc, 901, text(alloc, "memory")?))
+    Reply::plain(alloc, 14, "log end")
 }
 
 // The fields that tell where a record stands.
@@ -141,6 +117,6 @@ pub(crate) fn reply_of(alloc: Global, answer: Answer) -> Result<Reply, AllocErro
         Answer::Told(reply) => Ok(reply),
         Answer::Sent(place) => sent(alloc, place),
         Answer::NotFlushed(place, count) => not_flushed(alloc, place, count),
-        Answer::NoMemory => no_memory(alloc),
+        Answer::NoMemory => Reply::of_fault(alloc, &RequestFault::Memory),
     }
 }

@@ -3,6 +3,7 @@
 ghost use Rattle.std.specs.Prelude.{◌≡◌, ◌++◌, List, [], ◌∷◌, ℕ, Option, OnOk, OnErr, IfErr, MatchResult, false};
 ghost use Rattle.record_codec.specs.Entry.{Entry};
 ghost use Rattle.reply_fields.specs.Parts.{ReplyParts};
+ghost use Rattle.segment_files.specs.Outside.{StaysOutside};
 ghost use Rattle.mq_broker.specs.Taken.{TookPart};
 ghost use Rattle.mq_broker.specs.Run.{answer_bytes, is_response as is_response_of, is_one_way as is_one_way_of};
 ghost use Rattle.mq_broker.specs.Answers.{outcome_of, IsAnswer, HasFailed};
@@ -80,6 +81,7 @@ fn stop_after(answer: &Answer) -> Result<(), Stop>
 }
 
 // Serves a request: reads the clock, carries it out and answers it.
+#[tactic(auto, using(segment_files::proofs::Outside::outside_start))]
 fn serve_request<K: Sink, D: Disk, C: Clock>(
     alloc: Global,
     broker: &mut Broker,
@@ -95,6 +97,7 @@ fn serve_request<K: Sink, D: Disk, C: Clock>(
         (λ stop. Ended stop S log (frame ∷ []) K.tells (K.taken sink.old) (K.taken sink.new) D.tells (open_log broker.old.writer (D.state disk.old)) (open_log broker.new.writer (D.state disk.new)) C.tells (C.readings clock.old) (C.readings clock.new) (D.faults disk.old) (D.faults disk.new)) }
     ensures open { CanTake D.tells (open_log broker.new.writer (D.state disk.new)) }
     ensures cause { CountsStop result (K.faults sink.old) (K.faults sink.new) (D.faults disk.old) (D.faults disk.new) (C.faults clock.old) (C.faults clock.new) }
+    ensures outside { D.tells → StaysOutside (D.state disk.old) (D.state disk.new) }
 {
     let Ok(reading) = clock.now() else {
         return Err(Stop::Clock);
@@ -116,6 +119,7 @@ fn serve_request<K: Sink, D: Disk, C: Clock>(
 }
 
 /// Serves a frame: a request is carried out and answered, a response is skipped.
+#[tactic(auto, using(segment_files::proofs::Outside::outside_start))]
 pub(crate) fn serve<K: Sink, D: Disk, C: Clock>(
     alloc: Global,
     broker: &mut Broker,
@@ -130,6 +134,7 @@ pub(crate) fn serve<K: Sink, D: Disk, C: Clock>(
         (λ stop. Ended stop S log (frame ∷ []) K.tells (K.taken sink.old) (K.taken sink.new) D.tells (open_log broker.old.writer (D.state disk.old)) (open_log broker.new.writer (D.state disk.new)) C.tells (C.readings clock.old) (C.readings clock.new) (D.faults disk.old) (D.faults disk.new)) }
     ensures open { CanTake D.tells (open_log broker.new.writer (D.state disk.new)) }
     ensures cause { CountsStop result (K.faults sink.old) (K.faults sink.new) (D.faults disk.old) (D.faults disk.new) (C.faults clock.old) (C.faults clock.new) }
+    ensures outside { D.tells → StaysOutside (D.state disk.old) (D.state disk.new) }
 {
     if is_response(&frame.header) {
         return Ok(());

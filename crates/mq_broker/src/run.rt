@@ -1,9 +1,12 @@
 //! The whole run of `pipe`: the words, the opening, and the requests of a source, answered to a sink.
 
-ghost use Rattle.std.specs.Prelude.{◌≡◌, ◌≢◌, ◌⊎◌, List, ℕ, Option};
+ghost use Rattle.std.specs.Prelude.{◌≡◌, ◌≢◌, ◌⊎◌, List, ℕ, Option, Some};
+ghost use Rattle.mq_outside.specs.Disk.{Moves};
+ghost use Rattle.mq_outside.specs.Files.{Same};
+ghost use Rattle.segment_files.specs.Outside.{StaysOutside};
 ghost use Rattle.store_open.specs.Words.{texts_of, IsCommand, IsFirstWrong};
 ghost use Rattle.store_open.specs.Openings.{FORMAT, IsForeign};
-ghost use Rattle.mq_broker.specs.Promise.{Tells, TellsFault, Call, Causes};
+ghost use Rattle.mq_broker.specs.Promise.{StatusTells, StatusTellsFault, Call, Causes};
 
 use crate::broker::Broker;
 use crate::pipe::serve_all;
@@ -16,7 +19,7 @@ use store_open::{Status, open_format, read_words};
 
 // The status that tells what ended the reading.
 fn status_of(alloc: Global, ended: Result<(), Halt>) -> Status
-    ensures { Tells result ended }
+    ensures { StatusTells result ended }
 {
     match ended {
         Ok(()) => Status::plain(alloc, 0),
@@ -31,7 +34,7 @@ fn status_of(alloc: Global, ended: Result<(), Halt>) -> Status
 
 // The status of a log that could not be recovered.
 fn status_of_fault(alloc: Global, fault: RecoverFault) -> Status
-    ensures { TellsFault result fault }
+    ensures { StatusTellsFault result fault }
 {
     match fault {
         RecoverFault::Damaged(place, name) => Status::damaged(place, name),
@@ -51,17 +54,40 @@ pub fn run_pipe<S: Source, K: Sink, D: Disk, P: Keep, C: Clock>(
     keep: &mut P,
     clock: &mut C,
 ) -> Status
-    // Status 1 comes exactly where the words are no command, with the place of the first that doesn't fit.
+    // Status 1 comes exactly where the words are no command, with the place of the first that doesn't fit. No device is asked.
     ensures usage { result.code ≡ 1 → IsFirstWrong (texts_of words.now) result.place }
     ensures wrong { ((asked : Option ℕ) → IsCommand (texts_of words.now) asked → ⊥) → result.code ≡ 1 }
+    ensures idle { result.code ≡ 1 → (source.new ≡ source.old) × (sink.new ≡ sink.old) × (disk.new ≡ disk.old) × (keep.new ≡ keep.old) × (clock.new ≡ clock.old) }
 
     // Else the opening ended the call, or requests were served.
-    ensures fits { result.code ≢ 1 → Call (texts_of words.now) result S.tells (S.given source.old) (S.given source.new) (S.left source.new) K.tells (K.taken sink.old) (K.taken sink.new)
-        D.tells (D.state disk.old) (D.state disk.new) P.tells (P.state keep.old).reads C.tells (C.readings clock.old) (C.readings clock.new) (D.faults disk.old) (D.faults disk.new) }
+    ensures fits { result.code ≢ 1 → Call (texts_of words.now) result (record {
+      source = S.tells;
+      given = S.given source.old;
+      given_then = S.given source.new;
+      left_then = S.left source.new;
+      sink = K.tells;
+      taken = K.taken sink.old;
+      taken_then = K.taken sink.new;
+      disk = D.tells;
+      old = D.state disk.old;
+      new = D.state disk.new;
+      faults = D.faults disk.old;
+      faults_then = D.faults disk.new;
+      keep = P.tells;
+      kept = P.state keep.old;
+      kept_then = P.state keep.new;
+      clock = C.tells;
+      readings = C.readings clock.old;
+      readings_then = C.readings clock.new;
+    }) }
 
-    // Status 6 comes exactly where the store is another's, with the name of what shows it.
+    // Status 6 comes where the store is another's, with the name of what shows it. It stays as it is.
     ensures foreign { D.tells → P.tells → result.code ≡ 6 → (asked : Option ℕ) → IsCommand (texts_of words.now) asked → IsForeign (D.state disk.old).reads ((P.state keep.old).reads FORMAT) asked result.name }
-    // No other text of the keep is touched.
+    ensures theirs { P.tells → result.code ≡ 6 → Moves Same (P.state keep.old) (P.state keep.new) }
+    // The disk's files outside the log's folder stay.
+    ensures outside { D.tells → StaysOutside (D.state disk.old) (D.state disk.new) }
+    // A format that stands is never written again, and no other text of the keep is touched.
+    ensures stands { P.tells → (text : List ℕ) → (P.state keep.old).reads FORMAT ≡ Some text → Moves Same (P.state keep.old) (P.state keep.new) }
     ensures kept { P.tells → (name : List ℕ) → name ≢ FORMAT → (P.state keep.new).reads name ≡ (P.state keep.old).reads name }
     ensures causes { Causes result (S.faults source.old) (S.faults source.new) (K.faults sink.old) (K.faults sink.new) (D.faults disk.old) (D.faults disk.new)
         (P.faults keep.old) (P.faults keep.new) (C.faults clock.old) (C.faults clock.new) }

@@ -1,4 +1,5 @@
 use Rattle.std.proofs.Common.{◌∙◌, [], refl}
+use Rattle.segment_files.proofs.Outside.{outside_start, outside_then}
 use Rattle.mq_broker.proofs.ProgressLemmas.{ran_nothing}
 use Rattle.mq_broker.proofs.HeldLemmas.{served_more, ended_more, halted_by_frame, next_strict}
 use Rattle.mq_broker.proofs.held.serve_held.Goals as goal
@@ -10,6 +11,7 @@ loop-halt-init g c = record {
   sink = refl;
   disk = refl;
   clock = refl;
+  outside = λ tells. outside_start _;
 }
 
 pub returns-in-Err-clause-served : goal.returns-in-Err-clause-served
@@ -35,4 +37,8 @@ loop-halt-preserved g c = record {
   sink = c.in-Ok.ensures.cause.0 ∙ c.loop-halt.invariant.sink;
   disk = c.in-Ok.ensures.cause.1 ∙ c.loop-halt.invariant.disk;
   clock = c.in-Ok.ensures.cause.2 ∙ c.loop-halt.invariant.clock;
+  outside = λ tells. outside_then (c.loop-halt.invariant.outside tells) (c.in-Ok.ensures.outside tells);
 }
+
+pub returns-in-Err-serve-clause-outside : goal.returns-in-Err-serve-clause-outside
+returns-in-Err-serve-clause-outside g c tells = outside_then (c.loop-halt.invariant.outside tells) (c.in-Err-serve.ensures.outside tells)

@@ -1,5 +1,6 @@
 use Rattle.std.proofs.Common.{◌≡◌, ℕ, List, length}
 use Rattle.record_codec.specs.Entry.{Entry}
+use Rattle.segment_files.specs.Outside.{StaysOutside}
 use Rattle.mq_broker.specs.Progress.{open_log, StandsAt, CanTake}
 use Rattle.mq_broker.specs.Pipes.{ServedHeld}
 use Rattle.mq_broker.proofs.held.serve_held.Given as goal
@@ -14,6 +15,7 @@ invariant-loop-halt g l = record {
   sink : g.K.Sink.faults l.sink ≡ g.K.Sink.faults l.initial.sink;
   disk : g.D.Disk.faults l.disk ≡ g.D.Disk.faults l.initial.disk;
   clock : g.C.Clock.faults l.clock ≡ g.C.Clock.faults l.initial.clock;
+  outside : g.D.Disk.tells → StaysOutside (g.D.Disk.state l.initial.disk) (g.D.Disk.state l.disk);
 }
 
 abbrev pub decreases-loop-halt : goal.decreases-loop-halt

@@ -2,6 +2,7 @@ use Rattle.std.proofs.Common.{◌≡◌, ◌∙◌, ℕ, ◌++◌, length, take,
 use Rattle.std.proofs.lemmas.List.{length-take, append-nil}
 use Rattle.remoting_frame.specs.Held.{Held}
 use Rattle.remoting_frame.specs.Frames.{next_of}
+use Rattle.segment_files.proofs.Outside.{outside_start, outside_then}
 use Rattle.mq_broker.proofs.PipeLemmas.{none_waits, so_far_start, read_failed, source_ended, limit_reached, not_fed, piece_served, piece_halted, counts_end, counts_halt}
 use Rattle.mq_broker.proofs.pipe.serve_stream.Goals as goal
 
@@ -15,6 +16,7 @@ loop-total-init g c = record {
   sink = refl;
   disk = refl;
   clock = refl;
+  outside = λ tells. outside_start _;
 }
 
 pub returns-in-Err-clause-served : goal.returns-in-Err-clause-served
@@ -63,8 +65,12 @@ loop-total-preserved g c =
       sink = c.in-Ok-serve_held.ensures.cause.0 ∙ c.loop-total.invariant.sink;
       disk = c.in-Ok-serve_held.ensures.cause.1 ∙ c.loop-total.invariant.disk;
       clock = c.in-Ok-serve_held.ensures.cause.2 ∙ c.loop-total.invariant.clock;
+      outside = λ tells. outside_then (c.loop-total.invariant.outside tells) (c.in-Ok-serve_held.ensures.outside tells);
     }
 
 pub returns-clause-served : goal.returns-clause-served
 returns-clause-served g c = λ S log stands.
     limit_reached S log _ _ _ _ _ _ _ _ _ _ _ _ _ _ _ (c.loop-total.invariant.served S log stands) (omega (arith, c.loop-total.invariant.within, c.loop-total-test.false))
+
+pub returns-in-Err-serve_held-clause-outside : goal.returns-in-Err-serve_held-clause-outside
+returns-in-Err-serve_held-clause-outside g c tells = outside_then (c.loop-total.invariant.outside tells) (c.in-Err-serve_held.ensures.outside tells)

@@ -1,6 +1,7 @@
 use Rattle.std.proofs.Common.{◌≡◌, ℕ, List, ◌≤◌, ◌-◌, ◌^◌, Ok, None}
 use Rattle.record_codec.specs.Entry.{Entry}
 use Rattle.remoting_frame.specs.Frames.{next_of}
+use Rattle.segment_files.specs.Outside.{StaysOutside}
 use Rattle.mq_broker.specs.Progress.{open_log, StandsAt, CanTake}
 use Rattle.mq_broker.specs.Pipes.{SoFar}
 use Rattle.mq_broker.proofs.pipe.serve_stream.Given as goal
@@ -18,6 +19,7 @@ invariant-loop-total g l = record {
   sink : g.K.Sink.faults l.sink ≡ g.K.Sink.faults l.initial.sink;
   disk : g.D.Disk.faults l.disk ≡ g.D.Disk.faults l.initial.disk;
   clock : g.C.Clock.faults l.clock ≡ g.C.Clock.faults l.initial.clock;
+  outside : g.D.Disk.tells → StaysOutside (g.D.Disk.state l.initial.disk) (g.D.Disk.state l.disk);
 }
 
 abbrev pub decreases-loop-total : goal.decreases-loop-total

@@ -1,4 +1,5 @@
 use Rattle.std.proofs.Common.{◌∙◌, inl, inr, ℕ, Option, sym, subst, refl}
+use Rattle.segment_files.proofs.Outside.{outside_start, outside_same, outside_then}
 use Rattle.log_writer.specs.Durable.{Opened}
 use Rattle.log_writer.specs.Openings.{GoesOnBehind}
 use Rattle.store_open.specs.Openings.{FORMAT, IsForeign}
@@ -22,9 +23,9 @@ returns-in-Err-open-clause-fits g c = λ fits. record {
   command = c.in-Ok.ensures.fits;
   called = inr (
     record { given_is = refl; taken_is = refl; readings_is = refl },
-    inr (unrecovered c.in-Ok.command.segment c.status_of_fault.result _ _ _ _ _ _
-        c.in-Err-open.fault c.in-Ok-open_format.segment c.status_of_fault.ensures c.in-Ok-open_format.ensures.is c.in-Ok-open_format.ensures.rests
-        c.in-Err-open.ensures.damaged c.in-Err-open.ensures.untouched c.in-Err-open.ensures.still c.in-Err-open.ensures.honest),
+    inr (unrecovered c.in-Ok.command.segment c.status_of_fault.result _ _
+        c.in-Err-open.fault c.in-Ok-open_format.segment c.status_of_fault.ensures c.in-Ok-open_format.ensures.opened c.in-Ok-open_format.ensures.rests
+        c.in-Err-open.ensures.damaged c.in-Err-open.ensures.untouched c.in-Err-open.ensures.still c.in-Err-open.ensures.any_moment),
   );
 }
 
@@ -42,14 +43,31 @@ returns-clause-fits g c = λ fits.
         result = c.serve_all-ended.result;
         tells = c.status_of.ensures;
         segment = segment;
-        size = c.in-Ok-open_format.ensures.is;
-        begins = λ told. begins_with segment _ _ _ _ _ _ _ _ _ _ opened _ _ _ _ _ _ _ c.serve_all-ended.result same rests c.serve_all-ended.ensures.served told
+        opened = c.in-Ok-open_format.ensures.opened;
+        begins = λ told. begins_with segment _ _ opened _ _ c.serve_all-ended.result same rests c.serve_all-ended.ensures.served told
             (subst (GoesOnBehind segment (g.D.Disk.state c.open_format.new.disk).reads) (sym c.new-broker.ensures) (c.in-Ok-open.ensures.kept told));
         durable = λ told stored flushed stores honest.
             let mid_stores = stores_same segment stored flushed _ _ (rests told) stores in
             let mid_honest = honest_same segment stored flushed _ _ (rests told) honest in
-            keeps_on segment _ _ _ _ _ _ _ _ _ _ opened _ _ _ _ _ _ _ c.serve_all-ended.result same rests c.serve_all-ended.ensures.served told stored flushed stores
+            keeps_on segment _ _ opened _ _ c.serve_all-ended.result same rests c.serve_all-ended.ensures.served told stored flushed stores
             (subst (Opened segment stored flushed (g.D.Disk.state c.open.new.disk)) (sym c.new-broker.ensures) (c.in-Ok-open.ensures.ours told stored flushed mid_stores mid_honest))
-            (c.in-Ok-open.ensures.honest told stored flushed mid_stores mid_honest);
+            (c.in-Ok-open.ensures.any_moment told stored flushed mid_stores mid_honest);
       });
     }
+
+pub returns-in-Err-clause-outside : goal.returns-in-Err-clause-outside
+returns-in-Err-clause-outside g c tells = outside_start _
+
+pub returns-in-Err-open_format-clause-outside : goal.returns-in-Err-open_format-clause-outside
+returns-in-Err-open_format-clause-outside g c tells = outside_same (outside_start _) (c.in-Err-open_format.ensures.rests tells)
+
+pub returns-in-Err-open-clause-outside : goal.returns-in-Err-open-clause-outside
+returns-in-Err-open-clause-outside g c tells =
+    outside_then (outside_same (outside_start _) (c.in-Ok-open_format.ensures.rests tells))
+    (record { reads = c.in-Err-open.ensures.outside tells; images = c.in-Err-open.ensures.outside_images tells })
+
+pub returns-clause-outside : goal.returns-clause-outside
+returns-clause-outside g c tells =
+    let opened = outside_then (outside_same (outside_start _) (c.in-Ok-open_format.ensures.rests tells))
+    (record { reads = c.in-Ok-open.ensures.outside tells; images = c.in-Ok-open.ensures.outside_images tells }) in
+    outside_then opened (c.serve_all-ended.ensures.outside tells)
