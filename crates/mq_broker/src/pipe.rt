@@ -1,6 +1,6 @@
 //! Reads the stream of requests to its end, and serves each as soon as it is whole.
 
-ghost use Rattle.std.specs.Prelude.{◌≡◌, ◌^◌, ◌≤◌, ◌<◌, ◌+◌, ◌++◌, List, [], OnErr, IfOk, length, take, ℕ};
+ghost use Rattle.std.specs.Prelude.{◌≡◌, ◌^◌, ◌≤◌, ◌<◌, ◌+◌, ◌-◌, ◌++◌, min, List, [], OnErr, IfOk, length, take, ℕ};
 ghost use Rattle.mq_outside.specs.Counts.{CountsFailure};
 ghost use Rattle.record_codec.specs.Entry.{Entry};
 ghost use Rattle.segment_files.specs.Outside.{StaysOutside};
@@ -21,10 +21,11 @@ const LIMIT: u64 = 1 << 62;
 /// How many bytes are read at once.
 const PIECE: usize = 1 << 16;
 
-// How many bytes may be read behind `total`, into a buffer of `room` bytes.
+// How many bytes may be read behind `total`, into a buffer of `room` bytes: as many as fit and the limit leaves.
 fn most_of(total: u64, room: usize) -> usize
     requires total { total < 2 ^ 62 }
     requires room { 0 < room }
+    ensures most { result ≡ min room (2 ^ 62 - total) }
     ensures some { 0 < result }
     ensures room { result ≤ room }
     ensures within { total + result ≤ 2 ^ 62 }
