@@ -12,6 +12,7 @@ pub mod PutLemmas
 pub mod LaxLemmas
 pub mod LastLemmas
 pub mod BlankLemmas
+pub mod FrontLemmas
 pub mod UnitLemmas
 pub mod Views
 pub mod ScanLemmas

@@ -8,4 +8,5 @@ pub mod InPlace
 pub mod Views
 pub mod LengthsViews
 pub mod Blanks
+pub mod Fronts
 pub mod Units

@@ -1,6 +1,7 @@
 //! What a record says before it has a place, and the test that it can be written.
 
 use crate::props::Props;
+use crate::sysflag::HOSTS_LONG;
 use crate::topic::{TOPIC_MAX, is_named};
 use mq_bytes::{Rows, Text};
 
@@ -54,9 +55,14 @@ pub enum DraftFault {
     RecordLong,
 }
 
-const BODY_MAX: usize = 4194304;
+/// The most bytes of a body.
+pub const BODY_MAX: usize = 4_194_304;
 
-const HOSTS_LONG: u32 = 48;
+/// The fewest bytes of a segment of the log.
+pub const SEGMENT_MIN: u32 = 4096;
+
+/// The most bytes of a segment of the log.
+pub const SEGMENT_MAX: u32 = 1 << 30;
 
 impl Draft {
     ghost use Rattle.std.specs.Prelude.{◌≡◌, None, Some, IfOk, IfErr};

@@ -1,9 +1,10 @@
 //! Whether bytes begin with a record's layout. Nothing is copied.
 
-ghost use Rattle.std.specs.Prelude.{◌≡◌, ◌+◌, ◌≤◌, ◌^◌, ◌++◌, List, ℕ, length, nat_lt, IfSome, IfNone};
+ghost use Rattle.std.specs.Prelude.{◌≡◌, ◌+◌, ◌≤◌, ◌^◌, ◌++◌, List, ℕ, length, take, nat_lt, Some, IfSome, IfNone};
 ghost use Rattle.record_codec.specs.Entry.{Entry};
+ghost use Rattle.record_codec.specs.Fronts.{front_size};
 ghost use Rattle.record_codec.specs.InPlace.{has_fields as has_fields_of, are_props as are_props_of};
-ghost use Rattle.record_codec.specs.Layout.{are_low as are_low_of, layout, IsRecord};
+ghost use Rattle.record_codec.specs.Layout.{are_low as are_low_of, layout, size, IsRecord};
 ghost use Rattle.record_codec.specs.LengthsViews.{lengths_view};
 ghost use Rattle.record_codec.specs.Parsed.{parsed, end_of, is_spelled as is_spelled_of};
 
@@ -11,6 +12,7 @@ use crate::layout::MAGIC;
 use crate::lengths::{Lengths, lengths_of, u32_at, u64_at};
 use crate::scan::{are_distinct, are_written, has_name};
 use crate::seal::{seal_end, sum_of};
+use crate::sysflag::HOSTS_LONG;
 use crate::topic::is_legal;
 use crate::view::View;
 use mq_bytes::crc32;
@@ -38,7 +40,7 @@ fn has_fields(bytes: &[u8], lengths: &Lengths) -> bool
     if !is_legal(&bytes[from..from + lengths.topic as usize]) {
         return false;
     }
-    if u32_at(bytes, 36) & 48 != 0 {
+    if u32_at(bytes, 36) & HOSTS_LONG != 0 {
         return false;
     }
     are_low(&[
@@ -107,4 +109,23 @@ pub fn test(bytes: &[u8]) -> Option<View<'_>>
     ensures none { IfNone result ((r : Entry) (rest : List ℕ) → IsRecord r → bytes.now ≡ layout r ++ rest → ⊥) }
 {
     view_of(bytes)
+}
+
+#[tactic(auto, unfolding(crate::specs::Fronts::front_size))]
+fn size_at_front(bytes: &[u8]) -> Option<u32>
+    ensures { result ≡ front_size bytes.now }
+{
+    if bytes.len() < 8 || u32_at(bytes, 4) != MAGIC {
+        return None;
+    }
+    Some(u32_at(bytes, 0))
+}
+
+/// The size that the record at the front says, where these bytes begin as one does. Eight bytes of a record suffice; whether
+/// the rest of it stands there, `test` tells.
+pub fn size_in_front(bytes: &[u8]) -> Option<u32>
+    ensures exact { result ≡ front_size bytes.now }
+    ensures enough { (r : Entry) (rest : List ℕ) (n : ℕ) → IsRecord r → 8 ≤ n → bytes.now ≡ take n (layout r ++ rest) → result ≡ Some (size r) }
+{
+    size_at_front(bytes)
 }
