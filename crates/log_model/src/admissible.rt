@@ -3,13 +3,9 @@
 ghost use Rattle.std.specs.Prelude.{◌≡◌, ◌<◌, ◌↔◌, IsTrue, bit_and};
 ghost use Rattle.log_model.specs.Log.{is_system_topic as is_system, IsPlain, IsAdmissible};
 
-use record_codec::View;
+use record_codec::{COMMITTED, TRANSACTION_BITS, View};
 
 const MOST_QUEUES: u32 = 1024;
-
-const TRANSACTION_BITS: u32 = 12;
-
-const COMMITTED: u32 = 8;
 
 /// The topics that the broker keeps for itself: delayed messages, half messages, what settles these, and those given up.
 pub fn is_system_topic(topic: &str) -> bool

@@ -23,13 +23,10 @@ ghost use Rattle.remoting_frame.specs.declared.frame.Form.TheVariants.{Json};
 ghost use Rattle.reply_fields.specs.Asks.{text_or, real_topic as real_topic_of, real_queue as real_queue_of, real_draft, offset_id as offset_id_of, ask_fields, ask_head, ask_bytes, IsAsked};
 
 use mq_bytes::{Rows, Text, message_id, read_decimal};
-use record_codec::{Draft, Props, Record, encode};
+use record_codec::{Draft, Props, Record, SEGMENT_MAX, encode};
 use remoting_frame::{Form, Header};
 use std::alloc::{AllocError, Global};
 use std::marker::Model;
-
-/// The greatest segment.
-const SEGMENT_MAX: u32 = 1 << 30;
 
 /// A check-back to a link, for a producer group. `view` is the newest record of the half message; it has a legal topic
 /// `REAL_TOPIC` and a decimal `REAL_QID` below 1,024, and can be written with these.

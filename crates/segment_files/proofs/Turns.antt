@@ -14,11 +14,13 @@ use Rattle.record_codec.specs.Layout.{layout}
 use Rattle.log_model.specs.Log.{IsWellFormed, end_of}
 use Rattle.log_model.specs.Segments.{Shape, layouts, blank_of, opened, used, base, end_in, shape_of, last_bytes, AreSegmentFiles}
 use Rattle.log_model.specs.Store.{Stands, IsBatch, IsLaid, StoresAt, KeepsIfHonest}
+use Rattle.log_model.specs.declared.batch.Batch.{Batch}
 use Rattle.log_model.proofs.Places.{placed_log, well_formed_take}
 use Rattle.log_model.proofs.Steps.{each_torn, each_more, each_has, stands_more, length-blank_of}
 use Rattle.log_model.proofs.StoreLemmas.{laid_room, stores_named, stores_still, stores_batch, stores_opened, stores_exact}
 use Rattle.log_model.proofs.Prefixes.{keeps_prefix}
-use Rattle.segment_files.specs.Turn.{IsInside, WritesAt, IsBehind, HasRecords, is_due, shape_behind, unless_opened, Opens, GoesOn, CanRetry}
+use Rattle.segment_files.specs.Turn.{IsInside, WritesAt, IsBehind, HasRecords, is_due, shape_behind, unless_opened, Opens, GoesOn, Growing, opens_segment, CanTurn, CanRetry}
+use Rattle.segment_files.specs.declared.last_file.LastFile.{LastFile}
 
 -- the place of a blank, or 0 where there is none
 abbrev first_of : Option (ℕ × ℕ) → ℕ
@@ -150,50 +152,50 @@ not_due S log flushed shape was now place (Some b) room first opens next = ⊎_e
     ap (λ (k : ℕ). nat_le k b.0) same ∙ stands)
     (cases_Bool (nat_le was b.0))
 
+-- the same by equal numbers
+pub writes_moved : {S : ℕ} {log : List Entry} {flushed : ℕ} {shape : Shape} {reach b o now_b now_o : ℕ} {disk : DiskState}
+    → WritesAt S log flushed shape reach b o disk → now_b ≡ b → now_o ≡ o → WritesAt S log flushed shape reach now_b now_o disk
+writes_moved {S = S} {log = log} {flushed = flushed} {shape = shape} {reach = reach} {b = b} {now_o = now_o} {disk = disk} writes same same_offset =
+    subst (λ (k : ℕ). WritesAt S log flushed shape reach k now_o disk) (sym same) (subst (λ (k : ℕ). WritesAt S log flushed shape reach b k disk) (sym same_offset) writes)
+
 -- after a fault before the blank was synced
-pub retry_first : {S : ℕ} {log : List Entry} {flushed : ℕ} {shape : Shape} {reach was was_offset now now_offset place count : ℕ} {blank : Option (ℕ × ℕ)} {batch : List ℕ} {new : DiskState} (most : ℕ)
-    → GoesOn S log flushed shape (is_due was blank) place blank count batch → WritesAt S log flushed shape reach was was_offset new → is_due was blank ≡ true → now ≡ was → now_offset ≡ was_offset
-    → CanRetry S log flushed most now now_offset new place blank count batch
-retry_first {S = S} {log = log} {flushed = flushed} {shape = shape} {reach = reach} {was = was} {now = now} {now_offset = now_offset} {place = place} {count = count} {blank = blank} {batch = batch} {new = new} most goes writes due same same_offset = record {
+pub retry_first : {S : ℕ} {log : List Entry} {flushed : ℕ} {shape : Shape} {reach : ℕ} {batch : Batch} {was : LastFile} {new : Growing} (most : ℕ)
+    → GoesOn S log flushed shape (opens_segment was batch) batch → WritesAt S log flushed shape reach was.base was.offset new.disk → opens_segment was batch ≡ true
+    → new.file.base ≡ was.base → new.file.offset ≡ was.offset → CanRetry S log flushed most batch new
+retry_first {S = S} {log = log} {flushed = flushed} {shape = shape} {reach = reach} {batch = batch} {was = was} {new = new} most goes writes due same same_offset = record {
   shape = shape;
   reach = reach;
-  writes = subst (λ (b : ℕ). WritesAt S log flushed shape reach b now_offset new) (sym same) (subst (λ (o : ℕ). WritesAt S log flushed shape reach was o new) (sym same_offset) writes);
-  goes_on = subst (λ (b : ℕ). GoesOn S log flushed shape (is_due b blank) place blank count batch) (sym same) goes;
+  can = record {
+    writes = writes_moved writes same same_offset;
+    goes_on = subst (λ (b : ℕ). GoesOn S log flushed shape (is_due b batch.blank) batch) (sym same) goes;
+  };
   short =
-      let still : is_due now blank ≡ true = ap (λ (b : ℕ). is_due b blank) same ∙ due in
+      let still : opens_segment new.file batch ≡ true = ap (λ (b : ℕ). is_due b batch.blank) same ∙ due in
       omega (arith, ap (λ (d : Bool). unless_opened d reach) still);
 }
 
 -- after a fault behind it
-pub retry_second : {S : ℕ} {log : List Entry} {flushed : ℕ} {shape : Shape} {reach more was was_offset now now_offset place count : ℕ} {blank : Option (ℕ × ℕ)} {batch : List ℕ} {old new : DiskState} (most : ℕ)
-    → WritesAt S log flushed shape reach was was_offset old → GoesOn S log flushed shape (is_due was blank) place blank count batch
-    → WritesAt S log flushed (shape_behind (is_due was blank) shape) more now now_offset new → more ≤ most → CanRetry S log flushed most now now_offset new place blank count batch
-retry_second {S = S} {log = log} {flushed = flushed} {shape = shape} {more = more} {was = was} {now = now} {place = place} {count = count} {blank = blank} {batch = batch} most first goes writes short =
-    let next : Shape = shape_behind (is_due was blank) shape in
+pub retry_second : {S : ℕ} {log : List Entry} {flushed : ℕ} {shape : Shape} {reach more : ℕ} {batch : Batch} {old new : Growing} (most : ℕ)
+    → CanTurn S log flushed shape reach batch old → WritesAt S log flushed (shape_behind (opens_segment old.file batch) shape) more new.file.base new.file.offset new.disk → more ≤ most
+    → CanRetry S log flushed most batch new
+retry_second {S = S} {log = log} {flushed = flushed} {shape = shape} {more = more} {batch = batch} {old = old} {new = new} most can writes short =
+    let first = can.writes in
+    let goes = can.goes_on in
+    let next : Shape = shape_behind (opens_segment old.file batch) shape in
     let room : used shape + 8 ≤ S = laid_room S log flushed shape first.stores.well_formed first.stores.laid in
-    let stands : is_due now blank ≡ false = not_due S log flushed shape was now place blank room first.place.last goes.opens writes.place.last in
+    let stands : opens_segment new.file batch ≡ false = not_due S log flushed shape old.file.base new.file.base batch.place batch.blank room first.place.last goes.opens writes.place.last in
     record {
       shape = next;
       reach = more;
-      writes = writes;
-      goes_on = record {
-        records = subst (λ (d : Bool). IsBatch S log flushed count (shape_behind d next) batch) (sym stands) goes.records;
-        opens = λ due. let full : false ≡ true = sym stands ∙ due in absurd (cc);
+      can = record {
+        writes = writes;
+        goes_on = record {
+          records = subst (λ (d : Bool). IsBatch S log flushed batch.count (shape_behind d next) batch.bytes) (sym stands) goes.records;
+          opens = λ due. let full : false ≡ true = sym stands ∙ due in absurd (cc);
+        };
       };
       short = omega (arith, ap (λ (d : Bool). unless_opened d more) stands, short);
     }
-
--- where the records of the last file end behind a blank if one is due
-used_behind : (due : Bool) (shape : Shape) (offset : ℕ) → offset ≡ used shape → used (shape_behind due shape) ≡ unless_opened due offset
-used_behind true shape offset is = refl
-used_behind false shape offset is = sym is
-
--- the batch ends at the same offset, however often it comes again
-pub batch_ends : {S : ℕ} {log : List Entry} {flushed : ℕ} {shape : Shape} {reach file_base offset place count : ℕ} {blank : Option (ℕ × ℕ)} {batch : List ℕ} {disk : DiskState}
-    → WritesAt S log flushed shape reach file_base offset disk → GoesOn S log flushed shape (is_due file_base blank) place blank count batch
-    → unless_opened (is_due file_base blank) offset + length batch ≡ used (shape_of S (take (flushed + count) log))
-batch_ends {shape = shape} {file_base = file_base} {offset = offset} {blank = blank} writes goes =
-    omega (arith, used_batch goes.records, used_behind (is_due file_base blank) shape offset writes.place.end)
 
 -- ---- where the next bytes go
 
@@ -234,12 +236,7 @@ pub on_err : {A E : Type 0} {P : Type 0} (result : Result A E) → P → OnErr r
 on_err (Ok value) holds = tt
 on_err (Err fault) holds = holds
 
--- the same by equal numbers
-pub writes_moved : {S : ℕ} {log : List Entry} {flushed : ℕ} {shape : Shape} {reach b o now_b now_o : ℕ} {disk : DiskState}
-    → WritesAt S log flushed shape reach b o disk → now_b ≡ b → now_o ≡ o → WritesAt S log flushed shape reach now_b now_o disk
-writes_moved {S = S} {log = log} {flushed = flushed} {shape = shape} {reach = reach} {b = b} {now_o = now_o} {disk = disk} writes same same_offset =
-    subst (λ (k : ℕ). WritesAt S log flushed shape reach k now_o disk) (sym same) (subst (λ (k : ℕ). WritesAt S log flushed shape reach b k disk) (sym same_offset) writes)
-
+-- up to the offset that the next bytes go to
 pub writes_to : {S : ℕ} {log : List Entry} {flushed : ℕ} {shape : Shape} {end b o : ℕ} {disk : DiskState} (r now : ℕ)
     → WritesAt S log flushed shape (max r end) b o disk → now ≡ end → WritesAt S log flushed shape (max r now) b o disk
 writes_to {S = S} {log = log} {flushed = flushed} {shape = shape} {b = b} {o = o} {disk = disk} r now writes same =

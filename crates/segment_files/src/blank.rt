@@ -10,27 +10,13 @@ ghost use Rattle.std.specs.Prelude.{◌≡◌, ◌+◌, ◌<◌, ◌≤◌, ◌^
 ghost use Rattle.mq_outside.specs.Counts.{CountsFailure};
 ghost use Rattle.mq_outside.specs.Files.{bytes_of, overwritten};
 ghost use Rattle.mq_outside.specs.Disk.{EachImage, Throughout};
-ghost use Rattle.record_codec.specs.Blanks.{blank_front};
 ghost use Rattle.log_model.specs.Segments.{Shape, blank_of, IsLogFile};
 ghost use Rattle.log_model.specs.Store.{Stands};
 ghost use Rattle.segment_files.specs.Outside.{StaysOutside};
 ghost use Rattle.segment_files.specs.Turn.{IsBehind};
 
 use mq_outside::{Disk, Failed};
-
-const MAGIC: u32 = 0xCBD4_3194;
-
-const FRONT: u64 = 8;
-
-// The size and the magic of a blank.
-fn front_of(size: u32) -> [u8; 8]
-    ensures { result ≡ blank_front size }
-{
-    let mut front = [0; 8];
-    front[..4].copy_from_slice(&size.to_be_bytes());
-    front[4..].copy_from_slice(&MAGIC.to_be_bytes());
-    front
-}
+use record_codec::{BLANK_FRONT, blank_front};
 
 /// Writes a blank of `size` bytes over what is there, the zeros of it in pieces of `zeros`. It isn't synced.
 pub fn write_blank<D: Disk>(
@@ -52,9 +38,9 @@ pub fn write_blank<D: Disk>(
     ensures cause { CountsFailure result (D.faults disk.old) (D.faults disk.new) }
     ensures syncs { D.syncs disk.new ≡ D.syncs disk.old }
 {
-    disk.write_at(name, at, &front_of(size))?;
+    disk.write_at(name, at, &blank_front(size))?;
     let end = u64::from(size);
-    let mut done = FRONT;
+    let mut done = BLANK_FRONT;
     while done < end {
         let piece = (end - done).min(zeros.len() as u64);
         disk.write_at(name, at + done, &zeros[..piece as usize])?;

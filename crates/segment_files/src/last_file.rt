@@ -6,12 +6,12 @@
 
 ghost use Rattle.std.specs.Prelude.{◌≡◌, true, ◌+◌, ◌-◌, ◌*◌, ◌/◌, ◌%◌, ◌<◌, ◌≤◌, ◌^◌, max, List, ℕ, length, take, drop, Some, OnOk, OnErr, IfOk};
 ghost use Rattle.mq_outside.specs.Counts.{CountsFailure};
-ghost use Rattle.mq_outside.specs.Disk.{EachImage, Throughout};
+ghost use Rattle.mq_outside.specs.Disk.{Throughout};
 ghost use Rattle.record_codec.specs.Entry.{Entry};
-ghost use Rattle.log_model.specs.Segments.{Shape, added, opened, used, base, shape_of, AreSegmentFiles, IsLogFile};
-ghost use Rattle.log_model.specs.Store.{IsBatch, KeepsIfHonest};
-ghost use Rattle.segment_files.specs.Outside.{IsOutsideOf, StaysOutside};
-ghost use Rattle.segment_files.specs.Turn.{IsInside, WritesAt, HasRecords, Opens, GoesOn, CanRetry, is_due, shape_behind, base_behind, unless_opened, syncs_of};
+ghost use Rattle.log_model.specs.Segments.{Shape, added, opened, used, base, shape_of};
+ghost use Rattle.log_model.specs.Store.{IsBatch};
+ghost use Rattle.segment_files.specs.Outside.{StaysOutside};
+ghost use Rattle.segment_files.specs.Turn.{IsInside, WritesAt, HasRecords, Opens, Turns, MovesOn, growing, opens_segment, is_due, shape_behind, base_behind, unless_opened, syncs_of};
 
 use crate::blank::write_blank;
 use bytes::Bytes;
@@ -145,47 +145,15 @@ impl LastFile {
         requires room { self.old.offset + length batch.bytes < 2 ^ 63 }
         requires inside { D.tells → IsInside self.old.base self.old.offset (D.state disk.old) }
 
-        // At each moment of the call each image has what was flushed before it, and each honest one keeps it.
-        ensures any_moment { D.tells → (S : ℕ) (log : List Entry) (flushed : ℕ) (shape : Shape) (reach : ℕ)
-            → WritesAt S log flushed shape reach self.old.base self.old.offset (D.state disk.old)
-            → GoesOn S log flushed shape (is_due self.old.base batch.blank) batch.place batch.blank batch.count batch.bytes
-            → Throughout (D.state disk.old) (D.state disk.new) (HasRecords S (take flushed log)) }
-        ensures honest { D.tells → (S : ℕ) (log : List Entry) (flushed : ℕ) (shape : Shape) (reach : ℕ)
-            → WritesAt S log flushed shape reach self.old.base self.old.offset (D.state disk.old)
-            → GoesOn S log flushed shape (is_due self.old.base batch.blank) batch.place batch.blank batch.count batch.bytes
-            → Throughout (D.state disk.old) (D.state disk.new) (KeepsIfHonest S log flushed) }
-
-        // A fault leaves the log as before, and the batch can be written again.
-        ensures still { D.tells → (S : ℕ) (log : List Entry) (flushed : ℕ) (shape : Shape) (reach : ℕ)
-            → WritesAt S log flushed shape reach self.old.base self.old.offset (D.state disk.old)
-            → GoesOn S log flushed shape (is_due self.old.base batch.blank) batch.place batch.blank batch.count batch.bytes
-            → OnErr result (CanRetry S log flushed (max (unless_opened (is_due self.old.base batch.blank) reach) (unless_opened (is_due self.old.base batch.blank) self.old.offset + length batch.bytes)) self.new.base self.new.offset (D.state disk.new) batch.place batch.blank batch.count batch.bytes) }
-
-        // After Ok the batch is flushed too, and where nothing longer stood behind it every image is exactly the log's files.
-        ensures flushed { D.tells → (S : ℕ) (log : List Entry) (flushed : ℕ) (shape : Shape) (reach : ℕ)
-            → WritesAt S log flushed shape reach self.old.base self.old.offset (D.state disk.old)
-            → GoesOn S log flushed shape (is_due self.old.base batch.blank) batch.place batch.blank batch.count batch.bytes
-            → OnOk result (WritesAt S log (flushed + batch.count) (shape_of S (take (flushed + batch.count) log)) (max (unless_opened (is_due self.old.base batch.blank) reach) self.new.offset) self.new.base self.new.offset (D.state disk.new)) }
-        ensures exact { D.tells → (S : ℕ) (log : List Entry) (flushed : ℕ) (shape : Shape) (reach : ℕ)
-            → WritesAt S log flushed shape reach self.old.base self.old.offset (D.state disk.old)
-            → GoesOn S log flushed shape (is_due self.old.base batch.blank) batch.place batch.blank batch.count batch.bytes
-            → unless_opened (is_due self.old.base batch.blank) reach ≤ self.new.offset
-            → OnOk result (EachImage (AreSegmentFiles S (take (flushed + batch.count) log)) (D.state disk.new)) }
-
-        // Files outside the log's folder stay.
-        ensures outside { D.tells → (name : List ℕ) → (IsLogFile name → ⊥) → (D.state disk.new).reads name ≡ (D.state disk.old).reads name }
-        ensures outside_images { D.tells → Throughout (D.state disk.old) (D.state disk.new) (IsOutsideOf (D.state disk.old)) }
+        // What it does to a log with which the batch goes on, and to the files outside the log's folder.
+        ensures turns { D.tells → Turns batch result (growing self.old (D.state disk.old)) (growing self.new (D.state disk.new)) }
+        ensures outside { D.tells → StaysOutside (D.state disk.old) (D.state disk.new) }
 
         // What was written, and where the next bytes go.
-        ensures range { IfOk result (λ receipt. (receipt.from ≡ batch.from) × (receipt.count ≡ batch.count)
-            × (receipt.piece.base ≡ self.new.base) × (receipt.piece.from + length batch.bytes ≡ self.new.offset) × (receipt.piece.len ≡ length batch.bytes)) }
-        ensures held { D.tells → IfOk result (λ receipt. receipt.piece.held ≡ Some batch.bytes) }
-        ensures moved { OnOk result ((self.new.base ≡ base_behind (is_due self.old.base batch.blank) batch.place self.old.base)
-            × (self.new.offset ≡ unless_opened (is_due self.old.base batch.blank) self.old.offset + length batch.bytes)) }
-        ensures room { OnErr result (self.new.offset ≤ self.old.offset) }
+        ensures moves { MovesOn D.tells batch result self.old self.new }
         ensures inside { D.tells → IsInside self.new.base self.new.offset (D.state disk.new) }
         ensures cause { CountsFailure result (D.faults disk.old) (D.faults disk.new) }
-        ensures syncs { D.syncs disk.new ≤ D.syncs disk.old + syncs_of (is_due self.old.base batch.blank) }
+        ensures syncs { D.syncs disk.new ≤ D.syncs disk.old + syncs_of (opens_segment self.old batch) }
     {
         self.open_next(disk, batch.place, batch.blank)?;
         let piece = self.store(disk, batch.bytes)?;

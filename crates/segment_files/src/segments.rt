@@ -10,9 +10,9 @@ ghost use Rattle.log_model.specs.Log.{end_of};
 ghost use Rattle.log_model.specs.Queues.{said_by, IsStored};
 ghost use Rattle.log_model.specs.Segments.{Shape, shape_of, AreSegmentFiles, IsLogFile};
 ghost use Rattle.log_model.specs.Store.{StoresAt, KeepsIfHonest};
-ghost use Rattle.segment_files.specs.Outside.{IsOutsideOf};
+ghost use Rattle.segment_files.specs.Outside.{StaysOutside};
 ghost use Rattle.segment_files.specs.Reading.{IsRecordAt, TellsDamage};
-ghost use Rattle.segment_files.specs.Turn.{IsInside, WritesAt, HasRecords, GoesOn, CanRetry, is_due, base_behind, unless_opened, syncs_of};
+ghost use Rattle.segment_files.specs.Turn.{IsInside, WritesAt, Turns, MovesOn, growing, opens_segment, syncs_of};
 ghost use Rattle.segment_files.specs.contracts.segments.Segments.{the_row};
 
 use crate::last_file::LastFile;
@@ -58,48 +58,16 @@ impl<D: Disk> Segments<D> {
         requires room { self.old.file.offset + length batch.bytes < 2 ^ 63 }
         requires inside { D.tells → IsInside self.old.file.base self.old.file.offset (D.state self.old.disk) }
 
-        // At each moment of the call each image has what was flushed before it, and each honest one keeps it.
-        ensures any_moment { D.tells → (S : ℕ) (log : List Entry) (flushed : ℕ) (shape : Shape) (reach : ℕ)
-            → WritesAt S log flushed shape reach self.old.file.base self.old.file.offset (D.state self.old.disk)
-            → GoesOn S log flushed shape (is_due self.old.file.base batch.blank) batch.place batch.blank batch.count batch.bytes
-            → Throughout (D.state self.old.disk) (D.state self.new.disk) (HasRecords S (take flushed log)) }
-        ensures honest { D.tells → (S : ℕ) (log : List Entry) (flushed : ℕ) (shape : Shape) (reach : ℕ)
-            → WritesAt S log flushed shape reach self.old.file.base self.old.file.offset (D.state self.old.disk)
-            → GoesOn S log flushed shape (is_due self.old.file.base batch.blank) batch.place batch.blank batch.count batch.bytes
-            → Throughout (D.state self.old.disk) (D.state self.new.disk) (KeepsIfHonest S log flushed) }
-
-        // A fault leaves the log as before, and the batch can be written again.
-        ensures still { D.tells → (S : ℕ) (log : List Entry) (flushed : ℕ) (shape : Shape) (reach : ℕ)
-            → WritesAt S log flushed shape reach self.old.file.base self.old.file.offset (D.state self.old.disk)
-            → GoesOn S log flushed shape (is_due self.old.file.base batch.blank) batch.place batch.blank batch.count batch.bytes
-            → OnErr result (CanRetry S log flushed (max (unless_opened (is_due self.old.file.base batch.blank) reach) (unless_opened (is_due self.old.file.base batch.blank) self.old.file.offset + length batch.bytes)) self.new.file.base self.new.file.offset (D.state self.new.disk) batch.place batch.blank batch.count batch.bytes) }
-
-        // After Ok the batch is flushed too, and where nothing longer stood behind it every image is exactly the log's files.
-        ensures flushed { D.tells → (S : ℕ) (log : List Entry) (flushed : ℕ) (shape : Shape) (reach : ℕ)
-            → WritesAt S log flushed shape reach self.old.file.base self.old.file.offset (D.state self.old.disk)
-            → GoesOn S log flushed shape (is_due self.old.file.base batch.blank) batch.place batch.blank batch.count batch.bytes
-            → OnOk result (WritesAt S log (flushed + batch.count) (shape_of S (take (flushed + batch.count) log)) (max (unless_opened (is_due self.old.file.base batch.blank) reach) self.new.file.offset) self.new.file.base self.new.file.offset (D.state self.new.disk)) }
-        ensures exact { D.tells → (S : ℕ) (log : List Entry) (flushed : ℕ) (shape : Shape) (reach : ℕ)
-            → WritesAt S log flushed shape reach self.old.file.base self.old.file.offset (D.state self.old.disk)
-            → GoesOn S log flushed shape (is_due self.old.file.base batch.blank) batch.place batch.blank batch.count batch.bytes
-            → unless_opened (is_due self.old.file.base batch.blank) reach ≤ self.new.file.offset
-            → OnOk result (EachImage (AreSegmentFiles S (take (flushed + batch.count) log)) (D.state self.new.disk)) }
-
-        // Files outside the log's folder stay.
-        ensures outside { D.tells → (name : List ℕ) → (IsLogFile name → ⊥) → (D.state self.new.disk).reads name ≡ (D.state self.old.disk).reads name }
-        ensures outside_images { D.tells → Throughout (D.state self.old.disk) (D.state self.new.disk) (IsOutsideOf (D.state self.old.disk)) }
+        // What it does to a log with which the batch goes on, and to the files outside the log's folder.
+        ensures turns { D.tells → Turns batch result (growing self.old.file (D.state self.old.disk)) (growing self.new.file (D.state self.new.disk)) }
+        ensures outside { D.tells → StaysOutside (D.state self.old.disk) (D.state self.new.disk) }
 
         // What was written, and where the next bytes go.
-        ensures range { IfOk result (λ receipt. (receipt.from ≡ batch.from) × (receipt.count ≡ batch.count)
-            × (receipt.piece.base ≡ self.new.file.base) × (receipt.piece.from + length batch.bytes ≡ self.new.file.offset) × (receipt.piece.len ≡ length batch.bytes)) }
-        ensures held { D.tells → IfOk result (λ receipt. receipt.piece.held ≡ Some batch.bytes) }
-        ensures moved { OnOk result ((self.new.file.base ≡ base_behind (is_due self.old.file.base batch.blank) batch.place self.old.file.base)
-            × (self.new.file.offset ≡ unless_opened (is_due self.old.file.base batch.blank) self.old.file.offset + length batch.bytes)) }
-        ensures room { OnErr result (self.new.file.offset ≤ self.old.file.offset) }
+        ensures moves { MovesOn D.tells batch result self.old.file self.new.file }
         ensures inside { D.tells → IsInside self.new.file.base self.new.file.offset (D.state self.new.disk) }
         ensures segment { self.new.segment ≡ self.old.segment }
         ensures cause { CountsFailure result (D.faults self.old.disk) (D.faults self.new.disk) }
-        ensures syncs { D.syncs self.new.disk ≤ D.syncs self.old.disk + syncs_of (is_due self.old.file.base batch.blank) }
+        ensures syncs { D.syncs self.new.disk ≤ D.syncs self.old.disk + syncs_of (opens_segment self.old.file batch) }
     {
         self.file.write_batch(&mut self.disk, batch)
     }

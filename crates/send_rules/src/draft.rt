@@ -4,11 +4,8 @@ ghost use Rattle.std.specs.Prelude.{◌≡◌, IfOk};
 ghost use Rattle.record_codec.specs.LaxProps.{read_props};
 ghost use Rattle.send_rules.specs.Records.{kept_props, draft_of as draft_of_send};
 
-use record_codec::{Draft, Props};
+use record_codec::{Draft, Props, TRANSACTION_BITS};
 use request_fields::SendFields;
-
-/// All bits of the system flag but those that tell of a transaction.
-const PLAIN_BITS: u32 = 0xFFFF_FFF3;
 
 /// What is fixed for a broker: how many bytes a segment of its log has, and its host (an IPv4 address and a port, four
 /// bytes each).
@@ -45,7 +42,7 @@ pub(crate) fn draft_of(
         topic: send.topic,
         queue: 0,
         flag: send.flag,
-        sysflag: send.sysflag.cast_unsigned() & PLAIN_BITS,
+        sysflag: send.sysflag.cast_unsigned() & !TRANSACTION_BITS,
         born: send.born,
         born_host,
         store_host,

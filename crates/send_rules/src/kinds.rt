@@ -6,13 +6,8 @@ ghost use Rattle.record_codec.specs.LaxProps.{read_props};
 ghost use Rattle.send_rules.specs.Kinds.{says as says_of, is_level as is_level_of, is_half as is_half_of, is_unserved as is_unserved_of};
 
 use mq_bytes::read_decimal;
-use record_codec::Props;
+use record_codec::{PREPARED, Props, TRANSACTION_BITS};
 use request_fields::SendFields;
-
-/// The bits of the system flag that tell of a transaction, and what they are for a half message.
-const TRANSACTION_BITS: u32 = 12;
-
-const PREPARED: u32 = 4;
 
 // Whether the property of this name is this word, in any case of letters.
 fn says(props: &Props, name: &str, word: &str) -> bool

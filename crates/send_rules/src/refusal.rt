@@ -16,7 +16,7 @@ ghost use Rattle.send_rules.specs.Refusals.{refusal_of as refusal_of_send};
 
 use crate::kinds::is_unserved;
 use log_model::is_system_topic;
-use record_codec::{Props, is_legal_topic};
+use record_codec::{BODY_MAX, HOSTS_LONG, Props, is_legal_topic};
 use request_fields::SendFields;
 
 /// Why a send is not taken.
@@ -38,11 +38,8 @@ pub enum Refusal {
     SystemTopic,
 }
 
-const HOSTS_LONG: u32 = 48;
-
-const BODY_MAX: usize = 4194304;
-
-const PROPERTIES_MAX: usize = 31999;
+/// The most bytes of a send's property text.
+const PROPERTIES_MAX: usize = 31_999;
 
 /// What a record may have besides its body and the property text of its send.
 const RESERVE: usize = 1024;

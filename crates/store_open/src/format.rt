@@ -17,15 +17,11 @@ ghost use Rattle.store_open.specs.Formats.{format_text, IsFormat, AreSizes, size
 
 use crate::number::read_number;
 use mq_bytes::write_number;
+use record_codec::{SEGMENT_MAX, SEGMENT_MIN};
 use std::alloc::{AllocError, Global};
 
 /// The name and the version of the store's files.
 const HEAD: &[u8] = b"mq_broker 1 ";
-
-/// The fewest and the most bytes of a segment.
-pub(crate) const LEAST_SEGMENT: u32 = 4096;
-
-pub(crate) const GREATEST_SEGMENT: u32 = 1_073_741_824;
 
 const GREATEST_SLOTS: u32 = 5_000_000;
 
@@ -64,7 +60,7 @@ fn read_sizes(text: &str) -> Option<Sizes>
     ensures exact { (segment slots entries : ℕ) → text.now ≡ sizes_text segment slots entries → AreSizes segment slots entries
         → result ≡ Some (record { segment = segment; slots = slots; entries = entries }) }
 {
-    let (segment, rest) = number_before(text, LEAST_SEGMENT, GREATEST_SEGMENT)?;
+    let (segment, rest) = number_before(text, SEGMENT_MIN, SEGMENT_MAX)?;
     let (slots, rest) = number_before(rest, 1, GREATEST_SLOTS)?;
     let entries = read_number(rest, LEAST_ENTRIES, GREATEST_ENTRIES)?;
     Some(Sizes {

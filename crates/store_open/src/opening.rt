@@ -11,9 +11,10 @@ ghost use Rattle.log_model.specs.Log.{IsSegmentSize};
 ghost use Rattle.store_open.specs.Formats.{format_text, IsFormatFor, NEW_ENTRIES, NEW_SLOTS};
 ghost use Rattle.store_open.specs.Openings.{FORMAT, IsForeign, IsOpened, OpeningCause};
 
-use crate::format::{GREATEST_SEGMENT, read_format, write_format};
+use crate::format::{read_format, write_format};
 use crate::status::Status;
 use mq_outside::{Disk, DiskFault, Keep};
+use record_codec::SEGMENT_MAX;
 use std::alloc::Global;
 
 // The first file of the disk, if there is one.
@@ -102,7 +103,7 @@ pub fn open_format<D: Disk, P: Keep>(
         }
     }
     foreign_file(alloc, names.as_slice())?;
-    let segment = asked.unwrap_or(GREATEST_SEGMENT);
+    let segment = asked.unwrap_or(SEGMENT_MAX);
     put_format(alloc, keep, segment)?;
     Ok(segment)
 }

@@ -3,8 +3,8 @@
 ghost use Rattle.std.specs.Prelude.{IfOk, IfErr};
 ghost use Rattle.store_open.specs.Words.{texts_of, IsCommand, IsFirstWrong};
 
-use crate::format::{GREATEST_SEGMENT, LEAST_SEGMENT};
 use crate::number::read_number;
+use record_codec::{SEGMENT_MAX, SEGMENT_MIN};
 
 /// What the words ask for. `segment` is how many bytes a segment has, where they say it.
 #[derive(Debug, Clone, Copy, PartialEq, Eq)]
@@ -32,7 +32,7 @@ pub fn read_words(words: &[&str]) -> Result<Command, u64>
     let Some((value, more)) = values.split_first() else {
         return Err(2);
     };
-    let Some(segment) = read_number(value, LEAST_SEGMENT, GREATEST_SEGMENT) else {
+    let Some(segment) = read_number(value, SEGMENT_MIN, SEGMENT_MAX) else {
         return Err(2);
     };
     if !more.is_empty() {

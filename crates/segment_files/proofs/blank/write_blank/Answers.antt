@@ -9,16 +9,16 @@ use Rattle.segment_files.proofs.blank.write_blank.Goals as goal
 
 pub returns-in_err-write_at-clause-any_moment : goal.returns-in_err-write_at-clause-any_moment
 returns-in_err-write_at-clause-any_moment g c tells S shape reach behind low each =
-    writes_on behind (omega arith) (omega (arith, ap length c.front_of.ensures, low)) (c.write_at.ensures.moves tells) (at_start _ (Stands S shape reach) each)
+    writes_on behind (omega arith) (omega (arith, ap length c.blank_front.ensures, low)) (c.write_at.ensures.moves tells) (at_start _ (Stands S shape reach) each)
 
 pub loop-done-init : goal.loop-done-init
 loop-done-init g c = record {
   low = omega arith;
   within = omega arith;
   written = λ tells. c.in_ok-write_at.ensures.written tells
-      ∙ ap (λ (l : List ℕ). Some (overwritten c.args.at l (bytes_of (g.D.Disk.state c.args.disk.now).reads c.args.name.now))) c.front_of.ensures;
+      ∙ ap (λ (l : List ℕ). Some (overwritten c.args.at l (bytes_of (g.D.Disk.state c.args.disk.now).reads c.args.name.now))) c.blank_front.ensures;
   any_moment = λ tells S shape reach behind low each.
-      writes_on behind (omega arith) (omega (arith, ap length c.front_of.ensures, low)) (c.write_at.ensures.moves tells) (at_start _ (Stands S shape reach) each);
+      writes_on behind (omega arith) (omega (arith, ap length c.blank_front.ensures, low)) (c.write_at.ensures.moves tells) (at_start _ (Stands S shape reach) each);
   outside = λ tells inside. outside_call inside (outside_start (g.D.Disk.state c.args.disk.now)) (c.write_at.ensures.moves tells);
   faults = c.in_ok-write_at.ensures.cause;
   syncs = c.write_at.ensures.syncs;

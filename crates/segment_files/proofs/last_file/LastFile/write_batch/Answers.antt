@@ -1,75 +1,49 @@
-use Rattle.std.proofs.Common.{arith}
+use Rattle.std.proofs.Common.{arith, rules}
 use Rattle.mq_outside.proofs.Moments.{chained}
 use Rattle.segment_files.proofs.Outside.{outside_then}
-use Rattle.segment_files.proofs.Turns.{keeps_records, retry_first, retry_second, writes_exact, writes_moved, writes_to, on_err}
+use Rattle.segment_files.proofs.Turns.{keeps_records, on_err, retry_first, retry_second, writes_exact, writes_moved, writes_to}
 use Rattle.segment_files.proofs.last_file.LastFile.write_batch.Goals as goal
 
-pub returns-in_err-open_next-clause-honest : goal.returns-in_err-open_next-clause-honest
-returns-in_err-open_next-clause-honest g c tells S log flushed shape reach writes goes =
-    keeps_records writes.stores.well_formed writes.stores.within (c.open_next.ensures.any_moment tells S log flushed shape reach writes goes.opens)
-
-pub returns-in_err-open_next-clause-still : goal.returns-in_err-open_next-clause-still
-returns-in_err-open_next-clause-still g c tells S log flushed shape reach writes goes =
+pub returns-in_err-open_next-clause-turns : goal.returns-in_err-open_next-clause-turns
+returns-in_err-open_next-clause-turns g c tells S log flushed shape reach can =
+    let quiet = c.open_next.ensures.any_moment tells S log flushed shape reach can.writes can.goes_on.opens in
     let stays = c.in_err-open_next.ensures.stays in
-    on_err _ (retry_first _ goes (c.open_next.ensures.still tells S log flushed shape reach writes goes.opens) c.in_err-open_next.ensures.due stays.0 stays.1)
+    record {
+      any_moment = quiet;
+      honest = keeps_records can.writes.stores.well_formed can.writes.stores.within quiet;
+      retry = on_err _ (retry_first _ can.goes_on (c.open_next.ensures.still tells S log flushed shape reach can.writes can.goes_on.opens) c.in_err-open_next.ensures.due stays.0 stays.1);
+      stored = search rules;
+      exact = λ low. search rules;
+    }
 
-pub returns-in_err-piece-clause-any_moment : goal.returns-in_err-piece-clause-any_moment
-returns-in_err-piece-clause-any_moment g c tells S log flushed shape reach writes goes =
-    chained (c.open_next.ensures.any_moment tells S log flushed shape reach writes goes.opens)
-    (c.store.ensures.any_moment tells S log flushed _ _ _ (c.in_ok-open_next.ensures.opened tells S log flushed shape reach writes goes.opens) goes.records)
+pub returns-in_err-piece-clause-turns : goal.returns-in_err-piece-clause-turns
+returns-in_err-piece-clause-turns g c tells S log flushed shape reach can =
+    let opened = c.in_ok-open_next.ensures.opened tells S log flushed shape reach can.writes can.goes_on.opens in
+    let quiet = chained (c.open_next.ensures.any_moment tells S log flushed shape reach can.writes can.goes_on.opens) (c.store.ensures.any_moment tells S log flushed _ _ _ opened can.goes_on.records) in
+    let stored = c.store.ensures.still tells S log flushed _ _ _ opened can.goes_on.records in
+    record {
+      any_moment = quiet;
+      honest = keeps_records can.writes.stores.well_formed can.writes.stores.within quiet;
+      retry = on_err _ (retry_second _ can (writes_moved stored c.store.ensures.base c.in_err-piece.ensures.stays) (omega (arith, c.in_ok-open_next.ensures.moved.1)));
+      stored = search rules;
+      exact = λ low. search rules;
+    }
 
-pub returns-in_err-piece-clause-honest : goal.returns-in_err-piece-clause-honest
-returns-in_err-piece-clause-honest g c tells S log flushed shape reach writes goes =
-    keeps_records writes.stores.well_formed writes.stores.within
-    (chained (c.open_next.ensures.any_moment tells S log flushed shape reach writes goes.opens)
-    (c.store.ensures.any_moment tells S log flushed _ _ _ (c.in_ok-open_next.ensures.opened tells S log flushed shape reach writes goes.opens) goes.records))
-
-pub returns-in_err-piece-clause-still : goal.returns-in_err-piece-clause-still
-returns-in_err-piece-clause-still g c tells S log flushed shape reach writes goes =
-    let opened = c.in_ok-open_next.ensures.opened tells S log flushed shape reach writes goes.opens in
-    let stored = c.store.ensures.still tells S log flushed _ _ _ opened goes.records in
-    on_err _ (retry_second _ writes goes (writes_moved stored c.store.ensures.base c.in_err-piece.ensures.stays) (omega (arith, c.in_ok-open_next.ensures.moved.1)))
-
-pub returns-clause-any_moment : goal.returns-clause-any_moment
-returns-clause-any_moment g c tells S log flushed shape reach writes goes =
-    chained (c.open_next.ensures.any_moment tells S log flushed shape reach writes goes.opens)
-    (c.store.ensures.any_moment tells S log flushed _ _ _ (c.in_ok-open_next.ensures.opened tells S log flushed shape reach writes goes.opens) goes.records)
-
-pub returns-clause-honest : goal.returns-clause-honest
-returns-clause-honest g c tells S log flushed shape reach writes goes =
-    keeps_records writes.stores.well_formed writes.stores.within
-    (chained (c.open_next.ensures.any_moment tells S log flushed shape reach writes goes.opens)
-    (c.store.ensures.any_moment tells S log flushed _ _ _ (c.in_ok-open_next.ensures.opened tells S log flushed shape reach writes goes.opens) goes.records))
-
-pub returns-clause-flushed : goal.returns-clause-flushed
-returns-clause-flushed g c tells S log flushed shape reach writes goes =
-    let opened = c.in_ok-open_next.ensures.opened tells S log flushed shape reach writes goes.opens in
-    let stored = c.in_ok-piece.ensures.flushed tells S log flushed _ _ _ opened goes.records in
-    writes_to _ _ stored c.in_ok-piece.ensures.moved
-
-pub returns-clause-exact : goal.returns-clause-exact
-returns-clause-exact g c tells S log flushed shape reach writes goes low =
-    let opened = c.in_ok-open_next.ensures.opened tells S log flushed shape reach writes goes.opens in
-    let stored = c.in_ok-piece.ensures.flushed tells S log flushed _ _ _ opened goes.records in
-    writes_exact low (writes_to _ _ stored c.in_ok-piece.ensures.moved)
+pub returns-clause-turns : goal.returns-clause-turns
+returns-clause-turns g c tells S log flushed shape reach can =
+    let opened = c.in_ok-open_next.ensures.opened tells S log flushed shape reach can.writes can.goes_on.opens in
+    let quiet = chained (c.open_next.ensures.any_moment tells S log flushed shape reach can.writes can.goes_on.opens) (c.store.ensures.any_moment tells S log flushed _ _ _ opened can.goes_on.records) in
+    let stored = writes_to _ _ (c.in_ok-piece.ensures.flushed tells S log flushed _ _ _ opened can.goes_on.records) c.in_ok-piece.ensures.moved in
+    record {
+      any_moment = quiet;
+      honest = keeps_records can.writes.stores.well_formed can.writes.stores.within quiet;
+      retry = tt;
+      stored = stored;
+      exact = λ low. writes_exact low stored;
+    }
 
 pub returns-in_err-piece-clause-outside : goal.returns-in_err-piece-clause-outside
-returns-in_err-piece-clause-outside g c tells = (outside_then (c.open_next.ensures.outside tells) (c.store.ensures.outside tells)).reads
-
-pub returns-in_err-piece-clause-outside_images : goal.returns-in_err-piece-clause-outside_images
-returns-in_err-piece-clause-outside_images g c tells = (outside_then (c.open_next.ensures.outside tells) (c.store.ensures.outside tells)).images
+returns-in_err-piece-clause-outside g c tells = outside_then (c.open_next.ensures.outside tells) (c.store.ensures.outside tells)
 
 pub returns-clause-outside : goal.returns-clause-outside
-returns-clause-outside g c tells = (outside_then (c.open_next.ensures.outside tells) (c.store.ensures.outside tells)).reads
-
-pub returns-clause-outside_images : goal.returns-clause-outside_images
-returns-clause-outside_images g c tells = (outside_then (c.open_next.ensures.outside tells) (c.store.ensures.outside tells)).images
-
-pub returns-in_err-open_next-clause-outside : goal.returns-in_err-open_next-clause-outside
-returns-in_err-open_next-clause-outside g c tells = (c.open_next.ensures.outside tells).reads
-
-pub returns-in_err-open_next-clause-outside_images : goal.returns-in_err-open_next-clause-outside_images
-returns-in_err-open_next-clause-outside_images g c tells = (c.open_next.ensures.outside tells).images
-
-pub returns-in_err-open_next-clause-any_moment : goal.returns-in_err-open_next-clause-any_moment
-returns-in_err-open_next-clause-any_moment g c tells S log flushed shape reach writes goes = c.open_next.ensures.any_moment tells S log flushed shape reach writes goes.opens
+returns-clause-outside g c tells = outside_then (c.open_next.ensures.outside tells) (c.store.ensures.outside tells)
