@@ -3,11 +3,11 @@ use Rattle.record_codec.specs.Drafts.{entry_of}
 use Rattle.record_codec.proofs.DraftLemmas.{IsEncodable-from}
 use Rattle.record_codec.proofs.LayoutLengths.{length-layout}
 use Rattle.log_writer.proofs.FollowLemmas.{appended, next_well_formed}
-use Rattle.log_writer.proofs.tail.LogTail.append.Goals as goal
+use Rattle.log_writer.proofs.append.append_behind.Goals as goal
 
 pub batch_of-requires-clause-encodable : goal.batch_of-requires-clause-encodable
 batch_of-requires-clause-encodable c =
-    let tail = c.args.self.now in
+    let tail = c.args.tail.now in
     let at = c.in-Some.place in
     let plain = c.requires.plain in
     let offset : at.offset < 2 ^ 62 = omega (arith, c.in-Some.ensures.low, c.size_of-size.ensures) in
@@ -21,10 +21,10 @@ returns-clause-grows c =
 
 pub returns-clause-appended : goal.returns-clause-appended
 returns-clause-appended c log stands =
-    appended c.args.self.now.segment log c.args.draft.now c.args.reading c.args.self.now c.advance.new.self c.in-Some.place c.in-Ok.batch c.size_of-size.result c.as_str-topic.result.now
+    appended c.args.tail.now.segment log c.args.draft.now c.args.reading c.args.tail.now c.advance.new.self c.in-Some.place c.in-Ok.batch c.size_of-size.result c.as_str-topic.result.now
     c.size_of-size.ensures c.as_str-topic.ensures.value stands (c.in-Some.ensures.place log stands) c.in-Ok.ensures.alone (c.in-Ok-advance.ensures.moved log)
 
 pub returns-clause-well_formed : goal.returns-clause-well_formed
 returns-clause-well_formed c log stands well =
-    next_well_formed c.args.self.now.segment log c.args.draft.now c.args.reading c.args.self.now c.in-Some.place c.size_of-size.result c.as_str-topic.result.now
+    next_well_formed c.args.tail.now.segment log c.args.draft.now c.args.reading c.args.tail.now c.in-Some.place c.size_of-size.result c.as_str-topic.result.now
     c.size_of-size.ensures c.as_str-topic.ensures.value stands (c.in-Some.ensures.place log stands) c.requires.plain c.in-Ok.ensures.a_record well
