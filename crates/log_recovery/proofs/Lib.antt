@@ -1,7 +1,6 @@
 pub mod NameLemmas
 pub mod SettleLemmas
 pub mod WindowLemmas
-pub mod TailLemmas
 pub mod ReadLemmas
 pub mod StepLemmas
 pub mod KeptShapes

@@ -1,11 +1,11 @@
 -- A disk that stores a log goes on to store it while it is recovered, and then stores just what was kept.
-use Rattle.std.proofs.Common.{◌≡◌, ◌⊎◌, inl, ⊎_elim, ℕ, ◌+◌, ◌<◌, ◌≤◌, List, [], length, take, None, refl, sym, ◌∙◌, ap, subst, arith}
+use Rattle.std.proofs.Common.{◌≡◌, ◌⊎◌, inl, ⊎_elim, ℕ, ◌+◌, ◌-◌, ◌*◌, ◌/◌, ◌%◌, ◌^◌, ◌<◌, ◌≤◌, max, List, [], length, take, None, refl, sym, ◌∙◌, ap, subst, arith}
 use Rattle.std.proofs.lemmas.List.{take-take, length-take}
 use Rattle.mq_outside.specs.Files.{Files, bytes_of}
 use Rattle.mq_outside.specs.Disk.{DiskState, IsCrashImage, EachImage, Throughout, Rests}
 use Rattle.mq_outside.proofs.Moments.{at_end, weaker, chained, throughout_rests}
 use Rattle.record_codec.specs.Entry.{Entry}
-use Rattle.log_model.specs.Log.{end_of}
+use Rattle.log_model.specs.Log.{IsSegmentSize, end_of}
 use Rattle.log_model.specs.Segments.{Shape, used, shape_of, segment_file, IsLogFile}
 use Rattle.log_model.specs.Store.{Keeps, KeepsPrefix, KeepsIfHonest, IsHonest, Stands, StoresLog}
 use Rattle.log_model.proofs.Places.{placed_log}
@@ -13,10 +13,13 @@ use Rattle.log_model.proofs.FileNames.{IsNamed, is_log_file}
 use Rattle.log_model.proofs.Recovery.{keeps_unique}
 use Rattle.log_model.proofs.Prefixes.{keeps_prefix}
 use Rattle.log_model.proofs.StoreLemmas.{stores_again}
-use Rattle.segment_files.specs.Outside.{IsOutsideOf}
+use Rattle.segment_files.specs.Outside.{IsOutsideOf, StaysOutside}
 use Rattle.segment_files.specs.Turn.{HasRecords}
-use Rattle.log_recovery.specs.Recovered.{Recovered}
+use Rattle.segment_files.proofs.Outside.{outside_then}
+use Rattle.log_recovery.specs.Recovered.{Recovered, Stays, StaysFlushed}
+use Rattle.log_recovery.specs.Scan.{ReadLog}
 use Rattle.log_recovery.specs.Settle.{ComesFrom, IsPruned, CutsTo, IsTrimmed, Settles, IsSettledAt}
+use Rattle.log_recovery.proofs.RecoverLemmas.{ends_at, top_named, settles_here, settled_here}
 use Rattle.log_recovery.proofs.KeptShapes.{EndIn, kept_reads, where_kept}
 use Rattle.log_recovery.proofs.ImageLemmas.{pruned_stands, standing, reaching, trimmed_stands, settled_stands, standing_laid}
 
@@ -26,22 +29,30 @@ pub rests_images : (old new : DiskState) → Rests old new → (files : Files) �
 rests_images old new rests = (at_end rests.quiet).at
 
 -- the disk stores the log as before
-pub rests_stores : (S : ℕ) (log : List Entry) (flushed : ℕ) (old new : DiskState) → Rests old new → StoresLog S log flushed old → StoresLog S log flushed new
+rests_stores : (S : ℕ) (log : List Entry) (flushed : ℕ) (old new : DiskState) → Rests old new → StoresLog S log flushed old → StoresLog S log flushed new
 rests_stores S log flushed old new rests stores = stores_again S log flushed old new (rests_images old new rests) stores
 
-pub rests_records : (S : ℕ) (log : List Entry) (flushed : ℕ) (old new : DiskState) → Rests old new → StoresLog S log flushed old → Throughout old new (HasRecords S (take flushed log))
+rests_records : (S : ℕ) (log : List Entry) (flushed : ℕ) (old new : DiskState) → Rests old new → StoresLog S log flushed old → Throughout old new (HasRecords S (take flushed log))
 rests_records S log flushed old new rests stores = throughout_rests rests
     (record { at = λ files image. record { shape = stores.shape; reach = stores.reach; laid = stores.at.laid; stands = stores.at.each.at files image } })
 
-pub records_honest : (S : ℕ) (log : List Entry) (flushed : ℕ) (old new : DiskState) → StoresLog S log flushed old → Throughout old new (HasRecords S (take flushed log))
+records_honest : (S : ℕ) (log : List Entry) (flushed : ℕ) (old new : DiskState) → StoresLog S log flushed old → Throughout old new (HasRecords S (take flushed log))
     → Throughout old new (KeepsIfHonest S log flushed)
 records_honest S log flushed old new stores so_far = weaker so_far
     (λ files has honest. keeps_prefix S log flushed files has.shape has.reach stores.at.well_formed stores.at.within has.laid has.stands honest)
 
+pub rests_stays : (S : ℕ) (old new : DiskState) → Rests old new → StaysFlushed S old new
+rests_stays S old new rests log flushed stores _ =
+    let so_far = rests_records S log flushed old new rests stores in
+    record { still = rests_stores S log flushed old new rests stores; any_moment = so_far; honest = records_honest S log flushed old new stores so_far }
+
 -- ---- files outside the log's folder
 
-pub rests_outside : (old new : DiskState) → Rests old new → Throughout old new (IsOutsideOf old)
-rests_outside old new rests = weaker rests.quiet (λ files image. record { before = files; image = image; same = λ name not. refl })
+pub rests_outside : (old new : DiskState) → Rests old new → StaysOutside old new
+rests_outside old new rests = record {
+  reads = λ name not. ap (λ (f : Files). f name) rests.same;
+  images = weaker rests.quiet (λ files image. record { before = files; image = image; same = λ name not. refl });
+}
 
 pruned_outside : (S m n : ℕ) (old new : Files) (name : List ℕ) → (IsLogFile name → ⊥) → IsPruned S m n old new → new name ≡ old name
 pruned_outside S m n old new name not pruned = ⊎_elim
@@ -53,17 +64,21 @@ trimmed_outside : (S m n len : ℕ) (old new : Files) (name : List ℕ) → (IsL
 trimmed_outside S m n len old new name not trimmed =
     trimmed.cut.others name (λ is. not (subst IsLogFile (sym is) (is_log_file S m))) ∙ pruned_outside S m n old trimmed.mid name not trimmed.pruned
 
-pub settles_reads : (S m n len : ℕ) (old new : DiskState) → Settles S m n len old new → (name : List ℕ) → (IsLogFile name → ⊥) → new.reads name ≡ old.reads name
+settles_reads : (S m n len : ℕ) (old new : DiskState) → Settles S m n len old new → (name : List ℕ) → (IsLogFile name → ⊥) → new.reads name ≡ old.reads name
 settles_reads S m n len old new settles name not = ⊎_elim
     (λ (pruned : IsPruned S m n old.reads new.reads). pruned_outside S m n old.reads new.reads name not pruned)
     (λ (trimmed : IsTrimmed S m n len old.reads new.reads). trimmed_outside S m n len old.reads new.reads name not trimmed)
     settles.reads
 
-pub settles_outside : (S m n len : ℕ) (first old new : DiskState) → Rests first old → Settles S m n len old new → Throughout first new (IsOutsideOf first)
-settles_outside S m n len first old new rests settles = chained (rests_outside first old rests) (weaker settles.images (λ files from. ⊎_elim
-    (λ (pruned : ComesFrom (IsPruned S m n) old files). record { before = pruned.before; image = rests_images first old rests pruned.before pruned.image; same = λ name not. pruned_outside S m n pruned.before files name not pruned.changed })
-    (λ (trimmed : ComesFrom (IsTrimmed S m n len) old files). record { before = trimmed.before; image = rests_images first old rests trimmed.before trimmed.image; same = λ name not. trimmed_outside S m n len trimmed.before files name not trimmed.changed })
-    from))
+settles_images : (S m n len : ℕ) (old new : DiskState) → Settles S m n len old new → Throughout old new (IsOutsideOf old)
+settles_images S m n len old new settles = weaker settles.images (λ files from. ⊎_elim
+    (λ (pruned : ComesFrom (IsPruned S m n) old files). record { before = pruned.before; image = pruned.image; same = λ name not. pruned_outside S m n pruned.before files name not pruned.changed })
+    (λ (trimmed : ComesFrom (IsTrimmed S m n len) old files). record { before = trimmed.before; image = trimmed.image; same = λ name not. trimmed_outside S m n len trimmed.before files name not trimmed.changed })
+    from)
+
+pub settles_outside : (S m n len : ℕ) (first old new : DiskState) → Rests first old → Settles S m n len old new → StaysOutside first new
+settles_outside S m n len first old new rests settles = outside_then (rests_outside first old rests)
+    (record { reads = settles_reads S m n len old new settles; images = settles_images S m n len old new settles })
 
 -- ---- while the files are settled
 
@@ -99,7 +114,7 @@ module _ (S : ℕ) (log records : List Entry) (flushed n : ℕ) (first old new :
       ⊎ (standing S log flushed prefix.number stores.shape stores.reach n named behind_kept ends ≡ Rattle.log_model.specs.Segments.opened (shape_of S (take flushed log)))
   trimmed_laid = standing_laid S log flushed prefix.number stores.shape stores.reach n named behind_kept ends stores.at.laid
 
-  pub settles_records : Settles S (length (shape_of S records).older) n (used (shape_of S records)) old new → Throughout first new (HasRecords S (take flushed log))
+  settles_records : Settles S (length (shape_of S records).older) n (used (shape_of S records)) old new → Throughout first new (HasRecords S (take flushed log))
   settles_records settles = chained (rests_records S log flushed first old rests stores) (weaker settles.images (λ files from. ⊎_elim
       (λ (pruned : ComesFrom (IsPruned S (length (shape_of S records).older) n) old files).
       record { shape = stores.shape; reach = stores.reach; laid = stores.at.laid; stands = pruned_on files pruned })
@@ -107,7 +122,7 @@ module _ (S : ℕ) (log records : List Entry) (flushed n : ℕ) (first old new :
       record { shape = _; reach = _; laid = trimmed_laid; stands = trimmed_on files trimmed })
       from))
 
-  pub settles_stores : Settles S (length (shape_of S records).older) n (used (shape_of S records)) old new → StoresLog S log flushed new
+  settles_stores : Settles S (length (shape_of S records).older) n (used (shape_of S records)) old new → StoresLog S log flushed new
   settles_stores settles = ⊎_elim
       (λ (each : EachImage (ComesFrom (IsPruned S (length (shape_of S records).older) n) old) new). record {
         shape = stores.shape;
@@ -120,6 +135,11 @@ module _ (S : ℕ) (log records : List Entry) (flushed n : ℕ) (first old new :
         at = record { well_formed = stores.at.well_formed; within = stores.at.within; laid = trimmed_laid; each = record { at = λ files image. trimmed_on files (each.at files image) } };
       })
       settles.now
+
+  pub settles_stays : Settles S (length (shape_of S records).older) n (used (shape_of S records)) old new → Stays S log flushed first new
+  settles_stays settles =
+      let so_far = settles_records settles in
+      record { still = settles_stores settles; any_moment = so_far; honest = records_honest S log flushed first new stores so_far }
 
   pub settled_recovered : (end : ℕ) (before after : List Entry → Type 0) → end ≡ end_of records → (before [] → after records)
       → EachImage (IsSettledAt S (length (shape_of S records).older) n (used (shape_of S records)) old) new → Recovered S log flushed before after new end
@@ -146,3 +166,22 @@ module _ (S : ℕ) (log records : List Entry) (flushed n : ℕ) (first old new :
           };
         };
       }
+
+-- ---- from what was read
+
+module _ (S count end : ℕ) (first old new : DiskState) (before after : List Entry → Type 0) (segment : IsSegmentSize S) (low : end ≤ 2 ^ 62) (each : (k : ℕ) → k < count → k * S < 2 ^ 63)
+    (read : ReadLog S first.reads before after count end) (rests : Rests first old) (image : IsCrashImage first first.reads) where
+  at : (end / S ≡ length (shape_of S read.records).older) × (end % S ≡ used (shape_of S read.records))
+  at = ends_at S read.records end read.keeps.well_formed read.ends
+
+  pub read_stays : Settles S (end / S) (max (end / S + 1) (count - 1)) (end % S) old new → StaysFlushed S first new
+  read_stays settles log flushed stores honest =
+      settles_stays S log read.records flushed (max (end / S + 1) (count - 1)) first old new rests read.keeps (top_named S end count segment low each) (omega (arith, at.0)) image stores honest
+      (settles_here S end (max (end / S + 1) (count - 1)) (length (shape_of S read.records).older) (used (shape_of S read.records)) old new at settles)
+
+  pub read_recovered : (log : List Entry) (flushed : ℕ) → StoresLog S log flushed first → IsHonest S log flushed first.reads
+      → EachImage (IsSettledAt S (end / S) (max (end / S + 1) (count - 1)) (end % S) old) new → Recovered S log flushed before after new end
+  read_recovered log flushed stores honest settled =
+      settled_recovered S log read.records flushed (max (end / S + 1) (count - 1)) first old new rests read.keeps (top_named S end count segment low each) (omega (arith, at.0)) image stores honest end
+      before after read.ends read.handed
+      (settled_here S end (max (end / S + 1) (count - 1)) (length (shape_of S read.records).older) (used (shape_of S read.records)) old new at settled)

@@ -11,19 +11,18 @@ use Rattle.log_model.specs.Log.{IsSegmentSize}
 use Rattle.log_model.specs.Segments.{layouts, Shape, empty_shape, added, opened, segment_file, last_name, last_bytes}
 use Rattle.log_model.specs.Store.{EndsInBlank, ComesNext, IsDamagedAt}
 use Rattle.log_model.proofs.Places.{used_push}
-use Rattle.log_recovery.specs.declared.tail.Tail.{Tail}
+use Rattle.log_tail.specs.declared.tail.LogTail.{LogTail}
 use Rattle.log_recovery.specs.declared.fault.RecoverFault.{RecoverFault}
 use Rattle.log_recovery.specs.declared.fault.RecoverFault.TheVariants.{Damaged, Failed, Memory}
 use Rattle.log_recovery.specs.Recovered.{OnDamage}
 use Rattle.log_recovery.specs.Names.{AreNamed, NoFurther, IsOdd}
-use Rattle.log_recovery.specs.Tails.{HasTail}
-use Rattle.log_recovery.specs.Scan.{Stood, StepsTo, Stops, Scanned, ScansTo, Opened, ReadLog}
+use Rattle.log_recovery.specs.Scan.{StandsIn, Stood, StepsTo, Stops, Scanned, ScansTo, Opened, ReadLog}
 use Rattle.log_recovery.proofs.WindowLemmas.{long_enough}
 use Rattle.log_recovery.proofs.ReadLemmas.{reads_start, reads_room, reads_more, reads_ended, damaged_there, damaged_name, reads_keep, keep_number, none_keep}
 
 -- ---- one file
 
-module _ (S : ℕ) (files : Files) (done : List Entry) (tail next : Tail) (file_base : ℕ) (before mid after : List Entry → Type 0) (at n : ℕ) (scanned : Scanned S files done tail file_base before mid at)
+module _ (S : ℕ) (files : Files) (done : List Entry) (tail next : LogTail) (file_base : ℕ) (before mid after : List Entry → Type 0) (at n : ℕ) (scanned : Scanned S files done tail file_base before mid at)
     (step : StepsTo S files scanned.records scanned.shape next mid after n ⊎ Stops S files scanned.records scanned.shape next mid after n) where
   -- no record comes
   pub scan_end : n ≡ 0 → ScansTo S files done next file_base before after at
@@ -59,12 +58,12 @@ module _ (S : ℕ) (files : Files) (done : List Entry) (tail next : Tail) (file_
       step
 
 -- nothing is read yet
-pub scan_start : (S : ℕ) (files : Files) (records : List Entry) (shape : Shape) (tail : Tail) (file_base : ℕ) (before : List Entry → Type 0) → Stood S files records shape tail file_base 0
+pub scan_start : (S : ℕ) (files : Files) (records : List Entry) (shape : Shape) (tail : LogTail) (file_base : ℕ) (before : List Entry → Type 0) → Stood S files records shape tail file_base 0
     → Scanned S files records tail file_base before before 0
 scan_start S files records shape tail file_base before stood = record { records = records; shape = shape; stood = stood; handed = λ start. start }
 
 -- the records of a file can't fill its segment
-pub scan_full : (S : ℕ) (files : Files) (done : List Entry) (tail : Tail) (file_base : ℕ) (before after : List Entry → Type 0) (at : ℕ) → Scanned S files done tail file_base before after at → S ≤ at
+pub scan_full : (S : ℕ) (files : Files) (done : List Entry) (tail : LogTail) (file_base : ℕ) (before after : List Entry → Type 0) (at : ℕ) → Scanned S files done tail file_base before after at → S ≤ at
     → ScansTo S files done tail file_base before after at
 scan_full S files done tail file_base before after at scanned full =
     absurd (omega (arith, full, scanned.stood.here, reads_room S scanned.records scanned.shape files scanned.stood.reads))
@@ -72,11 +71,11 @@ scan_full S files done tail file_base before after at scanned full =
 -- ---- a file behind which another stands
 
 -- the bytes of the file in which the records stand
-pub stood_bytes : (S : ℕ) (files : Files) (records : List Entry) (shape : Shape) (tail : Tail) (file_base at : ℕ) → Stood S files records shape tail file_base at
+pub stood_bytes : (S : ℕ) (files : Files) (records : List Entry) (shape : Shape) (tail : LogTail) (file_base at : ℕ) → Stood S files records shape tail file_base at
     → bytes_of files (log_file file_base) ≡ last_bytes S shape files
 stood_bytes S files records shape tail file_base at stood = ap (λ (n : ℕ). bytes_of files (log_file n)) stood.begins
 
-pub stood_front : (S : ℕ) (files : Files) (records : List Entry) (shape : Shape) (tail : Tail) (file_base at : ℕ) → Stood S files records shape tail file_base at
+pub stood_front : (S : ℕ) (files : Files) (records : List Entry) (shape : Shape) (tail : LogTail) (file_base at : ℕ) → Stood S files records shape tail file_base at
     → take at (bytes_of files (log_file file_base)) ≡ layouts shape.last
 stood_front S files records shape tail file_base at stood = (λ i. take (stood.here i) (stood_bytes S files records shape tail file_base at stood i)) ∙ stood.reads.last
 
@@ -89,7 +88,7 @@ number_of S a b some same = ⊎_elim
     order)
     (cases_order a b)
 
-module _ (S : ℕ) (files : Files) (records : List Entry) (shape : Shape) (first tail : Tail) (file_base : ℕ) (before after : List Entry → Type 0) (at : ℕ) (stood : Stood S files records shape first file_base 0)
+module _ (S : ℕ) (files : Files) (records : List Entry) (shape : Shape) (first tail : LogTail) (file_base : ℕ) (before after : List Entry → Type 0) (at : ℕ) (stood : Stood S files records shape first file_base 0)
     (to : ScansTo S files records tail file_base before after at) where
   -- the file is still the same
   here_number : length to.scanned.shape.older ≡ length shape.older
@@ -126,7 +125,7 @@ module _ (S : ℕ) (files : Files) (records : List Entry) (shape : Shape) (first
 -- ---- one file after another
 
 -- before the first file
-pub front_start : (S : ℕ) (files : Files) (tail : Tail) (before : List Entry → Type 0) → IsSegmentSize S → HasTail [] tail → Opened S files [] 0 tail before before
+pub front_start : (S : ℕ) (files : Files) (tail : LogTail) (before : List Entry → Type 0) → IsSegmentSize S → StandsIn S tail [] → Opened S files [] 0 tail before before
 front_start S files tail before segment left = record {
   records = [];
   shape = empty_shape;
@@ -138,7 +137,7 @@ front_start S files tail before segment left = record {
 }
 
 -- at the front of the next file
-pub front_stood : (S i file_base : ℕ) (files : Files) (done : List Entry) (tail : Tail) (before after : List Entry → Type 0) → (so_far : Opened S files done i tail before after) → file_base ≡ i * S → file_base < 2 ^ 63
+pub front_stood : (S i file_base : ℕ) (files : Files) (done : List Entry) (tail : LogTail) (before after : List Entry → Type 0) → (so_far : Opened S files done i tail before after) → file_base ≡ i * S → file_base < 2 ^ 63
     → Stood S files so_far.records so_far.shape tail file_base 0
 front_stood S i file_base files done tail before after so_far is low = record {
   reads = so_far.reads;
@@ -149,7 +148,7 @@ front_stood S i file_base files done tail before after so_far is low = record {
 }
 
 -- and behind it
-pub front_more : (S i : ℕ) (files : Files) (done : List Entry) (tail next : Tail) (before mid after : List Entry → Type 0) → (so_far : Opened S files done i tail before mid)
+pub front_more : (S i : ℕ) (files : Files) (done : List Entry) (tail next : LogTail) (before mid after : List Entry → Type 0) → (so_far : Opened S files done i tail before mid)
     → Opened S files so_far.records (length so_far.shape.older + 1) next mid after → Opened S files done (i + 1) next before after
 front_more S i files done tail next before mid after so_far more = record {
   records = more.records;
@@ -162,13 +161,13 @@ front_more S i files done tail next before mid after so_far more = record {
 }
 
 -- the next file comes next
-pub front_next : (S i file_base count : ℕ) (files : Files) (done : List Entry) (tail : Tail) (before after : List Entry → Type 0) → (so_far : Opened S files done i tail before after) → file_base ≡ i * S → i < count → AreNamed S count files
+pub front_next : (S i file_base count : ℕ) (files : Files) (done : List Entry) (tail : LogTail) (before after : List Entry → Type 0) → (so_far : Opened S files done i tail before after) → file_base ≡ i * S → i < count → AreNamed S count files
     → ComesNext S (length so_far.shape.older) files (log_file file_base)
 front_next S i file_base count files done tail before after so_far is low named =
     subst (λ (n : ℕ). ComesNext S n files (log_file file_base)) (sym so_far.so_many) (subst (λ (n : ℕ). ComesNext S i files (log_file n)) (sym is) (named i low).1)
 
 -- and one more comes behind it
-pub front_behind : (S i count : ℕ) (files : Files) (done : List Entry) (tail : Tail) (before after : List Entry → Type 0) (behind : List ℕ) → (so_far : Opened S files done i tail before after) → i < count
+pub front_behind : (S i count : ℕ) (files : Files) (done : List Entry) (tail : LogTail) (before after : List Entry → Type 0) (behind : List ℕ) → (so_far : Opened S files done i tail before after) → i < count
     → AreNamed S count files → ComesNext S count files behind → (other : List ℕ) × ComesNext S (length so_far.shape.older + 1) files other
 front_behind S i count files done tail before after behind so_far low named further = ⊎_elim
     (λ (last : i + 1 ≡ count). (behind, subst (λ (n : ℕ). ComesNext S n files behind) (sym last ∙ ap (λ (n : ℕ). n + 1) (sym so_far.so_many)) further))
@@ -178,7 +177,7 @@ front_behind S i count files done tail before after behind so_far low named furt
 -- ---- all files
 
 -- the last file too was read
-pub all_read : (S last : ℕ) (files : Files) (tail next : Tail) (before mid after : List Entry → Type 0) (file_base at : ℕ) → (so_far : Opened S files [] last tail before mid) → file_base ≡ last * S
+pub all_read : (S last : ℕ) (files : Files) (tail next : LogTail) (before mid after : List Entry → Type 0) (file_base at : ℕ) → (so_far : Opened S files [] last tail before mid) → file_base ≡ last * S
     → AreNamed S (last + 1) files → NoFurther S (last + 1) files → ScansTo S files so_far.records next file_base mid after at → ReadLog S files before after (last + 1) next.end
 all_read S last files tail next before mid after file_base at so_far is named all to =
     let number : length to.scanned.shape.older ≡ last =
@@ -187,26 +186,26 @@ all_read S last files tail next before mid after file_base at so_far is named al
       records = to.scanned.records;
       keeps = reads_keep S last to.scanned.records to.scanned.shape files to.scanned.stood.reads number named all to.ends;
       handed = λ start. to.scanned.handed (so_far.handed start);
-      ends = to.scanned.stood.left.end;
+      ends = to.scanned.stood.left.stands.end;
       named = named;
       all = all;
       last = inr (omega (arith, number, keep_number S last to.scanned.records to.scanned.shape files to.scanned.stood.reads number named all to.ends));
     }
 
 -- there is no file
-pub none_read : (S : ℕ) (files : Files) (tail : Tail) (before : List Entry → Type 0) → IsSegmentSize S → HasTail [] tail → AreNamed S 0 files → NoFurther S 0 files → ReadLog S files before before 0 tail.end
+pub none_read : (S : ℕ) (files : Files) (tail : LogTail) (before : List Entry → Type 0) → IsSegmentSize S → StandsIn S tail [] → AreNamed S 0 files → NoFurther S 0 files → ReadLog S files before before 0 tail.end
 none_read S files tail before segment left named all = record {
   records = [];
   keeps = none_keep S files segment all;
   handed = λ start. start;
-  ends = left.end;
+  ends = left.stands.end;
   named = named;
   all = all;
   last = inl (refl, refl);
 }
 
 -- a file of another name stands behind them
-pub odd_damaged : (S count : ℕ) (files : Files) (tail : Tail) (before after : List Entry → Type 0) (place : ℕ) (name : List ℕ) → (so_far : Opened S files [] count tail before after) → IsOdd S count files name
+pub odd_damaged : (S count : ℕ) (files : Files) (tail : LogTail) (before after : List Entry → Type 0) (place : ℕ) (name : List ℕ) → (so_far : Opened S files [] count tail before after) → IsOdd S count files name
     → place ≡ count * S → IsDamagedAt S files place name
 odd_damaged S count files tail before after place name so_far odd here = damaged_name S so_far.records so_far.shape files count place name so_far.reads so_far.starts so_far.so_many odd here
 

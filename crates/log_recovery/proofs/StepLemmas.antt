@@ -1,27 +1,19 @@
 -- What the test of the bytes in the window tells of the next record.
 use Rattle.std.proofs.Common.{◌≡◌, ℕ, ◌+◌, ◌-◌, ◌≤◌, List, ◌++◌, take, drop, sym, ◌∙◌, subst, arith}
-use Rattle.std.specs.Prelude.{slice_index_or}
-use Rattle.std.specs.Option.{option_map_or}
-use Rattle.std.specs.BTreeMap.{get_by_text}
 use Rattle.mq_bytes.specs.Names.{log_file}
 use Rattle.mq_outside.specs.Files.{Files, bytes_of}
 use Rattle.record_codec.specs.Entry.{Entry}
 use Rattle.record_codec.specs.Layout.{layout, IsRecord}
+use Rattle.log_model.specs.Log.{Follows}
 use Rattle.log_model.specs.Segments.{Shape, used, last_bytes}
 use Rattle.log_model.specs.Store.{StartsWith, IsNext}
 use Rattle.log_model.proofs.Fronts.{starts_same}
-use Rattle.log_recovery.specs.declared.tail.Tail.{Tail}
+use Rattle.log_tail.specs.declared.tail.LogTail.{LogTail}
 use Rattle.log_recovery.specs.declared.window.Window.{Window}
-use Rattle.log_recovery.specs.Matches.{Matches}
 use Rattle.log_recovery.specs.Scan.{Shows, EndsBefore, Stood, NoNext}
 use Rattle.log_recovery.proofs.WindowLemmas.{front_is, starts_there, stands_there}
-use Rattle.log_recovery.proofs.TailLemmas.{matches_follow, follows_match}
 
--- the record's numbers are those that the tail leaves
-abbrev pub MatchesTail : ℕ → Tail → Entry → Type 0
-MatchesTail S tail r = Matches S tail.end tail.store (option_map_or (λ row. slice_index_or row.items r.queue 0) (get_by_text tail.counts r.topic) 0) r
-
-module _ (S : ℕ) (files : Files) (records : List Entry) (shape : Shape) (tail : Tail) (file_base at : ℕ) (stood : Stood S files records shape tail file_base at) where
+module _ (S : ℕ) (files : Files) (records : List Entry) (shape : Shape) (tail : LogTail) (file_base at : ℕ) (stood : Stood S files records shape tail file_base at) where
   -- where the next record has to stand
   here_is : drop (used shape) (last_bytes S shape files) ≡ drop at (bytes_of files (log_file file_base))
   here_is = λ i. drop (sym stood.here i) (bytes_of files (log_file (sym stood.begins i)))
@@ -48,16 +40,16 @@ module _ (S : ℕ) (files : Files) (records : List Entry) (shape : Shape) (tail 
     step_starts r found = starts_there (bytes_of files (log_file file_base)) at (window.held - (at - window.from)) r found.1.0 found.0 (sym front ∙ found.1.1)
 
     -- and another can't be the next one
-    pub step_other : (r : Entry) → IsRecord r × ((rest : List ℕ) × (shown ≡ layout r ++ rest)) → (r.offset ≡ file_base + at → MatchesTail S tail r → ⊥) → NoNext S files records shape
+    pub step_other : (r : Entry) → IsRecord r × ((rest : List ℕ) × (shown ≡ layout r ++ rest)) → (r.offset ≡ file_base + at → Follows S records r → ⊥) → NoNext S files records shape
     step_other r found not = λ other next.
         let same : other ≡ r = starts_same (drop at (bytes_of files (log_file file_base))) other r (starts_at other next) (step_starts r found) in
         let place : other.offset ≡ file_base + at = omega (arith, next.place, stood.begins, stood.here) in
-        not (subst (λ (e : Entry). e.offset ≡ file_base + at) same place) (subst (MatchesTail S tail) same (follows_match S records tail other stood.left next.follows))
+        not (subst (λ (e : Entry). e.offset ≡ file_base + at) same place) (subst (Follows S records) same next.follows)
 
     -- or it is the next one itself
-    pub step_next : (r : Entry) → IsRecord r × ((rest : List ℕ) × (shown ≡ layout r ++ rest)) → r.offset ≡ file_base + at → MatchesTail S tail r → IsNext S records files shape r
-    step_next r found place matches = record {
+    pub step_next : (r : Entry) → IsRecord r × ((rest : List ℕ) × (shown ≡ layout r ++ rest)) → r.offset ≡ file_base + at → Follows S records r → IsNext S records files shape r
+    step_next r found place follows = record {
       starts = subst (λ (l : List ℕ). StartsWith l r) (sym here_is) (step_starts r found);
-      follows = matches_follow S records tail r stood.left found.0 matches;
+      follows = follows;
       place = omega (arith, place, stood.begins, stood.here);
     }

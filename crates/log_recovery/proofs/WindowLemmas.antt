@@ -1,12 +1,9 @@
 -- What the window shows of a file.
-use Rattle.std.proofs.Common.{◌≡◌, ⊎_elim, ℕ, ◌+◌, ◌-◌, ◌<◌, ◌≤◌, min, Bool, true, false, List, [], ◌++◌, length, take, drop, refl, sym, ◌∙◌, ap, subst, arith, append_assoc, append-nil, length-append, take-append-drop}
-use Rattle.std.specs.Int.{w32, to_be_bytes, from_be_bytes}
+use Rattle.std.proofs.Common.{◌≡◌, ⊎_elim, ℕ, ◌+◌, ◌-◌, ◌<◌, ◌≤◌, min, Bool, true, false, List, [], ◌++◌, length, take, drop, Option, Some, refl, sym, ◌∙◌, ap, arith, append_assoc, append-nil, length-append, take-append-drop}
 use Rattle.std.proofs.lemmas.Bool.{cases_lt}
 use Rattle.std.proofs.lemmas.List.{drop-take, drop-drop, drop_all, length-drop, length-take, take_at, take_all, take-take, drop_at}
-use Rattle.std.proofs.lemmas.Nat.{from_be_bytes-to_be_bytes_4}
 use Rattle.record_codec.specs.Entry.{Entry}
-use Rattle.record_codec.specs.Layout.{layout, size, magic, IsRecord, front, sealed}
-use Rattle.record_codec.specs.Parsed.{n32}
+use Rattle.record_codec.specs.Layout.{layout, size, IsRecord}
 use Rattle.record_codec.specs.Blanks.{blank_front}
 use Rattle.log_model.specs.Segments.{layouts}
 use Rattle.log_model.specs.Store.{StartsWith, EndsInBlank}
@@ -46,33 +43,6 @@ front_is window bytes at shows low =
     ∙ sym (ap (λ (n : ℕ). take n (drop at bytes)) none))
     (cases_lt k window.held)
 
--- the size and the magic of a record in front
-layout_front : (r : Entry) (rest : List ℕ) → (behind : List ℕ) × (layout r ++ rest ≡ to_be_bytes w32 (size r) ++ (to_be_bytes w32 magic ++ behind))
-unfolding sealed front
-layout_front r rest = (_, refl)
-
-pub size_front : (r : Entry) (rest : List ℕ) → IsRecord r → (n32 (layout r ++ rest) 0 ≡ size r) × (n32 (layout r ++ rest) 4 ≡ magic)
-size_front r rest is =
-    let begins = layout_front r rest in
-    (ap (λ (l : List ℕ). n32 l 0) begins.1 ∙ from_be_bytes-to_be_bytes_4 (size r) is.size, ap (λ (l : List ℕ). n32 l 4) begins.1)
-
--- of a front with eight bytes
-n32_take : (bytes : List ℕ) (n at : ℕ) → at + 4 ≤ n → n32 (take n bytes) at ≡ n32 bytes at
-n32_take bytes n at low =
-    let whole : at + (n - at) ≡ n = omega (arith, low) in
-    ap (λ (k : ℕ). from_be_bytes w32 (take 4 (drop at (take k bytes)))) (sym whole)
-    ∙ ap (λ (l : List ℕ). from_be_bytes w32 (take 4 l)) (drop-take at (n - at) bytes)
-    ∙ ap (from_be_bytes w32) (take-take 4 (n - at) (drop at bytes) (omega (arith, low)))
-
--- the record that stands at a place, by its front in the window
-pub size_there : (bytes : List ℕ) (at n found : ℕ) (r : Entry) (rest : List ℕ) → IsRecord r → drop at bytes ≡ layout r ++ rest → 8 ≤ n
-    → (8 ≤ length (take n (drop at bytes)) → n32 (take n (drop at bytes)) 4 ≡ magic → found ≡ n32 (take n (drop at bytes)) 0) → found ≡ size r
-size_there bytes at n found r rest is stands low says =
-    let long : 105 ≤ length (drop at bytes) = omega (arith, ap length stands, length-append (layout r) rest, length-layout r) in
-    let numbers = size_front r rest is in
-    says (omega (arith, length-take n (drop at bytes), long, low)) (n32_take (drop at bytes) n 4 (omega (arith, low)) ∙ ap (λ (l : List ℕ). n32 l 4) stands ∙ numbers.1)
-    ∙ n32_take (drop at bytes) n 0 (omega (arith, low)) ∙ ap (λ (l : List ℕ). n32 l 0) stands ∙ numbers.0
-
 -- a record that stands at a place ends in the file
 pub ends_inside : (bytes : List ℕ) (at : ℕ) (r : Entry) (rest : List ℕ) → drop at bytes ≡ layout r ++ rest → at + size r ≤ length bytes
 ends_inside bytes at r rest stands = omega (arith, ap length stands, length-append (layout r) rest, length-layout r, length-drop at bytes)
@@ -96,14 +66,14 @@ stands_there bytes at m r starts low =
     take-take (size r) m (drop at bytes) low ∙ ap (λ (l : List ℕ). take (size r) l) starts.split ∙ take_at (layout r) starts.rest (size r) (length-layout r) in
     (back, sym (take-append-drop (size r) (take m (drop at bytes))) ∙ ap (λ (l : List ℕ). l ++ back) first)
 
--- the size that is read in the window is that of the record that stands there
-pub size_shown : (window : Window) (bytes : List ℕ) (at found : ℕ) (shown : List ℕ) (r : Entry) (rest : List ℕ) → Shows window bytes → window.from ≤ at → at + 8 ≤ window.from + window.held
-    → shown ≡ drop (at - window.from) (take window.held window.buffer.items) → (8 ≤ length shown → n32 shown 4 ≡ magic → found ≡ n32 shown 0) → IsRecord r → drop at bytes ≡ layout r ++ rest
-    → found ≡ size r
-size_shown window bytes at found shown r rest shows low inside is says one stands =
+-- the size that the front of the window tells is that of the record that stands there
+pub size_shown : (window : Window) (bytes shown : List ℕ) (at : ℕ) (found : Option ℕ) (r : Entry) (rest : List ℕ) → Shows window bytes → window.from ≤ at
+    → (at + 8 ≤ length bytes → at + 8 ≤ window.from + window.held) → shown ≡ drop (at - window.from) (take window.held window.buffer.items) → drop at bytes ≡ layout r ++ rest
+    → ((n : ℕ) → 8 ≤ n → shown ≡ take n (layout r ++ rest) → found ≡ Some (size r)) → found ≡ Some (size r)
+size_shown window bytes shown at found r rest shows low front is stands enough =
+    let inside = front (omega (arith, ends_inside bytes at r rest stands)) in
     let n : ℕ = window.held - (at - window.from) in
-    let here : shown ≡ take n (drop at bytes) = is ∙ front_is window bytes at shows low in
-    size_there bytes at n found r rest one stands (omega (arith, low, inside)) (subst (λ (l : List ℕ). 8 ≤ length l → n32 l 4 ≡ magic → found ≡ n32 l 0) here says)
+    enough n (omega (arith, low, inside)) (is ∙ front_is window bytes at shows low ∙ ap (take n) stands)
 
 pub long_enough : (r : Entry) → 105 ≤ size r
 long_enough r = omega arith

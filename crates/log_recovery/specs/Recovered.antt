@@ -4,12 +4,12 @@ use Rattle.std.specs.Ordering.{nat_cmp, is_lt}
 use Rattle.std.specs.Cmp.Lexicographic.{slice_cmp}
 use Rattle.mq_outside.specs.Counts.{Rises}
 use Rattle.mq_outside.specs.Files.{Files}
-use Rattle.mq_outside.specs.Disk.{DiskState, EachImage}
+use Rattle.mq_outside.specs.Disk.{DiskState, EachImage, Throughout}
 use Rattle.record_codec.specs.Entry.{Entry}
 use Rattle.log_model.specs.Log.{end_of}
 use Rattle.log_model.specs.Segments.{used, shape_of, segment_file, last_name, last_bytes, layouts, IsLogFile, NoOther}
-use Rattle.log_model.specs.Store.{Keeps, StoresAt}
-pub use Rattle.segment_files.specs.Outside.{IsOutsideOf}
+use Rattle.log_model.specs.Store.{Keeps, StoresAt, StoresLog, IsHonest, KeepsIfHonest}
+use Rattle.segment_files.specs.Turn.{HasRecords}
 use Rattle.log_recovery.specs.declared.fault.RecoverFault.{RecoverFault}
 use Rattle.log_recovery.specs.declared.fault.RecoverFault.TheVariants.{Damaged, Failed, Memory}
 
@@ -68,3 +68,14 @@ pub record Recovered (S : ℕ) (log : List Entry) (flushed : ℕ) (before after 
   pub handed : before [] → after (take number log)
   pub ends : end ≡ end_of (take number log)
   pub stores : StoresAt S (take number log) number (shape_of S (take number log)) (used (shape_of S (take number log))) disk
+
+-- From old to new what was flushed of this log stays: the disk still stores it, and at each moment each crash image has the
+-- flushed records at their places, and keeps them where it is honest.
+pub record Stays (S : ℕ) (log : List Entry) (flushed : ℕ) (old new : DiskState) : Type 0 where
+  pub still : StoresLog S log flushed new
+  pub any_moment : Throughout old new (HasRecords S (take flushed log))
+  pub honest : Throughout old new (KeepsIfHonest S log flushed)
+
+-- and so it is for each log and each flushed number that the disk stored, and was read honestly for
+abbrev pub StaysFlushed : ℕ → DiskState → DiskState → Type 0
+StaysFlushed S old new = (log : List Entry) (flushed : ℕ) → StoresLog S log flushed old → IsHonest S log flushed old.reads → Stays S log flushed old new

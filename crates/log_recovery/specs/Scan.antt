@@ -6,9 +6,9 @@ use Rattle.record_codec.specs.Layout.{layout, size, IsRecord}
 use Rattle.log_model.specs.Log.{end_of}
 use Rattle.log_model.specs.Segments.{Shape, used, base}
 use Rattle.log_model.specs.Store.{IsNext, ReadsTo, Keeps}
-use Rattle.log_recovery.specs.declared.tail.Tail.{Tail}
+use Rattle.log_tail.specs.declared.tail.LogTail.{LogTail}
+use Rattle.log_tail.specs.Tails.{StandsFor}
 use Rattle.log_recovery.specs.declared.window.Window.{Window}
-use Rattle.log_recovery.specs.Tails.{HasTail}
 use Rattle.log_recovery.specs.Names.{AreNamed, NoFurther}
 
 -- ---- a window
@@ -24,10 +24,15 @@ EndsBefore bytes at room end = (r : Entry) (rest : List ℕ) → IsRecord r → 
 
 -- ---- records
 
+-- the tail stands for these records, and for a log that goes on in segments of so many bytes
+pub record StandsIn (S : ℕ) (tail : LogTail) (records : List Entry) : Type 0 where
+  pub size : tail.segment ≡ S
+  pub stands : StandsFor tail records
+
 -- these records are read, up to this offset of the file that begins at this base
-pub record Stood (S : ℕ) (files : Files) (records : List Entry) (shape : Shape) (tail : Tail) (file_base at : ℕ) : Type 0 where
+pub record Stood (S : ℕ) (files : Files) (records : List Entry) (shape : Shape) (tail : LogTail) (file_base at : ℕ) : Type 0 where
   pub reads : ReadsTo S records shape files
-  pub left : HasTail records tail
+  pub left : StandsIn S tail records
   pub begins : file_base ≡ base S shape
   pub here : at ≡ used shape
   pub low : file_base < 2 ^ 63
@@ -37,38 +42,38 @@ abbrev pub NoNext : ℕ → Files → List Entry → Shape → Type 0
 NoNext S files records shape = (r : Entry) → IsNext S records files shape r → ⊥
 
 -- a step read a record of n bytes, which was handed on
-pub record StepsTo (S : ℕ) (files : Files) (records : List Entry) (shape : Shape) (tail : Tail) (before after : List Entry → Type 0) (n : ℕ) : Type 0 where
+pub record StepsTo (S : ℕ) (files : Files) (records : List Entry) (shape : Shape) (tail : LogTail) (before after : List Entry → Type 0) (n : ℕ) : Type 0 where
   pub r : Entry
   pub next : IsNext S records files shape r
   pub long : n ≡ size r
-  pub left : HasTail (records ++ r ∷ []) tail
+  pub left : StandsIn S tail (records ++ r ∷ [])
   pub handed : before records → after (records ++ r ∷ [])
 
 -- a step found no next record
-pub record Stops (S : ℕ) (files : Files) (records : List Entry) (shape : Shape) (tail : Tail) (before after : List Entry → Type 0) (n : ℕ) : Type 0 where
+pub record Stops (S : ℕ) (files : Files) (records : List Entry) (shape : Shape) (tail : LogTail) (before after : List Entry → Type 0) (n : ℕ) : Type 0 where
   pub none : n ≡ 0
   pub ends : NoNext S files records shape
-  pub left : HasTail records tail
+  pub left : StandsIn S tail records
   pub handed : before records → after records
 
 -- records were read up to here and handed on, behind those that were read before
-pub record Scanned (S : ℕ) (files : Files) (done : List Entry) (tail : Tail) (file_base : ℕ) (before after : List Entry → Type 0) (at : ℕ) : Type 0 where
+pub record Scanned (S : ℕ) (files : Files) (done : List Entry) (tail : LogTail) (file_base : ℕ) (before after : List Entry → Type 0) (at : ℕ) : Type 0 where
   pub records : List Entry
   pub shape : Shape
   pub stood : Stood S files records shape tail file_base at
   pub handed : before done → after records
 
 -- and none comes next
-pub record ScansTo (S : ℕ) (files : Files) (done : List Entry) (tail : Tail) (file_base : ℕ) (before after : List Entry → Type 0) (at : ℕ) : Type 0 where
+pub record ScansTo (S : ℕ) (files : Files) (done : List Entry) (tail : LogTail) (file_base : ℕ) (before after : List Entry → Type 0) (at : ℕ) : Type 0 where
   pub scanned : Scanned S files done tail file_base before after at
   pub ends : NoNext S files scanned.records scanned.shape
 
 -- records were read and handed on up to the end of a file, whose blank ends it, and so many files are read
-pub record Opened (S : ℕ) (files : Files) (done : List Entry) (number : ℕ) (tail : Tail) (before after : List Entry → Type 0) : Type 0 where
+pub record Opened (S : ℕ) (files : Files) (done : List Entry) (number : ℕ) (tail : LogTail) (before after : List Entry → Type 0) : Type 0 where
   pub records : List Entry
   pub shape : Shape
   pub reads : ReadsTo S records shape files
-  pub left : HasTail records tail
+  pub left : StandsIn S tail records
   pub so_many : length shape.older ≡ number
   pub starts : used shape ≡ 0
   pub handed : before done → after records

@@ -7,8 +7,12 @@ ghost use Rattle.log_recovery.specs.Recovered.{OnDamage};
 ghost use Rattle.log_recovery.specs.Scan.{Shows, EndsBefore};
 
 use crate::fault::RecoverFault;
-use crate::window::{FRONT, Window, size_in};
+use crate::window::Window;
 use mq_outside::Disk;
+use record_codec::size_in_front;
+
+// So many bytes of a record tell its size.
+const FRONT: u64 = 8;
 
 // Reads a record of this size that is longer than the window, where the file has so many bytes.
 fn extend<D: Disk>(
@@ -74,7 +78,9 @@ pub(crate) fn load<D: Disk>(
     ensures only_reads { OnlyReads D.Disk result disk.old disk.new }
 {
     reach(window, disk, name, at)?;
-    let size = size_in(window.front(at));
+    let Some(size) = size_in_front(window.front(at)) else {
+        return Ok(());
+    };
     if size > room {
         return Ok(());
     }

@@ -1,14 +1,13 @@
 //! Recovery of the log's files.
 
-ghost use Rattle.std.specs.Prelude.{◌≡◌, ◌+◌, ◌*◌, ◌/◌, ◌%◌, ◌^◌, ◌≤◌, List, ℕ, take, IfOk};
-ghost use Rattle.mq_outside.specs.Disk.{EachImage, Rests, Throughout};
+ghost use Rattle.std.specs.Prelude.{◌≡◌, ◌+◌, ◌*◌, ◌/◌, ◌%◌, ◌^◌, ◌≤◌, List, ℕ, IfOk};
+ghost use Rattle.mq_outside.specs.Disk.{EachImage, Rests};
 ghost use Rattle.record_codec.specs.Entry.{Entry};
 ghost use Rattle.log_model.specs.Log.{IsSegmentSize};
-ghost use Rattle.log_model.specs.Segments.{IsLogFile};
-ghost use Rattle.log_model.specs.Store.{Keeps, IsDamagedAt, IsHonest, StoresLog, KeepsIfHonest};
-ghost use Rattle.segment_files.specs.Outside.{IsOutsideOf};
-ghost use Rattle.segment_files.specs.Turn.{IsInside, HasRecords};
-ghost use Rattle.log_recovery.specs.Recovered.{Kept, Recovered, IsCutTo, IsSettled, OnDamage, OnMemory, CountsRecoverFault};
+ghost use Rattle.log_model.specs.Store.{Keeps, IsDamagedAt, IsHonest, StoresLog};
+ghost use Rattle.segment_files.specs.Outside.{StaysOutside};
+ghost use Rattle.segment_files.specs.Turn.{IsInside};
+ghost use Rattle.log_recovery.specs.Recovered.{Kept, Recovered, IsCutTo, IsSettled, StaysFlushed, OnDamage, OnMemory, CountsRecoverFault};
 
 use crate::fault::RecoverFault;
 use crate::scan::read_log;
@@ -47,17 +46,9 @@ pub fn recover<D: Disk, V: Visit>(
     ensures ours { D.tells → (log : List Entry) (flushed : ℕ) → StoresLog segment log flushed (D.state disk.old) → IsHonest segment log flushed (D.state disk.old).reads
         → IfOk result (Recovered segment log flushed (V.stands each.old) (V.stands each.new) (D.state disk.new)) }
 
-    // Whatever the answer, what was flushed stays, at each moment.
-    ensures still { D.tells → (log : List Entry) (flushed : ℕ) → StoresLog segment log flushed (D.state disk.old) → IsHonest segment log flushed (D.state disk.old).reads
-        → StoresLog segment log flushed (D.state disk.new) }
-    ensures any_moment { D.tells → (log : List Entry) (flushed : ℕ) → StoresLog segment log flushed (D.state disk.old) → IsHonest segment log flushed (D.state disk.old).reads
-        → Throughout (D.state disk.old) (D.state disk.new) (HasRecords segment (take flushed log)) }
-    ensures honest { D.tells → (log : List Entry) (flushed : ℕ) → StoresLog segment log flushed (D.state disk.old) → IsHonest segment log flushed (D.state disk.old).reads
-        → Throughout (D.state disk.old) (D.state disk.new) (KeepsIfHonest segment log flushed) }
-
-    // Files outside the log's folder stay.
-    ensures outside { D.tells → (name : List ℕ) → (IsLogFile name → ⊥) → (D.state disk.new).reads name ≡ (D.state disk.old).reads name }
-    ensures outside_images { D.tells → Throughout (D.state disk.old) (D.state disk.new) (IsOutsideOf (D.state disk.old)) }
+    // Whatever the answer, what was flushed stays, at each moment, and so do files outside the log's folder.
+    ensures flushed { D.tells → StaysFlushed segment (D.state disk.old) (D.state disk.new) }
+    ensures outside { D.tells → StaysOutside (D.state disk.old) (D.state disk.new) }
     ensures cause { CountsRecoverFault result (D.faults disk.old) (D.faults disk.new) }
     ensures syncs { D.syncs disk.new ≤ D.syncs disk.old + 1 }
 {

@@ -10,16 +10,15 @@ ghost use Rattle.log_model.specs.Segments.{Shape, layouts, segment_file};
 ghost use Rattle.log_model.specs.Store.{ComesNext, EndsInBlank, IsDamagedAt};
 ghost use Rattle.log_recovery.specs.Reads.{OnlyReads};
 ghost use Rattle.log_recovery.specs.Recovered.{OnDamage};
-ghost use Rattle.log_recovery.specs.Scan.{Shows, Stood, StepsTo, Stops, ScansTo, Opened, ReadLog};
-ghost use Rattle.log_recovery.specs.Tails.{HasTail};
+ghost use Rattle.log_recovery.specs.Scan.{Shows, StandsIn, Stood, StepsTo, Stops, ScansTo, Opened, ReadLog};
 ghost use Rattle.log_recovery.specs.Names.{AreNamed, NoFurther};
 
 use crate::fault::RecoverFault;
 use crate::load::load;
 use crate::names::order_of;
-use crate::tail::Tail;
 use crate::visitor::Visit;
 use crate::window::Window;
+use log_tail::LogTail;
 use mq_bytes::{LogFile, Text};
 use mq_outside::Disk;
 use record_codec::{test, test_blank};
@@ -28,13 +27,12 @@ use std::alloc::{AllocError, Global};
 /// What was read so far.
 #[derive(Drop)]
 pub(crate) struct Scan {
-    pub(crate) tail: Tail,
+    pub(crate) tail: LogTail,
     pub(crate) window: Window,
 }
 
 // Reads the record at this place of the file, and hands it on. Answers its size, or 0 where no record follows there.
 fn step<D: Disk, V: Visit>(
-    alloc: Global,
     disk: &mut D,
     segment: u32,
     base: u64,
@@ -64,17 +62,16 @@ fn step<D: Disk, V: Visit>(
     if view.offset() != base + at {
         return Ok(0);
     }
-    if !scan.tail.is_next(&view, segment) {
+    if !scan.tail.is_next(&view) {
         return Ok(0);
     }
     each.record(&view)?;
-    scan.tail.add(alloc, &view)?;
+    scan.tail.add(&view)?;
     Ok(view.size())
 }
 
 // Reads the records of the file that begins at this base. Answers where they end in it.
 fn scan_file<D: Disk, V: Visit>(
-    alloc: Global,
     disk: &mut D,
     segment: u32,
     base: u64,
@@ -95,7 +92,7 @@ fn scan_file<D: Disk, V: Visit>(
     scan.window.clear();
     let mut at = 0;
     for _i in 0..segment {
-        let size = step(alloc, disk, segment, base, name, scan, each, at)?;
+        let size = step(disk, segment, base, name, scan, each, at)?;
         if size == 0 {
             return Ok(at);
         }
@@ -165,7 +162,7 @@ fn read_ended<D: Disk, V: Visit>(
         → OnDamage result (IsDamagedAt segment files) }
     ensures only_reads { OnlyReads D.Disk result disk.old disk.new }
 {
-    let at = scan_file(alloc, disk, segment, base, scan, each)?;
+    let at = scan_file(disk, segment, base, scan, each)?;
     let is_ended = ends_in_blank(disk, segment, base, at)?;
     if !is_ended {
         return Err(damaged(alloc, base + at, LogFile::of(base).as_str())?);
@@ -184,9 +181,9 @@ fn read_front<D: Disk, V: Visit>(
 ) -> Result<(), RecoverFault>
     requires size { IsSegmentSize segment }
     requires low { (k : ℕ) → k < count → k * segment < 2 ^ 63 }
-    ensures opened { D.tells → (files : Files) → (D.state disk.old).reads ≡ files → HasTail [] scan.old.tail → AreNamed segment count files
+    ensures opened { D.tells → (files : Files) → (D.state disk.old).reads ≡ files → StandsIn segment scan.old.tail [] → AreNamed segment count files
         → OnOk result (Opened segment files [] count scan.new.tail (V.stands each.old) (V.stands each.new)) }
-    ensures damaged { D.tells → (files : Files) (behind : List ℕ) → (D.state disk.old).reads ≡ files → HasTail [] scan.old.tail → AreNamed segment count files → ComesNext segment count files behind
+    ensures damaged { D.tells → (files : Files) (behind : List ℕ) → (D.state disk.old).reads ≡ files → StandsIn segment scan.old.tail [] → AreNamed segment count files → ComesNext segment count files behind
         → OnDamage result (IsDamagedAt segment files) }
     ensures only_reads { OnlyReads D.Disk result disk.old disk.new }
 {
@@ -215,19 +212,19 @@ fn read_all<D: Disk, V: Visit>(
     requires size { IsSegmentSize segment }
     requires low { (k : ℕ) → k < count → k * segment < 2 ^ 63 }
     ensures low { IfOk result (λ end. end ≤ 2 ^ 62) }
-    ensures read { D.tells → (files : Files) → (D.state disk.old).reads ≡ files → HasTail [] scan.old.tail → AreNamed segment count files → NoFurther segment count files
+    ensures read { D.tells → (files : Files) → (D.state disk.old).reads ≡ files → StandsIn segment scan.old.tail [] → AreNamed segment count files → NoFurther segment count files
         → IfOk result (ReadLog segment files (V.stands each.old) (V.stands each.new) count) }
-    ensures damaged { D.tells → (files : Files) → (D.state disk.old).reads ≡ files → HasTail [] scan.old.tail → AreNamed segment count files → NoFurther segment count files
+    ensures damaged { D.tells → (files : Files) → (D.state disk.old).reads ≡ files → StandsIn segment scan.old.tail [] → AreNamed segment count files → NoFurther segment count files
         → OnDamage result (IsDamagedAt segment files) }
     ensures only_reads { OnlyReads D.Disk result disk.old disk.new }
 {
     if count == 0 {
-        return Ok(scan.tail.end);
+        return Ok(scan.tail.end());
     }
     let last = count - 1;
     read_front(alloc, disk, segment, last, scan, each)?;
-    scan_file(alloc, disk, segment, last * u64::from(segment), scan, each)?;
-    Ok(scan.tail.end)
+    scan_file(disk, segment, last * u64::from(segment), scan, each)?;
+    Ok(scan.tail.end())
 }
 
 /// Reads the log, and hands its records on. Nothing is changed.
@@ -247,7 +244,7 @@ pub(crate) fn read_log<D: Disk, V: Visit>(
     let names = disk.list(alloc)?;
     let order = order_of(&names, segment);
     let mut scan = Scan {
-        tail: Tail::new(alloc),
+        tail: LogTail::new(alloc, segment),
         window: Window::new(alloc)?,
     };
     if let Some(name) = order.odd {

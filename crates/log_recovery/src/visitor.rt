@@ -3,7 +3,9 @@
 ghost use Rattle.std.specs.Prelude.{◌++◌, ◌∷◌, List, [], ℕ, OnOk};
 ghost use Rattle.record_codec.specs.Entry.{Entry};
 ghost use Rattle.log_model.specs.Log.{Follows};
+ghost use Rattle.log_tail.specs.Tails.{StandsFor};
 
+use log_tail::LogTail;
 use record_codec::View;
 use std::alloc::AllocError;
 
@@ -15,4 +17,13 @@ pub trait Visit {
     /// Takes the record behind those that it was handed. `Err` ends the recovery, which answers `Memory`.
     fn record(&mut self, view: &View<'_>) -> Result<(), AllocError>
         ensures { (S : ℕ) (records : List Entry) → Follows S records view.now → stands self.old records → OnOk result (stands self.new (records ++ view.now ∷ [])) };
+}
+
+// The end of a log takes the records that recovery keeps, one after another.
+impl Visit for LogTail {
+    ghost stands = { StandsFor };
+
+    fn record(&mut self, view: &View<'_>) -> Result<(), AllocError> {
+        self.add(view)
+    }
 }

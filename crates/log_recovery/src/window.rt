@@ -5,19 +5,12 @@ ghost use Rattle.std.specs.Prelude.{◌≡◌, ◌+◌, ◌-◌, ◌^◌, ◌≤
 ghost use Rattle.mq_outside.specs.Counts.{CountsFailure};
 ghost use Rattle.mq_outside.specs.Disk.{Rests};
 ghost use Rattle.mq_outside.specs.Files.{bytes_of};
-ghost use Rattle.record_codec.specs.Layout.{magic};
-ghost use Rattle.record_codec.specs.Parsed.{n32};
 
 use mq_outside::{Disk, Failed};
 use std::alloc::{AllocError, Global};
 
 // So many bytes are read at once.
 const PIECE: usize = 1 << 20;
-
-const MAGIC: u32 = 0xDAA3_20A7;
-
-/// The size and the magic, which begin a record, have so many bytes.
-pub(crate) const FRONT: u64 = 8;
 
 /// A piece of a file.
 #[derive(Drop)]
@@ -30,23 +23,6 @@ pub(crate) struct Window {
     pub(crate) ghost wide: { 8 ≤ vec_len buffer },
     pub(crate) ghost short: { vec_len buffer ≤ 2 ^ 32 },
     pub(crate) ghost low: { from ≤ 2 ^ 62 },
-}
-
-fn u32_at(bytes: &[u8], at: usize) -> u32
-    requires { at + 4 ≤ length bytes.now }
-    ensures { result ≡ n32 bytes.now at }
-{
-    u32::from_be_bytes([bytes[at], bytes[at + 1], bytes[at + 2], bytes[at + 3]])
-}
-
-/// The size that the record in front says it has, or 0 where none begins there.
-pub(crate) fn size_in(front: &[u8]) -> u32
-    ensures { 8 ≤ length front.now → n32 front.now 4 ≡ magic → result ≡ n32 front.now 0 }
-{
-    if (front.len() as u64) < FRONT || u32_at(front, 4) != MAGIC {
-        return 0;
-    }
-    u32_at(front, 0)
 }
 
 impl Window {

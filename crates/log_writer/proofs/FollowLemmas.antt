@@ -15,10 +15,11 @@ use Rattle.log_model.specs.Log.{fits, end_of, place_after, Follows, IsWellFormed
 use Rattle.log_model.specs.Segments.{layouts}
 use Rattle.log_model.specs.Batches.{blank_between, IsBatchOf}
 use Rattle.log_model.proofs.Recovery.{well_formed_push}
-use Rattle.log_writer.specs.Tails.{StandsFor, ComesBehind}
-use Rattle.log_writer.specs.Places.{place_behind, place_of, next_entry, with_next, HasRoom, IsPlainDraft, IsAlone, IsAppended}
-use Rattle.log_writer.specs.declared.tail.LogTail.{LogTail}
-use Rattle.log_writer.proofs.TailLemmas.{get_push}
+use Rattle.log_tail.specs.Tails.{StandsFor, ComesBehind}
+use Rattle.log_tail.specs.Places.{place_behind, HasRoom}
+use Rattle.log_writer.specs.Places.{place_of, next_entry, with_next, IsPlainDraft, IsAlone, IsAppended}
+use Rattle.log_tail.specs.declared.tail.LogTail.{LogTail}
+use Rattle.log_tail.proofs.TailLemmas.{get_push}
 
 -- the next place is not before the end, and not past the next segment's start
 pub place_within : (S end n : ℕ) → 0 < S → (end ≤ place_after S end n) × (place_after S end n ≤ end + S)

@@ -1,5 +1,3 @@
-pub mod CountLemmas
-pub mod TailLemmas
 pub mod FollowLemmas
 pub mod TurnLemmas
 pub mod DurableLemmas

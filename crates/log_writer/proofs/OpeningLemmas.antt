@@ -9,7 +9,7 @@ use Rattle.log_model.specs.Store.{StoresAt}
 use Rattle.log_model.proofs.Places.{placed_log}
 use Rattle.segment_files.specs.Turn.{WritesAt}
 use Rattle.segment_files.proofs.Turns.{writes_from}
-use Rattle.log_writer.specs.Tails.{StandsFor}
+use Rattle.log_tail.specs.Tails.{StandsFor}
 use Rattle.log_writer.specs.Durable.{Stores, Opened}
 use Rattle.log_writer.specs.declared.writer.LogWriter.{LogWriter}
 

@@ -16,10 +16,10 @@ use Rattle.log_model.proofs.BatchLemmas.{batch_goes, GoesHere, GoesNext}
 use Rattle.log_model.proofs.Longer.{stores_longer}
 use Rattle.log_model.proofs.Prefixes.{keeps_prefix}
 use Rattle.segment_files.specs.Turn.{WritesAt, HasRecords, GoesOn, CanRetry, is_due, shape_behind, unless_opened}
-use Rattle.log_writer.specs.Tails.{StandsFor}
+use Rattle.log_tail.specs.Tails.{StandsFor}
 use Rattle.log_writer.specs.Places.{next_entry, with_next, IsAppended}
 use Rattle.log_writer.specs.Durable.{Stores}
-use Rattle.log_writer.specs.declared.tail.LogTail.{LogTail}
+use Rattle.log_tail.specs.declared.tail.LogTail.{LogTail}
 use Rattle.log_writer.specs.declared.writer.LogWriter.{LogWriter}
 
 front_is : (log : List Entry) (r : Entry) → take (length log) (log ++ r ∷ []) ≡ log

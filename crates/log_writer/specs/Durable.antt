@@ -7,7 +7,7 @@ use Rattle.record_codec.specs.Entry.{Entry}
 use Rattle.log_model.specs.Segments.{used, shape_of}
 use Rattle.log_model.specs.Store.{StoresLog}
 use Rattle.segment_files.specs.Turn.{IsInside, WritesAt, HasRecords}
-use Rattle.log_writer.specs.Tails.{StandsFor}
+use Rattle.log_tail.specs.Tails.{StandsFor}
 use Rattle.log_writer.specs.declared.writer.LogWriter.{LogWriter}
 
 -- The next bytes go inside the file as it is read, and not past the end of the log.

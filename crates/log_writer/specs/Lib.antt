@@ -1,5 +1,3 @@
-pub mod Counts
-pub mod Tails
 pub mod Places
 pub mod Outcomes
 pub mod Durable

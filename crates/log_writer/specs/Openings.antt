@@ -3,7 +3,7 @@ use Rattle.std.specs.Prelude.{◌≡◌, ℕ, List}
 use Rattle.mq_outside.specs.Files.{Files}
 use Rattle.record_codec.specs.Entry.{Entry}
 use Rattle.log_model.specs.Store.{Keeps}
-use Rattle.log_writer.specs.Tails.{StandsFor}
+use Rattle.log_tail.specs.Tails.{StandsFor}
 use Rattle.log_writer.specs.declared.writer.LogWriter.{LogWriter}
 
 -- the writer goes on behind what recovery keeps of these files

@@ -4,9 +4,10 @@ use Rattle.mq_outside.specs.Counts.{Rises}
 use Rattle.record_codec.specs.Entry.{Entry}
 use Rattle.record_codec.specs.Drafts.{draft_size}
 use Rattle.record_codec.specs.declared.draft.Draft.{Draft}
-use Rattle.log_writer.specs.Tails.{StandsFor}
-use Rattle.log_writer.specs.Places.{place_of, with_next, HasRoom}
-use Rattle.log_writer.specs.declared.tail.LogTail.{LogTail}
+use Rattle.log_tail.specs.Tails.{StandsFor}
+use Rattle.log_tail.specs.Places.{HasRoom}
+use Rattle.log_writer.specs.Places.{place_of, with_next}
+use Rattle.log_tail.specs.declared.tail.LogTail.{LogTail}
 use Rattle.log_writer.specs.declared.append.AppendFault.{AppendFault}
 use Rattle.log_writer.specs.declared.append.AppendFault.TheVariants as faults
 use Rattle.log_writer.specs.declared.writer.Outcome.{Outcome}

@@ -1,26 +1,17 @@
--- Where the next record goes, and which drafts may become one.
-use Rattle.std.specs.Prelude.{◌≡◌, ℕ, ◌+◌, ◌^◌, ◌<◌, ◌≤◌, max, bit_and, List, [], ◌∷◌, ◌++◌, length, codes, None, false}
+-- The record of a draft behind a log, which drafts may become one, and what was appended.
+use Rattle.std.specs.Prelude.{◌≡◌, ℕ, ◌^◌, ◌<◌, bit_and, List, [], ◌∷◌, ◌++◌, length, codes, None, false}
 use Rattle.record_codec.specs.Entry.{Entry}
 use Rattle.record_codec.specs.Props.{value_of, has_name}
 use Rattle.record_codec.specs.Layout.{layout}
 use Rattle.record_codec.specs.Drafts.{entry_of, draft_size, draft_fault}
 use Rattle.record_codec.specs.declared.draft.Draft.{Draft}
 use Rattle.record_codec.specs.declared.draft.Place.{Place}
-use Rattle.log_model.specs.Log.{is_system_topic, next_place}
-use Rattle.log_model.specs.Queues.{queue_end}
+use Rattle.log_model.specs.Log.{is_system_topic}
 use Rattle.log_model.specs.declared.batch.Batch.{Batch}
 use Rattle.log_model.specs.Batches.{blank_between, IsBatchOf}
-use Rattle.log_writer.specs.Tails.{last_store, StandsFor}
-use Rattle.log_writer.specs.declared.tail.LogTail.{LogTail}
-
--- The place of the next record, of n bytes: the end of its queue, the next place of the log, and the clock's reading or the
--- last record's store time, whichever is the later.
-abbrev pub place_behind : ℕ → List Entry → List ℕ → ℕ → ℕ → ℕ → Place
-place_behind S log topic queue n reading = record {
-  queue_offset = queue_end log topic queue;
-  offset = next_place S log n;
-  store = max reading (last_store log);
-}
+use Rattle.log_tail.specs.Places.{place_behind, HasRoom}
+use Rattle.log_tail.specs.Tails.{StandsFor}
+use Rattle.log_tail.specs.declared.tail.LogTail.{LogTail}
 
 -- the place of the record of this draft
 abbrev pub place_of : ℕ → List Entry → Draft → ℕ → Place
@@ -33,10 +24,6 @@ next_entry S log draft reading = entry_of draft (place_of S log draft reading)
 -- the log with the record of this draft
 abbrev pub with_next : ℕ → List Entry → Draft → ℕ → List Entry
 with_next S log draft reading = log ++ next_entry S log draft reading ∷ []
-
--- a record of n bytes behind the log ends within the greatest place that a log has
-abbrev pub HasRoom : ℕ → List Entry → ℕ → Type 0
-HasRoom S log n = next_place S log n + n ≤ 2 ^ 62
 
 -- A draft whose record may stand behind any log where there is room: it can be written into a segment, and is a plain
 -- message to one of 1,024 queues and no copy of a half message.

@@ -2,16 +2,12 @@
 #![tactic(auto)]
 
 mod append;
-mod counts;
 mod laws;
 mod opening;
-mod tail;
 #[cfg(test)]
 mod tests;
-mod visit;
 mod writer;
 
-pub use append::{AppendFault, Appended};
+pub use append::{AppendFault, Appended, append_behind};
 pub use laws::{first_records_are_kept, what_a_crash_left_stores_the_log};
-pub use tail::LogTail;
 pub use writer::{LogWriter, Outcome};

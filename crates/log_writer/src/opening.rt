@@ -1,20 +1,18 @@
 //! Opens a log: recovers it from its files, and goes on where it ends.
 
-ghost use Rattle.std.specs.Prelude.{◌≡◌, ◌+◌, ◌≤◌, List, ℕ, take, IfOk};
-ghost use Rattle.mq_outside.specs.Disk.{Throughout, Rests};
+ghost use Rattle.std.specs.Prelude.{◌≡◌, ◌+◌, ◌≤◌, List, ℕ, IfOk};
+ghost use Rattle.mq_outside.specs.Disk.{Rests};
 ghost use Rattle.record_codec.specs.Entry.{Entry};
 ghost use Rattle.log_model.specs.Log.{IsSegmentSize};
-ghost use Rattle.log_model.specs.Segments.{IsLogFile};
-ghost use Rattle.log_model.specs.Store.{IsDamagedAt, IsHonest, StoresLog, KeepsIfHonest};
-ghost use Rattle.segment_files.specs.Outside.{IsOutsideOf};
-ghost use Rattle.segment_files.specs.Turn.{HasRecords};
-ghost use Rattle.log_recovery.specs.Recovered.{OnDamage, OnMemory, CountsRecoverFault};
+ghost use Rattle.log_model.specs.Store.{IsDamagedAt, IsHonest, StoresLog};
+ghost use Rattle.segment_files.specs.Outside.{StaysOutside};
+ghost use Rattle.log_recovery.specs.Recovered.{StaysFlushed, OnDamage, OnMemory, CountsRecoverFault};
 ghost use Rattle.log_writer.specs.Openings.{GoesOnBehind};
 ghost use Rattle.log_writer.specs.Durable.{CanGoOn, Opened};
 
-use crate::tail::LogTail;
 use crate::writer::LogWriter;
 use log_recovery::{RecoverFault, recover};
+use log_tail::LogTail;
 use mq_outside::Disk;
 use segment_files::LastFile;
 use std::alloc::Global;
@@ -40,17 +38,9 @@ impl LogWriter {
         ensures ours { D.tells → (log : List Entry) (flushed : ℕ) → StoresLog segment log flushed (D.state disk.old) → IsHonest segment log flushed (D.state disk.old).reads
             → IfOk result (Opened segment log flushed (D.state disk.new)) }
 
-        // Whatever the answer, what was flushed stays, at each moment.
-        ensures still { D.tells → (log : List Entry) (flushed : ℕ) → StoresLog segment log flushed (D.state disk.old) → IsHonest segment log flushed (D.state disk.old).reads
-            → StoresLog segment log flushed (D.state disk.new) }
-        ensures any_moment { D.tells → (log : List Entry) (flushed : ℕ) → StoresLog segment log flushed (D.state disk.old) → IsHonest segment log flushed (D.state disk.old).reads
-            → Throughout (D.state disk.old) (D.state disk.new) (HasRecords segment (take flushed log)) }
-        ensures honest { D.tells → (log : List Entry) (flushed : ℕ) → StoresLog segment log flushed (D.state disk.old) → IsHonest segment log flushed (D.state disk.old).reads
-            → Throughout (D.state disk.old) (D.state disk.new) (KeepsIfHonest segment log flushed) }
-
-        // Files outside the log's folder stay.
-        ensures outside { D.tells → (name : List ℕ) → (IsLogFile name → ⊥) → (D.state disk.new).reads name ≡ (D.state disk.old).reads name }
-        ensures outside_images { D.tells → Throughout (D.state disk.old) (D.state disk.new) (IsOutsideOf (D.state disk.old)) }
+        // Whatever the answer, what was flushed stays, at each moment, and so do files outside the log's folder.
+        ensures flushed { D.tells → StaysFlushed segment (D.state disk.old) (D.state disk.new) }
+        ensures outside { D.tells → StaysOutside (D.state disk.old) (D.state disk.new) }
         ensures cause { CountsRecoverFault result (D.faults disk.old) (D.faults disk.new) }
         ensures syncs { D.syncs disk.new ≤ D.syncs disk.old + 1 }
     {
@@ -59,8 +49,8 @@ impl LogWriter {
             Ok(_) => {}
             Err(fault) => return Err(fault),
         }
-        tail.segment = segment;
-        let file = LastFile::at(segment, tail.end);
+        let tail = tail.in_segments(segment);
+        let file = LastFile::at(segment, tail.end());
         Ok(LogWriter { tail, file })
     }
 }

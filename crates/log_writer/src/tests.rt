@@ -3,8 +3,8 @@
 ghost use Rattle.std.specs.Prelude.{◌≡◌, ◌<◌, ◌^◌, [], codes, IfOk, OnOk};
 ghost use Rattle.log_writer.specs.Durable.{CanGoOn};
 
-use crate::tail::LogTail;
 use crate::{LogWriter, Outcome};
+use log_tail::LogTail;
 use mq_bytes::{LogFile, Rows, Text};
 use mq_outside::{Disk, MemDisk, Room};
 use record_codec::{Draft, Props};

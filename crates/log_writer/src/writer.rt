@@ -8,15 +8,15 @@ ghost use Rattle.mq_outside.specs.Disk.{Throughout};
 ghost use Rattle.record_codec.specs.Entry.{Entry};
 ghost use Rattle.log_model.specs.Log.{IsWellFormed};
 ghost use Rattle.log_model.specs.Store.{StoresLog, KeepsIfHonest};
+ghost use Rattle.log_tail.specs.Tails.{StandsFor};
 ghost use Rattle.segment_files.specs.Outside.{StaysOutside};
 ghost use Rattle.segment_files.specs.Turn.{HasRecords};
-ghost use Rattle.log_writer.specs.Tails.{StandsFor};
 ghost use Rattle.log_writer.specs.Places.{with_next, IsPlainDraft};
 ghost use Rattle.log_writer.specs.Outcomes.{IsOutcome, OnSent, OnNotFlushed, OnUnwritten, CountsOutcome};
 ghost use Rattle.log_writer.specs.Durable.{CanGoOn, Stores};
 
-use crate::append::{AppendFault, Appended};
-use crate::tail::LogTail;
+use crate::append::{AppendFault, Appended, append_behind};
+use log_tail::LogTail;
 use mq_outside::Disk;
 use record_codec::{Draft, Place};
 use segment_files::LastFile;
@@ -47,7 +47,7 @@ impl LogWriter {
     pub fn segment(&self) -> u32
         ensures { result ≡ self.now.tail.segment }
     {
-        self.tail.segment
+        self.tail.segment()
     }
 
     /// Puts the record of this draft behind the log, and syncs it. The reading is in milliseconds.
@@ -86,7 +86,7 @@ impl LogWriter {
         ensures outside { D.tells → StaysOutside (D.state disk.old) (D.state disk.new) }
         ensures syncs { D.syncs disk.new ≤ D.syncs disk.old + 2 }
     {
-        let appended = match self.tail.append(alloc, draft, reading) {
+        let appended = match append_behind(alloc, &mut self.tail, draft, reading) {
             Ok(appended) => appended,
             Err(AppendFault::LogEnd) => return Outcome::LogEnd,
             Err(AppendFault::Memory) => return Outcome::Memory,

@@ -14,11 +14,12 @@ use Rattle.request_fields.specs.declared.fault.RequestFault.TheVariants as fault
 use Rattle.reply_fields.specs.Refusals.{fault_reply}
 use Rattle.log_model.specs.Log.{next_place}
 use Rattle.log_model.specs.Store.{StoresLog}
-use Rattle.log_writer.specs.Tails.{StandsFor}
-use Rattle.log_writer.specs.Places.{next_entry, with_next, HasRoom}
+use Rattle.log_tail.specs.Tails.{StandsFor}
+use Rattle.log_tail.specs.Places.{HasRoom}
+use Rattle.log_writer.specs.Places.{next_entry, with_next}
 use Rattle.log_writer.specs.Outcomes.{IsOutcome, OnSent, OnNotFlushed, OnUnwritten}
 use Rattle.log_writer.specs.Durable.{Stores}
-use Rattle.log_writer.specs.declared.tail.LogTail.{LogTail}
+use Rattle.log_tail.specs.declared.tail.LogTail.{LogTail}
 use Rattle.log_writer.specs.declared.writer.LogWriter.{LogWriter}
 use Rattle.log_writer.specs.declared.writer.Outcome.{Outcome as Written}
 use Rattle.log_writer.specs.declared.writer.Outcome.TheVariants as written

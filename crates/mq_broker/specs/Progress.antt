@@ -8,7 +8,7 @@ use Rattle.record_codec.specs.Entry.{Entry}
 use Rattle.remoting_frame.specs.declared.frame.Frame.{Frame}
 use Rattle.log_model.specs.Segments.{AreSegmentFiles}
 use Rattle.log_model.specs.Store.{StoresLog}
-use Rattle.log_writer.specs.Tails.{StandsFor}
+use Rattle.log_tail.specs.Tails.{StandsFor}
 use Rattle.log_writer.specs.Durable.{CanGoOn, Stores, Flushes}
 use Rattle.log_writer.specs.declared.writer.LogWriter.{LogWriter}
 use Rattle.mq_broker.specs.Outcomes.{Outcome, Done, FlushFailed, NoMemory, Event}

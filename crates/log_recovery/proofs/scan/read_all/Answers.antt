@@ -10,8 +10,9 @@ pub returns-then-count-eq0-clause-read : goal.returns-then-count-eq0-clause-read
 returns-then-count-eq0-clause-read g c = λ tells files reads left named all.
     let before = g.V.Visit.stands c.args.each.now in
     let none : c.args.count ≡ 0 = c.if-count-eq0.true in
-    subst (λ (n : ℕ). ReadLog c.args.segment files before before n c.args.scan.now.tail.end) (sym none)
-    (none_read c.args.segment files c.args.scan.now.tail before c.requires.size left (λ k low. absurd (omega (arith, low))) (subst (λ (n : ℕ). NoFurther c.args.segment n files) none all))
+    subst (λ (end : ℕ). ReadLog c.args.segment files before before c.args.count end) (sym c.end.ensures.value)
+    (subst (λ (n : ℕ). ReadLog c.args.segment files before before n c.args.scan.now.tail.end) (sym none)
+    (none_read c.args.segment files c.args.scan.now.tail before c.requires.size left (λ k low. absurd (omega (arith, low))) (subst (λ (n : ℕ). NoFurther c.args.segment n files) none all)))
 
 pub returns-clause-read : goal.returns-clause-read
 returns-clause-read g c = λ tells files reads left named all.
@@ -24,9 +25,10 @@ returns-clause-read g c = λ tells files reads left named all.
     let so_far = c.in_ok-read_front.ensures.opened tells files reads left (λ k less. named k (omega (arith, less, one))) in
     let stood = front_stood S last file_base files [] c.read_front.new.scan.tail _ _ so_far is low in
     let to = c.in_ok-scan_file.ensures.scanned tells files so_far.records so_far.shape ((c.read_front.ensures.only_reads.rests tells).same ∙ reads) stood in
-    subst (λ (n : ℕ). ReadLog S files (g.V.Visit.stands c.args.each.now) (g.V.Visit.stands c.scan_file.new.each) n c.scan_file.new.scan.tail.end) (sym one)
+    subst (λ (end : ℕ). ReadLog S files (g.V.Visit.stands c.args.each.now) (g.V.Visit.stands c.scan_file.new.each) c.args.count end) (sym c.end-2.ensures.value)
+    (subst (λ (n : ℕ). ReadLog S files (g.V.Visit.stands c.args.each.now) (g.V.Visit.stands c.scan_file.new.each) n c.scan_file.new.scan.tail.end) (sym one)
     (all_read S last files c.read_front.new.scan.tail c.scan_file.new.scan.tail _ _ _ file_base c.in_ok-scan_file.field-0 so_far is
-    (subst (λ (n : ℕ). AreNamed S n files) one named) (subst (λ (n : ℕ). NoFurther S n files) one all) to)
+    (subst (λ (n : ℕ). AreNamed S n files) one named) (subst (λ (n : ℕ). NoFurther S n files) one all) to))
 
 pub returns-in_err-read_front-clause-damaged : goal.returns-in_err-read_front-clause-damaged
 returns-in_err-read_front-clause-damaged g c = λ tells files reads left named all.

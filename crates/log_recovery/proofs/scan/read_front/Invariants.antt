@@ -2,13 +2,12 @@ use Rattle.std.proofs.Common.{◌≡◌, []}
 use Rattle.mq_outside.specs.Files.{Files}
 use Rattle.mq_outside.specs.Disk.{Rests}
 use Rattle.log_recovery.specs.Names.{AreNamed}
-use Rattle.log_recovery.specs.Scan.{Opened}
-use Rattle.log_recovery.specs.Tails.{HasTail}
+use Rattle.log_recovery.specs.Scan.{StandsIn, Opened}
 use Rattle.log_recovery.proofs.scan.read_front.Given as goal
 
 abbrev pub invariant-loop-i : goal.invariant-loop-i
 invariant-loop-i g l = record {
-  opened : g.D.Disk.tells → (files : Files) → (g.D.Disk.state l.fn.disk).reads ≡ files → HasTail [] l.fn.scan.tail → AreNamed l.segment l.count files
+  opened : g.D.Disk.tells → (files : Files) → (g.D.Disk.state l.fn.disk).reads ≡ files → StandsIn l.segment l.fn.scan.tail [] → AreNamed l.segment l.count files
       → Opened l.segment files [] l.i l.scan.tail (g.V.Visit.stands l.fn.each) (g.V.Visit.stands l.each);
   rests : g.D.Disk.tells → Rests (g.D.Disk.state l.fn.disk) (g.D.Disk.state l.disk);
   faults : g.D.Disk.faults l.disk ≡ g.D.Disk.faults l.fn.disk;

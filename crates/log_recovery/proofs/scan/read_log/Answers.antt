@@ -1,10 +1,10 @@
-use Rattle.std.proofs.Common.{◌*◌, ◌^◌, ◌<◌, ℕ, map, sym, subst, ap, arith}
+use Rattle.std.proofs.Common.{◌*◌, ◌^◌, ◌<◌, ℕ, [], map, sym, subst, ap, arith}
 use Rattle.std.specs.Prelude.{string_bytes, IfSome, IfNone}
 use Rattle.mq_outside.specs.Files.{Files, Lists}
 use Rattle.log_model.specs.Store.{IsDamagedAt}
 use Rattle.log_recovery.specs.declared.scan.Log.{Log}
 use Rattle.log_recovery.specs.Names.{NoFurther, IsOdd}
-use Rattle.log_recovery.proofs.TailLemmas.{tail_start}
+use Rattle.log_recovery.specs.Scan.{StandsIn}
 use Rattle.log_recovery.proofs.ScanLemmas.{odd_damaged, on_damage, passed_on, count_low}
 use Rattle.log_recovery.proofs.scan.read_log.Goals as goal
 
@@ -15,7 +15,7 @@ returns-in_err-read_front-clause-damaged g c = λ tells.
     let count : ℕ = c.order_of-order.result.count in
     let lists = subst (λ l. Lists files (map (λ name. string_bytes name) l)) (sym c.deref.ensures.value) (c.in_ok-names.ensures.names tells) in
     let named = c.order_of-order.ensures.named files lists in
-    let start = tail_start c.new.result c.new.ensures.end c.new.ensures.store c.new.ensures.counts in
+    let start : StandsIn S c.new.result [] = record { size = c.new.ensures.segment; stands = c.new.ensures.empty } in
     let same = (c.list.ensures.moves tells).reads in
     let odd = subst (λ o. IfSome o (λ name. IsOdd S count files name.now)) c.in-Some.is (c.order_of-order.ensures.odd files lists) in
     passed_on Log (Unit {0}) c.from_residual-in_err-read_front.result c.in_err-read_front.field-0.0 (IsDamagedAt S files) c.from_residual-in_err-read_front.ensures.1
@@ -33,7 +33,7 @@ returns-in-Some-clause-damaged g c = λ tells.
     let count : ℕ = c.order_of-order.result.count in
     let lists = subst (λ l. Lists files (map (λ name. string_bytes name) l)) (sym c.deref.ensures.value) (c.in_ok-names.ensures.names tells) in
     let named = c.order_of-order.ensures.named files lists in
-    let start = tail_start c.new.result c.new.ensures.end c.new.ensures.store c.new.ensures.counts in
+    let start : StandsIn S c.new.result [] = record { size = c.new.ensures.segment; stands = c.new.ensures.empty } in
     let same = (c.list.ensures.moves tells).reads in
     let odd = subst (λ o. IfSome o (λ name. IsOdd S count files name.now)) c.in-Some.is (c.order_of-order.ensures.odd files lists) in
     let opened = c.in_ok-read_front.ensures.opened tells files same start named in
@@ -47,7 +47,7 @@ returns-in_err-end-clause-damaged g c = λ tells.
     let count : ℕ = c.order_of-order.result.count in
     let lists = subst (λ l. Lists files (map (λ name. string_bytes name) l)) (sym c.deref.ensures.value) (c.in_ok-names.ensures.names tells) in
     let named = c.order_of-order.ensures.named files lists in
-    let start = tail_start c.new.result c.new.ensures.end c.new.ensures.store c.new.ensures.counts in
+    let start : StandsIn S c.new.result [] = record { size = c.new.ensures.segment; stands = c.new.ensures.empty } in
     let same = (c.list.ensures.moves tells).reads in
     let all = subst (λ o. IfNone o (NoFurther S count files)) c.in_default.is (c.order_of-order.ensures.all files lists) in
     passed_on Log ℕ c.from_residual-in_err-end.result c.in_err-end.field-0.0 (IsDamagedAt S files) c.from_residual-in_err-end.ensures.1
@@ -60,7 +60,7 @@ returns-clause-read g c = λ tells.
     let count : ℕ = c.order_of-order.result.count in
     let lists = subst (λ l. Lists files (map (λ name. string_bytes name) l)) (sym c.deref.ensures.value) (c.in_ok-names.ensures.names tells) in
     let named = c.order_of-order.ensures.named files lists in
-    let start = tail_start c.new.result c.new.ensures.end c.new.ensures.store c.new.ensures.counts in
+    let start : StandsIn S c.new.result [] = record { size = c.new.ensures.segment; stands = c.new.ensures.empty } in
     let same = (c.list.ensures.moves tells).reads in
     let all = subst (λ o. IfNone o (NoFurther S count files)) c.in_default.is (c.order_of-order.ensures.all files lists) in
     c.in_ok-end.ensures.read tells files same start named all

@@ -25,7 +25,8 @@ returns-in-Err-open-clause-fits g c = λ fits. record {
     record { given_is = refl; taken_is = refl; readings_is = refl },
     inr (unrecovered c.in-Ok.command.segment c.status_of_fault.result _ _
         c.in-Err-open.fault c.in-Ok-open_format.segment c.status_of_fault.ensures c.in-Ok-open_format.ensures.opened c.in-Ok-open_format.ensures.rests
-        c.in-Err-open.ensures.damaged c.in-Err-open.ensures.untouched c.in-Err-open.ensures.still c.in-Err-open.ensures.any_moment),
+        c.in-Err-open.ensures.damaged c.in-Err-open.ensures.untouched (λ told stored flushed stores honest. (c.in-Err-open.ensures.flushed told stored flushed stores honest).still)
+        (λ told stored flushed stores honest. (c.in-Err-open.ensures.flushed told stored flushed stores honest).any_moment)),
   );
 }
 
@@ -51,7 +52,7 @@ returns-clause-fits g c = λ fits.
             let mid_honest = honest_same segment stored flushed _ _ (rests told) honest in
             keeps_on segment _ _ opened _ _ c.serve_all-ended.result same rests c.serve_all-ended.ensures.served told stored flushed stores
             (subst (Opened segment stored flushed (g.D.Disk.state c.open.new.disk)) (sym c.new-broker.ensures) (c.in-Ok-open.ensures.ours told stored flushed mid_stores mid_honest))
-            (c.in-Ok-open.ensures.any_moment told stored flushed mid_stores mid_honest);
+            (c.in-Ok-open.ensures.flushed told stored flushed mid_stores mid_honest).any_moment;
       });
     }
 
@@ -64,10 +65,10 @@ returns-in-Err-open_format-clause-outside g c tells = outside_same (outside_star
 pub returns-in-Err-open-clause-outside : goal.returns-in-Err-open-clause-outside
 returns-in-Err-open-clause-outside g c tells =
     outside_then (outside_same (outside_start _) (c.in-Ok-open_format.ensures.rests tells))
-    (record { reads = c.in-Err-open.ensures.outside tells; images = c.in-Err-open.ensures.outside_images tells })
+    (c.in-Err-open.ensures.outside tells)
 
 pub returns-clause-outside : goal.returns-clause-outside
 returns-clause-outside g c tells =
     let opened = outside_then (outside_same (outside_start _) (c.in-Ok-open_format.ensures.rests tells))
-    (record { reads = c.in-Ok-open.ensures.outside tells; images = c.in-Ok-open.ensures.outside_images tells }) in
+    (c.in-Ok-open.ensures.outside tells) in
     outside_then opened (c.serve_all-ended.ensures.outside tells)

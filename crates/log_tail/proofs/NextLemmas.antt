@@ -1,0 +1,33 @@
+-- Which record is the next one, by the numbers that the tail keeps.
+use Rattle.std.proofs.Common.{◌∙◌, ℕ, List, ap, sym, arith}
+use Rattle.record_codec.specs.Entry.{Entry}
+use Rattle.record_codec.specs.Layout.{size, IsRecord}
+use Rattle.log_model.specs.Log.{place_after, Follows}
+use Rattle.log_tail.specs.Counts.{count_in}
+use Rattle.log_tail.specs.Matches.{Matches}
+use Rattle.log_tail.specs.Tails.{StandsFor}
+use Rattle.log_tail.specs.declared.tail.LogTail.{LogTail}
+use Rattle.log_tail.proofs.TailLemmas.{last_store_low}
+
+-- a record whose numbers match follows
+pub matches_follow : (S : ℕ) (log : List Entry) (tail : LogTail) (r : Entry) → StandsFor tail log → IsRecord r → Matches S tail.end tail.stored (count_in tail.counts r.topic r.queue) r → Follows S log r
+matches_follow S log tail r stands is matches = record {
+  layout = is;
+  place = matches.place ∙ ap (λ (n : ℕ). place_after S n (size r)) stands.end;
+  room = matches.room;
+  low = matches.low;
+  queue_offset = matches.queue_offset ∙ stands.counts r.topic r.queue;
+  store = λ k earlier got. omega (arith, stands.latest k earlier got, matches.store);
+  admissible = matches.admissible;
+}
+
+-- and one that follows matches
+pub follows_match : (S : ℕ) (log : List Entry) (tail : LogTail) (r : Entry) → StandsFor tail log → Follows S log r → Matches S tail.end tail.stored (count_in tail.counts r.topic r.queue) r
+follows_match S log tail r stands follows = record {
+  place = follows.place ∙ ap (λ (n : ℕ). place_after S n (size r)) (sym stands.end);
+  room = follows.room;
+  low = follows.low;
+  queue_offset = follows.queue_offset ∙ sym (stands.counts r.topic r.queue);
+  store = omega (arith, stands.time, last_store_low r.store log follows.store);
+  admissible = follows.admissible;
+}

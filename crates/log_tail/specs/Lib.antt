@@ -1,0 +1,4 @@
+pub mod Counts
+pub mod Tails
+pub mod Places
+pub mod Matches

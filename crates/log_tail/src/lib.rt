@@ -1,0 +1,9 @@
+//! Where a log ends, and what may come next: its end, its last store time, and how many records each queue has.
+#![tactic(auto)]
+
+mod counts;
+mod tail;
+#[cfg(test)]
+mod tests;
+
+pub use tail::LogTail;
