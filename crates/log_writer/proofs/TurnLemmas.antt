@@ -15,7 +15,7 @@ use Rattle.log_model.specs.Batches.{IsBatchOf}
 use Rattle.log_model.proofs.BatchLemmas.{batch_goes, GoesHere, GoesNext}
 use Rattle.log_model.proofs.Longer.{stores_longer}
 use Rattle.log_model.proofs.Prefixes.{keeps_prefix}
-use Rattle.segment_files.specs.Turn.{WritesAt, HasRecords, GoesOn, CanRetry, is_due, shape_behind, unless_opened}
+use Rattle.segment_files.specs.Turn.{WritesAt, HasRecords, GoesOn, Growing, growing, CanTurn, CanRetry, is_due, shape_behind, unless_opened}
 use Rattle.log_tail.specs.Tails.{StandsFor}
 use Rattle.log_writer.specs.Places.{next_entry, with_next, IsAppended}
 use Rattle.log_writer.specs.Durable.{Stores}
@@ -28,7 +28,7 @@ front_is log r = take_at log (r ∷ []) (length log) refl
 -- the batch goes on where a log that is all flushed ends
 pub batch_goes_on : (S : ℕ) (log : List Entry) (flushed : ℕ) (batch : Batch) (file_base : ℕ) → IsWellFormed S log → IsBatchOf S log flushed batch
     → file_base ≡ base S (shape_of S (take flushed log))
-    → GoesOn S log flushed (shape_of S (take flushed log)) (is_due file_base batch.blank) batch.place batch.blank batch.count batch.bytes
+    → GoesOn S log flushed (shape_of S (take flushed log)) (is_due file_base batch.blank) batch
 batch_goes_on S log flushed batch file_base well is at =
     let shape : Shape = shape_of S (take flushed log) in
     ⊎_elim
@@ -58,27 +58,23 @@ writes_longer S log r reach file_base offset disk well writes =
       low = writes.low;
     })
 
--- what a turn of the flusher starts from, for this record behind the log
-pub record Starts (S : ℕ) (log : List Entry) (r : Entry) (batch : Batch) (file_base offset : ℕ) (disk : DiskState) : Type 0 where
-  pub writes : WritesAt S (log ++ r ∷ []) (length log) (shape_of S (take (length log) (log ++ r ∷ []))) (used (shape_of S log)) file_base offset disk
-  pub goes : GoesOn S (log ++ r ∷ []) (length log) (shape_of S (take (length log) (log ++ r ∷ []))) (is_due file_base batch.blank) batch.place batch.blank batch.count batch.bytes
-
 -- what was appended, in the segments of the disk
 pub appended_in : (S size : ℕ) (log : List Entry) (draft : Draft) (reading : ℕ) (tail : LogTail) (at : Place) (batch : Batch) → size ≡ S
     → IsAppended size log draft reading tail at batch → IsAppended S log draft reading tail at batch
 appended_in S size log draft reading tail at batch same appended = subst (λ (k : ℕ). IsAppended k log draft reading tail at batch) same appended
 
+-- a turn can be made with this record behind the log
 pub starts : (S : ℕ) (log : List Entry) (draft : Draft) (reading : ℕ) (tail : LogTail) (at : Place) (batch : Batch) (writer : LogWriter) (disk : DiskState)
     → Stores S log writer disk → IsAppended writer.tail.segment log draft reading tail at batch
     → (IsWellFormed writer.tail.segment log → IsWellFormed writer.tail.segment (with_next writer.tail.segment log draft reading))
-    → Starts S log (next_entry S log draft reading) batch writer.file.base writer.file.offset disk
+    → CanTurn S (with_next S log draft reading) (length log) (shape_of S (take (length log) (with_next S log draft reading))) (used (shape_of S log)) batch (growing writer.file disk)
 starts S log draft reading tail at batch writer disk stores appended well_formed =
     let r : Entry = next_entry S log draft reading in
     let here = appended_in S writer.tail.segment log draft reading tail at batch stores.size appended in
     let well : IsWellFormed S (log ++ r ∷ []) =
     subst (λ (k : ℕ). IsWellFormed k log → IsWellFormed k (with_next k log draft reading)) stores.size well_formed stores.writes.stores.well_formed in
     let writes = writes_longer S log r (used (shape_of S log)) writer.file.base writer.file.offset disk well stores.writes in
-    record { writes = writes; goes = batch_goes_on S (log ++ r ∷ []) (length log) batch writer.file.base well here.is writes.place.last }
+    record { writes = writes; goes_on = batch_goes_on S (log ++ r ∷ []) (length log) batch writer.file.base well here.is writes.place.last }
 
 -- the records at the front of a longer log
 pub has_front : (S : ℕ) (log : List Entry) (r : Entry) {old new : DiskState} → Throughout old new (HasRecords S (take (length log) (log ++ r ∷ []))) → Throughout old new (HasRecords S log)
@@ -110,9 +106,8 @@ stores_sent S log r writer count offset n due disk one size stands end moved wri
     }
 
 -- the record was not flushed
-pub stores_failed : (S : ℕ) (log : List Entry) (flushed most file_base offset : ℕ) (disk : DiskState) (place : ℕ) (blank : Option (ℕ × ℕ)) (count : ℕ) (bytes : List ℕ)
-    → CanRetry S log flushed most file_base offset disk place blank count bytes → StoresLog S log flushed disk
-stores_failed S log flushed most file_base offset disk place blank count bytes retry = record { shape = retry.shape; reach = retry.reach; at = retry.writes.stores }
+pub stores_failed : {S : ℕ} {log : List Entry} {flushed most : ℕ} {batch : Batch} {at : Growing} → CanRetry S log flushed most batch at → StoresLog S log flushed at.disk
+stores_failed retry = record { shape = retry.shape; reach = retry.reach; at = retry.can.writes.stores }
 
 -- the records at the front of any longer log are kept of each honest image
 pub keeps_front : (S : ℕ) (log more : List Entry) (files : Files) → IsWellFormed S (log ++ more) → HasRecords S log files → KeepsIfHonest S (log ++ more) (length log) files
