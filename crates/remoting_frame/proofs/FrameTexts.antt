@@ -137,7 +137,7 @@ form_byte_is : (q : ℕ) (form : Form) → form_of q ≡ Some form → q ≡ for
 form_byte_is q form e = byte_of (eqb q 0) (eqb q 1) q form (eqb-true q 0) (eqb-true q 1) e
 
 -- the frame behind a front
-abbrev frame_of : ℕ → List ℕ → Front → Frame
+abbrev pub frame_of : ℕ → List ℕ → Front → Frame
 frame_of at bytes f = record { at = at; form = f.form; header = f.header; body = take (f.len - (8 + f.header_len)) (drop (8 + f.header_len) bytes) }
 
 chosen_is : (b : Bool) (x y : Frame × List ℕ) → cond b None (Some x) ≡ Some y → (b ≡ false) × (x ≡ y)
@@ -149,7 +149,7 @@ unfolding whole
 whole_is at bytes f x e = let p = chosen_is _ _ x e in (ltb-false _ _ p.0, p.1)
 
 -- the front and the rest of a frame that is there
-frame_parts : (at : ℕ) (bytes : List ℕ) (r : Result (Option Front) FrameFault) (x : Frame × List ℕ) → then_whole at bytes r ≡ Ok (Some x) → (f : Front) × (r ≡ Ok (Some f)) × (f.len ≤ length bytes) × ((frame_of at bytes f, drop f.len bytes) ≡ x)
+pub frame_parts : (at : ℕ) (bytes : List ℕ) (r : Result (Option Front) FrameFault) (x : Frame × List ℕ) → then_whole at bytes r ≡ Ok (Some x) → (f : Front) × (r ≡ Ok (Some f)) × (f.len ≤ length bytes) × ((frame_of at bytes f, drop f.len bytes) ≡ x)
 frame_parts at bytes (Err e) x h = absurd cc
 frame_parts at bytes (Ok None) x h = absurd cc
 frame_parts at bytes (Ok (Some f)) x h = let p = whole_is at bytes f x cc in (f, refl, p.0, p.1)

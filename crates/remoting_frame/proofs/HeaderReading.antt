@@ -1,5 +1,5 @@
 -- What the readers of a JSON header give.
-use Rattle.std.proofs.Common.{◌≡◌, ℕ, ◌++◌, ◌∷◌, [], List, Bool, true, false, cond, Option, Some, None, ◌⊎◌, inl, inr, map, string_bytes, string_cmp, nat_cmp, Less, subst, refl, sym, ap, append_assoc}
+use Rattle.std.proofs.Common.{◌≡◌, ℕ, ◌<◌, ◌++◌, ◌∷◌, [], List, length, Bool, true, false, cond, Option, Some, None, ◌⊎◌, inl, inr, map, string_bytes, string_cmp, nat_cmp, Less, subst, refl, sym, ap, append_assoc, arith}
 use Rattle.std.specs.Str.{IsUtf8, is_utf8}
 use Rattle.std.proofs.lemmas.Str.{IsUtf8-from_is_utf8, is_utf8-from_IsUtf8}
 use Rattle.std.proofs.lemmas.Option.{same_Some}
@@ -9,6 +9,7 @@ use Rattle.std.specs.List.Sorted.{IsStrictlySortedBy}
 use Rattle.std.specs.Map.{keys_of}
 use Rattle.serde_json.specs.View.{view, members_view}
 use Rattle.serde_json.proofs.Views.{Entry}
+use Rattle.serde_json.proofs.OnLiterals.{serde_json_on_literals}
 use Rattle.remoting_frame.specs.Head.{IsInOrder}
 use Rattle.serde_json.specs.Data.{Data, null, boolean, number, string, array, object, Members, member}
 use Rattle.serde_json.specs.Read.{read}
@@ -26,6 +27,12 @@ unless false o h = refl
 pub no_data : (bytes : List ℕ) → (IsUtf8 bytes → read bytes ≡ None) → data_of bytes ≡ None
 unfolding data_of
 no_data bytes h = unless (is_utf8 bytes) (read bytes) (λ t. h (IsUtf8-from_is_utf8 bytes t))
+
+-- of no bytes nothing is read
+pub some_read : (bytes : List ℕ) (d : Data) → read bytes ≡ Some d → 0 < length bytes
+unfolding serde_json_on_literals
+some_read [] d e = absurd cc
+some_read (b ∷ bytes) d e = omega arith
 
 -- the pairs so far, and what is still read
 abbrev pub with_front : List (List ℕ × List ℕ) → Option (List (List ℕ × List ℕ)) → Option (List (List ℕ × List ℕ))

@@ -8,10 +8,10 @@ use Rattle.std.specs.Int.{w32}
 use Rattle.std.proofs.lemmas.Int.{ints}
 use Rattle.std.specs.Str.{IsUtf8}
 use Rattle.std.proofs.lemmas.Cmp.{nat_list_cmp_total}
-use Rattle.std.proofs.lemmas.Bool.{lt-ltb, ltb-true, ne_eqb}
+use Rattle.std.proofs.lemmas.Bool.{lt-ltb, ltb-true, ne_eqb, eq-eqb}
 use Rattle.std.proofs.lemmas.List.{take-append-drop, take_more}
 use Rattle.std.proofs.Math.Seq.{drop-cons}
-use Rattle.serde_json.specs.Data.{number, string, Members, no_members, member, put, depth, members_depth}
+use Rattle.serde_json.specs.Data.{Data, number, string, object, Members, no_members, member, put, depth, members_depth}
 use Rattle.serde_json.specs.Read.{read, max_depth}
 use Rattle.serde_json.specs.Find.{of_integer}
 use Rattle.serde_json.specs.Written.{has_float, members_have_float}
@@ -47,6 +47,29 @@ put_next ps i item is lt order =
 
 pub not_empty : (x : ℕ) (remark : List ℕ) → eqb (length (x ∷ remark)) 0 ≡ false
 not_empty x remark = ne_eqb _ _ (λ e. absurd (omega arith))
+
+-- the members that are put one after the other
+pub members_put : (h : Head) (ext : Data) (m0 m1 m2 m3 m4 m5 m6 m7 : Members) → ext ≡ object (texts h.ext) → m0 ≡ no_members → m1 ≡ put (codes "code") (number (of_integer h.code)) m0 → m2 ≡ put (codes "extFields") ext m1 → m3 ≡ put (codes "flag") (number (of_integer h.flag)) m2
+    → m4 ≡ put (codes "language") (string (codes "OTHER")) m3 → m5 ≡ put (codes "opaque") (number (of_integer h.opaque)) m4 → m6 ≡ put (codes "serializeTypeCurrentRPC") (string (codes "JSON")) m5 → m7 ≡ put (codes "version") (number (of_integer h.version)) m6
+    → object m7 ≡ header_data (record h { remark = [] })
+unfolding header_data
+members_put h ext m0 m1 m2 m3 m4 m5 m6 m7 is none code fields flag language opaque form version = rw (version, form, opaque, language, flag, fields, code, none, is) refl
+
+same_members : (a b : Members) → object a ≡ object b → a ≡ b
+same_members a b e = cc
+
+-- a remark has its place among the other members
+pub remark_put : (h : Head) (ms : Members) → object ms ≡ header_data (record h { remark = [] }) → 0 < length h.remark → object (put (codes "remark") (string h.remark) ms) ≡ header_data h
+unfolding header_data
+remark_put h ms e some =
+    let written : eqb (length h.remark) 0 ≡ false = ne_eqb _ _ (λ none. absurd (omega arith)) in
+    ap (λ (w : Members). object (put (codes "remark") (string h.remark) w)) (same_members ms _ e) ∙ rw written refl
+
+pub no_remark : (h : Head) → length h.remark ≡ 0 → header_data (record h { remark = [] }) ≡ header_data h
+unfolding header_data
+no_remark h none =
+    let left_out : eqb (length h.remark) 0 ≡ true = eq-eqb _ _ none in
+    rw left_out refl
 
 -- ---- read again
 

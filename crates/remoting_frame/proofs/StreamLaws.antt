@@ -1,5 +1,5 @@
 -- However a stream is cut, its frames are the same.
-use Rattle.std.proofs.Common.{◌≡◌, ℕ, ◌+◌, ◌-◌, ◌≤◌, ◌++◌, List, [], ◌∷◌, length, take, drop, Bool, true, false, cond, ltb, Option, Some, None, Result, Ok, Err, refl, sym, ap, subst, ◌∙◌, arith, length-append, length-drop, append_assoc, append-nil}
+use Rattle.std.proofs.Common.{◌≡◌, ℕ, zero, suc, ◌+◌, ◌-◌, ◌<◌, ◌≤◌, ◌++◌, List, [], ◌∷◌, length, take, drop, Bool, true, false, cond, ltb, Option, Some, None, Result, Ok, Err, refl, sym, ap, subst, ◌∙◌, arith, length-append, length-drop, append_assoc, append-nil}
 use Rattle.std.proofs.lemmas.Bool.{ltb-false, le-ltb}
 use Rattle.std.proofs.lemmas.List.{take-append-le, drop-append-le}
 use Rattle.remoting_frame.specs.Frames.{Front, first_of, whole, then_whole, next_of}
@@ -10,6 +10,7 @@ use Rattle.remoting_frame.specs.Calls.{Call, fed, gave, AreCalls, stream_of, fra
 use Rattle.remoting_frame.specs.declared.frame.Frame.{Frame}
 use Rattle.remoting_frame.specs.declared.fault.FrameFault.{FrameFault}
 use Rattle.remoting_frame.proofs.FrontLaws.{IsSettled, first_settled, has_room}
+use Rattle.remoting_frame.proofs.FrameTexts.{frame_parts}
 
 abbrev Next : Type 0
 Next = Result (Option (Frame × List ℕ)) FrameFault
@@ -130,23 +131,11 @@ fault_stays bytes more fs e c = record { at = c.at; rest = c.rest ++ more; begin
 
 -- ---- calls of a cutter
 
-left_of : (b : Bool) (x y : Frame × List ℕ) → cond b None (Some x) ≡ Some y → x ≡ y
-left_of true x y e = absurd cc
-left_of false x y e = cc
-
-whole_shorter : (at : ℕ) (bytes : List ℕ) (f : Front) (g : Frame) (after : List ℕ) → whole at bytes f ≡ Some (g, after) → length after ≤ length bytes
-unfolding whole
-whole_shorter at bytes f g after e =
-    let same = ap (λ (p : Frame × List ℕ). length p.1) (left_of _ _ (g, after) e) in
-    omega (arith, same, length-drop f.len bytes)
-
-then_shorter : (at : ℕ) (bytes : List ℕ) (r : Result (Option Front) FrameFault) (g : Frame) (after : List ℕ) → then_whole at bytes r ≡ Ok (Some (g, after)) → length after ≤ length bytes
-then_shorter at bytes (Err e) g after h = absurd cc
-then_shorter at bytes (Ok None) g after h = absurd cc
-then_shorter at bytes (Ok (Some f)) g after h = whole_shorter at bytes f g after cc
-
-pub next_shorter : (at : ℕ) (bytes : List ℕ) (g : Frame) (after : List ℕ) → next_of at bytes ≡ Ok (Some (g, after)) → length after ≤ length bytes
-next_shorter at bytes g after e = then_shorter at bytes (first_of at bytes) g after e
+pub next_shorter : (at : ℕ) (bytes : List ℕ) (g : Frame) (after : List ℕ) → next_of at bytes ≡ Ok (Some (g, after)) → length after < length bytes
+next_shorter at bytes g after e =
+    let parts = frame_parts at bytes (first_of at bytes) (g, after) e in
+    let left = ap (λ (p : Frame × List ℕ). length p.1) parts.3 in
+    omega (arith, left, parts.2, has_room at bytes parts.0 parts.1, length-drop parts.0.len bytes)
 
 -- a frame that is given goes behind those so far
 pub gave_begins : (bytes : List ℕ) (fs : List Frame) (old new : Held) (f : Frame) → BeginsWith 0 bytes fs old.at old.bytes → NextIs old (Ok (Some f)) new → BeginsWith 0 bytes (fs ++ f ∷ []) new.at new.bytes
@@ -167,3 +156,35 @@ calls_begin (gave frame ∷ calls) old new h =
     let shorter = next_shorter old.at old.bytes frame after.bytes next in
     let place : old.at + (length (old.bytes ++ more) - length (after.bytes ++ more)) ≡ after.at = omega (arith, h.1.1, length-append old.bytes more, length-append after.bytes more) in
     (after.bytes ++ more, frame_more old.at old.bytes more frame after.bytes next, rw place (calls_begin calls after new h.2))
+
+-- ---- each stream is cut
+
+-- the frames from a place on, and what stands behind them
+pub record Cut (at : ℕ) (bytes : List ℕ) : Type 0 where
+  pub frames : List Frame
+  pub end : End
+  pub from : ℕ
+  pub rest : List ℕ
+  pub begins : BeginsWith at bytes frames from rest
+  pub stops : Stops from rest end
+
+no_frames : (at : ℕ) (bytes : List ℕ) (end : End) → Stops at bytes end → Cut at bytes
+no_frames at bytes end stops = record { frames = []; end = end; from = at; rest = bytes; begins = (refl, refl); stops = stops }
+
+no_whole_frame : (at : ℕ) (bytes : List ℕ) → next_of at bytes ≡ Ok None → Cut at bytes
+no_whole_frame at [] e = no_frames at [] nothing refl
+no_whole_frame at (b ∷ bytes) e = no_frames at (b ∷ bytes) (part at) ((λ none. absurd cc), refl, e)
+
+cut_from : (n at : ℕ) (bytes : List ℕ) (r : Next) → length bytes < n → next_of at bytes ≡ r → Cut at bytes
+cut_from n at bytes (Err e) lt is = no_frames at bytes (faulty e) is
+cut_from n at bytes (Ok None) lt is = no_whole_frame at bytes is
+cut_from zero at bytes (Ok (Some f)) lt is = absurd (omega arith)
+cut_from (suc n) at bytes (Ok (Some f)) lt is =
+    let place = at + (length bytes - length f.1) in
+    let later = cut_from n place f.1 (next_of place f.1) (omega (arith, next_shorter at bytes f.0 f.1 is)) refl in
+    record { frames = f.0 ∷ later.frames; end = later.end; from = later.from; rest = later.rest; begins = (f.1, is, later.begins); stops = later.stops }
+
+pub stream_is_cut : (bytes : List ℕ) → (frames : List Frame) × (end : End) × IsCut bytes frames end
+stream_is_cut bytes =
+    let cut = cut_from (suc (length bytes)) 0 bytes (next_of 0 bytes) (omega arith) refl in
+    (cut.frames, cut.end, record { at = cut.from; rest = cut.rest; begins = cut.begins; stops = cut.stops })

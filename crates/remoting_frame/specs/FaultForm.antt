@@ -40,14 +40,18 @@ pub record HasNoRoom (bytes : List ℕ) : Type 0 where
   pub known : form_of (form_at bytes) ≡ Some form
   pub over : counted bytes < 4 + header_len_at bytes
 
--- the whole header is there, and is none of its form
-pub record HasNoHeader (bytes : List ℕ) : Type 0 where
+-- the whole header is there, in its frame and of a known form
+pub record HasHeader (bytes : List ℕ) : Type 0 where
   pub words : HasWords bytes
   pub form : Form
   pub known : form_of (form_at bytes) ≡ Some form
   pub room : 4 + header_len_at bytes ≤ counted bytes
   pub whole : 8 + header_len_at bytes ≤ length bytes
-  pub unread : header_in form (take (header_len_at bytes) (drop 8 bytes)) ≡ None
+
+-- the whole header is there, and is none of its form
+pub record HasNoHeader (bytes : List ℕ) : Type 0 where
+  pub there : HasHeader bytes
+  pub unread : header_in there.form (take (header_len_at bytes) (drop 8 bytes)) ≡ None
 
 -- the frame that starts at this place has this fault
 abbrev pub HasFault : ℕ → List ℕ → FrameFault → Type 0

@@ -9,10 +9,19 @@ use Rattle.remoting_frame.specs.declared.frame.Frame.{Frame}
 use Rattle.remoting_frame.specs.declared.fault.FrameFault.{FrameFault}
 use Rattle.remoting_frame.specs.declared.fault.FrameFault.TheVariants as faults
 
--- What was returned, seen by view, is what is there, unless memory ran out.
+-- A header is read there, well or not: nothing else takes memory.
+abbrev pub ReadsHeader : {Y : Type 0} → Result (Option Y) FrameFault → Type 0
+ReadsHeader (Ok None) = ⊥
+ReadsHeader (Ok (Some y)) = Unit {0}
+ReadsHeader (Err faults.Memory) = ⊥
+ReadsHeader (Err (faults.BadLength at)) = ⊥
+ReadsHeader (Err (faults.BadForm at)) = ⊥
+ReadsHeader (Err (faults.BadHeader at)) = Unit {0}
+
+-- What was returned, seen by view, is what is there, unless memory ran out at a header.
 abbrev pub Answers : {X Y : Type 0} → (X → Y) → Result (Option X) FrameFault → Result (Option Y) FrameFault → Type 0
 Answers view (Ok o) there = there ≡ Ok (option_map view o)
-Answers view (Err faults.Memory) there = Unit {0}
+Answers view (Err faults.Memory) there = ReadsHeader there
 Answers view (Err (faults.BadLength at)) there = there ≡ Err (faults.BadLength at)
 Answers view (Err (faults.BadForm at)) there = there ≡ Err (faults.BadForm at)
 Answers view (Err (faults.BadHeader at)) there = there ≡ Err (faults.BadHeader at)

@@ -14,12 +14,13 @@
 //!
 //! Names and values are UTF-8. Of a name that comes twice the last value counts, but each pair has to be well formed.
 
-ghost use Rattle.std.specs.Prelude.{◌≡◌, ℕ, List, ◌+◌, ◌<◌, ◌≤◌, length, string_bytes, option_map, IfOk, IfSome};
+ghost use Rattle.std.specs.Prelude.{◌≡◌, ℕ, List, ◌+◌, ◌<◌, ◌≤◌, length, string_bytes, option_map, IfOk, IfErr, IfSome};
 ghost use Rattle.remoting_frame.specs.Gives.{Gives};
 ghost use Rattle.remoting_frame.specs.Head.{IsInOrder};
 ghost use Rattle.remoting_frame.specs.BinaryText.{Has16Bits, FitsLengths};
 ghost use Rattle.remoting_frame.specs.NameMaps.{pairs_view};
 ghost use Rattle.remoting_frame.specs.Binary.{text_of, lens_of, put_first_of, binary_pairs, by_name, remark_len_of, binary_header};
+ghost use Rattle.remoting_frame.specs.declared.fault.HeaderFault.TheVariants.{Memory};
 
 use crate::fault::HeaderFault;
 use crate::header::Header;
@@ -131,6 +132,7 @@ fn remark_len(bytes: &[u8]) -> Option<usize>
 #[tactic(auto, unfolding(crate::specs::Binary::binary_header))]
 pub(crate) fn read_binary(alloc: Global, bytes: &[u8]) -> Result<Header, HeaderFault>
     ensures header { Gives (λ h. h) result (binary_header bytes.now) }
+    ensures memory { IfErr result (λ e. e ≡ Memory → 0 < length bytes.now) }
     ensures bits { IfOk result Has16Bits }
     ensures lengths { IfOk result FitsLengths }
 {

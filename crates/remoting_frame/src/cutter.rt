@@ -4,7 +4,7 @@
 //! read once: while its body is still to come it is kept, so small pieces cost no second reading of a header. The bytes
 //! behind a frame are not moved for it.
 
-ghost use Rattle.std.specs.Prelude.{◌≡◌, ◌+◌, ◌++◌, [], length, OnOk, OnErr};
+ghost use Rattle.std.specs.Prelude.{◌≡◌, ◌+◌, ◌<◌, ◌++◌, [], length, OnOk, OnErr};
 ghost use Rattle.remoting_frame.specs.Fronts.{front_view};
 ghost use Rattle.remoting_frame.specs.Frames.{Answers, first_of};
 ghost use Rattle.remoting_frame.specs.Cutting.{NextIs};
@@ -48,10 +48,12 @@ impl Cutter {
         }
     }
 
-    /// Takes the next piece of the stream. A stream longer than 2^64 - 1 bytes is refused as want of memory.
+    /// Takes the next piece of the stream. A stream longer than 2^64 - 1 bytes is refused as want of memory; a piece of no
+    /// bytes never is.
     pub fn feed(&mut self, piece: &[u8]) -> Result<(), AllocError>
         ensures ok { OnOk result (self.new ≡ record { at = self.old.at; bytes = self.old.bytes ++ piece.now }) }
         ensures err { OnErr result (self.new ≡ self.old) }
+        ensures some { OnErr result (0 < length piece.now) }
     {
         let held = self.held.len() as u64;
         if u64::MAX - self.at - held < piece.len() as u64 {

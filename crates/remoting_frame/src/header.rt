@@ -1,10 +1,11 @@
 //! The header of a frame: what it says, and its forms on the wire.
 
-ghost use Rattle.std.specs.Prelude.{◌≡◌, ◌<◌, ◌^◌, ◌++◌, length, OnOk, OnErr, IfOk, Some};
+ghost use Rattle.std.specs.Prelude.{◌≡◌, ◌<◌, ◌^◌, ◌++◌, length, OnOk, OnErr, IfOk, IfErr, Some};
 ghost use Rattle.remoting_frame.specs.Gives.{Gives};
 ghost use Rattle.remoting_frame.specs.Head.{IsShort};
 ghost use Rattle.remoting_frame.specs.BinaryText.{Has16Bits, FitsLengths};
 ghost use Rattle.remoting_frame.specs.Headers.{header_in, header_text, front_bytes};
+ghost use Rattle.remoting_frame.specs.declared.fault.HeaderFault.TheVariants.{Memory};
 
 use crate::binary_reader::read_binary;
 use crate::binary_writer::write_binary;
@@ -47,9 +48,11 @@ impl Model for Header {
 }
 
 impl Header {
-    /// The header that the bytes are, all of them. What was read in binary form can be written in it again.
+    /// The header that the bytes are, all of them. What was read in binary form can be written in it again. No bytes are
+    /// `Bad` and take no memory.
     pub fn read(alloc: Global, form: Form, bytes: &[u8]) -> Result<Header, HeaderFault>
         ensures header { Gives (λ h. h) result (header_in form bytes.now) }
+        ensures memory { IfErr result (λ e. e ≡ Memory → 0 < length bytes.now) }
         ensures bits { form ≡ Form.Binary → IfOk result Has16Bits }
         ensures lengths { form ≡ Form.Binary → IfOk result FitsLengths }
     {

@@ -12,11 +12,12 @@
 //! A member of `extFields` that is null is dropped. Other names are read over. Of a name that comes twice the last
 //! value counts, and no other is looked at. A number with a point or an exponent, and `-0`, is not whole.
 
-ghost use Rattle.std.specs.Prelude.{IfOk, option_map, option_and_then, string_bytes, ◌++◌};
+ghost use Rattle.std.specs.Prelude.{◌≡◌, ◌<◌, length, IfOk, OnOk, IfErr, option_map, option_and_then, string_bytes, ◌++◌};
 ghost use Rattle.serde_json.specs.View.{view, members_view};
 ghost use Rattle.remoting_frame.specs.Gives.{Gives};
 ghost use Rattle.remoting_frame.specs.Head.{IsInOrder};
 ghost use Rattle.remoting_frame.specs.Json.{data_of, whole, whole_or_zero, text_or_empty, pair_of, pairs_of, pairs_or_none, header_of, json_header};
+ghost use Rattle.remoting_frame.specs.declared.fault.HeaderFault.TheVariants.{Memory};
 
 use crate::fault::HeaderFault;
 use crate::header::Header;
@@ -25,7 +26,9 @@ use serde_json::{Map, Value};
 use std::alloc::Global;
 
 fn value_of(alloc: Global, bytes: &[u8]) -> Result<Value, HeaderFault>
-    ensures { Gives view result (data_of bytes.now) }
+    ensures value { Gives view result (data_of bytes.now) }
+    ensures some { OnOk result (0 < length bytes.now) }
+    ensures memory { IfErr result (λ e. e ≡ Memory → 0 < length bytes.now) }
 {
     match Value::from_slice(alloc, bytes) {
         Ok(value) => Ok(value),
@@ -131,7 +134,8 @@ fn header_from(alloc: Global, value: &Value) -> Result<Header, HeaderFault>
 
 /// The header that the bytes are in JSON form.
 pub(crate) fn read_json(alloc: Global, bytes: &[u8]) -> Result<Header, HeaderFault>
-    ensures { Gives (λ h. h) result (json_header bytes.now) }
+    ensures header { Gives (λ h. h) result (json_header bytes.now) }
+    ensures memory { IfErr result (λ e. e ≡ Memory → 0 < length bytes.now) }
 {
     let value = value_of(alloc, bytes)?;
     header_from(alloc, &value)

@@ -1,8 +1,9 @@
 //! Writes a header in JSON form: the compact text of one object, whose names are `code`, `extFields`, `flag`,
 //! `language`, `opaque`, `remark` (only where it isn't empty), `serializeTypeCurrentRPC` and `version`, in this order.
 
-ghost use Rattle.std.specs.Prelude.{◌≡◌, ◌<◌, ◌^◌, ◌++◌, length, string_bytes, IfOk, OnOk, OnErr, Some};
-ghost use Rattle.serde_json.specs.Data.{object};
+ghost use Rattle.std.specs.Prelude.{◌≡◌, ◌<◌, ◌^◌, ◌++◌, [], length, string_bytes, IfOk, OnOk, OnErr, Some};
+ghost use Rattle.serde_json.specs.Data.{number, string, object, put};
+ghost use Rattle.serde_json.specs.Find.{of_integer};
 ghost use Rattle.serde_json.specs.View.{view, members_view};
 ghost use Rattle.remoting_frame.specs.Json.{json_header};
 ghost use Rattle.remoting_frame.specs.Head.{IsInOrder, IsShort};
@@ -10,7 +11,7 @@ ghost use Rattle.remoting_frame.specs.Written.{texts, header_data, json_text};
 
 use crate::header::Header;
 use mq_bytes::Text;
-use serde_json::{Map, Value, json};
+use serde_json::{Map, Value};
 use std::alloc::{AllocError, Global};
 
 fn map_of(alloc: Global, pairs: &[(Text, Text)]) -> Result<Map<String, Value>, AllocError>
@@ -25,50 +26,57 @@ fn map_of(alloc: Global, pairs: &[(Text, Text)]) -> Result<Map<String, Value>, A
     Ok(map)
 }
 
-#[tactic(auto, unfolding(crate::specs::Written::header_data))]
-fn without_remark(alloc: Global, header: &Header, ext: Value) -> Result<Value, AllocError>
-    requires empty { length header.now.remark ≡ 0 }
-    requires pairs { view ext ≡ object (texts header.now.ext) }
-    ensures { IfOk result (λ v. view v ≡ header_data header.now) }
+// Puts a whole number behind a name.
+fn put_number(
+    members: &mut Map<String, Value>,
+    alloc: Global,
+    name: &str,
+    whole: i32,
+) -> Result<(), AllocError>
+    ensures { OnOk result (members_view members.new.entries ≡ put name.now (number (of_integer whole)) (members_view members.old.entries)) }
 {
-    json!(in alloc; {
-        "code": (header.code),
-        "extFields": ext,
-        "flag": (header.flag),
-        "language": "OTHER",
-        "opaque": (header.opaque),
-        "serializeTypeCurrentRPC": "JSON",
-        "version": (header.version)
-    })
+    serde_json::put(members, alloc, name, Value::from(whole))
 }
 
-#[tactic(auto, unfolding(crate::specs::Written::header_data))]
-fn with_remark(alloc: Global, header: &Header, ext: Value) -> Result<Value, AllocError>
-    requires some { 0 < length header.now.remark }
-    requires pairs { view ext ≡ object (texts header.now.ext) }
-    ensures { IfOk result (λ v. view v ≡ header_data header.now) }
+// Puts a text behind a name.
+fn put_text(
+    members: &mut Map<String, Value>,
+    alloc: Global,
+    name: &str,
+    text: &str,
+) -> Result<(), AllocError>
+    ensures { OnOk result (members_view members.new.entries ≡ put name.now (string text.now) (members_view members.old.entries)) }
 {
-    json!(in alloc; {
-        "code": (header.code),
-        "extFields": ext,
-        "flag": (header.flag),
-        "language": "OTHER",
-        "opaque": (header.opaque),
-        "remark": (header.remark.as_str()),
-        "serializeTypeCurrentRPC": "JSON",
-        "version": (header.version)
-    })
+    serde_json::put(members, alloc, name, Value::try_from_str(alloc, text)?)
+}
+
+// The members of the header but for its remark.
+fn members_of(alloc: Global, header: &Header, ext: Value) -> Result<Map<String, Value>, AllocError>
+    requires pairs { view ext ≡ object (texts header.now.ext) }
+    ensures { IfOk result (λ m. object (members_view m.entries) ≡ header_data (record header.now { remark = [] })) }
+{
+    let mut members = Map::new(alloc);
+    put_number(&mut members, alloc, "code", header.code)?;
+    serde_json::put(&mut members, alloc, "extFields", ext)?;
+    put_number(&mut members, alloc, "flag", header.flag)?;
+    put_text(&mut members, alloc, "language", "OTHER")?;
+    put_number(&mut members, alloc, "opaque", header.opaque)?;
+    put_text(&mut members, alloc, "serializeTypeCurrentRPC", "JSON")?;
+    put_number(&mut members, alloc, "version", header.version)?;
+    Ok(members)
 }
 
 fn value_of(alloc: Global, header: &Header) -> Result<Value, AllocError>
     ensures { IfOk result (λ v. view v ≡ header_data header.now) }
 {
     let ext = Value::from(map_of(alloc, header.ext.as_slice())?);
-    if header.remark.as_str().is_empty() {
-        without_remark(alloc, header, ext)
-    } else {
-        with_remark(alloc, header, ext)
+    let mut members = members_of(alloc, header, ext)?;
+    let remark = header.remark.as_str();
+    if remark.is_empty() {
+        return Ok(Value::from(members));
     }
+    put_text(&mut members, alloc, "remark", remark)?;
+    Ok(Value::from(members))
 }
 
 /// The header's JSON text, which reads as the header.

@@ -24,7 +24,9 @@ pub use spellings::{
     binary_headers_are_spelled, faults_are_shown, frames_are_spelled, last_values_count,
     written_frames_are_read,
 };
-pub use streams::{faults_stay, frames_stay, one_reading, pieces_do_not_matter};
+pub use streams::{
+    each_stream_is_cut, faults_stay, frames_stay, one_reading, pieces_do_not_matter,
+};
 
 #[cfg(test)]
 mod tests;

@@ -27,3 +27,8 @@ pub fn faults_stay()
 pub fn one_reading()
     ensures { (bytes : List ℕ) (frames others : List Frame) (end stop : End) → IsCut bytes frames end → IsCut bytes others stop → (frames ≡ others) × (end ≡ stop) }
 {}
+
+/// Each stream has frames, maybe none, and an end behind them.
+pub fn each_stream_is_cut()
+    ensures { (bytes : List ℕ) → (frames : List Frame) × (end : End) × IsCut bytes frames end }
+{}
