@@ -4,6 +4,7 @@ use crate::{PullFields, Request, RequestFault};
 use mq_bytes::Rows;
 use remoting_frame::{Form, Frame, Header};
 use std::alloc::{AllocError, Global};
+use std::process::Abort;
 use std::test::Fail;
 
 // A pull, with an absent offset to store and an absent time to wait, which have their defaults.
@@ -89,6 +90,18 @@ fn text_at(alloc: Global, header: &[u8], body: &[u8]) -> Result<String, Fail> {
     Ok(frame_text(alloc, &frame)?)
 }
 
+// That the header and the body are read as this.
+fn expect_text<R: Abort + AllocGlobal>(
+    rt: &R,
+    header: &[u8],
+    body: &[u8],
+    text: &str,
+) -> Result<(), Fail> {
+    let read = text_at(rt.alloc(), header, body)?;
+    assert_eq!(rt; read.as_str(), text, "at {body:?}");
+    Ok(())
+}
+
 #[test]
 fn both_codes_of_a_send_are_read(rt: HostRuntime) -> Result<(), Fail> {
     let rows: [(&[u8], &[u8], &str); 2] = [
@@ -104,8 +117,7 @@ fn both_codes_of_a_send_are_read(rt: HostRuntime) -> Result<(), Fail> {
         ),
     ];
     for (header, body, word) in rows {
-        let read = text_at(rt.alloc(), header, body)?;
-        assert_eq!(rt; read.as_str(), word);
+        expect_text(&rt, header, body, word)?;
     }
     Ok(())
 }
@@ -120,8 +132,7 @@ fn a_pull_with_its_fields_and_defaults_and_a_query_are_read(rt: HostRuntime) -> 
         ),
     ];
     for (header, word) in rows {
-        let read = text_at(rt.alloc(), header, b"")?;
-        assert_eq!(rt; read.as_str(), word);
+        expect_text(&rt, header, b"", word)?;
     }
     Ok(())
 }
@@ -147,8 +158,7 @@ fn offsets_topics_and_times_are_read(rt: HostRuntime) -> Result<(), Fail> {
         ),
     ];
     for (header, word) in rows {
-        let read = text_at(rt.alloc(), header, b"")?;
-        assert_eq!(rt; read.as_str(), word);
+        expect_text(&rt, header, b"", word)?;
     }
     Ok(())
 }
@@ -170,8 +180,7 @@ fn ends_of_queues_and_places_are_read(rt: HostRuntime) -> Result<(), Fail> {
         ),
     ];
     for (header, word) in rows {
-        let read = text_at(rt.alloc(), header, b"")?;
-        assert_eq!(rt; read.as_str(), word);
+        expect_text(&rt, header, b"", word)?;
     }
     Ok(())
 }
@@ -193,8 +202,7 @@ fn clients_that_leave_and_verdicts_are_read(rt: HostRuntime) -> Result<(), Fail>
         ),
     ];
     for (header, word) in rows {
-        let read = text_at(rt.alloc(), header, b"")?;
-        assert_eq!(rt; read.as_str(), word);
+        expect_text(&rt, header, b"", word)?;
     }
     Ok(())
 }
@@ -219,8 +227,7 @@ fn heartbeats_and_locks_are_read(rt: HostRuntime) -> Result<(), Fail> {
         ),
     ];
     for (header, body, word) in rows {
-        let read = text_at(rt.alloc(), header, body)?;
-        assert_eq!(rt; read.as_str(), word);
+        expect_text(&rt, header, body, word)?;
     }
     Ok(())
 }
@@ -242,8 +249,7 @@ fn an_unknown_code_and_absent_fields_are_told(rt: HostRuntime) -> Result<(), Fai
         ),
     ];
     for (header, fault) in rows {
-        let read = text_at(rt.alloc(), header, b"")?;
-        assert_eq!(rt; read.as_str(), fault);
+        expect_text(&rt, header, b"", fault)?;
     }
     Ok(())
 }
@@ -269,8 +275,7 @@ fn numbers_past_their_ranges_are_told(rt: HostRuntime) -> Result<(), Fail> {
         ),
     ];
     for (header, fault) in rows {
-        let read = text_at(rt.alloc(), header, b"")?;
-        assert_eq!(rt; read.as_str(), fault);
+        expect_text(&rt, header, b"", fault)?;
     }
     Ok(())
 }
@@ -296,8 +301,7 @@ fn batches_verdicts_and_names_that_are_none_are_told(rt: HostRuntime) -> Result<
         ),
     ];
     for (header, fault) in rows {
-        let read = text_at(rt.alloc(), header, b"")?;
-        assert_eq!(rt; read.as_str(), fault);
+        expect_text(&rt, header, b"", fault)?;
     }
     Ok(())
 }
@@ -328,8 +332,7 @@ fn bodies_of_other_forms_are_told(rt: HostRuntime) -> Result<(), Fail> {
         ),
     ];
     for (header, body) in rows {
-        let read = text_at(rt.alloc(), header, body)?;
-        assert_eq!(rt; read.as_str(), "bad body", "at {body:?}");
+        expect_text(&rt, header, body, "bad body")?;
     }
     Ok(())
 }
