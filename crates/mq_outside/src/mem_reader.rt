@@ -53,8 +53,9 @@ impl Reader for MemReader {
         ensures cause { CountsFailure result self.old.faults self.new.faults }
         ensures reads { Counted 1 self.old.reads self.new.reads }
 
-        // It fails where it is listed, or the piece doesn't hold its bytes.
+        // It fails exactly where it is listed, or the piece doesn't hold its bytes.
         ensures listed { IsListed self.old.fails → IsErr result }
+        ensures absent { piece.now.held ≡ None → IsErr result }
         ensures refused { OnErr result (IsListed self.old.fails ⊎ (piece.now.held ≡ None)) }
         ensures asks { self.new.fails ≡ after_call self.old.fails }
     {

@@ -64,7 +64,6 @@ pub(crate) fn items_or_empty(value: Option<&Value>) -> Result<&[Value], BodyFaul
     }
 }
 
-#[tactic(auto, using(crate::proofs::Items::items_are_counted))]
 fn few(items: &[Value]) -> Result<&[Value], BodyFault>
     ensures items { Finds (λ items. items_view items.now) result (if_few (items_view items.now)) }
     ensures few { IfOk result (λ items. length items.now ≤ 4096) }

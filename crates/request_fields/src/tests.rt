@@ -1,19 +1,20 @@
 //! Each code once, the worked requests, and the bounds.
 
-use crate::{Request, RequestFault};
+use crate::{PullFields, Request, RequestFault};
 use mq_bytes::Rows;
 use remoting_frame::{Form, Frame, Header};
-use std::alloc::Global;
+use std::alloc::{AllocError, Global};
+use std::process::Abort;
 use std::test::Fail;
 
-// A pull, with an absent offset to store and an absent time to wait.
+// A pull, with an absent offset to store and an absent time to wait, which have their defaults.
 const PULL: &[u8] =
     br#"{"code":11,"opaque":1,"extFields":{"consumerGroup":"G","topic":"T","queueId":"2147483647","queueOffset":"-5","maxMsgNums":"32","sysFlag":"6","subscription":"*"}}"#;
 
 fn frame_of(alloc: Global, header: &[u8], body: &[u8]) -> Result<Frame, Fail> {
-    let header = Header::read(alloc, Form::Json, header)
-        .ok()
-        .ok_or("a header")?;
+    let Ok(header) = Header::read(alloc, Form::Json, header) else {
+        return Err(Fail::from("a header"));
+    };
     let body = Rows::of(Vec::from_slice(alloc, body)?);
     Ok(Frame {
         at: 0,
@@ -44,38 +45,61 @@ fn word_of(request: &Request) -> &'static str {
     }
 }
 
-// The fault in a word, and the field's name.
-fn words_of(fault: &RequestFault) -> (&'static str, &str) {
+// The fault in words, with the name of its field.
+fn fault_text(alloc: Global, fault: &RequestFault) -> Result<String, AllocError> {
     match fault {
-        RequestFault::Unsupported(_) => ("unsupported", ""),
-        RequestFault::Missing(field) => ("missing", field.name.as_str()),
-        RequestFault::BadNumber(field) => ("bad", field.name.as_str()),
-        RequestFault::BadBody => ("body", ""),
-        RequestFault::Memory => ("memory", ""),
+        RequestFault::Unsupported(code) => format!(in alloc; "unsupported {code}"),
+        RequestFault::Missing(field) => {
+            let name = field.name.as_str();
+            format!(in alloc; "missing {name}")
+        }
+        RequestFault::BadNumber(field) => {
+            let name = field.name.as_str();
+            format!(in alloc; "bad {name}")
+        }
+        RequestFault::BadBody => String::from_str(alloc, "bad body"),
+        RequestFault::Memory => String::from_str(alloc, "memory"),
     }
 }
 
-// The word of the request that the header and the body are.
-fn word_at(alloc: Global, header: &[u8], body: &[u8]) -> Result<&'static str, Fail> {
-    let frame = frame_of(alloc, header, body)?;
-    let request = Request::read(alloc, &frame)?;
-    Ok(word_of(&request))
+// The fields of a pull.
+fn pull_text(alloc: Global, pull: &PullFields) -> Result<String, AllocError> {
+    let (queue, from, most) = (pull.queue, pull.from, pull.most);
+    let (commit, suspend) = (pull.commit, pull.suspend);
+    let words = pull.subscription.as_str();
+    format!(in alloc; "pull {queue} {from} {most} {commit} {suspend} {words}")
 }
 
-// Whether the first fault of the header and the body has this word, and this field.
-fn is_told(
-    alloc: Global,
+// What was read: a pull's fields, the word of another request, or the fault.
+fn text_of(alloc: Global, read: &Result<Request, RequestFault>) -> Result<String, AllocError> {
+    match read {
+        Ok(Request::Pull(pull)) => pull_text(alloc, pull),
+        Ok(request) => String::from_str(alloc, word_of(request)),
+        Err(fault) => fault_text(alloc, fault),
+    }
+}
+
+// What the frame is read as. It alone owns a request: a function that does is proved for each variant.
+fn frame_text(alloc: Global, frame: &Frame) -> Result<String, AllocError> {
+    text_of(alloc, &Request::read(alloc, frame))
+}
+
+// What the header and the body are read as.
+fn text_at(alloc: Global, header: &[u8], body: &[u8]) -> Result<String, Fail> {
+    let frame = frame_of(alloc, header, body)?;
+    Ok(frame_text(alloc, &frame)?)
+}
+
+// That the header and the body are read as this.
+fn expect_text<R: Abort + AllocGlobal>(
+    rt: &R,
     header: &[u8],
     body: &[u8],
-    word: &str,
-    name: &str,
-) -> Result<bool, Fail> {
-    let frame = frame_of(alloc, header, body)?;
-    let Err(fault) = Request::read(alloc, &frame) else {
-        return Ok(false);
-    };
-    let (told, field) = words_of(&fault);
-    Ok(told == word && field == name)
+    text: &str,
+) -> Result<(), Fail> {
+    let read = text_at(rt.alloc(), header, body)?;
+    assert_eq!(rt; read.as_str(), text, "at {body:?}");
+    Ok(())
 }
 
 #[test]
@@ -93,22 +117,22 @@ fn both_codes_of_a_send_are_read(rt: HostRuntime) -> Result<(), Fail> {
         ),
     ];
     for (header, body, word) in rows {
-        assert_eq!(rt; word_at(rt.alloc(), header, body)?, word);
+        expect_text(&rt, header, body, word)?;
     }
     Ok(())
 }
 
 #[test]
-fn a_pull_and_a_query_are_read(rt: HostRuntime) -> Result<(), Fail> {
+fn a_pull_with_its_fields_and_defaults_and_a_query_are_read(rt: HostRuntime) -> Result<(), Fail> {
     let rows: [(&[u8], &str); 2] = [
-        (PULL, "pull"),
+        (PULL, "pull 2147483647 -5 32 -1 0 *"),
         (
             br#"{"code":12,"opaque":1,"extFields":{"topic":"T","key":"k","maxNum":"32","beginTimestamp":"0","endTimestamp":"9000"}}"#,
             "query",
         ),
     ];
     for (header, word) in rows {
-        assert_eq!(rt; word_at(rt.alloc(), header, b"")?, word);
+        expect_text(&rt, header, b"", word)?;
     }
     Ok(())
 }
@@ -134,7 +158,7 @@ fn offsets_topics_and_times_are_read(rt: HostRuntime) -> Result<(), Fail> {
         ),
     ];
     for (header, word) in rows {
-        assert_eq!(rt; word_at(rt.alloc(), header, b"")?, word);
+        expect_text(&rt, header, b"", word)?;
     }
     Ok(())
 }
@@ -156,7 +180,7 @@ fn ends_of_queues_and_places_are_read(rt: HostRuntime) -> Result<(), Fail> {
         ),
     ];
     for (header, word) in rows {
-        assert_eq!(rt; word_at(rt.alloc(), header, b"")?, word);
+        expect_text(&rt, header, b"", word)?;
     }
     Ok(())
 }
@@ -178,7 +202,7 @@ fn clients_that_leave_and_verdicts_are_read(rt: HostRuntime) -> Result<(), Fail>
         ),
     ];
     for (header, word) in rows {
-        assert_eq!(rt; word_at(rt.alloc(), header, b"")?, word);
+        expect_text(&rt, header, b"", word)?;
     }
     Ok(())
 }
@@ -203,101 +227,81 @@ fn heartbeats_and_locks_are_read(rt: HostRuntime) -> Result<(), Fail> {
         ),
     ];
     for (header, body, word) in rows {
-        assert_eq!(rt; word_at(rt.alloc(), header, body)?, word);
+        expect_text(&rt, header, body, word)?;
     }
     Ok(())
 }
 
 #[test]
 fn an_unknown_code_and_absent_fields_are_told(rt: HostRuntime) -> Result<(), Fail> {
-    let rows: [(&[u8], &str, &str); 3] = [
+    let rows: [(&[u8], &str); 3] = [
         (
             br#"{"code":999,"opaque":1,"extFields":{}}"#,
-            "unsupported",
-            "",
+            "unsupported 999",
         ),
         (
             br#"{"code":30,"opaque":1,"extFields":{"topic":"T"}}"#,
-            "missing",
-            "queueId",
+            "missing queueId",
         ),
         (
             br#"{"code":10,"opaque":1,"extFields":{"batch":"true","bornTimestamp":"0","producerGroup":"P","queueId":"0","sysFlag":"0","topic":"T"}}"#,
-            "missing",
-            "flag",
+            "missing flag",
         ),
     ];
-    for (header, word, name) in rows {
-        assert!(rt;
-            is_told(rt.alloc(), header, b"", word, name)?,
-            "{word} {name}"
-        );
+    for (header, fault) in rows {
+        expect_text(&rt, header, b"", fault)?;
     }
     Ok(())
 }
 
 #[test]
 fn numbers_past_their_ranges_are_told(rt: HostRuntime) -> Result<(), Fail> {
-    let rows: [(&[u8], &str, &str); 4] = [
+    let rows: [(&[u8], &str); 4] = [
         (
             br#"{"code":30,"opaque":1,"extFields":{"topic":"T","queueId":"x"}}"#,
-            "bad",
-            "queueId",
+            "bad queueId",
         ),
         (
             br#"{"code":30,"opaque":1,"extFields":{"topic":"T","queueId":"2147483648"}}"#,
-            "bad",
-            "queueId",
+            "bad queueId",
         ),
         (
             br#"{"code":33,"opaque":1,"extFields":{"offset":"4611686018427387904"}}"#,
-            "bad",
-            "offset",
+            "bad offset",
         ),
         (
             br#"{"code":17,"opaque":1,"extFields":{"topic":"T","readQueueNums":"0","writeQueueNums":"1025"}}"#,
-            "bad",
-            "readQueueNums",
+            "bad readQueueNums",
         ),
     ];
-    for (header, word, name) in rows {
-        assert!(rt;
-            is_told(rt.alloc(), header, b"", word, name)?,
-            "{word} {name}"
-        );
+    for (header, fault) in rows {
+        expect_text(&rt, header, b"", fault)?;
     }
     Ok(())
 }
 
 #[test]
 fn batches_verdicts_and_names_that_are_none_are_told(rt: HostRuntime) -> Result<(), Fail> {
-    let rows: [(&[u8], &str, &str); 4] = [
+    let rows: [(&[u8], &str); 4] = [
         (
             br#"{"code":310,"opaque":1,"extFields":{"a":"P","b":"T","e":"0","f":"2","g":"7","h":"5","m":"true"}}"#,
-            "bad",
-            "m",
+            "bad m",
         ),
         (
             br#"{"code":37,"opaque":1,"extFields":{"producerGroup":"P","tranStateTableOffset":"0","commitLogOffset":"0","commitOrRollback":"5"}}"#,
-            "bad",
-            "commitOrRollback",
+            "bad commitOrRollback",
         ),
         (
             br#"{"code":35,"opaque":1,"extFields":{"clientID":"c","producerGroup":""}}"#,
-            "bad",
-            "producerGroup",
+            "bad producerGroup",
         ),
         (
             br#"{"code":35,"opaque":1,"extFields":{"clientID":"abcdefghijklmnopqrstuvwxyz0123456789ABCDabcdefghijklmnopqrstuvwxyz0123456789ABCDabcdefghijklmnopqrstuvwxyz0123456789ABCDx"}}"#,
-            "bad",
-            "clientID",
+            "bad clientID",
         ),
     ];
-    for (header, word, name) in rows {
-        assert!(rt;
-            is_told(rt.alloc(), header, b"", word, name)?,
-            "{word} {name}"
-        );
+    for (header, fault) in rows {
+        expect_text(&rt, header, b"", fault)?;
     }
     Ok(())
 }
@@ -328,22 +332,7 @@ fn bodies_of_other_forms_are_told(rt: HostRuntime) -> Result<(), Fail> {
         ),
     ];
     for (header, body) in rows {
-        assert!(rt;
-            is_told(rt.alloc(), header, body, "body", "")?,
-            "at {body:?}"
-        );
+        expect_text(&rt, header, body, "bad body")?;
     }
-    Ok(())
-}
-
-#[test]
-fn a_pull_keeps_its_fields_and_defaults(rt: HostRuntime) -> Result<(), Fail> {
-    let frame = frame_of(rt.alloc(), PULL, b"")?;
-    let Ok(Request::Pull(pull)) = Request::read(rt.alloc(), &frame) else {
-        return Err(Fail::from("a pull"));
-    };
-    assert!(rt; pull.queue == 2147483647 && pull.from == -5 && pull.most == 32);
-    assert!(rt; pull.commit == -1 && pull.suspend == 0);
-    assert_eq!(rt; pull.subscription.as_str(), "*");
     Ok(())
 }
