@@ -6,6 +6,7 @@ use Rattle.log_recovery.specs.declared.fault.RecoverFault.{RecoverFault}
 use Rattle.log_recovery.specs.declared.fault.RecoverFault.TheVariants.{Damaged, Failed as DiskFailed, Memory as NoMemory}
 use Rattle.store_open.specs.Openings.{OpeningCause}
 use Rattle.store_open.specs.declared.status.Status.{Status}
+use Rattle.mq_broker.specs.Seen.{AllFaults, faults_of}
 use Rattle.mq_broker.specs.Causes.{CountsPipe}
 use Rattle.mq_broker.specs.Promise.{StatusTells, StatusTellsFault, Causes}
 use Rattle.mq_broker.specs.declared.stop.Stop.TheVariants as stops
@@ -13,9 +14,9 @@ use Rattle.mq_broker.specs.declared.stop.Halt.{Halt}
 use Rattle.mq_broker.specs.declared.stop.Halt.TheVariants.{BadFrame, Read, Stopped}
 
 -- the status names none of the devices' faults
-quiet : (status : Status) (code source source_then sink sink_then disk disk_then keep keep_then clock clock_then : ℕ) → status.code ≡ code → code ≤ 8 → code ≢ 3 → code ≢ 4 → code ≢ 5
-    → Causes status source source_then sink sink_then disk disk_then keep keep_then clock clock_then
-quiet status code source source_then sink sink_then disk disk_then keep keep_then clock clock_then is low three four five = record {
+quiet : (status : Status) (code : ℕ) (old new : AllFaults) → status.code ≡ code → code ≤ 8 → code ≢ 3 → code ≢ 4 → code ≢ 5
+    → Causes status old new
+quiet status code old new is low three four five = record {
   read = λ e. absurd (three (sym is ∙ e));
   write = λ e. absurd (four (sym is ∙ e));
   disk_failed = λ e. absurd (five (sym is ∙ e));
@@ -23,25 +24,25 @@ quiet status code source source_then sink sink_then disk disk_then keep keep_the
   known = inl (omega (arith, is, low));
 }
 
-pub usage_causes : (status : Status) (source source_then sink sink_then disk disk_then keep keep_then clock clock_then : ℕ) → status.code ≡ 1
-    → Causes status source source_then sink sink_then disk disk_then keep keep_then clock clock_then
-usage_causes status source source_then sink sink_then disk disk_then keep keep_then clock clock_then is =
-    quiet status 1 source source_then sink sink_then disk disk_then keep keep_then clock clock_then is (omega arith) (λ e. omega (arith, e)) (λ e. omega (arith, e)) (λ e. omega (arith, e))
+pub usage_causes : (status : Status) (old new : AllFaults) → status.code ≡ 1
+    → Causes status old new
+usage_causes status old new is =
+    quiet status 1 old new is (omega arith) (λ e. omega (arith, e)) (λ e. omega (arith, e)) (λ e. omega (arith, e))
 
-pub opening_causes : (status : Status) (source source_then sink sink_then disk disk_then keep keep_then clock clock_then : ℕ) → OpeningCause status disk disk_then keep keep_then
-    → Causes status source source_then sink sink_then disk disk_then keep keep_then clock clock_then
-opening_causes status source source_then sink sink_then disk disk_then keep keep_then clock clock_then (inl failed) = record {
+pub opening_causes : (status : Status) (old new : AllFaults) → OpeningCause status old.disk new.disk old.keep new.keep
+    → Causes status old new
+opening_causes status old new (inl failed) = record {
   read = λ e. absurd (omega (arith, failed.0, e));
   write = λ e. absurd (omega (arith, failed.0, e));
   disk_failed = λ e. failed.1;
   device = λ e. absurd (omega (arith, failed.0, e));
   known = inl (omega (arith, failed.0));
 }
-opening_causes status source source_then sink sink_then disk disk_then keep keep_then clock clock_then (inr (inl six)) =
-    quiet status 6 source source_then sink sink_then disk disk_then keep keep_then clock clock_then six (omega arith) (λ e. omega (arith, e)) (λ e. omega (arith, e)) (λ e. omega (arith, e))
-opening_causes status source source_then sink sink_then disk disk_then keep keep_then clock clock_then (inr (inr (inl seven))) =
-    quiet status 7 source source_then sink sink_then disk disk_then keep keep_then clock clock_then seven (omega arith) (λ e. omega (arith, e)) (λ e. omega (arith, e)) (λ e. omega (arith, e))
-opening_causes status source source_then sink sink_then disk disk_then keep keep_then clock clock_then (inr (inr (inr kept))) = record {
+opening_causes status old new (inr (inl six)) =
+    quiet status 6 old new six (omega arith) (λ e. omega (arith, e)) (λ e. omega (arith, e)) (λ e. omega (arith, e))
+opening_causes status old new (inr (inr (inl seven))) =
+    quiet status 7 old new seven (omega arith) (λ e. omega (arith, e)) (λ e. omega (arith, e)) (λ e. omega (arith, e))
+opening_causes status old new (inr (inr (inr kept))) = record {
   read = λ e. absurd (omega (arith, kept.0, e));
   write = λ e. absurd (omega (arith, kept.0, e));
   disk_failed = λ e. absurd (omega (arith, kept.0, e));
@@ -58,37 +59,37 @@ opening_refused status disk disk_then keep keep_then (inr (inr (inl seven))) = i
 opening_refused status disk disk_then keep keep_then (inr (inr (inr kept))) = inr (inr (inr (kept.0, kept.1)))
 
 -- what ended the reading has its cause, where the opening left the disk's count
-pub pipe_causes : (status : Status) (result : Result (Unit {0}) Halt) (source source_then sink sink_then disk disk_mid disk_then keep keep_then clock clock_then : ℕ) → StatusTells status result → disk_mid ≡ disk
-    → CountsPipe result source source_then sink sink_then disk_mid disk_then clock clock_then
-    → Causes status source source_then sink sink_then disk disk_then keep keep_then clock clock_then
-pipe_causes status (Ok u) source source_then sink sink_then disk disk_mid disk_then keep keep_then clock clock_then tells same counts =
-    quiet status 0 source source_then sink sink_then disk disk_then keep keep_then clock clock_then tells (omega arith) (λ e. omega (arith, e)) (λ e. omega (arith, e)) (λ e. omega (arith, e))
-pipe_causes status (Err (BadFrame place)) source source_then sink sink_then disk disk_mid disk_then keep keep_then clock clock_then tells same counts =
-    quiet status 2 source source_then sink sink_then disk disk_then keep keep_then clock clock_then tells.0 (omega arith) (λ e. omega (arith, e)) (λ e. omega (arith, e)) (λ e. omega (arith, e))
-pipe_causes status (Err Read) source source_then sink sink_then disk disk_mid disk_then keep keep_then clock clock_then tells same counts = record {
+pub pipe_causes : (status : Status) (result : Result (Unit {0}) Halt) (old : AllFaults) (mid : ℕ) (new : AllFaults) → StatusTells status result → mid ≡ old.disk
+    → CountsPipe result old.source new.source (faults_of old.sink mid old.clock) (faults_of new.sink new.disk new.clock)
+    → Causes status old new
+pipe_causes status (Ok u) old mid new tells same counts =
+    quiet status 0 old new tells (omega arith) (λ e. omega (arith, e)) (λ e. omega (arith, e)) (λ e. omega (arith, e))
+pipe_causes status (Err (BadFrame place)) old mid new tells same counts =
+    quiet status 2 old new tells.0 (omega arith) (λ e. omega (arith, e)) (λ e. omega (arith, e)) (λ e. omega (arith, e))
+pipe_causes status (Err Read) old mid new tells same counts = record {
   read = λ e. counts;
   write = λ e. absurd (omega (arith, tells, e));
   disk_failed = λ e. absurd (omega (arith, tells, e));
   device = λ e. absurd (omega (arith, tells, e));
   known = inl (omega (arith, tells));
 }
-pipe_causes status (Err (Stopped stops.Sink)) source source_then sink sink_then disk disk_mid disk_then keep keep_then clock clock_then tells same counts = record {
+pipe_causes status (Err (Stopped stops.Sink)) old mid new tells same counts = record {
   read = λ e. absurd (omega (arith, tells, e));
   write = λ e. counts;
   disk_failed = λ e. absurd (omega (arith, tells, e));
   device = λ e. absurd (omega (arith, tells, e));
   known = inl (omega (arith, tells));
 }
-pipe_causes status (Err (Stopped stops.Disk)) source source_then sink sink_then disk disk_mid disk_then keep keep_then clock clock_then tells same counts = record {
+pipe_causes status (Err (Stopped stops.Disk)) old mid new tells same counts = record {
   read = λ e. absurd (omega (arith, tells, e));
   write = λ e. absurd (omega (arith, tells, e));
-  disk_failed = λ e. subst (λ (n : ℕ). Rises n disk_then) same counts;
+  disk_failed = λ e. subst (λ (n : ℕ). Rises n new.disk) same counts;
   device = λ e. absurd (omega (arith, tells, e));
   known = inl (omega (arith, tells));
 }
-pipe_causes status (Err (Stopped stops.Memory)) source source_then sink sink_then disk disk_mid disk_then keep keep_then clock clock_then tells same counts =
-    quiet status 7 source source_then sink sink_then disk disk_then keep keep_then clock clock_then tells (omega arith) (λ e. omega (arith, e)) (λ e. omega (arith, e)) (λ e. omega (arith, e))
-pipe_causes status (Err (Stopped stops.Clock)) source source_then sink sink_then disk disk_mid disk_then keep keep_then clock clock_then tells same counts = ⊎_elim
+pipe_causes status (Err (Stopped stops.Memory)) old mid new tells same counts =
+    quiet status 7 old new tells (omega arith) (λ e. omega (arith, e)) (λ e. omega (arith, e)) (λ e. omega (arith, e))
+pipe_causes status (Err (Stopped stops.Clock)) old mid new tells same counts = ⊎_elim
     (λ (named : (status.code ≡ 10) × (status.name ≡ codes "clock")). record {
       read = λ e. absurd (omega (arith, named.0, e));
       write = λ e. absurd (omega (arith, named.0, e));
@@ -96,7 +97,7 @@ pipe_causes status (Err (Stopped stops.Clock)) source source_then sink sink_then
       device = λ e. inl (named.1, counts);
       known = inr named.0;
     })
-    (λ (seven : status.code ≡ 7). quiet status 7 source source_then sink sink_then disk disk_then keep keep_then clock clock_then seven (omega arith) (λ e. omega (arith, e)) (λ e. omega (arith, e)) (λ e. omega (arith, e)))
+    (λ (seven : status.code ≡ 7). quiet status 7 old new seven (omega arith) (λ e. omega (arith, e)) (λ e. omega (arith, e)) (λ e. omega (arith, e)))
     tells
 
 -- a run's status is none of usage and foreign
@@ -121,19 +122,19 @@ opening_code status disk disk_then keep keep_then (inr (inr (inr kept))) = λ e.
 
 -- ---- a log that was not recovered
 
-pub fault_causes : (status : Status) (fault : RecoverFault) (source source_then sink sink_then disk disk_mid disk_then keep keep_then clock clock_then : ℕ) → StatusTellsFault status fault → disk_mid ≡ disk
-    → CountsRecoverFault {A = Unit {0}} (Err fault) disk_mid disk_then → Causes status source source_then sink sink_then disk disk_then keep keep_then clock clock_then
-fault_causes status (Damaged place name) source source_then sink sink_then disk disk_mid disk_then keep keep_then clock clock_then tells same counts =
-    quiet status 8 source source_then sink sink_then disk disk_then keep keep_then clock clock_then tells.0 (omega arith) (λ e. omega (arith, e)) (λ e. omega (arith, e)) (λ e. omega (arith, e))
-fault_causes status DiskFailed source source_then sink sink_then disk disk_mid disk_then keep keep_then clock clock_then tells same counts = record {
+pub fault_causes : (status : Status) (fault : RecoverFault) (old : AllFaults) (mid : ℕ) (new : AllFaults) → StatusTellsFault status fault → mid ≡ old.disk
+    → CountsRecoverFault {A = Unit {0}} (Err fault) mid new.disk → Causes status old new
+fault_causes status (Damaged place name) old mid new tells same counts =
+    quiet status 8 old new tells.0 (omega arith) (λ e. omega (arith, e)) (λ e. omega (arith, e)) (λ e. omega (arith, e))
+fault_causes status DiskFailed old mid new tells same counts = record {
   read = λ e. absurd (omega (arith, tells, e));
   write = λ e. absurd (omega (arith, tells, e));
-  disk_failed = λ e. subst (λ (n : ℕ). Rises n disk_then) same counts;
+  disk_failed = λ e. subst (λ (n : ℕ). Rises n new.disk) same counts;
   device = λ e. absurd (omega (arith, tells, e));
   known = inl (omega (arith, tells));
 }
-fault_causes status NoMemory source source_then sink sink_then disk disk_mid disk_then keep keep_then clock clock_then tells same counts =
-    quiet status 7 source source_then sink sink_then disk disk_then keep keep_then clock clock_then tells (omega arith) (λ e. omega (arith, e)) (λ e. omega (arith, e)) (λ e. omega (arith, e))
+fault_causes status NoMemory old mid new tells same counts =
+    quiet status 7 old new tells (omega arith) (λ e. omega (arith, e)) (λ e. omega (arith, e)) (λ e. omega (arith, e))
 
 -- its status is none of usage and foreign
 pub fault_code : (status : Status) (fault : RecoverFault) → StatusTellsFault status fault → (status.code ≢ 1) × (status.code ≢ 6)

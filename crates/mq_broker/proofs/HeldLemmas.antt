@@ -12,13 +12,14 @@ use Rattle.remoting_frame.proofs.FrontLaws.{has_room}
 use Rattle.remoting_frame.proofs.StreamLaws.{begins_next, next_shorter}
 use Rattle.record_codec.specs.Entry.{Entry}
 use Rattle.mq_broker.specs.Run.{run}
-use Rattle.mq_broker.specs.Progress.{OpenLog, Ran, Ended}
-use Rattle.mq_broker.specs.Pipes.{ServedHeld, EndedHeld, HaltedHeld, NextFrame, FaultAt}
+use Rattle.mq_broker.specs.Seen.{Tells}
+use Rattle.mq_broker.specs.Progress.{Point, Ran, Ended}
+use Rattle.mq_broker.specs.Pipes.{ServedHeld, EndedHeld, ServesHeld, NextFrame, FaultAt}
 use Rattle.mq_broker.specs.declared.stop.Stop.{Stop}
 use Rattle.mq_broker.specs.declared.stop.Stop.TheVariants as stops
 use Rattle.mq_broker.specs.declared.stop.Halt.{Halt}
 use Rattle.mq_broker.specs.declared.stop.Halt.TheVariants.{BadFrame, Read, Stopped}
-use Rattle.mq_broker.proofs.ProgressLemmas.{ran_then, ended_then, ended_by_memory}
+use Rattle.mq_broker.proofs.ProgressLemmas.{ran_then, ended_then, memory_then}
 
 -- ---- a frame is never empty
 
@@ -50,50 +51,38 @@ begins_gave from old new frames frame begins is =
     let place : old.at + (length old.bytes - length new.bytes) ≡ new.at = omega (arith, is.1, next_shorter old.at old.bytes frame new.bytes is.0) in
     subst (λ (at : ℕ). BeginsWith from.at from.bytes (frames ++ frame ∷ []) at new.bytes) place (begins_next from.at from.bytes frames old.at old.bytes frame new.bytes begins is.0)
 
-pub served_more : (S : ℕ) (log : List Entry) (from old new : Held) (frame : Frame) (sink : Type 0) (taken mid_taken taken_then : List ℕ) (disk : Type 0) (first mid last : OpenLog)
-    (clock : Type 0) (readings mid_readings readings_then : List ℕ) (served : ServedHeld S log from old sink taken mid_taken disk first mid clock readings mid_readings)
-    → NextIs old (Ok (Some frame)) new
-    → Ran S (run S log served.ran.events) (frame ∷ []) sink mid_taken taken_then disk mid last clock mid_readings readings_then
-    → ServedHeld S log from new sink taken taken_then disk first last clock readings readings_then
-served_more S log from old new frame sink taken mid_taken taken_then disk first mid last clock readings mid_readings readings_then served is ran = record {
+pub served_more : (S : ℕ) (log : List Entry) (from old new : Held) (frame : Frame) (tells : Tells) (first mid last : Point) (served : ServedHeld S log from old tells first mid)
+    → NextIs old (Ok (Some frame)) new → Ran S (run S log served.ran.events) (frame ∷ []) tells mid last → ServedHeld S log from new tells first last
+served_more S log from old new frame tells first mid last served is ran = record {
   frames = served.frames ++ frame ∷ [];
   cut = begins_gave from old new served.frames frame served.cut is;
-  ran = ran_then S log served.frames (frame ∷ []) sink taken mid_taken taken_then disk first mid last clock readings mid_readings readings_then served.ran ran;
+  ran = ran_then S log served.frames (frame ∷ []) tells first mid last served.ran ran;
 }
 
-pub ended_more : (stop : Stop) (S : ℕ) (log : List Entry) (from old new : Held) (frame : Frame) (sink : Type 0) (taken mid_taken taken_then : List ℕ) (disk : Type 0) (first mid last : OpenLog)
-    (clock : Type 0) (readings mid_readings readings_then : List ℕ) (faults mid_faults faults_then : ℕ) (served : ServedHeld S log from old sink taken mid_taken disk first mid clock readings mid_readings)
-    → NextIs old (Ok (Some frame)) new → mid_faults ≡ faults
-    → Ended stop S (run S log served.ran.events) (frame ∷ []) sink mid_taken taken_then disk mid last clock mid_readings readings_then mid_faults faults_then
-    → EndedHeld stop S log from new sink taken taken_then disk first last clock readings readings_then faults faults_then
-ended_more stop S log from old new frame sink taken mid_taken taken_then disk first mid last clock readings mid_readings readings_then faults mid_faults faults_then served is same ended = record {
+pub ended_more : (stop : Stop) (S : ℕ) (log : List Entry) (from old new : Held) (frame : Frame) (tells : Tells) (first mid last : Point) (served : ServedHeld S log from old tells first mid)
+    → NextIs old (Ok (Some frame)) new → mid.devices.faults.disk ≡ first.devices.faults.disk → Ended stop S (run S log served.ran.events) (frame ∷ []) tells mid last
+    → EndedHeld stop S log from new tells first last
+ended_more stop S log from old new frame tells first mid last served is same ended = record {
   frames = served.frames ++ frame ∷ [];
   cut = begins_gave from old new served.frames frame served.cut is;
-  ended = subst (λ (n : ℕ). Ended stop S log (served.frames ++ frame ∷ []) sink taken taken_then disk first last clock readings readings_then n faults_then) same
-      (ended_then stop S log served.frames (frame ∷ []) sink taken mid_taken taken_then disk first mid last clock readings mid_readings readings_then mid_faults faults_then served.ran ended);
+  ended = ended_then stop S log served.frames (frame ∷ []) tells first mid last served.ran same ended;
 }
 
 -- ---- no frame
 
-out_of_memory : (S : ℕ) (log : List Entry) (from held : Held) (sink : Type 0) (taken taken_then : List ℕ) (disk : Type 0) (old new : OpenLog)
-    (clock : Type 0) (readings readings_then : List ℕ) (faults : ℕ) → ServedHeld S log from held sink taken taken_then disk old new clock readings readings_then
-    → EndedHeld stops.Memory S log from held sink taken taken_then disk old new clock readings readings_then faults faults
-out_of_memory S log from held sink taken taken_then disk old new clock readings readings_then faults served = record {
+out_of_memory : (S : ℕ) (log : List Entry) (from held : Held) (tells : Tells) (old new : Point) → ServedHeld S log from held tells old new → new.devices.faults.disk ≡ old.devices.faults.disk
+    → EndedHeld stops.Memory S log from held tells old new
+out_of_memory S log from held tells old new served same = record {
   frames = served.frames ++ [];
   cut = subst (λ (frames : List Frame). BeginsWith from.at from.bytes frames held.at held.bytes) (sym (append-nil served.frames)) served.cut;
-  ended = ended_then stops.Memory S log served.frames [] sink taken taken_then taken_then disk old new new clock readings readings_then readings_then faults faults served.ran
-      (ended_by_memory S (run S log served.ran.events) sink taken_then disk new clock readings_then faults);
+  ended = memory_then S log served.frames tells old new served.ran same;
 }
 
-pub halted_by_frame : (halt : Halt) (S : ℕ) (log : List Entry) (from old new : Held) (sink : Type 0) (taken taken_then : List ℕ) (disk : Type 0) (first last : OpenLog)
-    (clock : Type 0) (readings readings_then : List ℕ) (faults faults_then : ℕ) → NextFrame old (Err halt) new → faults_then ≡ faults
-    → ServedHeld S log from old sink taken taken_then disk first last clock readings readings_then
-    → HaltedHeld halt S log from new sink taken taken_then disk first last clock readings readings_then faults faults_then
-halted_by_frame (BadFrame place) S log from old new sink taken taken_then disk first last clock readings readings_then faults faults_then none same served =
-    subst (λ (held : Held). ServedHeld S log from held sink taken taken_then disk first last clock readings readings_then × FaultAt place held) (sym none.1) (served, none.0)
-halted_by_frame Read S log from old new sink taken taken_then disk first last clock readings readings_then faults faults_then none same served = absurd none
-halted_by_frame (Stopped stop) S log from old new sink taken taken_then disk first last clock readings readings_then faults faults_then none same served =
-    let ended = out_of_memory S log from old sink taken taken_then disk first last clock readings readings_then faults served in
-    let by = subst (λ (reason : Stop). EndedHeld reason S log from old sink taken taken_then disk first last clock readings readings_then faults faults) (sym none.0) ended in
-    let here = subst (λ (held : Held). EndedHeld stop S log from held sink taken taken_then disk first last clock readings readings_then faults faults) (sym none.1) by in
-    subst (λ (n : ℕ). EndedHeld stop S log from new sink taken taken_then disk first last clock readings readings_then faults n) (sym same) here
+pub halted_by_frame : (halt : Halt) (S : ℕ) (log : List Entry) (from old new : Held) (tells : Tells) (first last : Point) → NextFrame old (Err halt) new
+    → last.devices.faults.disk ≡ first.devices.faults.disk → ServedHeld S log from old tells first last → ServesHeld (Err halt) S log from new tells first last
+halted_by_frame (BadFrame place) S log from old new tells first last none same served =
+    subst (λ (held : Held). ServedHeld S log from held tells first last × FaultAt place held) (sym none.1) (served, none.0)
+halted_by_frame Read S log from old new tells first last none same served = absurd none
+halted_by_frame (Stopped stop) S log from old new tells first last none same served =
+    let by = subst (λ (reason : Stop). EndedHeld reason S log from old tells first last) (sym none.0) (out_of_memory S log from old tells first last served same) in
+    subst (λ (held : Held). EndedHeld stop S log from held tells first last) (sym none.1) by

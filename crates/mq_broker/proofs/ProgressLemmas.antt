@@ -2,30 +2,41 @@
 use Rattle.std.proofs.Common.{◌≡◌, ◌⊎◌, ⊎_elim, inl, inr, Result, Ok, Err, ◌∙◌, ℕ, ◌++◌, List, [], ◌∷◌, true, false, not, map, length, take, drop, refl, ap, sym, subst, arith, append_assoc}
 use Rattle.std.proofs.lemmas.List.{append-nil, take-append-drop, map-append}
 use Rattle.std.proofs.lemmas.List.Elements.{filter-append}
-use Rattle.std.specs.Prelude.{OnOk, IfErr, MatchResult}
+use Rattle.std.specs.Prelude.{OnOk, IfErr}
 use Rattle.std.specs.List.{AllByRecursion}
 use Rattle.mq_outside.specs.Disk.{Throughout}
 use Rattle.record_codec.specs.Entry.{Entry}
 use Rattle.remoting_frame.specs.declared.frame.Frame.{Frame}
-use Rattle.reply_fields.specs.Parts.{ReplyParts}
 use Rattle.log_model.specs.Store.{StoresLog}
 use Rattle.segment_files.specs.Turn.{HasRecords}
 use Rattle.log_writer.specs.Durable.{Flushes}
 use Rattle.mq_broker.specs.Taken.{TookPart}
 use Rattle.mq_broker.specs.Outcomes.{FlushFailed, Event}
-use Rattle.mq_broker.specs.Run.{is_response, requests_of, appended, step, flushed_before, run, written_for, written}
+use Rattle.mq_broker.specs.Run.{is_response, requests_of, appended, step, flushed_before, run, reply_to, written_for, written}
+use Rattle.mq_broker.specs.Seen.{Tells, faults_of, devices_of}
 use Rattle.mq_broker.specs.Answers.{outcome_of, IsAnswer, CountsFlush, UnlessFailed, IfFailed, HasFailed}
 use Rattle.mq_broker.specs.Causes.{CountsWrite}
-use Rattle.mq_broker.specs.Progress.{OpenLog, StandsAt, IsStored, IsExactAt, IsFineOutcome, IsFine, readings_of, GoesOn, Stays, Ran, Failed, AtMostOne, IsLast, Wrote, Ended}
+use Rattle.mq_broker.specs.Progress.{OpenLog, Point, point_of, log_at, StandsAt, IsStored, IsExactAt, IsFineOutcome, IsFine, readings_of, GoesOn, Stays, Ran, Failed, AtMostOne, IsLast, Wrote, Ended, Serves}
 use Rattle.mq_broker.specs.declared.answer.Answer.{Answer}
 use Rattle.mq_broker.specs.declared.answer.Answer.TheVariants.{Told, Sent, NotFlushed, NoMemory}
 use Rattle.mq_broker.specs.declared.stop.Stop.{Stop}
 use Rattle.mq_broker.specs.declared.stop.Stop.TheVariants as stops
 use Rattle.mq_broker.proofs.FlushLemmas.{exact_now, exact_then, run-append, goes_on_then, stays_then, flushes_none, flushes_quiet, flushes_one, stored_log}
 
--- the event of a request by its answer
-abbrev pub event_of : Frame → ℕ → Answer → ℕ → Event
-event_of frame reading answer moment = record { request = frame; reading = reading; outcome = outcome_of answer; moment = moment }
+-- the event of a request by its answer, at the moment of the disk then
+abbrev pub event_of : Frame → ℕ → Answer → Point → Event
+event_of frame reading answer at = record { request = frame; reading = reading; outcome = outcome_of answer; moment = at.devices.disk.moment }
+
+-- A request was carried out at this reading: what its answer says of the log and of the disk.
+pub record Carried (S : ℕ) (log : List Entry) (frame : Frame) (reading : ℕ) (answer : Answer) (tells : Tells) (old new : Point) : Type 0 where
+  pub request : is_response frame.header ≡ false
+  pub stands : StandsAt S (step S log (event_of frame reading answer new)) new.writer
+  pub says : IsAnswer answer (reply_to S log (event_of frame reading answer new)) (appended S log (event_of frame reading answer new))
+  pub counts : CountsFlush answer old.devices.faults.disk new.devices.faults.disk
+  pub read : tells.clock → new.devices.readings ≡ old.devices.readings ++ reading ∷ []
+  pub kept : tells.disk → IsStored S log (log_at old) → Throughout old.devices.disk new.devices.disk (HasRecords S log)
+  pub flushed : tells.disk → IsStored S log (log_at old) → UnlessFailed answer (IsStored S (step S log (event_of frame reading answer new)) (log_at new))
+  pub failed : tells.disk → IsStored S log (log_at old) → IfFailed answer (StoresLog S (step S log (event_of frame reading answer new)) (length log) new.devices.disk)
 
 requests_of-request : (frame : Frame) → is_response frame.header ≡ false → requests_of (frame ∷ []) ≡ frame ∷ []
 requests_of-request frame request = rw request refl
@@ -72,57 +83,6 @@ one_fails S log event old new before kept stored = record {
 none_stays : (S : ℕ) (log : List Entry) (at : OpenLog) → IsStored S log at → Stays S log [] [] at at
 none_stays S log at stored = record { flushes = flushes_none S log at stored; turns = (exact_now S log at stored, omega arith); stored = stored_log S log at stored }
 
--- a request was served
-pub one_ran : (S : ℕ) (log : List Entry) (frame : Frame) (reading : ℕ) (answer : Answer) (sink : Type 0) (taken taken_then : List ℕ) (disk : Type 0) (old new : OpenLog)
-    (clock : Type 0) (readings readings_then : List ℕ) → is_response frame.header ≡ false → IsFineOutcome (outcome_of answer)
-    → StandsAt S (step S log (event_of frame reading answer new.disk.moment)) new.writer
-    → (sink → taken_then ≡ taken ++ written_for S log (event_of frame reading answer new.disk.moment))
-    → (clock → readings_then ≡ readings ++ reading ∷ [])
-    → (disk → IsStored S log old → Throughout old.disk new.disk (HasRecords S log))
-    → (disk → IsStored S log old → UnlessFailed answer (IsStored S (step S log (event_of frame reading answer new.disk.moment)) new))
-    → Ran S log (frame ∷ []) sink taken taken_then disk old new clock readings readings_then
-one_ran S log frame reading answer sink taken taken_then disk old new clock readings readings_then request fine stands answered read kept stored =
-    let event = event_of frame reading answer new.disk.moment in
-    record {
-      events = event ∷ [];
-      asked = sym (requests_of-request frame request);
-      fine = (fine, tt);
-      stands = stands;
-      answered = λ told. answered told ∙ ap (λ (l : List ℕ). taken ++ l) (sym (append-nil (written_for S log event)));
-      read = read;
-      durable = λ told before. one_goes_on S log event old new refl before (kept told before) (unless_failed answer _ fine (stored told before));
-    }
-
--- the clock failed, and nothing was carried out
-pub ended_by_clock : (S : ℕ) (log : List Entry) (frame : Frame) (sink : Type 0) (taken : List ℕ) (disk : Type 0) (old : OpenLog) (clock : Type 0) (readings readings_then : List ℕ) (faults : ℕ)
-    → is_response frame.header ≡ false → (clock → readings_then ≡ readings)
-    → Ended stops.Clock S log (frame ∷ []) sink taken taken disk old old clock readings readings_then faults faults
-ended_by_clock S log frame sink taken disk old clock readings readings_then faults request still = record {
-  events = [];
-  last = [];
-  left = frame ∷ [];
-  asked = sym (requests_of-request frame request);
-  fine = tt;
-  failed = tt;
-  because = refl;
-  answered = λ told. record { unwritten = []; whole = refl; front = refl };
-  read = λ told. still told ∙ sym (append-nil readings);
-  durable = λ told before. none_stays S log old before;
-}
-
--- the flush of the request's record failed
-failed_of : (S : ℕ) (log : List Entry) (frame : Frame) (reading : ℕ) (answer : Answer) (said : ReplyParts) (moment faults faults_then : ℕ) → HasFailed answer
-    → IsAnswer answer said (appended S log (event_of frame reading answer moment)) → CountsFlush answer faults faults_then → Failed S log faults faults_then (event_of frame reading answer moment)
-failed_of S log frame reading (Told reply) said moment faults faults_then failed stands counts = absurd failed
-failed_of S log frame reading (Sent place) said moment faults faults_then failed stands counts = absurd failed
-failed_of S log frame reading NoMemory said moment faults faults_then failed stands counts = absurd failed
-failed_of S log frame reading (NotFlushed place count) said moment faults faults_then failed stands counts = record {
-  entry = stands.1.entry;
-  served = stands.1.is;
-  failed = ap (λ (n : ℕ). FlushFailed n) counts.1;
-  rises = counts.0;
-}
-
 fine_or_failed : (answer : Answer) → IsFineOutcome (outcome_of answer) ⊎ HasFailed answer
 fine_or_failed (Told reply) = inl tt
 fine_or_failed (Sent place) = inl tt
@@ -155,91 +115,124 @@ no_reason stops.Disk last faults faults_then counts = absurd counts
 no_reason stops.Sink last faults faults_then counts = tt
 no_reason stops.Memory last faults faults_then counts = tt
 
--- the answer could not be written
-pub ended_by_writing : (stop : Stop) (S : ℕ) (log : List Entry) (frame : Frame) (reading : ℕ) (answer : Answer) (said : ReplyParts) (sink : Type 0) (taken taken_then : List ℕ) (disk : Type 0) (old new : OpenLog)
-    (clock : Type 0) (readings readings_then : List ℕ) (faults faults_then sink_faults sink_faults_then : ℕ) → CountsWrite {A = Unit {0}} (Err stop) sink_faults sink_faults_then
-    → is_response frame.header ≡ false → IsAnswer answer said (appended S log (event_of frame reading answer new.disk.moment)) → CountsFlush answer faults faults_then
-    → (sink → TookPart taken taken_then (written_for S log (event_of frame reading answer new.disk.moment)))
-    → (clock → readings_then ≡ readings ++ reading ∷ [])
-    → (disk → IsStored S log old → Throughout old.disk new.disk (HasRecords S log))
-    → (disk → IsStored S log old → UnlessFailed answer (IsStored S (step S log (event_of frame reading answer new.disk.moment)) new))
-    → (disk → IsStored S log old → IfFailed answer (StoresLog S (step S log (event_of frame reading answer new.disk.moment)) (length log) new.disk))
-    → Ended stop S log (frame ∷ []) sink taken taken_then disk old new clock readings readings_then faults faults_then
-ended_by_writing stop S log frame reading answer said sink taken taken_then disk old new clock readings readings_then faults faults_then sink_faults sink_faults_then counts request stands cause part read kept stored lost =
-    let event = event_of frame reading answer new.disk.moment in
-    let asked = sym (requests_of-request frame request) in
-    let wrote = λ (told : sink). wrote_part stop sink_faults sink_faults_then taken taken_then (written_for S log event ++ []) counts (subst (λ (l : List ℕ). TookPart taken taken_then l) (sym (append-nil (written_for S log event))) (part told)) in
-    ⊎_elim
-    (λ (fine : IsFineOutcome (outcome_of answer)). record {
-      events = event ∷ [];
-      last = [];
-      left = [];
-      asked = asked;
-      fine = (fine, tt);
-      failed = tt;
-      because = no_reason stop [] sink_faults sink_faults_then counts;
-      answered = wrote;
-      read = read;
-      durable = λ told before. one_stays S log event old new (one_goes_on S log event old new refl before (kept told before) (unless_failed answer _ fine (stored told before)));
-    })
-    (λ (failed : HasFailed answer). record {
-      events = [];
-      last = event ∷ [];
-      left = [];
-      asked = asked;
-      fine = tt;
-      failed = failed_of S log frame reading answer said new.disk.moment faults faults_then failed stands cause;
-      because = no_reason stop (event ∷ []) sink_faults sink_faults_then counts;
-      answered = wrote;
-      read = read;
-      durable = λ told before. one_fails S log event old new before (kept told before) (if_failed answer _ failed (lost told before));
-    })
-    (fine_or_failed answer)
+-- the flush of the request's record failed
+failed_of : (S : ℕ) (log : List Entry) (frame : Frame) (reading : ℕ) (answer : Answer) (tells : Tells) (old new : Point) → HasFailed answer → Carried S log frame reading answer tells old new
+    → Failed S log old.devices.faults.disk new.devices.faults.disk (event_of frame reading answer new)
+failed_of S log frame reading (Told reply) tells old new failed done = absurd failed
+failed_of S log frame reading (Sent place) tells old new failed done = absurd failed
+failed_of S log frame reading NoMemory tells old new failed done = absurd failed
+failed_of S log frame reading (NotFlushed place count) tells old new failed done = record {
+  entry = done.says.1.entry;
+  served = done.says.1.is;
+  failed = ap (λ (n : ℕ). FlushFailed n) done.counts.1;
+  rises = done.counts.0;
+}
 
--- the flush failed, and the client was told
-pub ended_by_disk : (stop : Stop) (S : ℕ) (log : List Entry) (frame : Frame) (reading : ℕ) (answer : Answer) (said : ReplyParts) (sink : Type 0) (taken taken_then : List ℕ) (disk : Type 0) (old new : OpenLog)
-    (clock : Type 0) (readings readings_then : List ℕ) (faults faults_then : ℕ) → stop ≡ stops.Disk → HasFailed answer
-    → is_response frame.header ≡ false → IsAnswer answer said (appended S log (event_of frame reading answer new.disk.moment)) → CountsFlush answer faults faults_then
-    → (sink → taken_then ≡ taken ++ written_for S log (event_of frame reading answer new.disk.moment))
-    → (clock → readings_then ≡ readings ++ reading ∷ [])
-    → (disk → IsStored S log old → Throughout old.disk new.disk (HasRecords S log))
-    → (disk → IsStored S log old → IfFailed answer (StoresLog S (step S log (event_of frame reading answer new.disk.moment)) (length log) new.disk))
-    → Ended stop S log (frame ∷ []) sink taken taken_then disk old new clock readings readings_then faults faults_then
-ended_by_disk stop S log frame reading answer said sink taken taken_then disk old new clock readings readings_then faults faults_then by_disk failed request stands cause answered read kept lost =
-    let event = event_of frame reading answer new.disk.moment in
-    subst (λ (reason : Stop). Ended reason S log (frame ∷ []) sink taken taken_then disk old new clock readings readings_then faults faults_then) (sym by_disk) (record {
-      events = [];
-      last = event ∷ [];
-      left = [];
-      asked = sym (requests_of-request frame request);
-      fine = tt;
-      failed = failed_of S log frame reading answer said new.disk.moment faults faults_then failed stands cause;
-      because = λ none. cc;
-      answered = λ told. record {
-        unwritten = [];
-        whole = refl;
-        front = append-nil taken_then ∙ answered told ∙ ap (λ (l : List ℕ). taken ++ l) (sym (append-nil (written_for S log event)));
-      };
-      read = read;
-      durable = λ told before. one_fails S log event old new before (kept told before) (if_failed answer _ failed (lost told before));
-    })
+module _ (S : ℕ) (log : List Entry) (frame : Frame) (reading : ℕ) (answer : Answer) (tells : Tells) (old new : Point) (done : Carried S log frame reading answer tells old new) where
+  on : IsFineOutcome (outcome_of answer) → tells.disk → IsStored S log (log_at old) → GoesOn S log (event_of frame reading answer new ∷ []) (log_at old) (log_at new)
+  on fine told before =
+      one_goes_on S log (event_of frame reading answer new) (log_at old) (log_at new) refl before (done.kept told before) (unless_failed answer _ fine (done.flushed told before))
 
--- the reply was written: the run goes on, unless the flush failed
-pub one_or_ended : (after : Result (Unit {0}) Stop) (S : ℕ) (log : List Entry) (frame : Frame) (reading : ℕ) (answer : Answer) (said : ReplyParts) (sink : Type 0) (taken taken_then : List ℕ) (disk : Type 0) (old new : OpenLog)
-    (clock : Type 0) (readings readings_then : List ℕ) (faults faults_then : ℕ) → OnOk after (IsFineOutcome (outcome_of answer)) → IfErr after (λ stop. (stop ≡ stops.Disk) × HasFailed answer)
-    → is_response frame.header ≡ false → StandsAt S (step S log (event_of frame reading answer new.disk.moment)) new.writer
-    → IsAnswer answer said (appended S log (event_of frame reading answer new.disk.moment)) → CountsFlush answer faults faults_then
-    → (sink → taken_then ≡ taken ++ written_for S log (event_of frame reading answer new.disk.moment))
-    → (clock → readings_then ≡ readings ++ reading ∷ [])
-    → (disk → IsStored S log old → Throughout old.disk new.disk (HasRecords S log))
-    → (disk → IsStored S log old → UnlessFailed answer (IsStored S (step S log (event_of frame reading answer new.disk.moment)) new))
-    → (disk → IsStored S log old → IfFailed answer (StoresLog S (step S log (event_of frame reading answer new.disk.moment)) (length log) new.disk))
-    → MatchResult after (λ _. Ran S log (frame ∷ []) sink taken taken_then disk old new clock readings readings_then)
-    (λ stop. Ended stop S log (frame ∷ []) sink taken taken_then disk old new clock readings readings_then faults faults_then)
-one_or_ended (Ok u) S log frame reading answer said sink taken taken_then disk old new clock readings readings_then faults faults_then fine failed request stands tells cause answered read kept stored lost =
-    one_ran S log frame reading answer sink taken taken_then disk old new clock readings readings_then request fine stands answered read kept stored
-one_or_ended (Err stop) S log frame reading answer said sink taken taken_then disk old new clock readings readings_then faults faults_then fine failed request stands tells cause answered read kept stored lost =
-    ended_by_disk stop S log frame reading answer said sink taken taken_then disk old new clock readings readings_then faults faults_then failed.0 failed.1 request tells cause answered read kept lost
+  fails : HasFailed answer → tells.disk → IsStored S log (log_at old) → Stays S log [] (event_of frame reading answer new ∷ []) (log_at old) (log_at new)
+  fails failed told before = one_fails S log (event_of frame reading answer new) (log_at old) (log_at new) before (done.kept told before) (if_failed answer _ failed (done.failed told before))
+
+  -- its reply was written
+  one_ran : IsFineOutcome (outcome_of answer) → (tells.sink → new.devices.taken ≡ old.devices.taken ++ written_for S log (event_of frame reading answer new))
+      → Ran S log (frame ∷ []) tells old new
+  one_ran fine answered =
+      let event = event_of frame reading answer new in
+      record {
+        events = event ∷ [];
+        asked = sym (requests_of-request frame done.request);
+        fine = (fine, tt);
+        stands = done.stands;
+        answered = λ told. answered told ∙ ap (λ (l : List ℕ). old.devices.taken ++ l) (sym (append-nil (written_for S log event)));
+        read = done.read;
+        durable = on fine;
+      }
+
+  -- its reply could not be written
+  pub ended_by_writing : (stop : Stop) (sink sink_then : ℕ) → CountsWrite {A = Unit {0}} (Err stop) sink sink_then
+      → (tells.sink → TookPart old.devices.taken new.devices.taken (written_for S log (event_of frame reading answer new)))
+      → Ended stop S log (frame ∷ []) tells old new
+  ended_by_writing stop sink sink_then counts part =
+      let event = event_of frame reading answer new in
+      let asked = sym (requests_of-request frame done.request) in
+      let wrote = λ (told : tells.sink). wrote_part stop sink sink_then old.devices.taken new.devices.taken (written_for S log event ++ []) counts
+      (subst (λ (l : List ℕ). TookPart old.devices.taken new.devices.taken l) (sym (append-nil (written_for S log event))) (part told)) in
+      ⊎_elim
+      (λ (fine : IsFineOutcome (outcome_of answer)). record {
+        events = event ∷ [];
+        last = [];
+        left = [];
+        asked = asked;
+        fine = (fine, tt);
+        failed = tt;
+        because = no_reason stop [] sink sink_then counts;
+        answered = wrote;
+        read = done.read;
+        durable = λ told before. one_stays S log event (log_at old) (log_at new) (on fine told before);
+      })
+      (λ (failed : HasFailed answer). record {
+        events = [];
+        last = event ∷ [];
+        left = [];
+        asked = asked;
+        fine = tt;
+        failed = failed_of S log frame reading answer tells old new failed done;
+        because = no_reason stop (event ∷ []) sink sink_then counts;
+        answered = wrote;
+        read = done.read;
+        durable = fails failed;
+      })
+      (fine_or_failed answer)
+
+  -- its flush failed, and the client was told
+  ended_by_disk : (stop : Stop) → stop ≡ stops.Disk → HasFailed answer → (tells.sink → new.devices.taken ≡ old.devices.taken ++ written_for S log (event_of frame reading answer new))
+      → Ended stop S log (frame ∷ []) tells old new
+  ended_by_disk stop by_disk failed answered =
+      let event = event_of frame reading answer new in
+      subst (λ (reason : Stop). Ended reason S log (frame ∷ []) tells old new) (sym by_disk) (record {
+        events = [];
+        last = event ∷ [];
+        left = [];
+        asked = sym (requests_of-request frame done.request);
+        fine = tt;
+        failed = failed_of S log frame reading answer tells old new failed done;
+        because = λ none. cc;
+        answered = λ told. record {
+          unwritten = [];
+          whole = refl;
+          front = append-nil new.devices.taken ∙ answered told ∙ ap (λ (l : List ℕ). old.devices.taken ++ l) (sym (append-nil (written_for S log event)));
+        };
+        read = done.read;
+        durable = fails failed;
+      })
+
+  -- its reply was written: the run goes on, unless the flush failed
+  pub one_or_ended : (after : Result (Unit {0}) Stop) → OnOk after (IsFineOutcome (outcome_of answer)) → IfErr after (λ stop. (stop ≡ stops.Disk) × HasFailed answer)
+      → (tells.sink → new.devices.taken ≡ old.devices.taken ++ written_for S log (event_of frame reading answer new))
+      → Serves after S log (frame ∷ []) tells old new
+  one_or_ended (Ok u) fine failed answered = one_ran fine answered
+  one_or_ended (Err stop) fine failed answered = ended_by_disk stop failed.0 failed.1 answered
+
+-- the clock failed, and nothing was carried out
+pub ended_by_clock : (S : ℕ) (log : List Entry) (frame : Frame) (tells : Tells) (old : Point) (readings_then : List ℕ) (clock_then : ℕ)
+    → is_response frame.header ≡ false → (tells.clock → readings_then ≡ old.devices.readings)
+    → Ended stops.Clock S log (frame ∷ []) tells old
+    (point_of old.writer (devices_of old.devices.taken old.devices.disk readings_then (faults_of old.devices.faults.sink old.devices.faults.disk clock_then)))
+ended_by_clock S log frame tells old readings_then clock_then request still = record {
+  events = [];
+  last = [];
+  left = frame ∷ [];
+  asked = sym (requests_of-request frame request);
+  fine = tt;
+  failed = tt;
+  because = refl;
+  answered = λ told. record { unwritten = []; whole = refl; front = refl };
+  read = λ told. still told ∙ sym (append-nil old.devices.readings);
+  durable = λ told before. none_stays S log (log_at old) before;
+}
 
 -- ---- one run behind another
 
@@ -260,48 +253,44 @@ asked_both first second frames more one other =
     ∙ ap (λ (l : List Frame). requests_of frames ++ l) other ∙ sym (filter-append (λ frame. not (is_response frame.header)) frames more)
 
 -- one run behind another
-pub ran_then : (S : ℕ) (log : List Entry) (frames more : List Frame) (sink : Type 0) (taken mid_taken taken_then : List ℕ) (disk : Type 0) (old mid new : OpenLog)
-    (clock : Type 0) (readings mid_readings readings_then : List ℕ) (first : Ran S log frames sink taken mid_taken disk old mid clock readings mid_readings)
-    → Ran S (run S log first.events) more sink mid_taken taken_then disk mid new clock mid_readings readings_then
-    → Ran S log (frames ++ more) sink taken taken_then disk old new clock readings readings_then
-ran_then S log frames more sink taken mid_taken taken_then disk old mid new clock readings mid_readings readings_then first then = record {
+pub ran_then : (S : ℕ) (log : List Entry) (frames more : List Frame) (tells : Tells) (old mid new : Point) (first : Ran S log frames tells old mid)
+    → Ran S (run S log first.events) more tells mid new → Ran S log (frames ++ more) tells old new
+ran_then S log frames more tells old mid new first then = record {
   events = first.events ++ then.events;
   asked = asked_both first.events then.events frames more first.asked then.asked;
   fine = all-append IsFine first.events then.events first.fine then.fine;
   stands = subst (λ (t : List Entry). StandsAt S t new.writer) (sym (run-append S log first.events then.events)) then.stands;
   answered = λ told. then.answered told ∙ ap (λ (l : List ℕ). l ++ written S (run S log first.events) then.events) (first.answered told)
-      ∙ append_assoc taken (written S log first.events) (written S (run S log first.events) then.events) ∙ ap (λ (l : List ℕ). taken ++ l) (sym (written-append S log first.events then.events));
+      ∙ append_assoc old.devices.taken (written S log first.events) (written S (run S log first.events) then.events)
+      ∙ ap (λ (l : List ℕ). old.devices.taken ++ l) (sym (written-append S log first.events then.events));
   read = λ told. then.read told ∙ ap (λ (l : List ℕ). l ++ readings_of then.events) (first.read told)
-      ∙ append_assoc readings (readings_of first.events) (readings_of then.events) ∙ ap (λ (l : List ℕ). readings ++ l) (sym (map-append (λ event. event.reading) first.events then.events));
-  durable = λ told before. let one = first.durable told before in goes_on_then S log first.events then.events old mid new one (then.durable told one.stored);
+      ∙ append_assoc old.devices.readings (readings_of first.events) (readings_of then.events)
+      ∙ ap (λ (l : List ℕ). old.devices.readings ++ l) (sym (map-append (λ event. event.reading) first.events then.events));
+  durable = λ told before. let one = first.durable told before in goes_on_then S log first.events then.events (log_at old) (log_at mid) (log_at new) one (then.durable told one.stored);
 }
 
 -- nothing was done
-pub ran_nothing : (S : ℕ) (log : List Entry) (frames : List Frame) (sink : Type 0) (taken : List ℕ) (disk : Type 0) (old : OpenLog) (clock : Type 0) (readings : List ℕ)
-    → requests_of frames ≡ [] → StandsAt S log old.writer → Ran S log frames sink taken taken disk old old clock readings readings
-ran_nothing S log frames sink taken disk old clock readings none stands = record {
+pub ran_nothing : (S : ℕ) (log : List Entry) (frames : List Frame) (tells : Tells) (at : Point) → requests_of frames ≡ [] → StandsAt S log at.writer → Ran S log frames tells at at
+ran_nothing S log frames tells at none stands = record {
   events = [];
   asked = sym none;
   fine = tt;
   stands = stands;
-  answered = λ told. sym (append-nil taken);
-  read = λ told. sym (append-nil readings);
-  durable = λ told before. record { flushes = flushes_none S log old before; turns = (exact_now S log old before, omega arith); stored = before };
+  answered = λ told. sym (append-nil at.devices.taken);
+  read = λ told. sym (append-nil at.devices.readings);
+  durable = λ told before. record { flushes = flushes_none S log (log_at at) before; turns = (exact_now S log (log_at at) before, omega arith); stored = before };
 }
 
 -- a response is skipped
-pub ran_skip : (S : ℕ) (log : List Entry) (frame : Frame) (sink : Type 0) (taken : List ℕ) (disk : Type 0) (old : OpenLog) (clock : Type 0) (readings : List ℕ)
-    → is_response frame.header ≡ true → StandsAt S log old.writer → Ran S log (frame ∷ []) sink taken taken disk old old clock readings readings
-ran_skip S log frame sink taken disk old clock readings response stands =
+pub ran_skip : (S : ℕ) (log : List Entry) (frame : Frame) (tells : Tells) (at : Point) → is_response frame.header ≡ true → StandsAt S log at.writer → Ran S log (frame ∷ []) tells at at
+ran_skip S log frame tells at response stands =
     let none : requests_of (frame ∷ []) ≡ [] = rw response refl in
-    ran_nothing S log (frame ∷ []) sink taken disk old clock readings none stands
+    ran_nothing S log (frame ∷ []) tells at none stands
 
 -- a run that ended behind another
-pub ended_then : (stop : Stop) (S : ℕ) (log : List Entry) (frames more : List Frame) (sink : Type 0) (taken mid_taken taken_then : List ℕ) (disk : Type 0) (old mid new : OpenLog)
-    (clock : Type 0) (readings mid_readings readings_then : List ℕ) (faults faults_then : ℕ) (first : Ran S log frames sink taken mid_taken disk old mid clock readings mid_readings)
-    → Ended stop S (run S log first.events) more sink mid_taken taken_then disk mid new clock mid_readings readings_then faults faults_then
-    → Ended stop S log (frames ++ more) sink taken taken_then disk old new clock readings readings_then faults faults_then
-ended_then stop S log frames more sink taken mid_taken taken_then disk old mid new clock readings mid_readings readings_then faults faults_then first then =
+pub ended_then : (stop : Stop) (S : ℕ) (log : List Entry) (frames more : List Frame) (tells : Tells) (old mid new : Point) (first : Ran S log frames tells old mid)
+    → mid.devices.faults.disk ≡ old.devices.faults.disk → Ended stop S (run S log first.events) more tells mid new → Ended stop S log (frames ++ more) tells old new
+ended_then stop S log frames more tells old mid new first same then =
     let joined = append_assoc first.events then.events then.last in
     record {
       events = first.events ++ then.events;
@@ -314,7 +303,8 @@ ended_then stop S log frames more sink taken mid_taken taken_then disk old mid n
           ∙ ap (λ (l : List Frame). l ++ requests_of more) first.asked
           ∙ sym (filter-append (λ frame. not (is_response frame.header)) frames more);
       fine = all-append IsFine first.events then.events first.fine then.fine;
-      failed = subst (λ (t : List Entry). AtMostOne (Failed S t faults faults_then) then.last) (sym (run-append S log first.events then.events)) then.failed;
+      failed = subst (λ (n : ℕ). AtMostOne (Failed S (run S log (first.events ++ then.events)) n new.devices.faults.disk) then.last) same
+          (subst (λ (t : List Entry). AtMostOne (Failed S t mid.devices.faults.disk new.devices.faults.disk) then.last) (sym (run-append S log first.events then.events)) then.failed);
       because = then.because;
       answered = λ told.
           let wrote = then.answered told in
@@ -322,19 +312,22 @@ ended_then stop S log frames more sink taken mid_taken taken_then disk old mid n
             unwritten = wrote.unwritten;
             whole = wrote.whole;
             front = wrote.front ∙ ap (λ (l : List ℕ). l ++ written S (run S log first.events) (then.events ++ then.last)) (first.answered told)
-                ∙ append_assoc taken (written S log first.events) (written S (run S log first.events) (then.events ++ then.last))
-                ∙ ap (λ (l : List ℕ). taken ++ l) (sym (written-append S log first.events (then.events ++ then.last)) ∙ ap (λ (l : List Event). written S log l) (sym joined));
+                ∙ append_assoc old.devices.taken (written S log first.events) (written S (run S log first.events) (then.events ++ then.last))
+                ∙ ap (λ (l : List ℕ). old.devices.taken ++ l)
+                (sym (written-append S log first.events (then.events ++ then.last)) ∙ ap (λ (l : List Event). written S log l) (sym joined));
           };
       read = λ told. then.read told ∙ ap (λ (l : List ℕ). l ++ readings_of (then.events ++ then.last)) (first.read told)
-          ∙ append_assoc readings (readings_of first.events) (readings_of (then.events ++ then.last))
-          ∙ ap (λ (l : List ℕ). readings ++ l) (sym (map-append (λ event. event.reading) first.events (then.events ++ then.last)) ∙ ap (λ (l : List Event). readings_of l) (sym joined));
-      durable = λ told before. let one = first.durable told before in stays_then S log first.events then.events then.last old mid new one (then.durable told one.stored);
+          ∙ append_assoc old.devices.readings (readings_of first.events) (readings_of (then.events ++ then.last))
+          ∙ ap (λ (l : List ℕ). old.devices.readings ++ l)
+          (sym (map-append (λ event. event.reading) first.events (then.events ++ then.last)) ∙ ap (λ (l : List Event). readings_of l) (sym joined));
+      durable = λ told before.
+          let one = first.durable told before in
+          stays_then S log first.events then.events then.last (log_at old) (log_at mid) (log_at new) one (then.durable told one.stored);
     }
 
 -- there was no memory, and nothing was carried out
-pub ended_by_memory : (S : ℕ) (log : List Entry) (sink : Type 0) (taken : List ℕ) (disk : Type 0) (old : OpenLog) (clock : Type 0) (readings : List ℕ) (faults : ℕ)
-    → Ended stops.Memory S log [] sink taken taken disk old old clock readings readings faults faults
-ended_by_memory S log sink taken disk old clock readings faults = record {
+pub ended_by_memory : (S : ℕ) (log : List Entry) (tells : Tells) (at : Point) → Ended stops.Memory S log [] tells at at
+ended_by_memory S log tells at = record {
   events = [];
   last = [];
   left = [];
@@ -343,6 +336,11 @@ ended_by_memory S log sink taken disk old clock readings faults = record {
   failed = tt;
   because = tt;
   answered = λ told. record { unwritten = []; whole = tt; front = refl };
-  read = λ told. sym (append-nil readings);
-  durable = λ told before. none_stays S log old before;
+  read = λ told. sym (append-nil at.devices.readings);
+  durable = λ told before. none_stays S log (log_at at) before;
 }
+
+-- and so behind a run
+pub memory_then : (S : ℕ) (log : List Entry) (frames : List Frame) (tells : Tells) (old new : Point) → Ran S log frames tells old new → new.devices.faults.disk ≡ old.devices.faults.disk
+    → Ended stops.Memory S log (frames ++ []) tells old new
+memory_then S log frames tells old new ran same = ended_then stops.Memory S log frames [] tells old new new ran same (ended_by_memory S (run S log ran.events) tells new)

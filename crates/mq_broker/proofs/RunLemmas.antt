@@ -1,6 +1,5 @@
 -- What a run over a stream did, seen from before its opening.
-use Rattle.std.proofs.Common.{◌≡◌, ◌∙◌, ℕ, ◌+◌, ◌≤◌, ◌++◌, List, [], Option, Result, Ok, Err, length, take, map, refl, ap, sym, subst, arith}
-use Rattle.std.proofs.lemmas.List.{append-nil}
+use Rattle.std.proofs.Common.{◌≡◌, ◌∙◌, ℕ, ◌+◌, ◌≤◌, ◌++◌, List, Option, Result, Err, length, take, ap, sym, subst, arith}
 use Rattle.mq_outside.specs.Files.{Files, Same}
 use Rattle.mq_outside.specs.Disk.{DiskState, EachImage, Moves, Rests, Throughout}
 use Rattle.mq_outside.proofs.Moments.{each_same, at_start, goes_on, weaker, chained, rests_start, rests_call, rests_then}
@@ -16,86 +15,16 @@ use Rattle.log_writer.specs.Openings.{GoesOnBehind}
 use Rattle.log_writer.specs.declared.writer.LogWriter.{LogWriter}
 use Rattle.log_writer.proofs.DurableLemmas.{has_more, first_keeps}
 use Rattle.mq_broker.specs.Outcomes.{Event}
-use Rattle.mq_broker.specs.Run.{run, written, flushed_of}
+use Rattle.mq_broker.specs.Run.{run, flushed_of}
 use Rattle.store_open.specs.Openings.{IsOpened}
 use Rattle.store_open.specs.declared.status.Status.{Status}
-use Rattle.mq_broker.specs.Progress.{OpenLog, open_log, IsStored, StandsAt, GoesOn, Stays, readings_of}
-use Rattle.mq_broker.specs.Pipes.{ServedAll, ServedFirst, Piped}
-use Rattle.mq_broker.specs.Promise.{Seen, StatusTellsFault, IsAll, TookReplies, RunFrom, Leaves, Survives, KeepsOn, BeginsWithKept, Unrecovered}
-use Rattle.mq_broker.specs.declared.stop.Stop.{Stop}
+use Rattle.mq_broker.specs.Seen.{Faults, Seen, KeepSeen}
+use Rattle.mq_broker.specs.Progress.{OpenLog, open_log, IsStored, StandsAt, AtMostOne, Failed, Stays}
+use Rattle.mq_broker.specs.Pipes.{RunFrom, Piped}
+use Rattle.mq_broker.specs.Promise.{StatusTellsFault, Leaves, Survives, KeepsOn, BeginsWithKept, Unrecovered}
 use Rattle.mq_broker.specs.declared.stop.Halt.{Halt}
-use Rattle.mq_broker.specs.declared.stop.Halt.TheVariants.{BadFrame, Read, Stopped}
 use Rattle.mq_broker.proofs.CauseLemmas.{damage_told}
-use Rattle.mq_broker.proofs.FlushLemmas.{log_with-append, flushed_of-append, log_with-flushed_of, stored_log}
-
--- no event's flush failed
-stays_of : (S : ℕ) (log : List Entry) (events : List Event) (old new : OpenLog) → GoesOn S log events old new → Stays S log events [] old new
-stays_of S log events old new on = record {
-  flushes = on.flushes;
-  turns = on.turns;
-  stored = subst (λ (l : List Event). StoresLog S (run S log l) (length (run S log events)) new.disk) (sym (append-nil events)) (stored_log S (run S log events) new on.stored);
-}
-
-module _ (S : ℕ) (log : List Entry) (seen : Seen) (opened closed : OpenLog) (P : List Event → List Event → Type 0)
-    (holds : (events last : List Event) → (seen.disk → IsStored S log opened → Stays S log events last opened closed) → P events last) where
-  all_ran : (result : Result (Unit {0}) Halt) → IsAll result [] [] → ((bytes : List ℕ) → seen.taken_then ≡ seen.taken ++ bytes → TookReplies result seen.taken seen.taken_then bytes)
-      → ServedAll result S log seen.source seen.given seen.given_then seen.left_then seen.sink seen.taken seen.taken_then seen.disk opened closed seen.clock seen.readings seen.readings_then
-      → RunFrom S log result seen P
-  all_ran result all took served =
-      let ran = served.ran in
-      let none : ran.events ++ [] ≡ ran.events = append-nil ran.events in
-      record {
-        bytes = served.bytes;
-        frames = served.frames;
-        at = served.at;
-        rest = served.rest;
-        given_is = served.given_is;
-        cut = served.cut;
-        ends = served.ends;
-        events = ran.events;
-        last = [];
-        left = [];
-        asked = append-nil (map (λ event. event.request) (ran.events ++ [])) ∙ ap (λ (l : List Event). map (λ event. event.request) l) none ∙ ran.asked;
-        all = all;
-        fine = ran.fine;
-        failed = tt;
-        answered = λ told. took (written S log (ran.events ++ [])) (ran.answered told ∙ ap (λ (l : List Event). seen.taken ++ written S log l) (sym none));
-        read = λ told. ran.read told ∙ ap (λ (l : List Event). seen.readings ++ readings_of l) (sym none);
-        done = holds ran.events [] (λ told stored. stays_of S log ran.events opened closed (ran.durable told stored));
-      }
-
-  first_ran : (stop : Stop) → ServedFirst stop S log seen.source seen.given seen.given_then seen.sink seen.taken seen.taken_then seen.disk opened closed
-      seen.clock seen.readings seen.readings_then seen.faults seen.faults_then
-      → RunFrom S log (Err (Stopped stop)) seen P
-  first_ran stop served =
-      let ended = served.ended in
-      record {
-        bytes = served.bytes;
-        frames = served.frames;
-        at = served.at;
-        rest = served.rest;
-        given_is = served.given_is;
-        cut = served.cut;
-        ends = tt;
-        events = ended.events;
-        last = ended.last;
-        left = ended.left;
-        asked = ended.asked;
-        all = ended.because;
-        fine = ended.fine;
-        failed = ended.failed;
-        answered = ended.answered;
-        read = ended.read;
-        done = holds ended.events ended.last ended.durable;
-      }
-
-  pub run_from : (result : Result (Unit {0}) Halt) → Piped result S log seen.source seen.given seen.given_then seen.left_then seen.sink seen.taken seen.taken_then seen.disk opened closed
-      seen.clock seen.readings seen.readings_then seen.faults seen.faults_then
-      → RunFrom S log result seen P
-  run_from (Ok u) piped = all_ran (Ok tt) (refl, refl) (λ bytes took. took) piped
-  run_from (Err (BadFrame place)) piped = all_ran (Err (BadFrame place)) (refl, refl) (λ bytes took. took) piped
-  run_from (Err Read) piped = all_ran (Err Read) (refl, refl) (λ bytes took. took) piped
-  run_from (Err (Stopped stop)) piped = first_ran stop piped
+use Rattle.mq_broker.proofs.FlushLemmas.{log_with-append, flushed_of-append, log_with-flushed_of}
 
 -- ---- the opening
 
@@ -154,38 +83,62 @@ survives S stored flushed log events last old opened closed leaves stays =
 
 -- ---- a run from a log that was opened
 
-module _ (S : ℕ) (seen : Seen) (mid : DiskState) (opened : OpenLog) (writer : LogWriter) (faults_mid : ℕ) (result : Result (Unit {0}) Halt)
-    (same : faults_mid ≡ seen.faults) (moves : seen.disk → Moves Same seen.old mid)
-    (piped : (S : ℕ) (log : List Entry) → StandsAt S log opened.writer
-    → Piped result S log seen.source seen.given seen.given_then seen.left_then seen.sink seen.taken seen.taken_then seen.disk opened (open_log writer seen.new)
-    seen.clock seen.readings seen.readings_then faults_mid seen.faults_then) where
-  from_log : (log : List Entry) (P : List Event → List Event → Type 0) → StandsAt S log opened.writer
-      → ((events last : List Event) → (seen.disk → IsStored S log opened → Stays S log events last opened (open_log writer seen.new)) → P events last)
+-- what is seen of a call from the moment on at which the log was open
+abbrev pub seen_open : Seen → DiskState → Faults → Seen
+seen_open seen disk faults = record {
+  source = seen.source;
+  tells = seen.tells;
+  old = record { taken = seen.old.taken; disk = disk; readings = seen.old.readings; faults = faults };
+  new = seen.new;
+}
+
+module _ (S : ℕ) (seen : Seen) (moved disk : DiskState) (faults : Faults) (opened writer : LogWriter) (result : Result (Unit {0}) Halt)
+    (same : faults.disk ≡ seen.old.faults.disk) (moves : seen.tells.disk → Moves Same seen.old.disk moved)
+    (piped : (S : ℕ) (log : List Entry) → StandsAt S log opened → Piped result S log (seen_open seen disk faults) opened writer) where
+  from_log : (log : List Entry) (P : List Event → List Event → Type 0) → StandsAt S log opened
+      → ((events last : List Event) → (seen.tells.disk → IsStored S log (open_log opened disk) → Stays S log events last (open_log opened disk) (open_log writer seen.new.disk)) → P events last)
       → RunFrom S log result seen P
   from_log log P stands holds =
-      run_from S log seen opened (open_log writer seen.new) P holds result
-      (subst (λ (n : ℕ). Piped result S log seen.source seen.given seen.given_then seen.left_then seen.sink seen.taken seen.taken_then seen.disk opened (open_log writer seen.new)
-      seen.clock seen.readings seen.readings_then n seen.faults_then) same (piped S log stands))
+      let ran = piped S log stands in
+      record {
+        bytes = ran.bytes;
+        frames = ran.frames;
+        at = ran.at;
+        rest = ran.rest;
+        given_is = ran.given_is;
+        cut = ran.cut;
+        ends = ran.ends;
+        events = ran.events;
+        last = ran.last;
+        left = ran.left;
+        asked = ran.asked;
+        all = ran.all;
+        fine = ran.fine;
+        failed = subst (λ (n : ℕ). AtMostOne (Failed S (run S log ran.events) n seen.new.faults.disk) ran.last) same ran.failed;
+        answered = ran.answered;
+        read = ran.read;
+        done = holds ran.events ran.last ran.done;
+      }
 
-  pub begins_with : seen.disk → GoesOnBehind S mid.reads opened.writer → BeginsWithKept S result seen
+  pub begins_with : seen.tells.disk → GoesOnBehind S moved.reads opened → BeginsWithKept S result seen
   begins_with told behind = record {
     records = behind.records;
     keeps = subst (λ (files : Files). Keeps S behind.records files) (moves told).reads behind.keeps;
     ran = from_log behind.records (λ events last. Unit {0}) (record { size = behind.size; stands = behind.stands }) (λ events last stays. tt);
   }
 
-  pub keeps_on : seen.disk → (stored : List Entry) (flushed : ℕ) → StoresLog S stored flushed seen.old → Opened S stored flushed opened.disk opened.writer
-      → Throughout mid opened.disk (HasRecords S (take flushed stored)) → KeepsOn S stored flushed result seen
+  pub keeps_on : seen.tells.disk → (stored : List Entry) (flushed : ℕ) → StoresLog S stored flushed seen.old.disk → Opened S stored flushed disk opened
+      → Throughout moved disk (HasRecords S (take flushed stored)) → KeepsOn S stored flushed result seen
   keeps_on told stored flushed stores begun has =
       let log = take begun.number stored in
       record {
         number = begun.number;
         low = begun.low;
         high = begun.high;
-        ran = from_log log (λ events last. Survives S stored flushed log events last seen.old seen.new)
+        ran = from_log log (λ events last. Survives S stored flushed log events last seen.old.disk seen.new.disk)
             (record { size = begun.stores.size; stands = begun.stores.stands })
-            (λ events last stays. survives S stored flushed log events last seen.old opened (open_log writer seen.new)
-            (leaves_from S stored flushed seen.old mid opened.disk (moves told) stores has) (stays told begun.stores));
+            (λ events last stays. survives S stored flushed log events last seen.old.disk (open_log opened disk) (open_log writer seen.new.disk)
+            (leaves_from S stored flushed seen.old.disk moved disk (moves told) stores has) (stays told begun.stores));
       }
 
 -- ---- a log that was not recovered
@@ -197,23 +150,23 @@ both_told (Damaged place name) P Q p q = (p, q)
 both_told DiskFailed P Q p q = tt
 both_told NoMemory P Q p q = tt
 
-pub unrecovered : (asked : Option ℕ) (status : Status) (seen : Seen) (mid : DiskState) (fault : RecoverFault) (S : ℕ)
-    → StatusTellsFault status fault → IsOpened asked S seen.disk seen.old.reads seen.keep seen.kept seen.kept_then → (seen.disk → Moves Same seen.old mid)
-    → (seen.disk → OnDamage {A = LogWriter} (Err fault) (IsDamagedAt S mid.reads)) → (seen.disk → OnDamage {A = LogWriter} (Err fault) (λ place name. Rests mid seen.new))
-    → (seen.disk → (stored : List Entry) (flushed : ℕ) → StoresLog S stored flushed mid → IsHonest S stored flushed mid.reads → StoresLog S stored flushed seen.new)
-    → (seen.disk → (stored : List Entry) (flushed : ℕ) → StoresLog S stored flushed mid → IsHonest S stored flushed mid.reads → Throughout mid seen.new (HasRecords S (take flushed stored)))
-    → Unrecovered asked status seen
-unrecovered asked status seen mid fault S tells opened moves damaged rests still has = record {
+pub unrecovered : (asked : Option ℕ) (status : Status) (seen : Seen) (keep : KeepSeen) (mid : DiskState) (fault : RecoverFault) (S : ℕ)
+    → StatusTellsFault status fault → IsOpened asked S seen.tells.disk seen.old.disk.reads keep.tells keep.old keep.new → (seen.tells.disk → Moves Same seen.old.disk mid)
+    → (seen.tells.disk → OnDamage {A = LogWriter} (Err fault) (IsDamagedAt S mid.reads)) → (seen.tells.disk → OnDamage {A = LogWriter} (Err fault) (λ place name. Rests mid seen.new.disk))
+    → (seen.tells.disk → (stored : List Entry) (flushed : ℕ) → StoresLog S stored flushed mid → IsHonest S stored flushed mid.reads → StoresLog S stored flushed seen.new.disk)
+    → (seen.tells.disk → (stored : List Entry) (flushed : ℕ) → StoresLog S stored flushed mid → IsHonest S stored flushed mid.reads → Throughout mid seen.new.disk (HasRecords S (take flushed stored)))
+    → Unrecovered asked status seen keep
+unrecovered asked status seen keep mid fault S tells opened moves damaged rests still has = record {
   fault = fault;
   tells = tells;
   segment = S;
   opened = opened;
   damaged = λ told code.
-      let both = damage_told status fault (λ place name. IsDamagedAt S mid.reads place name × Rests mid seen.new) tells (both_told fault _ _ (damaged told) (rests told)) code in
-      (subst (λ (files : Files). IsDamagedAt S files status.place status.name) (moves told).reads both.0, rests_then (rests_call (rests_start seen.old) (moves told)) both.1);
+      let both = damage_told status fault (λ place name. IsDamagedAt S mid.reads place name × Rests mid seen.new.disk) tells (both_told fault _ _ (damaged told) (rests told)) code in
+      (subst (λ (files : Files). IsDamagedAt S files status.place status.name) (moves told).reads both.0, rests_then (rests_call (rests_start seen.old.disk) (moves told)) both.1);
   stores = λ told stored flushed stores honest.
-      still told stored flushed (stores_same S stored flushed seen.old mid (moves told) stores) (honest_same S stored flushed seen.old mid (moves told) honest);
+      still told stored flushed (stores_same S stored flushed seen.old.disk mid (moves told) stores) (honest_same S stored flushed seen.old.disk mid (moves told) honest);
   leaves = λ told stored flushed stores honest.
-      leaves_from S stored flushed seen.old mid seen.new (moves told) stores
-      (has told stored flushed (stores_same S stored flushed seen.old mid (moves told) stores) (honest_same S stored flushed seen.old mid (moves told) honest));
+      leaves_from S stored flushed seen.old.disk mid seen.new.disk (moves told) stores
+      (has told stored flushed (stores_same S stored flushed seen.old.disk mid (moves told) stores) (honest_same S stored flushed seen.old.disk mid (moves told) honest));
 }

@@ -4,6 +4,7 @@ pub mod Actions
 pub mod Outcomes
 pub mod Run
 pub mod Answers
+pub mod Seen
 pub mod Progress
 pub mod Causes
 pub mod Pipes

@@ -1,5 +1,6 @@
 -- What a run over a stream of requests did, by what ended it.
-use Rattle.std.specs.Prelude.{◌≡◌, ◌≢◌, ◌⊎◌, ℕ, ◌^◌, ◌++◌, List, [], length, Option, Some, None, Result, Ok, Err}
+use Rattle.std.specs.Prelude.{◌≡◌, ◌≢◌, ◌⊎◌, ℕ, ◌^◌, ◌++◌, List, [], length, map, Option, Some, None, Result, Ok, Err}
+use Rattle.std.specs.List.{AllByRecursion}
 use Rattle.remoting_frame.specs.Held.{Held}
 use Rattle.remoting_frame.specs.Frames.{next_of}
 use Rattle.remoting_frame.specs.Cutting.{NextIs}
@@ -8,7 +9,11 @@ use Rattle.remoting_frame.specs.declared.frame.Frame.{Frame}
 use Rattle.remoting_frame.specs.declared.fault.FrameFault.{FrameFault}
 use Rattle.remoting_frame.specs.declared.fault.FrameFault.TheVariants as faults
 use Rattle.record_codec.specs.Entry.{Entry}
-use Rattle.mq_broker.specs.Progress.{OpenLog, Ran, Ended}
+use Rattle.log_writer.specs.declared.writer.LogWriter.{LogWriter}
+use Rattle.mq_broker.specs.Outcomes.{Event}
+use Rattle.mq_broker.specs.Run.{requests_of, run, written}
+use Rattle.mq_broker.specs.Seen.{Tells, Seen}
+use Rattle.mq_broker.specs.Progress.{open_log, IsStored, Point, point_of, IsFine, AtMostOne, readings_of, Stays, Ran, Failed, IsLast, Wrote, Ended}
 use Rattle.mq_broker.specs.declared.stop.Stop.{Stop}
 use Rattle.mq_broker.specs.declared.stop.Stop.TheVariants.{Memory as OutOfMemory}
 use Rattle.mq_broker.specs.declared.stop.Halt.{Halt}
@@ -28,26 +33,23 @@ pub record FaultAt (place : ℕ) (held : Held) : Type 0 where
   pub at : IsFaultAt place fault
 
 -- the frames at the front of what was held were served
-pub record ServedHeld (S : ℕ) (log : List Entry) (held held_then : Held) (sink : Type 0) (taken taken_then : List ℕ) (disk : Type 0) (old new : OpenLog)
-    (clock : Type 0) (readings readings_then : List ℕ) : Type 0 where
+pub record ServedHeld (S : ℕ) (log : List Entry) (held held_then : Held) (tells : Tells) (old new : Point) : Type 0 where
   pub frames : List Frame
   pub cut : BeginsWith held.at held.bytes frames held_then.at held_then.bytes
-  pub ran : Ran S log frames sink taken taken_then disk old new clock readings readings_then
+  pub ran : Ran S log frames tells old new
 
 -- the same where this ended the reading at one of them
-pub record EndedHeld (stop : Stop) (S : ℕ) (log : List Entry) (held held_then : Held) (sink : Type 0) (taken taken_then : List ℕ) (disk : Type 0) (old new : OpenLog)
-    (clock : Type 0) (readings readings_then : List ℕ) (faults faults_then : ℕ) : Type 0 where
+pub record EndedHeld (stop : Stop) (S : ℕ) (log : List Entry) (held held_then : Held) (tells : Tells) (old new : Point) : Type 0 where
   pub frames : List Frame
   pub cut : BeginsWith held.at held.bytes frames held_then.at held_then.bytes
-  pub ended : Ended stop S log frames sink taken taken_then disk old new clock readings readings_then faults faults_then
+  pub ended : Ended stop S log frames tells old new
 
--- by what ended it
-abbrev pub HaltedHeld : Halt → ℕ → List Entry → Held → Held → Type 0 → List ℕ → List ℕ → Type 0 → OpenLog → OpenLog → Type 0 → List ℕ → List ℕ → ℕ → ℕ → Type 0
-HaltedHeld (BadFrame place) S log held held_then sink taken taken_then disk old new clock readings readings_then faults faults_then =
-    ServedHeld S log held held_then sink taken taken_then disk old new clock readings readings_then × FaultAt place held_then
-HaltedHeld Read S log held held_then sink taken taken_then disk old new clock readings readings_then faults faults_then = ⊥
-HaltedHeld (Stopped stop) S log held held_then sink taken taken_then disk old new clock readings readings_then faults faults_then =
-    EndedHeld stop S log held held_then sink taken taken_then disk old new clock readings readings_then faults faults_then
+-- what was served, by what ended it
+abbrev pub ServesHeld : Result (Unit {0}) Halt → ℕ → List Entry → Held → Held → Tells → Point → Point → Type 0
+ServesHeld (Ok _) S log held held_then tells old new = ServedHeld S log held held_then tells old new
+ServesHeld (Err (BadFrame place)) S log held held_then tells old new = ServedHeld S log held held_then tells old new × FaultAt place held_then
+ServesHeld (Err Read) S log held held_then tells old new = ⊥
+ServesHeld (Err (Stopped stop)) S log held held_then tells old new = EndedHeld stop S log held held_then tells old new
 
 -- what a cutter gave: a frame, nothing yet, or the place at which there is no frame
 abbrev pub NextFrame : Held → Result (Option Frame) Halt → Held → Type 0
@@ -75,16 +77,6 @@ abbrev pub IsBadAt : ℕ → ℕ → List ℕ → List ℕ → Type 0 → List �
 IsBadAt place at rest bytes source left =
     FaultAt place (record { at = at; bytes = rest }) ⊎ (EndsInside place at rest source left ⊎ ((place ≡ stream_limit) × (length bytes ≡ stream_limit)))
 
--- So many bytes were read, all of their frames were served, and the rest is held.
-pub record SoFar (S : ℕ) (log : List Entry) (total : ℕ) (held : Held) (source : Type 0) (given given_then : List ℕ)
-    (sink : Type 0) (taken taken_then : List ℕ) (disk : Type 0) (old new : OpenLog) (clock : Type 0) (readings readings_then : List ℕ) : Type 0 where
-  pub bytes : List ℕ
-  pub frames : List Frame
-  pub total_is : length bytes ≡ total
-  pub given_is : source → given_then ≡ given ++ bytes
-  pub cut : BeginsWith 0 bytes frames held.at held.bytes
-  pub ran : Ran S log frames sink taken taken_then disk old new clock readings readings_then
-
 -- how the bytes behind the last frame end the reading
 abbrev pub EndsBy : Result (Unit {0}) Halt → ℕ → List ℕ → List ℕ → Type 0 → List ℕ → Type 0
 EndsBy (Ok _) at rest bytes source left = (rest ≡ []) × (source → left ≡ [])
@@ -92,39 +84,54 @@ EndsBy (Err (BadFrame place)) at rest bytes source left = IsBadAt place at rest 
 EndsBy (Err Read) at rest bytes source left = next_of at rest ≡ Ok None
 EndsBy (Err (Stopped stop)) at rest bytes source left = Unit {0}
 
--- All frames of the bytes that were read were served, and what stands behind them ended the reading.
-pub record ServedAll (result : Result (Unit {0}) Halt) (S : ℕ) (log : List Entry) (source : Type 0) (given given_then left_then : List ℕ)
-    (sink : Type 0) (taken taken_then : List ℕ) (disk : Type 0) (old new : OpenLog) (clock : Type 0) (readings readings_then : List ℕ) : Type 0 where
+-- All requests were carried out, and none with a failed flush, unless something ended the reading at one of them.
+abbrev pub IsAll : Result (Unit {0}) Halt → List Event → List Frame → Type 0
+IsAll (Ok _) last left = (last ≡ []) × (left ≡ [])
+IsAll (Err (BadFrame place)) last left = (last ≡ []) × (left ≡ [])
+IsAll (Err Read) last left = (last ≡ []) × (left ≡ [])
+IsAll (Err (Stopped stop)) last left = IsLast stop last
+
+-- of the replies' bytes the sink took all, or those at the front where writing ended the reading
+abbrev pub TookReplies : Result (Unit {0}) Halt → List ℕ → List ℕ → List ℕ → Type 0
+TookReplies (Ok _) taken taken_then bytes = taken_then ≡ taken ++ bytes
+TookReplies (Err (BadFrame place)) taken taken_then bytes = taken_then ≡ taken ++ bytes
+TookReplies (Err Read) taken taken_then bytes = taken_then ≡ taken ++ bytes
+TookReplies (Err (Stopped stop)) taken taken_then bytes = Wrote stop taken taken_then bytes
+
+-- A run from this log on: the bytes that were read are these frames and what stands behind them, the requests among the frames
+-- were carried out in order, and their replies were written. Of the events and of a last one whose flush failed this holds.
+pub record RunFrom (S : ℕ) (log : List Entry) (result : Result (Unit {0}) Halt) (seen : Seen) (holds : List Event → List Event → Type 0) : Type 0 where
   pub bytes : List ℕ
   pub frames : List Frame
   pub at : ℕ
   pub rest : List ℕ
-  pub given_is : source → given_then ≡ given ++ bytes
+  pub given_is : seen.source.tells → seen.source.given_then ≡ seen.source.given ++ bytes
   pub cut : BeginsWith 0 bytes frames at rest
-  pub ends : EndsBy result at rest bytes source left_then
-  pub ran : Ran S log frames sink taken taken_then disk old new clock readings readings_then
+  pub ends : EndsBy result at rest bytes seen.source.tells seen.source.left_then
+  pub events : List Event
+  pub last : List Event
+  pub left : List Frame
+  pub asked : map (λ event. event.request) (events ++ last) ++ left ≡ requests_of frames
+  pub all : IsAll result last left
+  pub fine : AllByRecursion IsFine events
+  pub failed : AtMostOne (Failed S (run S log events) seen.old.faults.disk seen.new.faults.disk) last
+  pub answered : seen.tells.sink → TookReplies result seen.old.taken seen.new.taken (written S log (events ++ last))
+  pub read : seen.tells.clock → seen.new.readings ≡ seen.old.readings ++ readings_of (events ++ last)
+  pub done : holds events last
 
--- The first frames of the bytes that were read were served, up to one that ended the reading.
-pub record ServedFirst (stop : Stop) (S : ℕ) (log : List Entry) (source : Type 0) (given given_then : List ℕ) (sink : Type 0) (taken taken_then : List ℕ)
-    (disk : Type 0) (old new : OpenLog) (clock : Type 0) (readings readings_then : List ℕ) (faults faults_then : ℕ) : Type 0 where
+-- a run from this log on, which these writers began with and left
+abbrev pub Piped : Result (Unit {0}) Halt → ℕ → List Entry → Seen → LogWriter → LogWriter → Type 0
+Piped result S log seen writer writer_then = RunFrom S log result seen (λ events last. seen.tells.disk → IsStored S log (open_log writer seen.old.disk)
+    → Stays S log events last (open_log writer seen.old.disk) (open_log writer_then seen.new.disk))
+
+-- So many bytes were read, all of their frames were served, and the rest is held.
+pub record SoFar (S : ℕ) (log : List Entry) (total : ℕ) (held : Held) (seen : Seen) (writer writer_then : LogWriter) : Type 0 where
   pub bytes : List ℕ
   pub frames : List Frame
-  pub at : ℕ
-  pub rest : List ℕ
-  pub given_is : source → given_then ≡ given ++ bytes
-  pub cut : BeginsWith 0 bytes frames at rest
-  pub ended : Ended stop S log frames sink taken taken_then disk old new clock readings readings_then faults faults_then
-
--- what was served, by what ended the reading
-abbrev pub Piped : Result (Unit {0}) Halt → ℕ → List Entry → Type 0 → List ℕ → List ℕ → List ℕ → Type 0 → List ℕ → List ℕ → Type 0 → OpenLog → OpenLog → Type 0 → List ℕ → List ℕ → ℕ → ℕ → Type 0
-Piped (Ok _) S log source given given_then left sink taken taken_then disk old new clock readings readings_then faults faults_then =
-    ServedAll (Ok tt) S log source given given_then left sink taken taken_then disk old new clock readings readings_then
-Piped (Err (BadFrame place)) S log source given given_then left sink taken taken_then disk old new clock readings readings_then faults faults_then =
-    ServedAll (Err (BadFrame place)) S log source given given_then left sink taken taken_then disk old new clock readings readings_then
-Piped (Err Read) S log source given given_then left sink taken taken_then disk old new clock readings readings_then faults faults_then =
-    ServedAll (Err Read) S log source given given_then left sink taken taken_then disk old new clock readings readings_then
-Piped (Err (Stopped stop)) S log source given given_then left sink taken taken_then disk old new clock readings readings_then faults faults_then =
-    ServedFirst stop S log source given given_then sink taken taken_then disk old new clock readings readings_then faults faults_then
+  pub total_is : length bytes ≡ total
+  pub given_is : seen.source.tells → seen.source.given_then ≡ seen.source.given ++ bytes
+  pub cut : BeginsWith 0 bytes frames held.at held.bytes
+  pub ran : Ran S log frames seen.tells (point_of writer seen.old) (point_of writer_then seen.new)
 
 -- nothing is held where the source ended between two frames, and else the place is that of the frame that it ends in
 abbrev pub EndsHere : Held → Result (Unit {0}) Halt → Type 0

@@ -1,5 +1,5 @@
 -- How far a run has come: what was carried out, written and flushed. A log is in segments of S bytes.
-use Rattle.std.specs.Prelude.{◌≡◌, ◌≢◌, ℕ, ◌≤◌, ◌++◌, List, [], ◌∷◌, length, map, Some}
+use Rattle.std.specs.Prelude.{◌≡◌, ◌≢◌, ℕ, ◌≤◌, ◌++◌, List, [], ◌∷◌, length, map, Some, Result, Ok, Err}
 use Rattle.std.specs.List.{AllByRecursion}
 use Rattle.mq_outside.specs.Counts.{Rises}
 use Rattle.mq_outside.specs.Files.{Files}
@@ -9,10 +9,11 @@ use Rattle.remoting_frame.specs.declared.frame.Frame.{Frame}
 use Rattle.log_model.specs.Segments.{AreSegmentFiles}
 use Rattle.log_model.specs.Store.{StoresLog}
 use Rattle.log_tail.specs.Tails.{StandsFor}
-use Rattle.log_writer.specs.Durable.{CanGoOn, Stores, Flushes}
+use Rattle.log_writer.specs.Durable.{Stores, Flushes}
 use Rattle.log_writer.specs.declared.writer.LogWriter.{LogWriter}
 use Rattle.mq_broker.specs.Outcomes.{Outcome, Done, FlushFailed, NoMemory, Event}
 use Rattle.mq_broker.specs.Run.{requests_of, appended, step, run, written, flushed_of}
+use Rattle.mq_broker.specs.Seen.{Tells, Devices}
 use Rattle.mq_broker.specs.declared.stop.Stop.{Stop}
 use Rattle.mq_broker.specs.declared.stop.Stop.TheVariants as stops
 
@@ -28,14 +29,22 @@ open_log writer disk = record { writer = writer; disk = disk }
 abbrev pub IsStored : ℕ → List Entry → OpenLog → Type 0
 IsStored S log at = Stores S log at.writer at.disk
 
+-- a broker at one time: the writer of its log, and its devices
+pub record Point : Type 1 where
+  pub writer : LogWriter
+  pub devices : Devices
+
+abbrev pub point_of : LogWriter → Devices → Point
+point_of writer devices = record { writer = writer; devices = devices }
+
+-- the log that it has open
+abbrev pub log_at : Point → OpenLog
+log_at at = open_log at.writer at.devices.disk
+
 -- the writer puts records behind this log, in segments of this size
 pub record StandsAt (S : ℕ) (log : List Entry) (writer : LogWriter) : Type 0 where
   pub size : writer.tail.segment ≡ S
   pub stands : StandsFor writer.tail log
-
--- the next bytes of the log go inside its last file
-abbrev pub CanTake : Type 0 → OpenLog → Type 0
-CanTake tells at = CanGoOn tells at.writer at.disk
 
 -- no flush failed
 abbrev pub IsFineOutcome : Outcome → Type 0
@@ -81,15 +90,14 @@ pub record Stays (S : ℕ) (log : List Entry) (events last : List Event) (old ne
 
 -- The requests among the frames were carried out, each with its reading, and were answered, and no flush failed. What is said
 -- of the sink, the disk and the clock is said where these tell what they hold.
-pub record Ran (S : ℕ) (log : List Entry) (frames : List Frame) (sink : Type 0) (taken taken_then : List ℕ) (disk : Type 0) (old new : OpenLog)
-    (clock : Type 0) (readings readings_then : List ℕ) : Type 0 where
+pub record Ran (S : ℕ) (log : List Entry) (frames : List Frame) (tells : Tells) (old new : Point) : Type 0 where
   pub events : List Event
   pub asked : map (λ event. event.request) events ≡ requests_of frames
   pub fine : AllByRecursion IsFine events
   pub stands : StandsAt S (run S log events) new.writer
-  pub answered : sink → taken_then ≡ taken ++ written S log events
-  pub read : clock → readings_then ≡ readings ++ readings_of events
-  pub durable : disk → IsStored S log old → GoesOn S log events old new
+  pub answered : tells.sink → new.devices.taken ≡ old.devices.taken ++ written S log events
+  pub read : tells.clock → new.devices.readings ≡ old.devices.readings ++ readings_of events
+  pub durable : tells.disk → IsStored S log (log_at old) → GoesOn S log events (log_at old) (log_at new)
 
 -- the request whose flush failed, as the disk's failure of this number
 pub record Failed (S : ℕ) (log : List Entry) (faults faults_then : ℕ) (event : Event) : Type 0 where
@@ -120,15 +128,19 @@ pub record Wrote (stop : Stop) (taken taken_then bytes : List ℕ) : Type 0 wher
 
 -- The same where this ended the reading. The last request carried out may be one whose flush failed, and of what was to be
 -- written some may be missing at the end.
-pub record Ended (stop : Stop) (S : ℕ) (log : List Entry) (frames : List Frame) (sink : Type 0) (taken taken_then : List ℕ) (disk : Type 0) (old new : OpenLog)
-    (clock : Type 0) (readings readings_then : List ℕ) (faults faults_then : ℕ) : Type 0 where
+pub record Ended (stop : Stop) (S : ℕ) (log : List Entry) (frames : List Frame) (tells : Tells) (old new : Point) : Type 0 where
   pub events : List Event
   pub last : List Event
   pub left : List Frame
   pub asked : map (λ event. event.request) (events ++ last) ++ left ≡ requests_of frames
   pub fine : AllByRecursion IsFine events
-  pub failed : AtMostOne (Failed S (run S log events) faults faults_then) last
+  pub failed : AtMostOne (Failed S (run S log events) old.devices.faults.disk new.devices.faults.disk) last
   pub because : IsLast stop last
-  pub answered : sink → Wrote stop taken taken_then (written S log (events ++ last))
-  pub read : clock → readings_then ≡ readings ++ readings_of (events ++ last)
-  pub durable : disk → IsStored S log old → Stays S log events last old new
+  pub answered : tells.sink → Wrote stop old.devices.taken new.devices.taken (written S log (events ++ last))
+  pub read : tells.clock → new.devices.readings ≡ old.devices.readings ++ readings_of (events ++ last)
+  pub durable : tells.disk → IsStored S log (log_at old) → Stays S log events last (log_at old) (log_at new)
+
+-- which of the two it is
+abbrev pub Serves : Result (Unit {0}) Stop → ℕ → List Entry → List Frame → Tells → Point → Point → Type 0
+Serves (Ok _) S log frames tells old new = Ran S log frames tells old new
+Serves (Err stop) S log frames tells old new = Ended stop S log frames tells old new

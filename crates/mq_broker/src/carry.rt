@@ -6,10 +6,11 @@ ghost use Rattle.record_codec.specs.Entry.{Entry};
 ghost use Rattle.log_model.specs.Store.{StoresLog};
 ghost use Rattle.segment_files.specs.Outside.{StaysOutside};
 ghost use Rattle.segment_files.specs.Turn.{HasRecords};
+ghost use Rattle.log_writer.specs.Durable.{CanGoOn, Stores};
 ghost use Rattle.mq_broker.specs.Actions.{action_for};
 ghost use Rattle.mq_broker.specs.Answers.{outcome_of, IsAnswer, IsAnswerTo, CountsFlush, UnlessFailed, IfFailed};
 ghost use Rattle.mq_broker.specs.Run.{reply_for, appended_by, with_record};
-ghost use Rattle.mq_broker.specs.Progress.{open_log, IsStored, StandsAt, CanTake};
+ghost use Rattle.mq_broker.specs.Progress.{StandsAt};
 
 use crate::action::{Action, action_of};
 use crate::answer::Answer;
@@ -45,8 +46,8 @@ pub(crate) fn carry_out<D: Disk>(
     frame: &Frame,
 ) -> Answer
     requires reading { reading < 2 ^ 62 }
-    requires open { CanTake D.tells (open_log writer.old (D.state disk.old)) }
-    ensures open { CanTake D.tells (open_log writer.new (D.state disk.new)) }
+    requires open { CanGoOn D.tells writer.old (D.state disk.old) }
+    ensures open { CanGoOn D.tells writer.new (D.state disk.new) }
 
     // What is answered, and what the log is then.
     ensures answer { (S : ℕ) (log : List Entry) → StandsAt S log writer.old
@@ -57,11 +58,11 @@ pub(crate) fn carry_out<D: Disk>(
     ensures outside { D.tells → StaysOutside (D.state disk.old) (D.state disk.new) }
 
     // A crash at any moment leaves what was flushed before, and what was flushed now once the answer says so.
-    ensures any_moment { D.tells → (S : ℕ) (log : List Entry) → IsStored S log (open_log writer.old (D.state disk.old))
+    ensures any_moment { D.tells → (S : ℕ) (log : List Entry) → Stores S log writer.old (D.state disk.old)
         → Throughout (D.state disk.old) (D.state disk.new) (HasRecords S log) }
-    ensures flushed { D.tells → (S : ℕ) (log : List Entry) → IsStored S log (open_log writer.old (D.state disk.old))
-        → UnlessFailed result (IsStored S (with_record log (appended_by S log reading (action_for S frame.now) (outcome_of result))) (open_log writer.new (D.state disk.new))) }
-    ensures not_flushed { D.tells → (S : ℕ) (log : List Entry) → IsStored S log (open_log writer.old (D.state disk.old))
+    ensures flushed { D.tells → (S : ℕ) (log : List Entry) → Stores S log writer.old (D.state disk.old)
+        → UnlessFailed result (Stores S (with_record log (appended_by S log reading (action_for S frame.now) (outcome_of result))) writer.new (D.state disk.new)) }
+    ensures not_flushed { D.tells → (S : ℕ) (log : List Entry) → Stores S log writer.old (D.state disk.old)
         → IfFailed result (StoresLog S (with_record log (appended_by S log reading (action_for S frame.now) (outcome_of result))) (length log) (D.state disk.new)) }
 {
     match action_of(alloc, writer.segment(), frame) {

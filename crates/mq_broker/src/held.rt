@@ -1,12 +1,14 @@
 //! Serves the frames that a cutter holds.
 
-ghost use Rattle.std.specs.Prelude.{◌≡◌, List, Ok, None, OnOk, MatchResult, ℕ};
+ghost use Rattle.std.specs.Prelude.{◌≡◌, List, Ok, None, OnOk, ℕ};
 ghost use Rattle.record_codec.specs.Entry.{Entry};
 ghost use Rattle.remoting_frame.specs.Frames.{next_of};
 ghost use Rattle.segment_files.specs.Outside.{StaysOutside};
+ghost use Rattle.log_writer.specs.Durable.{CanGoOn};
 ghost use Rattle.mq_broker.specs.Causes.{CountsHalt};
-ghost use Rattle.mq_broker.specs.Progress.{open_log, StandsAt, CanTake};
-ghost use Rattle.mq_broker.specs.Pipes.{ServedHeld, HaltedHeld, NextFrame};
+ghost use Rattle.mq_broker.specs.Seen.{tells_of, faults_of, devices_of};
+ghost use Rattle.mq_broker.specs.Progress.{point_of, StandsAt};
+ghost use Rattle.mq_broker.specs.Pipes.{ServesHeld, NextFrame};
 
 use crate::broker::Broker;
 use crate::request::serve;
@@ -37,13 +39,13 @@ pub(crate) fn serve_held<K: Sink, D: Disk, C: Clock>(
     disk: &mut D,
     clock: &mut C,
 ) -> Result<(), Halt>
-    requires open { CanTake D.tells (open_log broker.old.writer (D.state disk.old)) }
-    ensures served { (S : ℕ) (log : List Entry) → StandsAt S log broker.old.writer → MatchResult result
-        (λ _. ServedHeld S log cutter.old cutter.new K.tells (K.taken sink.old) (K.taken sink.new) D.tells (open_log broker.old.writer (D.state disk.old)) (open_log broker.new.writer (D.state disk.new)) C.tells (C.readings clock.old) (C.readings clock.new))
-        (λ halt. HaltedHeld halt S log cutter.old cutter.new K.tells (K.taken sink.old) (K.taken sink.new) D.tells (open_log broker.old.writer (D.state disk.old)) (open_log broker.new.writer (D.state disk.new)) C.tells (C.readings clock.old) (C.readings clock.new) (D.faults disk.old) (D.faults disk.new)) }
+    requires open { CanGoOn D.tells broker.old.writer (D.state disk.old) }
+    ensures served { (S : ℕ) (log : List Entry) → StandsAt S log broker.old.writer → ServesHeld result S log cutter.old cutter.new (tells_of K.tells D.tells C.tells)
+        (point_of broker.old.writer (devices_of (K.taken sink.old) (D.state disk.old) (C.readings clock.old) (faults_of (K.faults sink.old) (D.faults disk.old) (C.faults clock.old))))
+        (point_of broker.new.writer (devices_of (K.taken sink.new) (D.state disk.new) (C.readings clock.new) (faults_of (K.faults sink.new) (D.faults disk.new) (C.faults clock.new)))) }
     ensures waits { OnOk result (next_of cutter.new.at cutter.new.bytes ≡ Ok None) }
-    ensures open { CanTake D.tells (open_log broker.new.writer (D.state disk.new)) }
-    ensures cause { CountsHalt result (K.faults sink.old) (K.faults sink.new) (D.faults disk.old) (D.faults disk.new) (C.faults clock.old) (C.faults clock.new) }
+    ensures open { CanGoOn D.tells broker.new.writer (D.state disk.new) }
+    ensures cause { CountsHalt result (faults_of (K.faults sink.old) (D.faults disk.old) (C.faults clock.old)) (faults_of (K.faults sink.new) (D.faults disk.new) (C.faults clock.new)) }
     ensures outside { D.tells → StaysOutside (D.state disk.old) (D.state disk.new) }
 {
     loop {

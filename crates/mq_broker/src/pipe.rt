@@ -4,7 +4,9 @@ ghost use Rattle.std.specs.Prelude.{◌≡◌, ◌^◌, ◌≤◌, ◌<◌, ◌+
 ghost use Rattle.mq_outside.specs.Counts.{CountsFailure};
 ghost use Rattle.record_codec.specs.Entry.{Entry};
 ghost use Rattle.segment_files.specs.Outside.{StaysOutside};
-ghost use Rattle.mq_broker.specs.Progress.{open_log, StandsAt, CanTake};
+ghost use Rattle.log_writer.specs.Durable.{CanGoOn};
+ghost use Rattle.mq_broker.specs.Seen.{tells_of, faults_of, devices_of, seen_of};
+ghost use Rattle.mq_broker.specs.Progress.{StandsAt};
 ghost use Rattle.mq_broker.specs.Causes.{CountsPipe};
 ghost use Rattle.mq_broker.specs.Pipes.{Piped, EndsHere};
 
@@ -75,12 +77,15 @@ fn serve_stream<S: Source, K: Sink, D: Disk, C: Clock>(
     input: &mut [u8],
     cutter: &mut Cutter,
 ) -> Result<(), Halt>
-    requires open { CanTake D.tells (open_log broker.old.writer (D.state disk.old)) }
+    requires open { CanGoOn D.tells broker.old.writer (D.state disk.old) }
     requires room { 0 < length input.old }
     requires start { cutter.old ≡ record { at = 0; bytes = [] } }
-    ensures served { (segment : ℕ) (log : List Entry) → StandsAt segment log broker.old.writer → Piped result segment log S.tells (S.given source.old) (S.given source.new) (S.left source.new)
-        K.tells (K.taken sink.old) (K.taken sink.new) D.tells (open_log broker.old.writer (D.state disk.old)) (open_log broker.new.writer (D.state disk.new)) C.tells (C.readings clock.old) (C.readings clock.new) (D.faults disk.old) (D.faults disk.new) }
-    ensures cause { CountsPipe result (S.faults source.old) (S.faults source.new) (K.faults sink.old) (K.faults sink.new) (D.faults disk.old) (D.faults disk.new) (C.faults clock.old) (C.faults clock.new) }
+    ensures served { (segment : ℕ) (log : List Entry) → StandsAt segment log broker.old.writer → Piped result segment log
+        (seen_of S.tells (S.given source.old) (S.given source.new) (S.left source.new) (tells_of K.tells D.tells C.tells)
+        (devices_of (K.taken sink.old) (D.state disk.old) (C.readings clock.old) (faults_of (K.faults sink.old) (D.faults disk.old) (C.faults clock.old)))
+        (devices_of (K.taken sink.new) (D.state disk.new) (C.readings clock.new) (faults_of (K.faults sink.new) (D.faults disk.new) (C.faults clock.new))))
+        broker.old.writer broker.new.writer }
+    ensures cause { CountsPipe result (S.faults source.old) (S.faults source.new) (faults_of (K.faults sink.old) (D.faults disk.old) (C.faults clock.old)) (faults_of (K.faults sink.new) (D.faults disk.new) (C.faults clock.new)) }
     ensures outside { D.tells → StaysOutside (D.state disk.old) (D.state disk.new) }
 {
     let mut total: u64 = 0;
@@ -115,10 +120,13 @@ pub(crate) fn serve_all<S: Source, K: Sink, D: Disk, C: Clock>(
     disk: &mut D,
     clock: &mut C,
 ) -> Result<(), Halt>
-    requires open { CanTake D.tells (open_log broker.old.writer (D.state disk.old)) }
-    ensures served { (segment : ℕ) (log : List Entry) → StandsAt segment log broker.old.writer → Piped result segment log S.tells (S.given source.old) (S.given source.new) (S.left source.new)
-        K.tells (K.taken sink.old) (K.taken sink.new) D.tells (open_log broker.old.writer (D.state disk.old)) (open_log broker.new.writer (D.state disk.new)) C.tells (C.readings clock.old) (C.readings clock.new) (D.faults disk.old) (D.faults disk.new) }
-    ensures cause { CountsPipe result (S.faults source.old) (S.faults source.new) (K.faults sink.old) (K.faults sink.new) (D.faults disk.old) (D.faults disk.new) (C.faults clock.old) (C.faults clock.new) }
+    requires open { CanGoOn D.tells broker.old.writer (D.state disk.old) }
+    ensures served { (segment : ℕ) (log : List Entry) → StandsAt segment log broker.old.writer → Piped result segment log
+        (seen_of S.tells (S.given source.old) (S.given source.new) (S.left source.new) (tells_of K.tells D.tells C.tells)
+        (devices_of (K.taken sink.old) (D.state disk.old) (C.readings clock.old) (faults_of (K.faults sink.old) (D.faults disk.old) (C.faults clock.old)))
+        (devices_of (K.taken sink.new) (D.state disk.new) (C.readings clock.new) (faults_of (K.faults sink.new) (D.faults disk.new) (C.faults clock.new))))
+        broker.old.writer broker.new.writer }
+    ensures cause { CountsPipe result (S.faults source.old) (S.faults source.new) (faults_of (K.faults sink.old) (D.faults disk.old) (C.faults clock.old)) (faults_of (K.faults sink.new) (D.faults disk.new) (C.faults clock.new)) }
     ensures outside { D.tells → StaysOutside (D.state disk.old) (D.state disk.new) }
 {
     let Ok(mut input) = vec![in alloc; 0u8; PIECE] else {

@@ -1,15 +1,17 @@
 //! Serves one frame: a request is carried out at the clock's reading, and answered once its record is flushed.
 
-ghost use Rattle.std.specs.Prelude.{◌≡◌, ◌++◌, List, [], ◌∷◌, ℕ, Option, OnOk, OnErr, IfErr, MatchResult, false};
+ghost use Rattle.std.specs.Prelude.{◌≡◌, ◌++◌, List, [], ◌∷◌, ℕ, Option, OnOk, OnErr, IfErr, false};
 ghost use Rattle.record_codec.specs.Entry.{Entry};
 ghost use Rattle.reply_fields.specs.Parts.{ReplyParts};
 ghost use Rattle.segment_files.specs.Outside.{StaysOutside};
+ghost use Rattle.log_writer.specs.Durable.{CanGoOn};
 ghost use Rattle.mq_broker.specs.Taken.{TookPart};
 ghost use Rattle.mq_broker.specs.Run.{answer_bytes, is_response as is_response_of, is_one_way as is_one_way_of};
 ghost use Rattle.mq_broker.specs.Answers.{outcome_of, IsAnswer, HasFailed};
 ghost use Rattle.mq_broker.specs.declared.stop.Stop.TheVariants.{Disk};
 ghost use Rattle.mq_broker.specs.Causes.{CountsWrite, CountsStop};
-ghost use Rattle.mq_broker.specs.Progress.{open_log, StandsAt, CanTake, Ran, Ended, IsFineOutcome};
+ghost use Rattle.mq_broker.specs.Seen.{tells_of, faults_of, devices_of};
+ghost use Rattle.mq_broker.specs.Progress.{point_of, StandsAt, Serves, IsFineOutcome};
 
 use crate::answer::Answer;
 use crate::broker::Broker;
@@ -91,12 +93,12 @@ fn serve_request<K: Sink, D: Disk, C: Clock>(
     frame: Frame,
 ) -> Result<(), Stop>
     requires request { is_response_of frame.header ≡ false }
-    requires open { CanTake D.tells (open_log broker.old.writer (D.state disk.old)) }
-    ensures ran { (S : ℕ) (log : List Entry) → StandsAt S log broker.old.writer → MatchResult result
-        (λ _. Ran S log (frame ∷ []) K.tells (K.taken sink.old) (K.taken sink.new) D.tells (open_log broker.old.writer (D.state disk.old)) (open_log broker.new.writer (D.state disk.new)) C.tells (C.readings clock.old) (C.readings clock.new))
-        (λ stop. Ended stop S log (frame ∷ []) K.tells (K.taken sink.old) (K.taken sink.new) D.tells (open_log broker.old.writer (D.state disk.old)) (open_log broker.new.writer (D.state disk.new)) C.tells (C.readings clock.old) (C.readings clock.new) (D.faults disk.old) (D.faults disk.new)) }
-    ensures open { CanTake D.tells (open_log broker.new.writer (D.state disk.new)) }
-    ensures cause { CountsStop result (K.faults sink.old) (K.faults sink.new) (D.faults disk.old) (D.faults disk.new) (C.faults clock.old) (C.faults clock.new) }
+    requires open { CanGoOn D.tells broker.old.writer (D.state disk.old) }
+    ensures ran { (S : ℕ) (log : List Entry) → StandsAt S log broker.old.writer → Serves result S log (frame ∷ []) (tells_of K.tells D.tells C.tells)
+        (point_of broker.old.writer (devices_of (K.taken sink.old) (D.state disk.old) (C.readings clock.old) (faults_of (K.faults sink.old) (D.faults disk.old) (C.faults clock.old))))
+        (point_of broker.new.writer (devices_of (K.taken sink.new) (D.state disk.new) (C.readings clock.new) (faults_of (K.faults sink.new) (D.faults disk.new) (C.faults clock.new)))) }
+    ensures open { CanGoOn D.tells broker.new.writer (D.state disk.new) }
+    ensures cause { CountsStop result (faults_of (K.faults sink.old) (D.faults disk.old) (C.faults clock.old)) (faults_of (K.faults sink.new) (D.faults disk.new) (C.faults clock.new)) }
     ensures outside { D.tells → StaysOutside (D.state disk.old) (D.state disk.new) }
 {
     let Ok(reading) = clock.now() else {
@@ -128,12 +130,12 @@ pub(crate) fn serve<K: Sink, D: Disk, C: Clock>(
     clock: &mut C,
     frame: Frame,
 ) -> Result<(), Stop>
-    requires open { CanTake D.tells (open_log broker.old.writer (D.state disk.old)) }
-    ensures ran { (S : ℕ) (log : List Entry) → StandsAt S log broker.old.writer → MatchResult result
-        (λ _. Ran S log (frame ∷ []) K.tells (K.taken sink.old) (K.taken sink.new) D.tells (open_log broker.old.writer (D.state disk.old)) (open_log broker.new.writer (D.state disk.new)) C.tells (C.readings clock.old) (C.readings clock.new))
-        (λ stop. Ended stop S log (frame ∷ []) K.tells (K.taken sink.old) (K.taken sink.new) D.tells (open_log broker.old.writer (D.state disk.old)) (open_log broker.new.writer (D.state disk.new)) C.tells (C.readings clock.old) (C.readings clock.new) (D.faults disk.old) (D.faults disk.new)) }
-    ensures open { CanTake D.tells (open_log broker.new.writer (D.state disk.new)) }
-    ensures cause { CountsStop result (K.faults sink.old) (K.faults sink.new) (D.faults disk.old) (D.faults disk.new) (C.faults clock.old) (C.faults clock.new) }
+    requires open { CanGoOn D.tells broker.old.writer (D.state disk.old) }
+    ensures ran { (S : ℕ) (log : List Entry) → StandsAt S log broker.old.writer → Serves result S log (frame ∷ []) (tells_of K.tells D.tells C.tells)
+        (point_of broker.old.writer (devices_of (K.taken sink.old) (D.state disk.old) (C.readings clock.old) (faults_of (K.faults sink.old) (D.faults disk.old) (C.faults clock.old))))
+        (point_of broker.new.writer (devices_of (K.taken sink.new) (D.state disk.new) (C.readings clock.new) (faults_of (K.faults sink.new) (D.faults disk.new) (C.faults clock.new)))) }
+    ensures open { CanGoOn D.tells broker.new.writer (D.state disk.new) }
+    ensures cause { CountsStop result (faults_of (K.faults sink.old) (D.faults disk.old) (C.faults clock.old)) (faults_of (K.faults sink.new) (D.faults disk.new) (C.faults clock.new)) }
     ensures outside { D.tells → StaysOutside (D.state disk.old) (D.state disk.new) }
 {
     if is_response(&frame.header) {

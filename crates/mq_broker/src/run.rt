@@ -60,26 +60,24 @@ pub fn run_pipe<S: Source, K: Sink, D: Disk, P: Keep, C: Clock>(
     ensures idle { result.code ≡ 1 → (source.new ≡ source.old) × (sink.new ≡ sink.old) × (disk.new ≡ disk.old) × (keep.new ≡ keep.old) × (clock.new ≡ clock.old) }
 
     // Else the opening ended the call, or requests were served.
-    ensures fits { result.code ≢ 1 → Call (texts_of words.now) result (record {
-      source = S.tells;
-      given = S.given source.old;
-      given_then = S.given source.new;
-      left_then = S.left source.new;
-      sink = K.tells;
-      taken = K.taken sink.old;
-      taken_then = K.taken sink.new;
-      disk = D.tells;
-      old = D.state disk.old;
-      new = D.state disk.new;
-      faults = D.faults disk.old;
-      faults_then = D.faults disk.new;
-      keep = P.tells;
-      kept = P.state keep.old;
-      kept_then = P.state keep.new;
-      clock = C.tells;
-      readings = C.readings clock.old;
-      readings_then = C.readings clock.new;
-    }) }
+    ensures fits { result.code ≢ 1 → Call (texts_of words.now) result
+        (record {
+          source = record { tells = S.tells; given = S.given source.old; given_then = S.given source.new; left_then = S.left source.new };
+          tells = record { sink = K.tells; disk = D.tells; clock = C.tells };
+          old = record {
+            taken = K.taken sink.old;
+            disk = D.state disk.old;
+            readings = C.readings clock.old;
+            faults = record { sink = K.faults sink.old; disk = D.faults disk.old; clock = C.faults clock.old };
+          };
+          new = record {
+            taken = K.taken sink.new;
+            disk = D.state disk.new;
+            readings = C.readings clock.new;
+            faults = record { sink = K.faults sink.new; disk = D.faults disk.new; clock = C.faults clock.new };
+          };
+        })
+        (record { tells = P.tells; old = P.state keep.old; new = P.state keep.new }) }
 
     // Status 6 comes where the store is another's, with the name of what shows it. It stays as it is.
     ensures foreign { D.tells → P.tells → result.code ≡ 6 → (asked : Option ℕ) → IsCommand (texts_of words.now) asked → IsForeign (D.state disk.old).reads ((P.state keep.old).reads FORMAT) asked result.name }
@@ -89,8 +87,9 @@ pub fn run_pipe<S: Source, K: Sink, D: Disk, P: Keep, C: Clock>(
     // A format that stands is never written again, and no other text of the keep is touched.
     ensures stands { P.tells → (text : List ℕ) → (P.state keep.old).reads FORMAT ≡ Some text → Moves Same (P.state keep.old) (P.state keep.new) }
     ensures kept { P.tells → (name : List ℕ) → name ≢ FORMAT → (P.state keep.new).reads name ≡ (P.state keep.old).reads name }
-    ensures causes { Causes result (S.faults source.old) (S.faults source.new) (K.faults sink.old) (K.faults sink.new) (D.faults disk.old) (D.faults disk.new)
-        (P.faults keep.old) (P.faults keep.new) (C.faults clock.old) (C.faults clock.new) }
+    ensures causes { Causes result
+        (record { source = S.faults source.old; sink = K.faults sink.old; disk = D.faults disk.old; keep = P.faults keep.old; clock = C.faults clock.old })
+        (record { source = S.faults source.new; sink = K.faults sink.new; disk = D.faults disk.new; keep = P.faults keep.new; clock = C.faults clock.new }) }
 {
     let command = match read_words(words) {
         Err(place) => return Status::at(alloc, 1, place),

@@ -1,17 +1,20 @@
 use Rattle.std.proofs.Common.{◌≡◌, ℕ, List, length}
 use Rattle.record_codec.specs.Entry.{Entry}
 use Rattle.segment_files.specs.Outside.{StaysOutside}
-use Rattle.mq_broker.specs.Progress.{open_log, StandsAt, CanTake}
+use Rattle.log_writer.specs.Durable.{CanGoOn}
+use Rattle.mq_broker.specs.Seen.{tells_of, faults_of, devices_of}
+use Rattle.mq_broker.specs.Progress.{point_of, StandsAt}
 use Rattle.mq_broker.specs.Pipes.{ServedHeld}
 use Rattle.mq_broker.proofs.held.serve_held.Given as goal
 
 abbrev pub invariant-loop-halt : goal.invariant-loop-halt
 invariant-loop-halt g l = record {
-  served : (S : ℕ) (log : List Entry) → StandsAt S log l.initial.broker.writer → ServedHeld S log l.initial.cutter l.cutter
-      g.K.Sink.tells (g.K.Sink.taken l.initial.sink) (g.K.Sink.taken l.sink)
-      g.D.Disk.tells (open_log l.initial.broker.writer (g.D.Disk.state l.initial.disk)) (open_log l.broker.writer (g.D.Disk.state l.disk))
-      g.C.Clock.tells (g.C.Clock.readings l.initial.clock) (g.C.Clock.readings l.clock);
-  open_ : CanTake g.D.Disk.tells (open_log l.broker.writer (g.D.Disk.state l.disk));
+  served : (S : ℕ) (log : List Entry) → StandsAt S log l.initial.broker.writer → ServedHeld S log l.initial.cutter l.cutter (tells_of g.K.Sink.tells g.D.Disk.tells g.C.Clock.tells)
+      (point_of l.initial.broker.writer (devices_of (g.K.Sink.taken l.initial.sink) (g.D.Disk.state l.initial.disk) (g.C.Clock.readings l.initial.clock)
+      (faults_of (g.K.Sink.faults l.initial.sink) (g.D.Disk.faults l.initial.disk) (g.C.Clock.faults l.initial.clock))))
+      (point_of l.broker.writer (devices_of (g.K.Sink.taken l.sink) (g.D.Disk.state l.disk) (g.C.Clock.readings l.clock)
+      (faults_of (g.K.Sink.faults l.sink) (g.D.Disk.faults l.disk) (g.C.Clock.faults l.clock))));
+  open_ : CanGoOn g.D.Disk.tells l.broker.writer (g.D.Disk.state l.disk);
   sink : g.K.Sink.faults l.sink ≡ g.K.Sink.faults l.initial.sink;
   disk : g.D.Disk.faults l.disk ≡ g.D.Disk.faults l.initial.disk;
   clock : g.C.Clock.faults l.clock ≡ g.C.Clock.faults l.initial.clock;

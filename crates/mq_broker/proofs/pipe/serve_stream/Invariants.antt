@@ -2,19 +2,24 @@ use Rattle.std.proofs.Common.{◌≡◌, ℕ, List, ◌≤◌, ◌-◌, ◌^◌,
 use Rattle.record_codec.specs.Entry.{Entry}
 use Rattle.remoting_frame.specs.Frames.{next_of}
 use Rattle.segment_files.specs.Outside.{StaysOutside}
-use Rattle.mq_broker.specs.Progress.{open_log, StandsAt, CanTake}
+use Rattle.log_writer.specs.Durable.{CanGoOn}
+use Rattle.mq_broker.specs.Seen.{tells_of, faults_of, devices_of, seen_of}
+use Rattle.mq_broker.specs.Progress.{StandsAt}
 use Rattle.mq_broker.specs.Pipes.{SoFar}
 use Rattle.mq_broker.proofs.pipe.serve_stream.Given as goal
 
 abbrev pub invariant-loop-total : goal.invariant-loop-total
 invariant-loop-total g l = record {
-  served : (S : ℕ) (log : List Entry) → StandsAt S log l.initial.broker.writer → SoFar S log l.total l.cutter g.S.Source.tells (g.S.Source.given l.initial.source) (g.S.Source.given l.source)
-      g.K.Sink.tells (g.K.Sink.taken l.initial.sink) (g.K.Sink.taken l.sink)
-      g.D.Disk.tells (open_log l.initial.broker.writer (g.D.Disk.state l.initial.disk)) (open_log l.broker.writer (g.D.Disk.state l.disk))
-      g.C.Clock.tells (g.C.Clock.readings l.initial.clock) (g.C.Clock.readings l.clock);
+  served : (S : ℕ) (log : List Entry) → StandsAt S log l.initial.broker.writer → SoFar S log l.total l.cutter
+      (seen_of g.S.Source.tells (g.S.Source.given l.initial.source) (g.S.Source.given l.source) (g.S.Source.left l.source) (tells_of g.K.Sink.tells g.D.Disk.tells g.C.Clock.tells)
+      (devices_of (g.K.Sink.taken l.initial.sink) (g.D.Disk.state l.initial.disk) (g.C.Clock.readings l.initial.clock)
+      (faults_of (g.K.Sink.faults l.initial.sink) (g.D.Disk.faults l.initial.disk) (g.C.Clock.faults l.initial.clock)))
+      (devices_of (g.K.Sink.taken l.sink) (g.D.Disk.state l.disk) (g.C.Clock.readings l.clock)
+      (faults_of (g.K.Sink.faults l.sink) (g.D.Disk.faults l.disk) (g.C.Clock.faults l.clock))))
+      l.initial.broker.writer l.broker.writer;
   waits : next_of l.cutter.at l.cutter.bytes ≡ Ok None;
   within : l.total ≤ 2 ^ 62;
-  open_ : CanTake g.D.Disk.tells (open_log l.broker.writer (g.D.Disk.state l.disk));
+  open_ : CanGoOn g.D.Disk.tells l.broker.writer (g.D.Disk.state l.disk);
   source : g.S.Source.faults l.source ≡ g.S.Source.faults l.initial.source;
   sink : g.K.Sink.faults l.sink ≡ g.K.Sink.faults l.initial.sink;
   disk : g.D.Disk.faults l.disk ≡ g.D.Disk.faults l.initial.disk;
