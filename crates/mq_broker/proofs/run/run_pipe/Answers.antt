@@ -1,12 +1,11 @@
-use Rattle.std.proofs.Common.{◌∙◌, inl, inr, ℕ, Option, sym, subst, refl, arith}
-use Rattle.mq_outside.proofs.Moments.{rests_start, rests_call}
+use Rattle.std.proofs.Common.{◌∙◌, inl, inr, ℕ, Option, sym, subst, refl}
 use Rattle.segment_files.proofs.Outside.{outside_start, outside_same, outside_then}
 use Rattle.log_writer.specs.Durable.{Opened}
 use Rattle.log_writer.specs.Openings.{GoesOnBehind}
 use Rattle.store_open.specs.Openings.{FORMAT, IsForeign}
 use Rattle.store_open.proofs.WordLemmas.{one_command}
 use Rattle.mq_broker.specs.Seen.{faults_of}
-use Rattle.mq_broker.proofs.CauseLemmas.{usage_causes, opening_causes, opening_refused, opening_code, pipe_causes, told_code, fault_causes, fault_code}
+use Rattle.mq_broker.proofs.CauseLemmas.{opening_causes}
 use Rattle.mq_broker.proofs.RunLemmas.{begins_with, keeps_on, unrecovered, stores_same, honest_same}
 use Rattle.mq_broker.proofs.run.run_pipe.Goals as goal
 
@@ -74,78 +73,3 @@ returns-clause-outside g c tells =
     let opened = outside_then (outside_same (outside_start _) (c.in-Ok-open_format.ensures.rests tells))
     (c.in-Ok-open.ensures.outside tells) in
     outside_then opened (c.serve_all-ended.ensures.outside tells)
-
--- ---- the words don't fit
-
-pub returns-in-Err-clause-causes : goal.returns-in-Err-clause-causes
-returns-in-Err-clause-causes g c = usage_causes c.at.result _ _ c.at.ensures.code
-
-pub returns-in-Err-clause-fits : goal.returns-in-Err-clause-fits
-returns-in-Err-clause-fits g c = λ fits. absurd (fits c.at.ensures.code)
-
-pub returns-in-Err-clause-foreign : goal.returns-in-Err-clause-foreign
-returns-in-Err-clause-foreign g c = λ told kept code. absurd (omega (arith, c.at.ensures.code, code))
-
--- ---- the store was not opened
-
-pub returns-in-Err-open_format-clause-usage : goal.returns-in-Err-open_format-clause-usage
-returns-in-Err-open_format-clause-usage g c = λ code. absurd (opening_code c.in-Err-open_format.status _ _ _ _ c.in-Err-open_format.ensures.cause code)
-
-pub returns-in-Err-open_format-clause-wrong : goal.returns-in-Err-open_format-clause-wrong
-returns-in-Err-open_format-clause-wrong g c = λ none. absurd (none _ c.in-Ok.ensures.fits)
-
-pub returns-in-Err-open_format-clause-idle : goal.returns-in-Err-open_format-clause-idle
-returns-in-Err-open_format-clause-idle g c = λ code. absurd (opening_code c.in-Err-open_format.status _ _ _ _ c.in-Err-open_format.ensures.cause code)
-
-pub returns-in-Err-open_format-clause-fits : goal.returns-in-Err-open_format-clause-fits
-returns-in-Err-open_format-clause-fits g c = λ fits. record {
-  asked = c.in-Ok.command.segment;
-  command = c.in-Ok.ensures.fits;
-  called = inr (
-    record { given_is = refl; taken_is = refl; readings_is = refl },
-    inl (record {
-      refused = opening_refused c.in-Err-open_format.status _ _ _ _ c.in-Err-open_format.ensures.cause;
-      still = λ told. rests_call (rests_start _) (c.in-Err-open_format.ensures.rests told);
-    }),
-  );
-}
-
--- ---- the log was not recovered
-
-pub returns-in-Err-open-clause-usage : goal.returns-in-Err-open-clause-usage
-returns-in-Err-open-clause-usage g c = λ code. absurd ((fault_code _ _ c.status_of_fault.ensures).0 code)
-
-pub returns-in-Err-open-clause-wrong : goal.returns-in-Err-open-clause-wrong
-returns-in-Err-open-clause-wrong g c = λ none. absurd (none _ c.in-Ok.ensures.fits)
-
-pub returns-in-Err-open-clause-idle : goal.returns-in-Err-open-clause-idle
-returns-in-Err-open-clause-idle g c = λ code. absurd ((fault_code _ _ c.status_of_fault.ensures).0 code)
-
-pub returns-in-Err-open-clause-foreign : goal.returns-in-Err-open-clause-foreign
-returns-in-Err-open-clause-foreign g c = λ told kept code. absurd ((fault_code _ _ c.status_of_fault.ensures).1 code)
-
-pub returns-in-Err-open-clause-theirs : goal.returns-in-Err-open-clause-theirs
-returns-in-Err-open-clause-theirs g c = λ kept code. absurd ((fault_code _ _ c.status_of_fault.ensures).1 code)
-
-pub returns-in-Err-open-clause-causes : goal.returns-in-Err-open-clause-causes
-returns-in-Err-open-clause-causes g c = fault_causes c.status_of_fault.result c.in-Err-open.fault _ _ _ c.status_of_fault.ensures c.in-Ok-open_format.ensures.disk_still c.in-Err-open.ensures.cause
-
--- ---- requests were served
-
-pub returns-clause-usage : goal.returns-clause-usage
-returns-clause-usage g c = λ code. absurd ((told_code _ _ c.status_of.ensures).0 code)
-
-pub returns-clause-wrong : goal.returns-clause-wrong
-returns-clause-wrong g c = λ none. absurd (none _ c.in-Ok.ensures.fits)
-
-pub returns-clause-idle : goal.returns-clause-idle
-returns-clause-idle g c = λ code. absurd ((told_code _ _ c.status_of.ensures).0 code)
-
-pub returns-clause-foreign : goal.returns-clause-foreign
-returns-clause-foreign g c = λ told kept code. absurd ((told_code _ _ c.status_of.ensures).1 code)
-
-pub returns-clause-theirs : goal.returns-clause-theirs
-returns-clause-theirs g c = λ kept code. absurd ((told_code _ _ c.status_of.ensures).1 code)
-
-pub returns-clause-causes : goal.returns-clause-causes
-returns-clause-causes g c = pipe_causes c.status_of.result c.serve_all-ended.result _ _ _ c.status_of.ensures (c.in-Ok-open.ensures.cause ∙ c.in-Ok-open_format.ensures.disk_still) c.serve_all-ended.ensures.cause
