@@ -64,6 +64,25 @@ impl Props {
         Ok(props)
     }
 
+    /// The value that the property of this name has in a request's text, as `Props::read` reads it: the last one counts.
+    /// Takes no memory.
+    pub fn value_in<'a>(text: &'a str, name: &str) -> Option<&'a str>
+        ensures { option_map (λ value. value.now) result ≡ value_of name.now (read_props text.now) }
+    {
+        let mut last = None;
+        let mut rest = text.as_bytes();
+        while rest.len() > 0 {
+            let (piece, after) = first_piece(rest);
+            if let Some((other, value)) = pair_of(piece) {
+                if name.as_bytes() == other {
+                    last = Some(value);
+                }
+            }
+            rest = after;
+        }
+        Some(str_of(last?))
+    }
+
     /// The same properties, apart from these.
     pub fn copy(&self, alloc: Global) -> Result<Props, AllocError>
         ensures { IfOk result (λ copy. copy ≡ self.now) }
@@ -265,8 +284,15 @@ pub(crate) fn text_of(alloc: Global, bytes: &[u8]) -> Result<Text, AllocError>
     requires { IsUtf8 bytes.now }
     ensures { IfOk result (λ text. text ≡ bytes.now) }
 {
+    Ok(Text::of(String::from_str(alloc, str_of(bytes))?))
+}
+
+fn str_of(bytes: &[u8]) -> &str
+    requires { IsUtf8 bytes.now }
+    ensures { result.now ≡ bytes.now }
+{
     match std::str::from_utf8(bytes) {
-        Ok(text) => Ok(Text::of(String::from_str(alloc, text)?)),
+        Ok(text) => text,
         Err(_) => unreachable!(),
     }
 }
