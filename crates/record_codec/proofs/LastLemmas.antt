@@ -54,7 +54,7 @@ value_of-kept other name (p ∷ ps) differs =
     ]
 
 -- a pair that is put counts as if it stood in front
-value_of-front : (name : List ℕ) (p : List ℕ × List ℕ) (ps : List (List ℕ × List ℕ)) → value_of name (with_prop p.0 p.1 ps) ≡ value_of name (p ∷ ps)
+pub value_of-front : (name : List ℕ) (p : List ℕ × List ℕ) (ps : List (List ℕ × List ℕ)) → value_of name (with_prop p.0 p.1 ps) ≡ value_of name (p ∷ ps)
 value_of-front name p ps =
     elim (cases_Bool (bytes_eq name p.0)) [
       | inl here ↦ rw here (ap (λ (n : List ℕ). value_of n (with_prop p.0 p.1 ps)) ((bytes_eq-Decides name p.0).0 here) ∙ value_of-put p.0 p.1 ps)

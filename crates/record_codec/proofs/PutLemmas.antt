@@ -1,11 +1,18 @@
 -- Lists of properties stay such lists when a property is put or dropped.
 use Rattle.std.proofs.Common.{◌≡◌, ℕ, zero, suc, ◌+◌, ◌<◌, ◌++◌, List, [], ◌∷◌, length, get_or, set, Bool, true, false, cond, not, Option, Some, None, option_map, Result, Ok, Err, refl, sym, ap, subst, ◌∙◌, inl, inr, ◌⊎◌, arith, add-one}
 use Rattle.std.specs.Prelude.{OnOk, OnErr}
+use Rattle.std.specs.Borrow.{Bor}
+use Rattle.std.specs.BTreeMap.{BTreeMap, get_by, UpdatesBy}
+use Rattle.std.specs.Cmp.Lexicographic.{slice_cmp}
+use Rattle.std.specs.Map.{update}
+use Rattle.std.specs.Ordering.{nat_cmp}
 use Rattle.std.specs.Str.{IsUtf8, bytes_eq}
 use Rattle.std.proofs.lemmas.Bool.{and_parts, and_from, or_parts, or_from, not-true, cases_Bool, false_from_ne_true}
 use Rattle.std.proofs.lemmas.Slice.Eq.{bytes_eq-Decides}
+use Rattle.std.proofs.lemmas.Map.Text.{btree_map_updates_str}
 use Rattle.std.proofs.lemmas.Str.{IsUtf8-append, IsUtf8-nil, IsUtf8-from_ascii, is_utf8-from_IsUtf8, IsUtf8-from_is_utf8}
 use Rattle.record_codec.specs.Props.{pair_text, written, is_pair, are_pairs, has_name, place_in, with_prop, without, are_distinct, AreProps}
+use Rattle.record_codec.specs.LaxProps.{ArePlacesIn}
 use Rattle.record_codec.proofs.PairTexts.{map_some, some_is}
 use Rattle.record_codec.proofs.TextLemmas.{IsUtf8-pair}
 
@@ -44,6 +51,44 @@ at_end name value [] h = refl
 at_end name value (p ∷ ps) h =
     let n = no_place (bytes_eq name p.0) (place_in name ps) h in
     rw n.0 (ap (λ (w : List (List ℕ × List ℕ)). p ∷ w) (at_end name value ps n.1))
+
+-- ---- the places of all names
+
+places_stay : (name value : List ℕ) (ps : List (List ℕ × List ℕ)) (i : ℕ) → place_in name ps ≡ Some i → (other : List ℕ) → place_in other ps ≡ place_in other (with_prop name value ps)
+places_stay name value [] i h other = absurd cc
+places_stay name value (p ∷ ps) i h other =
+    elim (place_cases (bytes_eq name p.0) (place_in name ps) i h) [
+      | inl first ↦ rw first.0 refl
+      | inr later ↦ rw later.0 (ap (chosen_place (bytes_eq other p.0)) (places_stay name value ps later.1.0 later.1.1 other))
+    ]
+
+places_grow : (name value : List ℕ) (ps : List (List ℕ × List ℕ)) → place_in name ps ≡ None → (other : List ℕ) → update bytes_eq (λ n. place_in n ps) name (Some (length ps)) other ≡ place_in other (with_prop name value ps)
+places_grow name value [] h other =
+    elim (cases_Bool (bytes_eq name other)) [
+      | inl same ↦ let turned : bytes_eq other name ≡ true = (bytes_eq-Decides other name).1 (sym ((bytes_eq-Decides name other).0 same)) in rw (same, turned) refl
+      | inr differ ↦ let turned : bytes_eq other name ≡ false = false_from_ne_true _ (λ t. let same : bytes_eq name other ≡ true = (bytes_eq-Decides name other).1 (sym ((bytes_eq-Decides other name).0 t)) in absurd cc) in rw (differ, turned) refl
+    ]
+places_grow name value (p ∷ ps) h other =
+    let n = no_place (bytes_eq name p.0) (place_in name ps) h in
+    let rest = places_grow name value ps n.1 other in
+    elim (cases_Bool (bytes_eq name other)) [
+      | inl same ↦
+          let not_this : bytes_eq other p.0 ≡ false = ap (λ (o : List ℕ). bytes_eq o p.0) (sym ((bytes_eq-Decides name other).0 same)) ∙ n.0 in
+          rw (n.0, same, not_this, ← add-one) (ap (λ (o : Option ℕ). option_map (λ k. k + 1) o) (rw same at rest))
+      | inr differ ↦ rw (n.0, differ) (ap (chosen_place (bytes_eq other p.0)) (rw differ at rest))
+    ]
+
+-- a name that is there keeps its place, and so do the others
+pub still_placed : (name value : List ℕ) (ps : List (List ℕ × List ℕ)) (places : BTreeMap (Bor (List ℕ)) ℕ) (i : ℕ) → ArePlacesIn ps places → place_in name ps ≡ Some i → ArePlacesIn (with_prop name value ps) places
+still_placed name value ps places i placed h other = placed other ∙ places_stay name value ps i h other
+
+-- a new name has the last place, and the others keep theirs
+pub newly_placed : (name value : List ℕ) (ps : List (List ℕ × List ℕ)) (places more : BTreeMap (Bor (List ℕ)) ℕ) (n : ℕ)
+    → UpdatesBy (λ x y. slice_cmp nat_cmp x.now y.now) (λ k. slice_cmp nat_cmp name k.now) places more (Some n) → n ≡ length ps → ArePlacesIn ps places → place_in name ps ≡ None → ArePlacesIn (with_prop name value ps) more
+newly_placed name value ps places more n updates last placed h other =
+    let found = btree_map_updates_str name places more _ updates other in
+    found ∙ ap (λ (k : ℕ). cond (bytes_eq name other) (Some k) (get_by (λ k. slice_cmp nat_cmp other k.now) places)) last
+    ∙ ap (cond (bytes_eq name other) (Some (length ps))) (placed other) ∙ places_grow name value ps h other
 
 -- ---- a property is put
 

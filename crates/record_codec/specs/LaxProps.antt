@@ -1,7 +1,11 @@
 -- Reading the properties of a request, whose text need not be in written form.
-use Rattle.std.specs.Prelude.{ℕ, ◌==◌, List, [], ◌∷◌, unwrap_or, if◌then◌else◌}
+use Rattle.std.specs.Prelude.{◌≡◌, ℕ, ◌==◌, List, [], ◌∷◌, unwrap_or, if◌then◌else◌}
+use Rattle.std.specs.Borrow.{Bor}
+use Rattle.std.specs.BTreeMap.{BTreeMap, get_by}
+use Rattle.std.specs.Cmp.Lexicographic.{slice_cmp}
+use Rattle.std.specs.Ordering.{nat_cmp}
 use Rattle.std.specs.List.{filter_map}
-use Rattle.record_codec.specs.Props.{with_prop, until, pair_in}
+use Rattle.record_codec.specs.Props.{with_prop, place_in, until, pair_in}
 
 -- one more byte in front of the first piece
 abbrev pub in_front : ℕ → List (List ℕ) → List (List ℕ)
@@ -26,3 +30,7 @@ with_all ps (p ∷ more) = with_all (with_prop p.0 p.1 ps) more
 -- a repeated name keeps its first place and its last value
 unfoldable pub read_props : List ℕ → List (List ℕ × List ℕ)
 read_props text = with_all [] (filter_map pair_in (pieces 2 text))
+
+-- the map has the place of each name among these properties, and no other name
+abbrev pub ArePlacesIn : List (List ℕ × List ℕ) → BTreeMap (Bor (List ℕ)) ℕ → Type 0
+ArePlacesIn ps places = (name : List ℕ) → get_by (λ k. slice_cmp nat_cmp name k.now) places ≡ place_in name ps

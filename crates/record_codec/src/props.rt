@@ -6,13 +6,14 @@ ghost use Rattle.std.specs.Prelude.{◌≡◌, ◌+◌, ◌≤◌, [], ◌++◌,
 ghost use Rattle.std.specs.Option.{SomeIff};
 ghost use Rattle.std.specs.Str.{IsUtf8};
 ghost use Rattle.std.specs.Vec.{vec_capacity};
-ghost use Rattle.record_codec.specs.LaxProps.{first_piece as first_piece_of, read_props};
+ghost use Rattle.record_codec.specs.LaxProps.{first_piece as first_piece_of, read_props, ArePlacesIn};
 ghost use Rattle.record_codec.specs.Props.{written, lacks, is_pair, pairs_in, place_in, value_of, with_prop, without, AreProps, IsWritten};
 
 use crate::append::{put, put_byte};
 use crate::scan::{next_pair, pair_of, split_at_first};
 use mq_bytes::Text;
 use std::alloc::{AllocError, Global};
+use std::collections::BTreeMap;
 use std::marker::Model;
 
 /// A list of properties. Contracts see the list of its names and values.
@@ -51,15 +52,35 @@ impl Props {
         ensures { IfOk result (λ props. props ≡ read_props text.now) }
     {
         let mut props = Props::new(alloc);
+        let mut places = BTreeMap::new(alloc);
         let mut rest = text.as_bytes();
         while rest.len() > 0 {
             let (piece, after) = first_piece(rest);
             if let Some((name, value)) = pair_of(piece) {
-                props.put_bytes(alloc, name, value)?;
+                props.put_placed(alloc, &mut places, name, value)?;
             }
             rest = after;
         }
         Ok(props)
+    }
+
+    /// The value that the property of this name has in a request's text, as `Props::read` reads it: the last one counts.
+    /// Takes no memory.
+    pub fn value_in<'a>(text: &'a str, name: &str) -> Option<&'a str>
+        ensures { option_map (λ value. value.now) result ≡ value_of name.now (read_props text.now) }
+    {
+        let mut last = None;
+        let mut rest = text.as_bytes();
+        while rest.len() > 0 {
+            let (piece, after) = first_piece(rest);
+            if let Some((other, value)) = pair_of(piece) {
+                if name.as_bytes() == other {
+                    last = Some(value);
+                }
+            }
+            rest = after;
+        }
+        Some(str_of(last?))
     }
 
     /// The same properties, apart from these.
@@ -89,17 +110,50 @@ impl Props {
         ensures ok { OnOk result (self.new ≡ with_prop name.now value.now self.old) }
         ensures err { OnErr result (self.new ≡ self.old) }
     {
-        self.put_bytes(alloc, name.as_bytes(), value.as_bytes())
+        let at = place_of(&self.pairs, name.as_bytes());
+        self.put_at(alloc, at, name.as_bytes(), value.as_bytes())
     }
 
-    fn put_bytes(&mut self, alloc: Global, name: &[u8], value: &[u8]) -> Result<(), AllocError>
+    // Puts the property by the places of the names, so that it isn't compared with each of them, and notes a new name's place.
+    fn put_placed<'a>(
+        &mut self,
+        alloc: Global,
+        places: &mut BTreeMap<&'a [u8], usize>,
+        name: &'a [u8],
+        value: &[u8],
+    ) -> Result<(), AllocError>
         requires pair { IsTrue (is_pair (name.now, value.now)) }
         requires name { IsUtf8 name.now }
         requires value { IsUtf8 value.now }
+        requires placed { ArePlacesIn self.old places.old }
+        ensures ok { OnOk result (self.new ≡ with_prop name.now value.now self.old) }
+        ensures places { OnOk result (ArePlacesIn self.new places.new) }
+    {
+        match places.get(name).copied() {
+            Some(at) => self.put_at(alloc, Some(at), name, value),
+            None => {
+                places.insert(name, self.pairs.len())?;
+                self.put_at(alloc, None, name, value)
+            }
+        }
+    }
+
+    // Puts the property where this is its name's place.
+    fn put_at(
+        &mut self,
+        alloc: Global,
+        at: Option<usize>,
+        name: &[u8],
+        value: &[u8],
+    ) -> Result<(), AllocError>
+        requires pair { IsTrue (is_pair (name.now, value.now)) }
+        requires name { IsUtf8 name.now }
+        requires value { IsUtf8 value.now }
+        requires at { at ≡ place_in name.now self.old }
         ensures ok { OnOk result (self.new ≡ with_prop name.now value.now self.old) }
         ensures err { OnErr result (self.new ≡ self.old) }
     {
-        put_pair(&mut self.pairs, alloc, name, value)
+        put_pair(&mut self.pairs, alloc, at, name, value)
     }
 
     /// Drops the name and its value, if the name is there.
@@ -173,16 +227,18 @@ fn copy_of(alloc: Global, text: &Text) -> Result<Text, AllocError>
 fn put_pair(
     pairs: &mut Vec<(Text, Text)>,
     alloc: Global,
+    at: Option<usize>,
     name: &[u8],
     value: &[u8],
 ) -> Result<(), AllocError>
     requires name { IsUtf8 name.now }
     requires value { IsUtf8 value.now }
+    requires at { at ≡ place_in name.now pairs.old.items }
     ensures ok { OnOk result (pairs.new.items ≡ with_prop name.now value.now pairs.old.items) }
     ensures err { OnErr result (pairs.new.items ≡ pairs.old.items) }
 {
     let value = text_of(alloc, value)?;
-    match place_of(pairs, name) {
+    match at {
         Some(at) => {
             let pair = &mut pairs[at];
             pair.1 = value;
@@ -228,8 +284,15 @@ pub(crate) fn text_of(alloc: Global, bytes: &[u8]) -> Result<Text, AllocError>
     requires { IsUtf8 bytes.now }
     ensures { IfOk result (λ text. text ≡ bytes.now) }
 {
+    Ok(Text::of(String::from_str(alloc, str_of(bytes))?))
+}
+
+fn str_of(bytes: &[u8]) -> &str
+    requires { IsUtf8 bytes.now }
+    ensures { result.now ≡ bytes.now }
+{
     match std::str::from_utf8(bytes) {
-        Ok(text) => Ok(Text::of(String::from_str(alloc, text)?)),
+        Ok(text) => text,
         Err(_) => unreachable!(),
     }
 }

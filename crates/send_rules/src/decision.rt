@@ -28,9 +28,11 @@ pub fn decide(
     ensures decision { IfOk result (λ decision. decision ≡ decision_of setup.now.segment born_host setup.now.host send) }
     ensures sound { IfOk result (IsSound setup.now.segment) }
 {
-    let props = Props::read(alloc, send.props.as_str())?;
-    match refusal_of(&send, &props, setup.segment) {
-        Some(refusal) => Ok(Decision::Refused(refusal)),
-        None => Ok(Decision::Taken(draft_of(send, props, born_host, setup.host))),
+    if let Some(refusal) = refusal_of(&send, setup.segment) {
+        return Ok(Decision::Refused(refusal));
     }
+
+    // Not before: the text of a refused send may have the length of a frame.
+    let props = Props::read(alloc, send.props.as_str())?;
+    Ok(Decision::Taken(draft_of(send, props, born_host, setup.host)))
 }

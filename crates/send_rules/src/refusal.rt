@@ -11,12 +11,11 @@
 //! | `SystemTopic` | the topic is one that the broker keeps for itself                               |
 
 ghost use Rattle.std.specs.Prelude.{◌≡◌, ◌≤◌, ◌^◌};
-ghost use Rattle.record_codec.specs.LaxProps.{read_props};
 ghost use Rattle.send_rules.specs.Refusals.{refusal_of as refusal_of_send};
 
 use crate::kinds::is_unserved;
 use log_model::is_system_topic;
-use record_codec::{BODY_MAX, HOSTS_LONG, Props, is_legal_topic};
+use record_codec::{BODY_MAX, HOSTS_LONG, is_legal_topic};
 use request_fields::SendFields;
 
 /// Why a send is not taken.
@@ -46,13 +45,12 @@ const RESERVE: usize = 1024;
 
 /// The first refusal that holds, for segments of this size.
 #[tactic(auto, unfolding(crate::specs::Refusals::refusal_of))]
-pub(crate) fn refusal_of(send: &SendFields, props: &Props, segment: u32) -> Option<Refusal>
-    requires { props.now ≡ read_props send.now.props }
+pub(crate) fn refusal_of(send: &SendFields, segment: u32) -> Option<Refusal>
     ensures { result ≡ refusal_of_send segment send.now }
 {
     let body = send.body.as_slice().len();
     let properties = send.props.as_str().len();
-    if is_unserved(send, props) {
+    if is_unserved(send) {
         return Some(Refusal::NotServed);
     }
     if !is_legal_topic(send.topic.as_str()) {

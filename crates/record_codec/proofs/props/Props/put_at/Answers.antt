@@ -1,6 +1,6 @@
 use Rattle.record_codec.specs.Props.{AreProps}
 use Rattle.record_codec.proofs.PutLemmas.{AreProps-with_prop, either_way}
-use Rattle.record_codec.proofs.props.Props.put_bytes.Goals as goal
+use Rattle.record_codec.proofs.props.Props.put_at.Goals as goal
 
 pub invariant_of-self : goal.invariant_of-self
 invariant_of-self c =
