@@ -1,7 +1,8 @@
 //! What is decided of a send.
 
-ghost use Rattle.std.specs.Prelude.{◌≡◌, ◌<◌, ◌^◌, IfOk};
+ghost use Rattle.std.specs.Prelude.{◌≡◌, ◌<◌, ◌^◌, None, IfOk, OnErr};
 ghost use Rattle.send_rules.specs.Decisions.{decision_of, IsSound};
+ghost use Rattle.send_rules.specs.Refusals.{refusal_of as refusal_of_send};
 
 use crate::draft::{Setup, draft_of};
 use crate::refusal::{Refusal, refusal_of};
@@ -18,7 +19,7 @@ pub enum Decision {
     Taken(Draft),
 }
 
-/// Decides of a send that came from this host.
+/// Decides of a send that came from this host. A send that is refused takes no memory.
 pub fn decide(
     alloc: Global,
     setup: &Setup,
@@ -27,6 +28,7 @@ pub fn decide(
 ) -> Result<Decision, AllocError>
     ensures decision { IfOk result (λ decision. decision ≡ decision_of setup.now.segment born_host setup.now.host send) }
     ensures sound { IfOk result (IsSound setup.now.segment) }
+    ensures memory { OnErr result (refusal_of_send setup.now.segment send ≡ None) }
 {
     if let Some(refusal) = refusal_of(&send, setup.segment) {
         return Ok(Decision::Refused(refusal));
