@@ -63,6 +63,15 @@ def _(folder):
     assert [(len(r["body"]), len(r["props"])) for r in records(folder)] == [(4194304, 0), (0, 32000)]
 
 
+@check("a send with a million properties is refused, and one with thousands is stored and read again, before a run times out")
+def _(folder):
+    many, thousands = (properties((f"{k:x}", "") for k in range(count)) for count in (1000000, 5000))
+    told = answers(send(0, b"", binary=True, properties=many) + send(1, b"", binary=True, properties=thousands), folder)
+    assert [(r["code"], r.get("remark")) for r in told] == [(13, "properties"), (0, None)]
+    assert answers(send(2, b""), folder)[0]["extFields"]["queueOffset"] == "1"
+    assert [r["props"] for r in records(folder)] == [thousands, ""]
+
+
 @check("in small segments a record may have what leaves room, and a body past that is refused")
 def _(folder):
     told = answers(send(0, b"x" * 3072) + send(1, b"x" * 804) + send(2, b"hi") + send(3, b"x" * 3073), folder, ("pipe", "--segment", "4096"))
