@@ -18,3 +18,4 @@ pub mod Views
 pub mod ScanLemmas
 pub mod WrittenLemmas
 pub mod Seals
+pub mod MarkLemmas

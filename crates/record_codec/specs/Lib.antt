@@ -10,3 +10,4 @@ pub mod LengthsViews
 pub mod Blanks
 pub mod Fronts
 pub mod Units
+pub mod Marks

@@ -7,6 +7,7 @@ mod draft;
 mod laws;
 mod layout;
 mod lengths;
+mod marks;
 mod props;
 mod reading;
 mod scan;

@@ -1,7 +1,15 @@
 //! Properties in written form, in place.
 
 ghost use Rattle.std.specs.Prelude.{◌≡◌, List, ℕ, Some, option_map, option_and_then, is_some, length, IsTrue};
+ghost use Rattle.mq_bytes.specs.Crc.{crc_of};
+ghost use Rattle.record_codec.specs.Marks.{are_marked, marked};
 ghost use Rattle.record_codec.specs.Props.{has_name as has_name_of, are_distinct as are_distinct_of, value_of, lacks as lacks_of, until, pair_in, next_pair as next_pair_of, next_written as next_written_of, pairs_in};
+
+use crate::marks::{WORDS, mark};
+use mq_bytes::crc32;
+
+/// Up to so many bytes a look at each pair of names costs less than clearing the marks.
+const SHORT: usize = 256;
 
 fn lacks(byte: u8, bytes: &[u8]) -> bool
     ensures { result ≡ lacks_of byte bytes.now }
@@ -94,6 +102,17 @@ pub(crate) fn has_name(name: &[u8], text: &[u8]) -> bool
 pub(crate) fn are_distinct(text: &[u8]) -> bool
     ensures { (ps : List (List ℕ × List ℕ)) → pairs_in (length text.now) text.now ≡ Some ps → result ≡ are_distinct_of ps }
 {
+    if text.len() <= SHORT {
+        are_distinct_by_pairs(text)
+    } else {
+        are_distinct_by_marks(text)
+    }
+}
+
+// The same, where each name is compared with all behind it.
+fn are_distinct_by_pairs(text: &[u8]) -> bool
+    ensures { (ps : List (List ℕ × List ℕ)) → pairs_in (length text.now) text.now ≡ Some ps → result ≡ are_distinct_of ps }
+{
     let mut rest = text;
     while rest.len() > 0 {
         match next_written(rest) {
@@ -107,6 +126,35 @@ pub(crate) fn are_distinct(text: &[u8]) -> bool
         }
     }
     true
+}
+
+// The same, where a name is compared with those before it only if its marks are there.
+fn are_distinct_by_marks(text: &[u8]) -> bool
+    ensures { (ps : List (List ℕ × List ℕ)) → pairs_in (length text.now) text.now ≡ Some ps → result ≡ are_distinct_of ps }
+{
+    let mut words = [0; WORDS];
+    let mut rest = text;
+    while rest.len() > 0 {
+        match next_written(rest) {
+            None => return false,
+            Some((name, _, after)) => {
+                if is_repeated(&mut words, name, &text[..text.len() - rest.len()]) {
+                    return false;
+                }
+                rest = after;
+            }
+        }
+    }
+    true
+}
+
+// Whether a pair of the text, whose names are marked, has this name. Marks it too.
+fn is_repeated(words: &mut [u64; WORDS], name: &[u8], text: &[u8]) -> bool
+    ensures repeated { (ps : List (List ℕ × List ℕ)) → pairs_in (length text.now) text.now ≡ Some ps
+        → IsTrue (are_marked words.old ps) → result ≡ has_name_of name.now ps }
+    ensures marked { words.new ≡ marked words.old (crc_of name.now) }
+{
+    mark(words, crc32(name)) && has_name(name, text)
 }
 
 // The value of the pair of this name.

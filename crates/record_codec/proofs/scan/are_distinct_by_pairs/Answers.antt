@@ -2,7 +2,7 @@ use Rattle.std.proofs.Common.{◌≡◌, ◌∷◌, true, false, refl, sym, ap, 
 use Rattle.record_codec.specs.Props.{has_name, are_distinct}
 use Rattle.record_codec.proofs.ScanLemmas.{nothing_some}
 use Rattle.record_codec.proofs.WrittenLemmas.{written_smaller, written_goes, written_stuck}
-use Rattle.record_codec.proofs.scan.are_distinct.Goals as goal
+use Rattle.record_codec.proofs.scan.are_distinct_by_pairs.Goals as goal
 
 pub loop-rest-smaller : goal.loop-rest-smaller
 loop-rest-smaller c = written_smaller c.loop-rest.rest.now _ (sym c.in-Some.ensures)

@@ -1,7 +1,7 @@
 use Rattle.std.proofs.Common.{◌≡◌, length, List, ℕ, Some}
 use Rattle.record_codec.specs.Props.{pairs_in}
 use Rattle.record_codec.specs.Props.{are_distinct}
-use Rattle.record_codec.proofs.scan.are_distinct.Given as goal
+use Rattle.record_codec.proofs.scan.are_distinct_by_pairs.Given as goal
 
 abbrev pub invariant-loop-rest : goal.invariant-loop-rest
 invariant-loop-rest l = (ps : List (List ℕ × List ℕ)) → pairs_in (length l.text) l.text ≡ Some ps
