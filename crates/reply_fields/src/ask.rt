@@ -11,7 +11,7 @@
 //! | `tranStateTableOffset` | the record's queue offset                                 |
 //! | `transactionId`        | the property `UNIQ_KEY`, or else empty                    |
 
-ghost use Rattle.std.specs.Prelude.{◌≡◌, ◌<◌, ◌^◌, ◌++◌, length, codes, IfOk, OnOk, OnErr, Some, None};
+ghost use Rattle.std.specs.Prelude.{◌≡◌, ◌<◌, ◌^◌, ◌++◌, ◌∷◌, [], length, codes, IfOk, OnOk, OnErr, Some, None};
 ghost use Rattle.std.specs.Str.Parse.{digits_value};
 ghost use Rattle.mq_bytes.specs.Decimal.{digits_of};
 ghost use Rattle.mq_bytes.specs.Ids.{message_id_of};
@@ -149,25 +149,36 @@ fn offset_id(alloc: Global, view: &Record) -> Result<Text, AllocError>
     Ok(id)
 }
 
-fn pairs_of(alloc: Global, view: &Record) -> Result<Rows<(Text, Text)>, AllocError>
-    ensures fields { IfOk result (λ fields. fields ≡ ask_fields view.now) }
+fn push_field(
+    alloc: Global,
+    fields: &mut Vec<(Text, Text)>,
+    name: &str,
+    value: Text,
+) -> Result<(), AllocError>
+    ensures { OnOk result (fields.new.items ≡ fields.old.items ++ (name.now, value) ∷ []) }
+{
+    fields.push((text(alloc, name)?, value))?;
+    Ok(())
+}
+
+// Fills an empty vector. It is the caller's, so that no early return here has a vector to drop.
+fn fill_fields(
+    alloc: Global,
+    view: &Record,
+    fields: &mut Vec<(Text, Text)>,
+) -> Result<(), AllocError>
+    requires { fields.old.items ≡ [] }
+    ensures fields { OnOk result (fields.new.items ≡ ask_fields view.now) }
     ensures host { OnOk result (length view.now.draft.store_host ≡ 8) }
 {
     let key = view.draft.props.get("UNIQ_KEY").unwrap_or("");
-    let fields = vec![in alloc;
-        (
-            text(alloc, "commitLogOffset")?,
-            number(alloc, view.place.offset)?
-        ),
-        (text(alloc, "msgId")?, id_of(alloc, view)?),
-        (text(alloc, "offsetMsgId")?, offset_id(alloc, view)?),
-        (
-            text(alloc, "tranStateTableOffset")?,
-            number(alloc, view.place.queue_offset)?
-        ),
-        (text(alloc, "transactionId")?, text(alloc, key)?),
-    ]?;
-    Ok(Rows::of(fields))
+    let (place, next) = (view.place.offset, view.place.queue_offset);
+    push_field(alloc, fields, "commitLogOffset", number(alloc, place)?)?;
+    push_field(alloc, fields, "msgId", id_of(alloc, view)?)?;
+    push_field(alloc, fields, "offsetMsgId", offset_id(alloc, view)?)?;
+    push_field(alloc, fields, "tranStateTableOffset", number(alloc, next)?)?;
+    push_field(alloc, fields, "transactionId", text(alloc, key)?)?;
+    Ok(())
 }
 
 fn fields_of(alloc: Global, view: &Record) -> Result<Rows<(Text, Text)>, AllocError>
@@ -175,8 +186,9 @@ fn fields_of(alloc: Global, view: &Record) -> Result<Rows<(Text, Text)>, AllocEr
     ensures ordered { IfOk result IsInOrder }
     ensures host { OnOk result (length view.now.draft.store_host ≡ 8) }
 {
-    let fields = pairs_of(alloc, view)?;
-    Ok(fields)
+    let mut fields = Vec::with_capacity(alloc, 5)?;
+    fill_fields(alloc, view, &mut fields)?;
+    Ok(Rows::of(fields))
 }
 
 fn header_of(alloc: Global, view: &Record, opaque: i32) -> Result<Header, AllocError>

@@ -23,6 +23,13 @@ const RECORD: [u8; 132] = [
     95, 81, 73, 68, 1, 48, 2, 83, 69, 65, 76, 1, 54, 70, 50, 68, 70, 66, 56, 52, 2,
 ];
 
+fn frame(alloc: Global) -> Result<Vec<u8>, AllocError> {
+    let mut frame = Vec::from_slice(alloc, &WORDS)?;
+    frame.extend_from_slice(HEADER)?;
+    frame.extend_from_slice(&RECORD)?;
+    Ok(frame)
+}
+
 fn half_props(alloc: Global) -> Result<Props, AllocError>
     ensures { IfOk result (λ props. props ≡ (codes "REAL_TOPIC", codes "T") ∷ (codes "REAL_QID", codes "0") ∷ []) }
 {
@@ -75,9 +82,7 @@ fn a_check_back_is_written_with_the_topic_of_its_message(rt: HostRuntime) -> Res
     let ask = half(rt.alloc(), props)?;
     let mut out = Vec::new(rt.alloc());
     ask.write(rt.alloc(), 0, &mut out)?;
-    assert!(rt; out.len() == 8 + HEADER.len() + RECORD.len());
-    assert_eq!(rt; &out[..8], WORDS.as_slice());
-    assert_eq!(rt; &out[8..8 + HEADER.len()], HEADER);
-    assert_eq!(rt; &out[8 + HEADER.len()..], RECORD.as_slice());
+    let frame = frame(rt.alloc())?;
+    assert_eq!(rt; out.as_slice(), frame.as_slice());
     Ok(())
 }

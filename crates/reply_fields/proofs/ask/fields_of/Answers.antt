@@ -1,7 +1,10 @@
-use Rattle.std.proofs.Common.{subst, sym}
+use Rattle.std.proofs.Common.{◌≡◌, rules, subst, sym}
 use Rattle.remoting_frame.specs.Head.{IsInOrder}
+use Rattle.reply_fields.specs.Asks.{ask_fields}
 use Rattle.reply_fields.proofs.AskLemmas.{ask_in_order}
 use Rattle.reply_fields.proofs.ask.fields_of.Goals as goal
 
 pub returns-clause-ordered : goal.returns-clause-ordered
-returns-clause-ordered c = subst IsInOrder (sym c.in_ok-fields.ensures.fields) (ask_in_order c.args.view.now)
+returns-clause-ordered c =
+    let fields : c.of.result ≡ ask_fields c.args.view.now = search rules in
+    subst IsInOrder (sym fields) (ask_in_order c.args.view.now)
