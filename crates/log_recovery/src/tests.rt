@@ -2,7 +2,7 @@
 
 use super::*;
 use mq_bytes::LogFile;
-use mq_outside::{Disk, MemDisk, Room};
+use mq_outside::{Disk, Failed, MemDisk, Room};
 use record_codec::View;
 use std::alloc::{AllocError, Global};
 use std::test::Fail;
@@ -56,58 +56,63 @@ fn ended_segment() -> [u8; 4096] {
     bytes
 }
 
-/// A disk with this first file of the log, and the second one if it has bytes. The call of this number fails.
-fn disk_of(alloc: Global, first: &[u8], second: &[u8], fail: u64) -> Result<MemDisk, Fail> {
-    let mut fails = Vec::new(alloc);
-    fails.push(fail)?;
-    let mut disk = MemDisk::new(alloc, Vec::new(alloc), ROOM, fails)?;
+fn put_files(disk: &mut MemDisk, first: &[u8], second: &[u8]) -> Result<(), Failed> {
     disk.write_at(LogFile::of(0).as_str(), 0, first)?;
     if !second.is_empty() {
         disk.write_at(LogFile::of(4096).as_str(), 0, second)?;
     }
+    Ok(())
+}
+
+/// A disk with this first file of the log, and the second one if it has bytes. The call of this number fails.
+fn disk_of(alloc: Global, first: &[u8], second: &[u8], fail: u64) -> Result<MemDisk, Fail> {
+    let fails = vec![in alloc; fail]?;
+    let mut disk = MemDisk::new(alloc, Vec::new(alloc), ROOM, fails)?;
+    put_files(&mut disk, first, second)?;
     Ok(disk)
 }
 
-/// Where the kept records end, and how many they are.
-fn recovered(alloc: Global, disk: &mut MemDisk) -> Option<(u64, u64)> {
+/// What recovery answers, and how many records it hands on.
+fn recovered(alloc: Global, disk: &mut MemDisk) -> (Result<u64, RecoverFault>, u64) {
     let mut count = Count { records: 0 };
-    match recover(alloc, disk, SEGMENT, &mut count) {
-        Ok(end) => Some((end, count.records)),
-        Err(_) => None,
+    let answer = recover(alloc, disk, SEGMENT, &mut count);
+    (answer, count.records)
+}
+
+/// Whether so many records are kept, and where they end.
+fn is_kept(alloc: Global, disk: &mut MemDisk, end: u64, records: u64) -> bool {
+    match recovered(alloc, disk) {
+        (Ok(at), count) => at == end && count == records,
+        (Err(_), _) => false,
     }
 }
 
 fn is_damaged_at(alloc: Global, disk: &mut MemDisk, place: u64, name: &str) -> bool {
-    match recover(alloc, disk, SEGMENT, &mut Count { records: 0 }) {
-        Err(RecoverFault::Damaged(at, file)) => at == place && file.as_str() == name,
+    match recovered(alloc, disk) {
+        (Err(RecoverFault::Damaged(at, file)), _) => at == place && file.as_str() == name,
         _ => false,
     }
 }
 
 /// Whether the file that begins at this place has these bytes.
 fn holds(disk: &MemDisk, base: u64, bytes: &[u8]) -> bool {
-    match disk.bytes(LogFile::of(base).as_str()) {
-        Some(held) => held == bytes,
-        None => false,
-    }
+    disk.bytes(LogFile::of(base).as_str()) == Some(bytes)
 }
 
 /// Whether the first record alone is kept of a file of these bytes.
 fn keeps_the_first(alloc: Global, bytes: &[u8]) -> Result<bool, Fail> {
     let mut disk = disk_of(alloc, bytes, &[], 0)?;
-    let kept = recovered(alloc, &mut disk);
-    Ok(kept == Some((108, 1)) && holds(&disk, 0, FIRST))
+    Ok(is_kept(alloc, &mut disk, 108, 1) && holds(&disk, 0, FIRST))
 }
 
 /// Whether both records are kept, and the second file is gone, once recovery has come again after this call failed.
 fn keeps_both(alloc: Global, second: &[u8], fail: u64) -> Result<bool, Fail> {
     let mut disk = disk_of(alloc, &ended_segment(), second, fail)?;
     let _ = recovered(alloc, &mut disk);
-    let kept = recovered(alloc, &mut disk);
     Ok(
-        kept == Some((216, 2))
+        is_kept(alloc, &mut disk, 216, 2)
             && holds(&disk, 0, &two_records())
-            && disk.len(LogFile::of(4096).as_str())? == 0,
+            && disk.bytes(LogFile::of(4096).as_str()).is_none(),
     )
 }
 
@@ -115,13 +120,11 @@ fn keeps_both(alloc: Global, second: &[u8], fail: u64) -> Result<bool, Fail> {
 fn a_torn_or_changed_second_record_is_cut_off(rt: HostRuntime) -> Result<(), Fail> {
     let two = two_records();
     for i in 0..108 {
-        assert!(rt;
-            keeps_the_first(rt.alloc(), &two[..108 + i])?,
-            "torn at {i}"
-        );
+        let is_cut = keeps_the_first(rt.alloc(), &two[..108 + i])?;
         let mut changed = two;
         changed[108 + i] ^= 0x20;
-        assert!(rt; keeps_the_first(rt.alloc(), &changed)?, "changed at {i}");
+        let stays = keeps_the_first(rt.alloc(), &changed)?;
+        assert_eq!(rt; (is_cut, stays), (true, true), "torn and changed at {i}");
     }
     Ok(())
 }
@@ -140,22 +143,34 @@ fn a_last_file_without_records_is_removed_whichever_call_fails(
     Ok(())
 }
 
-#[test]
-fn damage_is_told_with_its_place_and_file(rt: HostRuntime) -> Result<(), Fail> {
-    let alloc = rt.alloc();
+/// Whether a changed record before the last file is told.
+fn tells_a_changed_record(alloc: Global) -> Result<bool, Fail> {
     let mut first = ended_segment();
     first[120] ^= 0x20;
     let mut disk = disk_of(alloc, &first, b"x", 0)?;
-    assert!(rt; is_damaged_at(alloc, &mut disk, 108, "commitlog/00000000000000000000"));
+    Ok(is_damaged_at(alloc, &mut disk, 108, "commitlog/00000000000000000000"))
+}
 
-    let mut disk = disk_of(alloc, &ended_segment(), b"x", 0)?;
+/// Whether the first file that is none of the log's is told, behind two files, behind one and alone, and none once it is gone.
+fn tells_another_file(alloc: Global, disk: &mut MemDisk) -> Result<[bool; 4], Failed> {
     disk.write_at("commitlog/x", 0, &[])?;
-    assert!(rt; is_damaged_at(alloc, &mut disk, 4096, "commitlog/00000000000000004096"));
+    let no_blank = is_damaged_at(alloc, disk, 4096, "commitlog/00000000000000004096");
     disk.remove(LogFile::of(4096).as_str())?;
-    assert!(rt; is_damaged_at(alloc, &mut disk, 4096, "commitlog/x"));
+    let behind = is_damaged_at(alloc, disk, 4096, "commitlog/x");
     disk.remove(LogFile::of(0).as_str())?;
-    assert!(rt; is_damaged_at(alloc, &mut disk, 0, "commitlog/x"));
+    let alone = is_damaged_at(alloc, disk, 0, "commitlog/x");
     disk.remove("commitlog/x")?;
-    assert_eq!(rt; recovered(alloc, &mut disk), Some((0, 0)));
+    Ok([no_blank, behind, alone, is_kept(alloc, disk, 0, 0)])
+}
+
+fn tells_in_two_files(alloc: Global) -> Result<[bool; 4], Fail> {
+    let mut disk = disk_of(alloc, &ended_segment(), b"x", 0)?;
+    Ok(tells_another_file(alloc, &mut disk)?)
+}
+
+#[test]
+fn damage_is_told_with_its_place_and_file(rt: HostRuntime) -> Result<(), Fail> {
+    assert!(rt; tells_a_changed_record(rt.alloc())?);
+    assert_eq!(rt; tells_in_two_files(rt.alloc())?, [true; 4]);
     Ok(())
 }

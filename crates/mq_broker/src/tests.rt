@@ -1,8 +1,10 @@
 //! `run_pipe` over devices in memory: the documented send, sends at their bounds, a store that is opened again, and each device failing.
 
 ghost use Rattle.std.specs.Prelude.{◌<◌, length, IfOk};
+ghost use Rattle.mq_outside.specs.MemSource.{HasNoEmptyPiece};
 
 use crate::run::run_pipe;
+use mq_bytes::Text;
 use mq_outside::{MemClock, MemDisk, MemKeep, MemSink, MemSource, Room};
 use std::alloc::{AllocError, Global};
 use std::test::Fail;
@@ -17,6 +19,10 @@ const SENT_SECOND: &[u8] =
 const NOT_FLUSHED: &[u8] =
     b"{\"code\":10,\"extFields\":{\"msgId\":\"7F00000100002A9F0000000000000000\",\"queueId\":\"0\",\"queueOffset\":\"0\"},\"flag\":1,\"language\":\"OTHER\",\"opaque\":7,\"remark\":\"flush 1\",\"serializeTypeCurrentRPC\":\"JSON\",\"version\":0}";
 
+// The end of the reply to a send that no segment has room for.
+const LAST_REFUSED: &[u8] =
+    b"\"remark\":\"record\",\"serializeTypeCurrentRPC\":\"JSON\",\"version\":0}";
+
 const LOG: &str = "commitlog/00000000000000000000";
 
 const SECOND: &str = "commitlog/00000000000000004096";
@@ -29,7 +35,7 @@ const NOT_FLUSHED_LEN: usize = 211;
 // A record of the documented frame.
 const RECORD_LEN: usize = 108;
 
-// The devices, of which nothing fails but one listed call each.
+// The devices but the source.
 #[derive(Drop)]
 struct Devices {
     sink: MemSink,
@@ -38,23 +44,10 @@ struct Devices {
     clock: MemClock,
 }
 
-// The numbers of the calls of each device that are to fail, 0 for none.
-#[derive(Clone, Copy)]
-struct Failing {
-    source: u64,
-    sink: u64,
-    disk: u64,
-    keep: u64,
-    clock: u64,
-}
+// The numbers of the calls of source, sink, disk, keep and clock that are to fail, 0 for none.
+type Failing = [u64; 5];
 
-const NOTHING: Failing = Failing {
-    source: 0,
-    sink: 0,
-    disk: 0,
-    keep: 0,
-    clock: 0,
-};
+const NOTHING: Failing = [0; 5];
 
 fn devices_of(alloc: Global, failing: Failing) -> Result<Devices, AllocError> {
     let room = Room {
@@ -62,25 +55,51 @@ fn devices_of(alloc: Global, failing: Failing) -> Result<Devices, AllocError> {
         files: 4,
         calls: 64,
     };
+    let [_, sink, disk, keep, clock] = failing;
     Ok(Devices {
-        sink: MemSink::new(alloc, 8192, 64, vec![in alloc; failing.sink]?)?,
-        disk: MemDisk::new(alloc, Vec::new(alloc), room, vec![in alloc; failing.disk]?)?,
-        keep: MemKeep::new(alloc, Vec::new(alloc), vec![in alloc; failing.keep]?)?,
-        clock: MemClock::new(alloc, vec![in alloc; 2000]?, vec![in alloc; failing.clock]?)?,
+        sink: MemSink::new(alloc, 8192, 64, vec![in alloc; sink]?)?,
+        disk: MemDisk::new(alloc, Vec::new(alloc), room, vec![in alloc; disk]?)?,
+        keep: MemKeep::new(alloc, Vec::new(alloc), vec![in alloc; keep]?)?,
+        clock: MemClock::new(alloc, vec![in alloc; 2000]?, vec![in alloc; clock]?)?,
     })
 }
 
-// Runs over these devices, and a source of these bytes, which are some.
+// What a run leaves: its status, what is written, and the first two files of the log.
+#[derive(Drop)]
+struct Left {
+    code: u8,
+    name: Text,
+    written: Vec<u8>,
+    log: Vec<u8>,
+    second: Vec<u8>,
+}
+
+fn bytes_of(alloc: Global, disk: &MemDisk, file: &str) -> Result<Vec<u8>, AllocError> {
+    disk.bytes(file).unwrap_or(&[]).to_vec(alloc)
+}
+
+fn left_by(alloc: Global, status: Status, devices: &Devices) -> Result<Left, AllocError> {
+    Ok(Left {
+        code: status.code,
+        name: status.name,
+        written: devices.sink.bytes().to_vec(alloc)?,
+        log: bytes_of(alloc, &devices.disk, LOG)?,
+        second: bytes_of(alloc, &devices.disk, SECOND)?,
+    })
+}
+
+// Runs over these devices, and a source of these pieces.
 fn serve(
     alloc: Global,
     devices: &mut Devices,
     words: &[&str],
-    bytes: Vec<u8>,
-) -> Result<Status, AllocError> {
-    if bytes.is_empty() {
-        return Err(AllocError);
-    }
-    let mut source = MemSource::new(alloc, vec![in alloc; bytes]?, Vec::new(alloc))?;
+    pieces: Vec<Vec<u8>>,
+    fail: u64,
+) -> Result<Status, AllocError>
+    requires { HasNoEmptyPiece pieces.items }
+{
+    let fails = vec![in alloc; fail]?;
+    let mut source = MemSource::new(alloc, pieces, fails)?;
     Ok(run_pipe(
         alloc,
         words,
@@ -102,28 +121,28 @@ fn sample(alloc: Global) -> Result<Vec<u8>, AllocError>
     Ok(frame)
 }
 
-// Runs over these devices, and the documented send. Answers the status' code.
-fn send(alloc: Global, devices: &mut Devices, words: &[&str]) -> Result<u8, AllocError> {
-    let bytes = sample(alloc)?;
-    let status = serve(alloc, devices, words, bytes)?;
-    Ok(status.code)
+// What three documented sends leave, each in a piece of its own.
+fn three_sends(alloc: Global, failing: Failing) -> Result<Left, AllocError> {
+    let pieces = vec![in alloc; sample(alloc)?, sample(alloc)?, sample(alloc)?]?;
+    let mut devices = devices_of(alloc, failing)?;
+    let status = serve(alloc, &mut devices, &["pipe"], pieces, failing[0])?;
+    left_by(alloc, status, &devices)
 }
 
-// Three documented sends, each in a piece of its own.
-fn run(alloc: Global, failing: Failing) -> Result<(Status, Devices), AllocError> {
-    let mut devices = devices_of(alloc, failing)?;
-    let pieces = vec![in alloc; sample(alloc)?, sample(alloc)?, sample(alloc)?]?;
-    let mut source = MemSource::new(alloc, pieces, vec![in alloc; failing.source]?)?;
-    let status = run_pipe(
-        alloc,
-        &["pipe"],
-        &mut source,
-        &mut devices.sink,
-        &mut devices.disk,
-        &mut devices.keep,
-        &mut devices.clock,
-    );
-    Ok((status, devices))
+// Runs over these devices, and the documented send.
+fn send(alloc: Global, devices: &mut Devices, words: &[&str]) -> Result<Status, AllocError> {
+    let bytes = sample(alloc)?;
+    let pieces = vec![in alloc; bytes]?;
+    serve(alloc, devices, words, pieces, 0)
+}
+
+// What a run of other words leaves behind a run of one documented send, whose code is told first.
+fn two_runs(alloc: Global, words: &[&str]) -> Result<(u8, Left), AllocError> {
+    let mut devices = devices_of(alloc, NOTHING)?;
+    let first = send(alloc, &mut devices, &["pipe"])?.code;
+    let status = send(alloc, &mut devices, words)?;
+    let left = left_by(alloc, status, &devices)?;
+    Ok((first, left))
 }
 
 #[test]
@@ -148,212 +167,146 @@ fn each_call_of_a_device_that_fails_alone_ends_three_sends_by_the_table(
         ([0, 0, 0, 0, 1], 10, "clock", 0, 0),
         ([0, 0, 0, 0, 3], 10, "clock", 2 * SENT_LEN, 2),
     ];
-    for ([source, sink, disk, keep, clock], code, name, written, stored) in rows {
-        let failing = Failing {
-            source,
-            sink,
-            disk,
-            keep,
-            clock,
-        };
-        let (status, devices) = run(rt.alloc(), failing)?;
-        assert_eq!(rt; (status.code, status.name.as_str()), (code, name));
-        assert_eq!(rt; devices.sink.bytes().len(), written);
-        let log = devices.disk.bytes(LOG).unwrap_or(&[]);
-        assert_eq!(rt; log.len() / RECORD_LEN, stored);
+    for (failing, code, name, written, stored) in rows {
+        let left = three_sends(rt.alloc(), failing)?;
+        let lens = (left.written.len(), left.log.len() / RECORD_LEN);
+        assert_eq!(rt;
+            (left.code, left.name.as_str(), lens),
+            (code, name, (written, stored))
+        );
     }
     Ok(())
 }
 
 #[test]
 fn a_second_run_goes_on_behind_the_first(rt: HostRuntime) -> Result<(), Fail> {
-    let mut devices = devices_of(rt.alloc(), NOTHING)?;
-    assert_eq!(rt; send(rt.alloc(), &mut devices, &["pipe"])?, 0);
-    assert_eq!(rt; send(rt.alloc(), &mut devices, &["pipe"])?, 0);
-    assert!(rt; devices.sink.bytes().ends_with(SENT_SECOND));
-    let log = devices.disk.bytes(LOG).unwrap_or(&[]);
-    assert_eq!(rt; log.get(99..108), Some(b"22FE9094\x02".as_slice()));
-    assert_eq!(rt; log.len(), 2 * RECORD_LEN);
+    let (first, left) = two_runs(rt.alloc(), &["pipe"])?;
+    assert_eq!(rt; (first, left.code, left.log.len()), (0, 0, 2 * RECORD_LEN));
+    assert!(rt; left.written.ends_with(SENT_SECOND));
+    assert_eq!(rt; left.log.get(99..108), Some(b"22FE9094\x02".as_slice()));
     Ok(())
 }
 
 #[test]
 fn a_store_in_segments_of_another_size_is_anothers(rt: HostRuntime) -> Result<(), Fail> {
-    let mut devices = devices_of(rt.alloc(), NOTHING)?;
-    assert_eq!(rt; send(rt.alloc(), &mut devices, &["pipe"])?, 0);
-    let bytes = sample(rt.alloc())?;
-    let other = serve(
-        rt.alloc(),
-        &mut devices,
-        &["pipe", "--segment", "4096"],
-        bytes,
-    )?;
-    assert_eq!(rt; (other.code, other.name.as_str()), (6, "format"));
+    let (first, left) = two_runs(rt.alloc(), &["pipe", "--segment", "4096"])?;
+    assert_eq!(rt; (first, left.code, left.name.as_str()), (0, 6, "format"));
     Ok(())
 }
 
 #[test]
 fn a_failed_sync_is_told_with_the_disks_count(rt: HostRuntime) -> Result<(), Fail> {
-    let (_, devices) = run(rt.alloc(), Failing { disk: 7, ..NOTHING })?;
-    assert!(rt; devices.sink.bytes().ends_with(NOT_FLUSHED));
+    let left = three_sends(rt.alloc(), [0, 0, 7, 0, 0])?;
+    assert!(rt; left.written.ends_with(NOT_FLUSHED));
     Ok(())
-}
-
-// A send: its topic, a property text of some bytes behind these, and a body of so many bytes.
-#[derive(Clone, Copy)]
-struct Message {
-    topic: &'static str,
-    props: &'static str,
-    more: u32,
-    body: u32,
 }
 
 fn put_many(out: &mut Vec<u8>, count: u32) -> Result<(), AllocError> {
     out.resize(out.len() + count as usize, b'x')
 }
 
-// Appends the frame of a send.
-fn put_send(alloc: Global, out: &mut Vec<u8>, sample: Message) -> Result<(), AllocError> {
+// The header of a send to a topic, with a property text and so many bytes behind it.
+fn header_of(alloc: Global, topic: &str, props: &str, more: u32) -> Result<Vec<u8>, AllocError> {
     let mut header = Vec::from_slice(
         alloc,
         b"{\"code\":10,\"opaque\":7,\"extFields\":{\"producerGroup\":\"P\",\"queueId\":\"0\",\"sysFlag\":\"0\",\"bornTimestamp\":\"1000\",\"flag\":\"0\",\"defaultTopic\":\"TBW102\",\"topic\":\"",
     )?;
-    header.extend_from_slice(sample.topic.as_bytes())?;
+    header.extend_from_slice(topic.as_bytes())?;
     header.extend_from_slice(b"\",\"properties\":\"")?;
-    header.extend_from_slice(sample.props.as_bytes())?;
-    put_many(&mut header, sample.more)?;
+    header.extend_from_slice(props.as_bytes())?;
+    put_many(&mut header, more)?;
     header.extend_from_slice(b"\"}}")?;
-    let head = header.len().min(1 << 20) as u32;
-    let body = sample.body.min(1 << 23);
-    out.extend_from_slice(&(4 + head + body).to_be_bytes())?;
-    out.extend_from_slice(&head.to_be_bytes())?;
-    out.extend_from_slice(&header)?;
-    put_many(out, sample.body)
+    Ok(header)
 }
 
-// What is answered to a send alone, and what the log is then.
-fn answered(
-    alloc: Global,
-    words: &[&str],
-    sample: Message,
-) -> Result<(Vec<u8>, usize), AllocError> {
+// Appends a frame of this header and a body of so many bytes.
+fn put_frame(out: &mut Vec<u8>, header: &[u8], body: u32) -> Result<(), AllocError> {
+    let head = header.len().min(1 << 20) as u32;
+    let len = 4 + head + body.min(1 << 23);
+    out.extend_from_slice(&len.to_be_bytes())?;
+    out.extend_from_slice(&head.to_be_bytes())?;
+    out.extend_from_slice(header)?;
+    put_many(out, body)
+}
+
+// What a stream of these bytes leaves, which are some.
+fn left_of(alloc: Global, words: &[&str], bytes: Vec<u8>) -> Result<Left, AllocError> {
+    if bytes.is_empty() {
+        return Err(AllocError);
+    }
+    let pieces = vec![in alloc; bytes]?;
     let mut devices = devices_of(alloc, NOTHING)?;
+    let status = serve(alloc, &mut devices, words, pieces, 0)?;
+    left_by(alloc, status, &devices)
+}
+
+// What one send leaves.
+fn left_of_send(
+    alloc: Global,
+    topic: &str,
+    props: &str,
+    more: u32,
+    body: u32,
+) -> Result<Left, AllocError> {
+    let header = header_of(alloc, topic, props, more)?;
     let mut bytes = Vec::new(alloc);
-    put_send(alloc, &mut bytes, sample)?;
-    let _ = serve(alloc, &mut devices, words, bytes)?;
-    let stored = devices.disk.bytes(LOG).unwrap_or(&[]).len();
-    Ok((devices.sink.bytes().to_vec(alloc)?, stored))
+    put_frame(&mut bytes, &header, body)?;
+    left_of(alloc, &["pipe"], bytes)
 }
 
 #[test]
 fn sends_are_taken_up_to_their_bounds(rt: HostRuntime) -> Result<(), Fail> {
-    let plain = Message {
-        topic: "T",
-        props: "",
-        more: 0,
-        body: 2,
-    };
-    // The send, how its answer begins, and how many bytes the log has then.
+    // The topic, the property text and how many bytes come behind it, how many bytes the body has; how the answer begins,
+    // and how many bytes the log has then.
     let rows = [
+        ("T", "", 0, 4194304, "{\"code\":0,", 4194410),
+        ("T", "", 0, 4194305, "{\"code\":13,", 0),
+        ("T", "n\\u0001", 31997, 2, "{\"code\":0,", 32108),
+        ("T", "n\\u0001", 31998, 2, "{\"code\":13,", 0),
+        ("a b", "", 0, 2, "{\"code\":13,", 0),
+        ("SCHEDULE_TOPIC_XXXX", "", 0, 2, "{\"code\":16,", 0),
         (
-            Message {
-                body: 4194304,
-                ..plain
-            },
-            "{\"code\":0,",
-            4194410,
-        ),
-        (
-            Message {
-                body: 4194305,
-                ..plain
-            },
-            "{\"code\":13,",
+            "T",
+            "A\\u00011\\u0002bad\\u0002A\\u00012",
             0,
-        ),
-        (
-            Message {
-                props: "n\\u0001",
-                more: 31997,
-                ..plain
-            },
-            "{\"code\":0,",
-            32108,
-        ),
-        (
-            Message {
-                props: "n\\u0001",
-                more: 31998,
-                ..plain
-            },
-            "{\"code\":13,",
-            0,
-        ),
-        (
-            Message {
-                topic: "a b",
-                ..plain
-            },
-            "{\"code\":13,",
-            0,
-        ),
-        (
-            Message {
-                topic: "SCHEDULE_TOPIC_XXXX",
-                ..plain
-            },
-            "{\"code\":16,",
-            0,
-        ),
-        (
-            Message {
-                props: "A\\u00011\\u0002bad\\u0002A\\u00012",
-                ..plain
-            },
+            2,
             "{\"code\":0,",
             112,
         ),
     ];
-    for (sample, begins, stored) in rows {
-        let (written, len) = answered(rt.alloc(), &["pipe"], sample)?;
-        let text = written.get(8..).unwrap_or(&[]);
-        assert!(rt; text.starts_with(begins.as_bytes()), "{begins}");
-        assert_eq!(rt; len, stored, "{begins}");
+    for (topic, props, more, body, begins, stored) in rows {
+        let left = left_of_send(rt.alloc(), topic, props, more, body)?;
+        let text = left.written.get(8..).unwrap_or(&[]);
+        let is_so = text.starts_with(begins.as_bytes());
+        assert_eq!(rt; (is_so, left.log.len()), (true, stored), "{begins}");
     }
     Ok(())
+}
+
+// Four sends, of which the second has a body of so many bytes.
+fn four_sends(alloc: Global, second: u32) -> Result<Vec<u8>, AllocError> {
+    let header = header_of(alloc, "T", "", 0)?;
+    let mut bytes = Vec::new(alloc);
+    for body in [3072, second, 2, 3073] {
+        put_frame(&mut bytes, &header, body)?;
+    }
+    Ok(bytes)
 }
 
 #[test]
 fn a_blank_ends_a_segment_where_the_next_record_has_no_room(rt: HostRuntime) -> Result<(), Fail> {
     let words = ["pipe", "--segment", "4096"];
-    for (second, blank) in [
-        (804, b"\x00\x00\x00\x08\xCB\xD41\x94"),
-        (805, b"\x00\x00\x03\x96\xCB\xD41\x94"),
-    ] {
-        let mut devices = devices_of(rt.alloc(), NOTHING)?;
-        let mut bytes = Vec::new(rt.alloc());
-        for body in [3072, second, 2, 3073] {
-            let sample = Message {
-                topic: "T",
-                props: "",
-                more: 0,
-                body,
-            };
-            put_send(rt.alloc(), &mut bytes, sample)?;
-        }
-        let status = serve(rt.alloc(), &mut devices, &words, bytes)?;
-        assert_eq!(rt; status.code, 0);
-        let first = devices.disk.bytes(LOG).unwrap_or(&[]);
-        assert_eq!(rt; first.len(), 4096);
-        let at = if second == 804 { 4088 } else { 3178 };
-        assert_eq!(rt; first.get(at..at + 8), Some(blank.as_slice()));
-        let next = devices.disk.bytes(SECOND).unwrap_or(&[]);
-        assert_eq!(rt; next.len(), if second == 804 { 108 } else { 911 + 108 });
-        assert!(rt;
-            devices.sink.bytes().ends_with(
-                b"\"remark\":\"record\",\"serializeTypeCurrentRPC\":\"JSON\",\"version\":0}"
-            )
-        );
+    // The second body, where the blank begins and how, and how long the second file is.
+    let rows = [
+        (804, 4088, b"\x00\x00\x00\x08\xCB\xD41\x94", 108),
+        (805, 3178, b"\x00\x00\x03\x96\xCB\xD41\x94", 911 + 108),
+    ];
+    for (second, at, blank, len) in rows {
+        let left = left_of(rt.alloc(), &words, four_sends(rt.alloc(), second)?)?;
+        let lens = (left.code, left.log.len(), left.second.len());
+        assert_eq!(rt; lens, (0, 4096, len));
+        assert_eq!(rt; left.log.get(at..at + 8), Some(blank.as_slice()));
+        assert!(rt; left.written.ends_with(LAST_REFUSED));
     }
     Ok(())
 }

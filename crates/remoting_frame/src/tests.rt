@@ -167,6 +167,18 @@ fn take_next(
     }
 }
 
+// Takes two frames of those that are whole with this piece, and answers the fault that stands in the second one's place.
+fn take_two(
+    alloc: Global,
+    cutter: &mut Cutter,
+    piece: &[u8],
+    given: &mut Vec<u8>,
+) -> Result<Option<FrameFault>, AllocError> {
+    cutter.feed(piece)?;
+    take_next(alloc, cutter, given)?;
+    take_next(alloc, cutter, given)
+}
+
 // Whether a stream that comes in two pieces gives this, of at most two frames, and behind it this fault.
 fn gives(
     alloc: Global,
@@ -179,12 +191,8 @@ fn gives(
 {
     let mut cutter = Cutter::new(alloc);
     let mut given = Vec::new(alloc);
-    cutter.feed(&stream[..cut])?;
-    take_next(alloc, &mut cutter, &mut given)?;
-    take_next(alloc, &mut cutter, &mut given)?;
-    cutter.feed(&stream[cut..])?;
-    take_next(alloc, &mut cutter, &mut given)?;
-    let shown = take_next(alloc, &mut cutter, &mut given)?;
+    take_two(alloc, &mut cutter, &stream[..cut], &mut given)?;
+    let shown = take_two(alloc, &mut cutter, &stream[cut..], &mut given)?;
     Ok(given.as_slice() == says && shown == fault)
 }
 
