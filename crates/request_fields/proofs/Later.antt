@@ -25,6 +25,10 @@ pub told_later : (fault : RequestFault) (first later : Option RequestFault) → 
 unfolding or_later
 told_later fault first later e h = rw e h
 
+-- where there is no fault, what is told of none is told
+pub told_none : (fault : RequestFault) (there : Option RequestFault) → there ≡ None → Tells fault None → Tells fault there
+told_none fault there none told = rw none told
+
 pub none_of_both : (first later : Option RequestFault) → first ≡ None → later ≡ None → or_later first later ≡ None
 unfolding or_later
 none_of_both first later e f = rw e f

@@ -10,6 +10,8 @@ use Rattle.request_fields.specs.Requests.{SendSaid, PullSaid, QuerySaid, OffsetS
 use Rattle.request_fields.specs.declared.fault.RequestFault.{RequestFault}
 use Rattle.request_fields.specs.declared.fault.RequestFault.TheVariants.{Unsupported, Missing, BadNumber, BadBody, Memory}
 use Rattle.request_fields.specs.declared.request.Request.{Request}
+use Rattle.request_fields.specs.declared.rows.PullNumbers.{PullNumbers}
+use Rattle.request_fields.specs.declared.send.SendNumbers.{SendNumbers}
 use Rattle.request_fields.specs.declared.request.Request.TheVariants.{Send, Pull, Query, OffsetOf, SetOffset, MakeTopic, Search, MaxOffset, MinOffset, ViewById, Beat, Unregister, EndTransaction, Lock, Unlock}
 
 -- ---- what the fields say, where they have no fault
@@ -30,6 +32,17 @@ send_said n ext body = record {
   body = body;
 }
 
+-- its numbers
+unfoldable pub send_numbers : SendNames → List (List ℕ × List ℕ) → SendNumbers
+send_numbers n ext = record {
+  queue = i32_or (pos 0) n.queue ext;
+  sysflag = i32_or (pos 0) n.sysflag ext;
+  born = time_at n.born ext;
+  flag = i32_or (pos 0) n.flag ext;
+  default_queues = i32_or (pos 0) n.default_queues ext;
+  reconsume = i32_or (pos 0) n.reconsume ext;
+}
+
 -- a pull, with -1 for an absent offset to store and 0 for an absent time to wait
 unfoldable pub pull_said : List (List ℕ × List ℕ) → PullSaid
 pull_said ext = record {
@@ -43,6 +56,17 @@ pull_said ext = record {
   suspend = i64_or (pos 0) (codes "suspendTimeoutMillis") ext;
   subscription = text_at (codes "subscription") ext;
   expression = text_at (codes "expressionType") ext;
+}
+
+-- its numbers
+unfoldable pub pull_numbers : List (List ℕ × List ℕ) → PullNumbers
+pull_numbers ext = record {
+  queue = u31_at (codes "queueId") ext;
+  from = i64_or (pos 0) (codes "queueOffset") ext;
+  most = i32_or (pos 0) (codes "maxMsgNums") ext;
+  sysflag = i32_or (pos 0) (codes "sysFlag") ext;
+  commit = i64_or (negsuc 0) (codes "commitOffset") ext;
+  suspend = i64_or (pos 0) (codes "suspendTimeoutMillis") ext;
 }
 
 -- a query by key

@@ -1,11 +1,12 @@
 //! The fields of each request but SEND, a function for each row. Required fields come first, in the order in which
 //! their faults are told; then the optional ones that have a kind or are kept.
 
-ghost use Rattle.request_fields.specs.Faults.{first_fault};
+ghost use Rattle.std.specs.Prelude.{◌<◌, ◌^◌, drop, IfOk};
+ghost use Rattle.request_fields.specs.Faults.{first_fault, required_faults, optional_faults};
 ghost use Rattle.request_fields.specs.Gives.{Gives};
 ghost use Rattle.request_fields.specs.Rows.{pull_row, query_row, offset_row, set_offset_row, topic_row, search_row, queue_row, view_row, unregister_row, end_row};
 ghost use Rattle.request_fields.specs.declared.request.Request.TheVariants.{Pull, Query, OffsetOf, SetOffset, MakeTopic, Search, MaxOffset, MinOffset, ViewById, Unregister, EndTransaction};
-ghost use Rattle.request_fields.specs.Reading.{pull_said, query_said, offset_said, set_offset_said, topic_said, search_said, queue_said, view_said, unregister_said, end_said};
+ghost use Rattle.request_fields.specs.Reading.{pull_said, pull_numbers as pull_numbers_said, query_said, offset_said, set_offset_said, topic_said, search_said, queue_said, view_said, unregister_said, end_said};
 
 use crate::fault::RequestFault;
 use crate::fields::{
@@ -21,30 +22,58 @@ use crate::request::Request;
 use remoting_frame::Header;
 use std::alloc::Global;
 
-#[tactic(auto, using(crate::proofs::Later::told_first, crate::proofs::Later::told_later, crate::proofs::Later::none_of_both), unfolding(crate::specs::Rows::pull_row, crate::specs::Reading::pull_said))]
-pub(crate) fn pull(alloc: Global, header: &Header) -> Result<Request, RequestFault>
-    ensures { Gives result (first_fault pull_row header.now.ext) (Pull (pull_said header.now.ext)) }
+// The numbers of a pull.
+#[derive(Clone, Copy)]
+struct PullNumbers {
+    queue: u32,
+    from: i64,
+    most: i32,
+    sysflag: i32,
+    commit: i64,
+    suspend: i64,
+}
+
+// The numbers, or the first fault behind the group and the topic. An optional text has none.
+#[tactic(auto, unfolding(crate::specs::Rows::pull_row, crate::specs::Reading::pull_numbers))]
+fn pull_numbers(alloc: Global, header: &Header) -> Result<PullNumbers, RequestFault>
+    ensures value { Gives result (required_faults (drop 2 pull_row.required) header.now.ext (optional_faults pull_row.optional header.now.ext)) (pull_numbers_said header.now.ext) }
+    ensures kept { IfOk result (λ numbers. numbers.queue < 2 ^ 31) }
 {
-    let group = needed_name(alloc, header, "consumerGroup")?;
-    let topic = needed_text(alloc, header, "topic")?;
     let queue = needed_u31(alloc, header, "queueId")?;
     let from = needed_i64(alloc, header, "queueOffset")?;
     let most = needed_i32(alloc, header, "maxMsgNums")?;
     let sysflag = needed_i32(alloc, header, "sysFlag")?;
     let commit = optional_i64(alloc, header, "commitOffset", -1)?;
     let suspend = optional_i64(alloc, header, "suspendTimeoutMillis", 0)?;
-    let subscription = optional_text(alloc, header, "subscription")?;
     let _version = optional_i64(alloc, header, "subVersion", 0)?;
-    let expression = optional_text(alloc, header, "expressionType")?;
-    Ok(Request::Pull(PullFields {
-        group,
-        topic,
+    Ok(PullNumbers {
         queue,
         from,
         most,
         sysflag,
         commit,
         suspend,
+    })
+}
+
+#[tactic(auto, using(crate::proofs::Later::told_first, crate::proofs::Later::told_later, crate::proofs::Later::none_of_both), unfolding(crate::specs::Rows::pull_row, crate::specs::Reading::pull_said))]
+pub(crate) fn pull(alloc: Global, header: &Header) -> Result<Request, RequestFault>
+    ensures { Gives result (first_fault pull_row header.now.ext) (Pull (pull_said header.now.ext)) }
+{
+    let group = needed_name(alloc, header, "consumerGroup")?;
+    let topic = needed_text(alloc, header, "topic")?;
+    let numbers = pull_numbers(alloc, header)?;
+    let subscription = optional_text(alloc, header, "subscription")?;
+    let expression = optional_text(alloc, header, "expressionType")?;
+    Ok(Request::Pull(PullFields {
+        group,
+        topic,
+        queue: numbers.queue,
+        from: numbers.from,
+        most: numbers.most,
+        sysflag: numbers.sysflag,
+        commit: numbers.commit,
+        suspend: numbers.suspend,
         subscription,
         expression,
     }))
