@@ -1,5 +1,5 @@
 -- The request that a frame is, by its code: the fields that it needs and keeps, or what its body says.
-use Rattle.std.specs.Prelude.{◌≡◌, ℕ, List, codes, ℤ, pos, negsuc, Option, Some, None, Result, Ok, Err, if◌then◌else◌}
+use Rattle.std.specs.Prelude.{◌≡◌, ℕ, List, [], codes, ℤ, pos, negsuc, Option, Some, None, Result, Ok, Err, if◌then◌else◌}
 use Rattle.std.specs.Ordering.{int_eq}
 use Rattle.remoting_frame.specs.Head.{Head}
 use Rattle.request_fields.specs.Values.{text_at, i32_or, i64_or, u31_at, time_at, count_at, verdict_at}
@@ -10,9 +10,9 @@ use Rattle.request_fields.specs.Requests.{SendSaid, PullSaid, QuerySaid, OffsetS
 use Rattle.request_fields.specs.declared.fault.RequestFault.{RequestFault}
 use Rattle.request_fields.specs.declared.fault.RequestFault.TheVariants.{Unsupported, Missing, BadNumber, BadBody, Memory}
 use Rattle.request_fields.specs.declared.request.Request.{Request}
+use Rattle.request_fields.specs.declared.request.Request.TheVariants.{Send, Pull, Query, OffsetOf, SetOffset, MakeTopic, Search, MaxOffset, MinOffset, ViewById, Beat, Unregister, EndTransaction, Lock, Unlock}
 use Rattle.request_fields.specs.declared.rows.PullNumbers.{PullNumbers}
 use Rattle.request_fields.specs.declared.send.SendNumbers.{SendNumbers}
-use Rattle.request_fields.specs.declared.request.Request.TheVariants.{Send, Pull, Query, OffsetOf, SetOffset, MakeTopic, Search, MaxOffset, MinOffset, ViewById, Beat, Unregister, EndTransaction, Lock, Unlock}
 
 -- ---- what the fields say, where they have no fault
 
@@ -34,14 +34,9 @@ send_said n ext body = record {
 
 -- its numbers
 unfoldable pub send_numbers : SendNames → List (List ℕ × List ℕ) → SendNumbers
-send_numbers n ext = record {
-  queue = i32_or (pos 0) n.queue ext;
-  sysflag = i32_or (pos 0) n.sysflag ext;
-  born = time_at n.born ext;
-  flag = i32_or (pos 0) n.flag ext;
-  default_queues = i32_or (pos 0) n.default_queues ext;
-  reconsume = i32_or (pos 0) n.reconsume ext;
-}
+send_numbers n ext =
+    let said = send_said n ext [] in
+    record { queue = said.queue; sysflag = said.sysflag; born = said.born; flag = said.flag; default_queues = said.default_queues; reconsume = said.reconsume }
 
 -- a pull, with -1 for an absent offset to store and 0 for an absent time to wait
 unfoldable pub pull_said : List (List ℕ × List ℕ) → PullSaid
@@ -60,14 +55,9 @@ pull_said ext = record {
 
 -- its numbers
 unfoldable pub pull_numbers : List (List ℕ × List ℕ) → PullNumbers
-pull_numbers ext = record {
-  queue = u31_at (codes "queueId") ext;
-  from = i64_or (pos 0) (codes "queueOffset") ext;
-  most = i32_or (pos 0) (codes "maxMsgNums") ext;
-  sysflag = i32_or (pos 0) (codes "sysFlag") ext;
-  commit = i64_or (negsuc 0) (codes "commitOffset") ext;
-  suspend = i64_or (pos 0) (codes "suspendTimeoutMillis") ext;
-}
+pull_numbers ext =
+    let said = pull_said ext in
+    record { queue = said.queue; from = said.from; most = said.most; sysflag = said.sysflag; commit = said.commit; suspend = said.suspend }
 
 -- a query by key
 unfoldable pub query_said : List (List ℕ × List ℕ) → QuerySaid

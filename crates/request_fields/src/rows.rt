@@ -34,7 +34,7 @@ struct PullNumbers {
 }
 
 // The numbers, or the first fault behind the group and the topic. An optional text has none.
-#[tactic(auto, unfolding(crate::specs::Rows::pull_row, crate::specs::Reading::pull_numbers))]
+#[tactic(auto, unfolding(crate::specs::Rows::pull_row, crate::specs::Reading::pull_numbers, crate::specs::Reading::pull_said))]
 fn pull_numbers(alloc: Global, header: &Header) -> Result<PullNumbers, RequestFault>
     ensures value { Gives result (required_faults (drop 2 pull_row.required) header.now.ext (optional_faults pull_row.optional header.now.ext)) (pull_numbers_said header.now.ext) }
     ensures kept { IfOk result (λ numbers. numbers.queue < 2 ^ 31) }

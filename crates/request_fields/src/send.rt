@@ -46,7 +46,7 @@ struct SendNumbers {
 }
 
 // The numbers, or the first fault behind the group and the topic. An optional text has none.
-#[tactic(auto, unfolding(crate::specs::Rows::send_row, crate::specs::Reading::send_numbers))]
+#[tactic(auto, unfolding(crate::specs::Rows::send_row, crate::specs::Reading::send_numbers, crate::specs::Reading::send_said))]
 fn numbers_of(
     alloc: Global,
     header: &Header,
