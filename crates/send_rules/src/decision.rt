@@ -19,7 +19,7 @@ pub enum Decision {
     Taken(Draft),
 }
 
-/// Decides of a send that came from this host. A send that is refused takes no memory.
+/// Decides of a send that came from this host. Want of memory comes only at a send that no rule refuses.
 pub fn decide(
     alloc: Global,
     setup: &Setup,
