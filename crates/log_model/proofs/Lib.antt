@@ -15,3 +15,5 @@ pub mod OneDamage
 pub mod BatchLemmas
 pub mod Cuts
 pub mod AdmissibleLemmas
+pub mod OutsideLemmas
+pub mod StoredLemmas

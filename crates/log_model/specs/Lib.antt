@@ -12,5 +12,6 @@ pub mod Pulls
 pub mod Queues
 pub mod Segments
 pub mod Store
+pub mod Stored
 pub mod Told
 pub mod Transactions

@@ -1,13 +1,14 @@
 //! What holds of logs, of their segment files and of recovery. No call is made: the clauses speak of the definitions.
 
-ghost use Rattle.std.specs.Prelude.{◌≡◌, ◌⊎◌, ◌<◌, ◌≤◌, ◌+◌, ◌*◌, ◌/◌, ◌%◌, ◌^◌, ◌++◌, List, [], ℕ, suc, Some, IsSome, length, take, drop, slice_get};
+ghost use Rattle.std.specs.Prelude.{◌≡◌, ◌⊎◌, ◌<◌, ◌≤◌, ◌+◌, ◌*◌, ◌/◌, ◌%◌, ◌^◌, ◌++◌, List, [], ◌∷◌, ℕ, suc, Some, IsSome, length, take, drop, slice_get};
 ghost use Rattle.mq_outside.specs.Disk.{EachImage, IsCrashImage, IsDurable};
 ghost use Rattle.mq_outside.specs.Files.{Files, HasNoFile, At, Shortened, bytes_of};
 ghost use Rattle.record_codec.specs.Entry.{Entry};
 ghost use Rattle.log_model.specs.Bases.{Geometry, first_segment};
 ghost use Rattle.log_model.specs.Log.{place_after, end_of, IsGeometry, IsWellFormed};
 ghost use Rattle.log_model.specs.Segments.{Shape, shape_of, segment_file, last_name, Counts, AreSegmentFiles};
-ghost use Rattle.log_model.specs.Store.{StartsWith, IsDamagedAt, IsHonest, IsLaid, Keeps, KeepsPrefix, Stands, StoresLog};
+ghost use Rattle.log_model.specs.Store.{StartsWith, IsDamagedAt, IsHonest, IsLaid, Keeps, KeepsPrefix, KeepsIfHonest, Stands, StoresLog};
+ghost use Rattle.log_model.specs.Stored.{FlushTurn, HasFirst, KeepsAtLeast, LogStays, StoresFirst, flush_turn, turned_by, turned_in};
 
 use mq_outside::Disk;
 
@@ -131,4 +132,38 @@ pub fn files_only_grow()
 pub fn cut_files_are_honest()
     ensures { (S : Geometry) (log : List Entry) (flushed : ℕ) (files cut : Files) → IsWellFormed S log → AreSegmentFiles S log files
         → At (last_name S (shape_of S log)) (Shortened 0) files cut → IsHonest S log flushed cut }
+{}
+
+/// Recovery keeps at least these records of files that have them, where the files are honest for the log.
+pub fn first_records_are_kept()
+    ensures { (S : Geometry) (log : List Entry) (least : ℕ) (files : Files) → IsWellFormed S log → HasFirst S log least files → KeepsIfHonest S log least files }
+{}
+
+/// A disk that holds what a crash left, with the first records of a log at their places, stores the log with these flushed.
+pub fn what_a_crash_left_stores_the_log<D: Disk>(after: &D)
+    ensures { D.tells → (S : Geometry) (log : List Entry) (least : ℕ) (files : Files) → IsWellFormed S log → HasFirst S log least files
+        → EachImage (λ image. image ≡ files) (D.state after.now) → StoresFirst S log least (D.state after.now) }
+{}
+
+/// What each moment keeps of a log, it keeps of each longer one, and one run behind another keeps what both keep.
+pub fn what_is_kept_stays_kept<D: Disk>(old: &D, mid: &D, new: &D)
+    ensures longer { (S : Geometry) (log more : List Entry) (least : ℕ → ℕ) → KeepsAtLeast S log least (D.state old.now) (D.state new.now)
+        → KeepsAtLeast S (log ++ more) least (D.state old.now) (D.state new.now) }
+    ensures both { (S : Geometry) (log : List Entry) (least : ℕ → ℕ) → KeepsAtLeast S log least (D.state old.now) (D.state mid.now)
+        → KeepsAtLeast S log least (D.state mid.now) (D.state new.now) → KeepsAtLeast S log least (D.state old.now) (D.state new.now) }
+{}
+
+/// Behind flush turns that ended Ok, one more that keeps their records and has flushed its own at its end.
+pub fn a_flush_turn_counts_from_its_end<D: Disk>(old: &D, mid: &D, new: &D)
+    ensures { (S : Geometry) (log : List Entry) (before count : ℕ) (turns : List FlushTurn)
+        → KeepsAtLeast S log (λ m. before + turned_by turns m) (D.state old.now) (D.state mid.now)
+        → KeepsAtLeast S log (λ m. before + turned_in turns) (D.state mid.now) (D.state new.now)
+        → EachImage (HasFirst S log (before + turned_in turns + count)) (D.state new.now)
+        → KeepsAtLeast S log (λ m. before + turned_by (turns ++ flush_turn count (D.state new.now).moment ∷ []) m) (D.state old.now) (D.state new.now) }
+{}
+
+/// Where the log's files stay, the disk stores the log as before.
+pub fn a_log_whose_files_stay_is_stored<D: Disk>(old: &D, new: &D)
+    ensures { (S : Geometry) (log : List Entry) (flushed : ℕ) → LogStays (D.state old.now) (D.state new.now)
+        → StoresLog S log flushed (D.state old.now) → StoresLog S log flushed (D.state new.now) }
 {}
