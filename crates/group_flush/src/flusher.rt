@@ -1,18 +1,18 @@
-//! The flusher: it owns the segment files, and makes one turn after another.
+//! The flusher: it makes one turn after another, on the disk that each turn is given.
 //!
 //! A turn takes no lock, waits for nobody and takes no memory. What it wrote may be acknowledged after it answered Ok, and
 //! never before.
 
-ghost use Rattle.std.specs.Prelude.{◌≡◌, ◌+◌, ◌<◌, ◌≤◌, ◌^◌, length, IfErr};
-ghost use Rattle.std.specs.Borrow.{Lends, sem};
-ghost use Rattle.mq_outside.specs.Counts.{CountsFailure};
-ghost use Rattle.segment_files.specs.Outside.{StaysOutside};
-ghost use Rattle.segment_files.specs.Turn.{IsInside, Turns, MovesOn, growing, opens_segment, syncs_of};
-ghost use Rattle.group_flush.specs.contracts.flusher.Flusher.{the_row};
+ghost use Rattle.std.specs.Prelude.{◌≡◌, ◌+◌, ◌<◌, ◌≤◌, ◌^◌, ℕ, length, IfErr, OnOk};
+ghost use Rattle.mq_outside.specs.Counts.{Counted, CountsFailure};
+ghost use Rattle.log_model.specs.Batches.{IsBatchOf};
+ghost use Rattle.log_model.specs.Log.{IsWellFormed};
+ghost use Rattle.log_model.specs.Stored.{Stored, StaysOutside};
+ghost use Rattle.segment_files.specs.Turn.{IsInside, CanTurn, HasTurned, IsPlaced, PlacesOn, MovesOn, growing, opens_segment, syncs_of};
 
 use log_model::{Batch, Receipt};
 use mq_outside::{Disk, Failed};
-use segment_files::Segments;
+use segment_files::LastFile;
 
 /// The disk failed in this turn.
 #[derive(Clone, Copy, Debug, PartialEq, Eq)]
@@ -21,60 +21,48 @@ pub struct FlushFault {
     pub count: u64,
 }
 
-/// The owner of the segment files.
-#[derive(Drop)]
-pub struct Flusher<D: Disk> {
-    segments: Segments<D>,
+/// Where the next turn writes.
+#[derive(Clone, Copy)]
+pub struct Flusher {
+    file: LastFile,
 }
 
-impl<D: Disk> Flusher<D> {
-    /// A flusher of these segment files.
-    pub fn new(segments: Segments<D>) -> Flusher<D>
-        ensures { result.segments ≡ segments }
+impl Flusher {
+    /// A flusher that writes from the end of this file on.
+    pub fn new(file: LastFile) -> Flusher
+        ensures { result.file ≡ file }
     {
-        Flusher { segments }
+        Flusher { file }
     }
 
-    /// Writes a batch behind the flushed records and syncs it. At `Err` the log is stored as before, and the same batch may
-    /// come again.
-    pub fn turn(&mut self, batch: Batch) -> Result<Receipt, FlushFault>
-        requires room { self.old.segments.file.offset + length batch.bytes < 2 ^ 63 }
-        requires inside { D.tells → IsInside self.old.segments.file.base self.old.segments.file.offset (D.state self.old.segments.disk) }
+    /// Writes a batch behind the flushed records and syncs it. At `Err` the log is stored as before, and the next batch begins
+    /// at the same place: the same one, or a longer one. It is to be given the same disk at each turn.
+    pub fn turn<D: Disk>(&mut self, disk: &mut D, batch: Batch) -> Result<Receipt, FlushFault>
+        requires room { self.old.file.offset + length batch.bytes < 2 ^ 63 }
+        requires inside { D.tells → IsInside self.old.file.base self.old.file.offset (D.state disk.old) }
 
-        // What it does to a log with which the batch goes on, and to the files outside the log's folder.
-        ensures turns { D.tells → Turns batch result (growing self.old.segments.file (D.state self.old.segments.disk)) (growing self.new.segments.file (D.state self.new.segments.disk)) }
-        ensures outside { D.tells → StaysOutside (D.state self.old.segments.disk) (D.state self.new.segments.disk) }
+        // What it does to each log that is open there and of which this is the next batch. Files outside the log's folder stay.
+        ensures turned { D.tells → (it : Stored) (behind : ℕ) → CanTurn it behind batch (growing self.old.file (D.state disk.old))
+            → HasTurned it behind batch result (growing self.old.file (D.state disk.old)) (growing self.new.file (D.state disk.new)) }
+        ensures outside { D.tells → StaysOutside (D.state disk.old) (D.state disk.new) }
 
-        // What was written, and where the next bytes go.
-        ensures moves { MovesOn D.tells batch result self.old.segments.file self.new.segments.file }
-        ensures inside { D.tells → IsInside self.new.segments.file.base self.new.segments.file.offset (D.state self.new.segments.disk) }
-        ensures segment { self.new.segments.segment ≡ self.old.segments.segment }
+        // Where the next bytes go: at Ok to the end of the batch, whatever the disk tells.
+        ensures places { (it : Stored) → IsWellFormed it.geometry it.log → IsBatchOf it.geometry it.log it.flushed batch → IsPlaced it self.old.file
+            → PlacesOn it batch result self.new.file }
+        ensures moves { MovesOn D.tells batch result self.old.file self.new.file }
+        ensures inside { D.tells → IsInside self.new.file.base self.new.file.offset (D.state disk.new) }
 
-        // The fault tells how often the disk has failed.
-        ensures cause { CountsFailure result (D.faults self.old.segments.disk) (D.faults self.new.segments.disk) }
-        ensures count { IfErr result (λ fault. fault.count ≡ D.faults self.new.segments.disk) }
-        ensures syncs { D.syncs self.new.segments.disk ≤ D.syncs self.old.segments.disk + syncs_of (opens_segment self.old.segments.file batch) }
+        // An Ok has synced the batch, and the blank before it. A fault is the disk's, and tells how often it has failed.
+        ensures cause { CountsFailure result (D.faults disk.old) (D.faults disk.new) }
+        ensures count { IfErr result (λ fault. fault.count ≡ D.faults disk.new) }
+        ensures synced { OnOk result (Counted (syncs_of (opens_segment self.old.file batch)) (D.syncs disk.old) (D.syncs disk.new)) }
+        ensures syncs { D.syncs disk.new ≤ D.syncs disk.old + syncs_of (opens_segment self.old.file batch) }
     {
-        match self.segments.write_batch(batch) {
+        match self.file.write_batch(disk, batch) {
             Ok(receipt) => Ok(receipt),
             Err(Failed) => Err(FlushFault {
-                count: self.segments.fault_count(),
+                count: disk.fault_count(),
             }),
         }
-    }
-
-    /// The disk, between turns. Whatever is done to it, the log's files must come back as they were.
-    pub fn disk(&mut self) -> &mut D
-        ensures* writes_back { sem 𝓛 (Lends (the_row D.row D.Reader.row) D.row self.entry result (λ w. record self.old { segments = record self.old.segments { disk = w } })) }
-        ensures value { result.now ≡ self.old.segments.disk }
-    {
-        self.segments.disk()
-    }
-
-    /// The disk, after the last turn.
-    pub fn into_disk(self) -> D
-        ensures { result ≡ self.segments.disk }
-    {
-        self.segments.into_disk()
     }
 }

@@ -14,9 +14,8 @@ use Rattle.log_model.proofs.FileNames.{IsNamed, is_log_file}
 use Rattle.log_model.proofs.Recovery.{keeps_unique}
 use Rattle.log_model.proofs.Prefixes.{keeps_prefix}
 use Rattle.log_model.proofs.StoreLemmas.{stores_again}
-use Rattle.segment_files.specs.Outside.{IsOutsideOf, StaysOutside}
-use Rattle.segment_files.specs.Turn.{HasRecords}
-use Rattle.segment_files.proofs.Outside.{outside_then}
+use Rattle.log_model.specs.Stored.{AreAsIn, IsOutside, StaysOutside, HasRecords}
+use Rattle.log_model.proofs.OutsideLemmas.{outside_then}
 use Rattle.log_recovery.specs.Recovered.{Recovered, Stays, StaysFlushed}
 use Rattle.log_recovery.specs.Scan.{ReadLog}
 use Rattle.log_recovery.specs.Settle.{ComesFrom, IsPruned, CutsTo, IsTrimmed, Settles, IsSettledAt}
@@ -71,7 +70,7 @@ settles_reads S m n len old new settles name not = ⊎_elim
     (λ (trimmed : IsTrimmed S.size m n len old.reads new.reads). trimmed_outside S m n len old.reads new.reads name not trimmed)
     settles.reads
 
-settles_images : (S : Geometry) (m n len : ℕ) (old new : DiskState) → Settles S.size m n len old new → Throughout old new (IsOutsideOf old)
+settles_images : (S : Geometry) (m n len : ℕ) (old new : DiskState) → Settles S.size m n len old new → Throughout old new (AreAsIn IsOutside old)
 settles_images S m n len old new settles = weaker settles.images (λ files from. ⊎_elim
     (λ (pruned : ComesFrom (IsPruned S.size m n) old files). record { before = pruned.before; image = pruned.image; same = λ name not. pruned_outside S m n pruned.before files name not pruned.changed })
     (λ (trimmed : ComesFrom (IsTrimmed S.size m n len) old files). record { before = trimmed.before; image = trimmed.image; same = λ name not. trimmed_outside S m n len trimmed.before files name not trimmed.changed })

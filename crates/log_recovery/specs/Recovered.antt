@@ -10,7 +10,7 @@ use Rattle.log_model.specs.Bases.{Geometry, first_segment}
 use Rattle.log_model.specs.Log.{end_of}
 use Rattle.log_model.specs.Segments.{used, shape_of, segment_file, last_name, last_bytes, layouts, IsLogFile, NoOther, next_segment}
 use Rattle.log_model.specs.Store.{Keeps, StoresAt, StoresLog, IsHonest, KeepsIfHonest}
-use Rattle.segment_files.specs.Turn.{HasRecords}
+use Rattle.log_model.specs.Stored.{HasRecords}
 use Rattle.log_recovery.specs.declared.fault.RecoverFault.{RecoverFault}
 use Rattle.log_recovery.specs.declared.fault.RecoverFault.TheVariants.{Damaged, Failed, Memory}
 

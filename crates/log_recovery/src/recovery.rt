@@ -7,7 +7,7 @@ ghost use Rattle.log_model.specs.Bases.{geometry};
 ghost use Rattle.log_model.specs.Told.{base_of};
 ghost use Rattle.log_model.specs.Log.{IsGeometry};
 ghost use Rattle.log_model.specs.Store.{Keeps, IsDamagedAt, IsHonest, StoresLog};
-ghost use Rattle.segment_files.specs.Outside.{StaysOutside};
+ghost use Rattle.log_model.specs.Stored.{StaysOutside};
 ghost use Rattle.segment_files.specs.Turn.{IsInside};
 ghost use Rattle.log_recovery.specs.Recovered.{Kept, Recovered, IsCutTo, IsSettled, StaysFlushed, OnDamage, OnMemory, CountsRecoverFault};
 

@@ -12,8 +12,8 @@ use Rattle.log_model.specs.Log.{IsWellFormed}
 use Rattle.log_model.specs.Segments.{used, shape_of}
 use Rattle.log_model.specs.Store.{Stands, KeepsIfHonest}
 use Rattle.log_model.proofs.Prefixes.{keeps_prefix}
-use Rattle.segment_files.specs.Turn.{HasRecords}
-use Rattle.log_writer.specs.Durable.{Stores, Flushed, entries_of, flushed_by, log_with, HasFirst, StoresFirst, Flushes}
+use Rattle.log_model.specs.Stored.{HasRecords, HasFirst, StoresFirst}
+use Rattle.log_writer.specs.Durable.{Stores, Flushed, entries_of, flushed_by, log_with, Flushes}
 use Rattle.log_writer.specs.declared.writer.LogWriter.{LogWriter}
 
 -- each image of a disk that stores a log has its records

@@ -16,7 +16,8 @@ use Rattle.log_model.specs.Batches.{IsBatchOf}
 use Rattle.log_model.proofs.BatchLemmas.{batch_goes, GoesHere, GoesNext}
 use Rattle.log_model.proofs.Longer.{stores_longer}
 use Rattle.log_model.proofs.Prefixes.{keeps_prefix}
-use Rattle.segment_files.specs.Turn.{WritesAt, HasRecords, GoesOn, Growing, growing, CanTurn, CanRetry, is_due, shape_behind, unless_opened}
+use Rattle.log_model.specs.Stored.{HasRecords}
+use Rattle.segment_files.specs.Turn.{WritesAt, GoesOn, Growing, growing, CanTurn, CanRetry, is_due, shape_behind, unless_opened}
 use Rattle.log_tail.specs.Tails.{StandsFor}
 use Rattle.log_writer.specs.Places.{next_entry, with_next, IsAppended}
 use Rattle.log_writer.specs.Durable.{Stores}

@@ -7,7 +7,8 @@ use Rattle.record_codec.specs.Entry.{Entry}
 use Rattle.log_model.specs.Bases.{Geometry}
 use Rattle.log_model.specs.Segments.{used, shape_of}
 use Rattle.log_model.specs.Store.{StoresLog}
-use Rattle.segment_files.specs.Turn.{IsInside, WritesAt, HasRecords}
+use Rattle.log_model.specs.Stored.{HasRecords}
+use Rattle.segment_files.specs.Turn.{IsInside, WritesAt}
 use Rattle.log_tail.specs.Tails.{StandsFor}
 use Rattle.log_writer.specs.declared.writer.LogWriter.{LogWriter}
 

@@ -7,7 +7,7 @@ ghost use Rattle.record_codec.specs.Entry.{Entry};
 ghost use Rattle.log_model.specs.Bases.{Geometry};
 ghost use Rattle.log_model.specs.Log.{IsWellFormed};
 ghost use Rattle.log_model.specs.Store.{KeepsIfHonest};
-ghost use Rattle.log_writer.specs.Durable.{HasFirst, StoresFirst};
+ghost use Rattle.log_model.specs.Stored.{HasFirst, StoresFirst};
 
 use mq_outside::Disk;
 

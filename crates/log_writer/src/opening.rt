@@ -7,7 +7,7 @@ ghost use Rattle.log_model.specs.Bases.{geometry, whole};
 ghost use Rattle.log_model.specs.Told.{base_of};
 ghost use Rattle.log_model.specs.Log.{IsSegmentSize, IsGeometry};
 ghost use Rattle.log_model.specs.Store.{IsDamagedAt, IsHonest, StoresLog};
-ghost use Rattle.segment_files.specs.Outside.{StaysOutside};
+ghost use Rattle.log_model.specs.Stored.{StaysOutside};
 ghost use Rattle.log_recovery.specs.Recovered.{StaysFlushed, OnDamage, OnMemory, CountsRecoverFault};
 ghost use Rattle.log_writer.specs.Openings.{GoesOnBehind};
 ghost use Rattle.log_writer.specs.Durable.{CanGoOn, Opened};

@@ -12,9 +12,10 @@ use Rattle.log_model.specs.Bases.{Geometry}
 use Rattle.log_model.specs.Store.{StoresLog}
 use Rattle.log_model.specs.Segments.{used, shape_of}
 use Rattle.log_model.proofs.StoreLemmas.{stores_exact}
-use Rattle.segment_files.specs.Turn.{HasRecords}
-use Rattle.log_writer.specs.Durable.{Flushed, entries_of, flushed_by, log_with, HasFirst, Flushes}
-use Rattle.log_writer.proofs.DurableLemmas.{each_stored, has_more, most, length-log_with, flushes_start, flushes_on, flushes_sent}
+use Rattle.log_model.specs.Stored.{HasRecords, HasFirst}
+use Rattle.log_writer.specs.Durable.{Flushed, entries_of, flushed_by, log_with, Flushes}
+use Rattle.log_model.proofs.StoredLemmas.{has_more}
+use Rattle.log_writer.proofs.DurableLemmas.{each_stored, most, length-log_with, flushes_start, flushes_on, flushes_sent}
 use Rattle.mq_broker.specs.Outcomes.{Event}
 use Rattle.mq_broker.specs.Run.{appended, with_record, step, run, flushed_before, flushed_of}
 use Rattle.mq_broker.specs.Progress.{OpenLog, IsStored, IsExactAt, GoesTurnByTurn, GoesOn, Stays}

@@ -9,7 +9,7 @@ use Rattle.record_codec.specs.Entry.{Entry}
 use Rattle.remoting_frame.specs.declared.frame.Frame.{Frame}
 use Rattle.log_model.specs.Bases.{Geometry}
 use Rattle.log_model.specs.Store.{StoresLog}
-use Rattle.segment_files.specs.Turn.{HasRecords}
+use Rattle.log_model.specs.Stored.{HasRecords}
 use Rattle.log_writer.specs.Durable.{Flushes}
 use Rattle.mq_broker.specs.Taken.{TookPart}
 use Rattle.mq_broker.specs.Outcomes.{FlushFailed, Event}

@@ -7,14 +7,14 @@ use Rattle.record_codec.specs.Entry.{Entry}
 use Rattle.log_model.specs.Bases.{Geometry, whole}
 use Rattle.log_model.specs.Log.{IsWellFormed}
 use Rattle.log_model.specs.Store.{Keeps, IsDamagedAt, IsHonest, StoresLog}
-use Rattle.segment_files.specs.Turn.{HasRecords}
+use Rattle.log_model.specs.Stored.{HasRecords, HasFirst}
 use Rattle.log_recovery.specs.Recovered.{OnDamage}
 use Rattle.log_recovery.specs.declared.fault.RecoverFault.{RecoverFault}
 use Rattle.log_recovery.specs.declared.fault.RecoverFault.TheVariants.{Damaged, Failed as DiskFailed, Memory as NoMemory}
-use Rattle.log_writer.specs.Durable.{Flushed, Opened, HasFirst, entries_of, log_with, flushed_by}
+use Rattle.log_writer.specs.Durable.{Flushed, Opened, entries_of, log_with, flushed_by}
 use Rattle.log_writer.specs.Openings.{GoesOnBehind}
 use Rattle.log_writer.specs.declared.writer.LogWriter.{LogWriter}
-use Rattle.log_writer.proofs.DurableLemmas.{has_more, first_keeps}
+use Rattle.log_model.proofs.StoredLemmas.{has_more, first_keeps}
 use Rattle.mq_broker.specs.Outcomes.{Event}
 use Rattle.mq_broker.specs.Run.{run, flushed_of}
 use Rattle.store_open.specs.Openings.{IsOpened}

@@ -8,7 +8,8 @@ use Rattle.log_model.specs.Bases.{Geometry, whole}
 use Rattle.log_model.specs.Store.{Keeps, IsDamagedAt, IsHonest, StoresLog, KeepsIfHonest}
 use Rattle.log_recovery.specs.declared.fault.RecoverFault.{RecoverFault}
 use Rattle.log_recovery.specs.declared.fault.RecoverFault.TheVariants.{Damaged, Failed as DiskFailed, Memory as NoMemory}
-use Rattle.log_writer.specs.Durable.{HasFirst, flushed_by}
+use Rattle.log_model.specs.Stored.{HasFirst}
+use Rattle.log_writer.specs.Durable.{flushed_by}
 use Rattle.store_open.specs.Words.{IsCommand}
 use Rattle.store_open.specs.Openings.{IsOpened}
 use Rattle.store_open.specs.declared.status.Status.{Status}

@@ -3,7 +3,7 @@
 ghost use Rattle.std.specs.Prelude.{◌≡◌, List, Ok, None, OnOk, ℕ};
 ghost use Rattle.record_codec.specs.Entry.{Entry};
 ghost use Rattle.remoting_frame.specs.Frames.{next_of};
-ghost use Rattle.segment_files.specs.Outside.{StaysOutside};
+ghost use Rattle.log_model.specs.Stored.{StaysOutside};
 ghost use Rattle.log_writer.specs.Durable.{CanGoOn};
 ghost use Rattle.mq_broker.specs.Causes.{CountsHalt};
 ghost use Rattle.mq_broker.specs.Seen.{tells_of, faults_of, devices_of};

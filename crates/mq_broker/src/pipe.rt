@@ -3,7 +3,7 @@
 ghost use Rattle.std.specs.Prelude.{◌≡◌, ◌^◌, ◌≤◌, ◌<◌, ◌+◌, ◌-◌, ◌++◌, min, List, [], OnErr, IfOk, length, take, ℕ};
 ghost use Rattle.mq_outside.specs.Counts.{CountsFailure};
 ghost use Rattle.record_codec.specs.Entry.{Entry};
-ghost use Rattle.segment_files.specs.Outside.{StaysOutside};
+ghost use Rattle.log_model.specs.Stored.{StaysOutside};
 ghost use Rattle.log_writer.specs.Durable.{CanGoOn};
 ghost use Rattle.mq_broker.specs.Seen.{tells_of, faults_of, devices_of, seen_of};
 ghost use Rattle.mq_broker.specs.Progress.{StandsAt};

@@ -3,7 +3,7 @@
 ghost use Rattle.std.specs.Prelude.{◌≡◌, ◌++◌, List, [], ◌∷◌, ℕ, Option, OnOk, OnErr, IfErr, false};
 ghost use Rattle.record_codec.specs.Entry.{Entry};
 ghost use Rattle.reply_fields.specs.Parts.{ReplyParts};
-ghost use Rattle.segment_files.specs.Outside.{StaysOutside};
+ghost use Rattle.log_model.specs.Stored.{StaysOutside};
 ghost use Rattle.log_writer.specs.Durable.{CanGoOn};
 ghost use Rattle.mq_broker.specs.Taken.{TookPart};
 ghost use Rattle.mq_broker.specs.Run.{answer_bytes, is_response as is_response_of, is_one_way as is_one_way_of};

@@ -3,7 +3,7 @@
 ghost use Rattle.std.specs.Prelude.{◌≡◌, ◌≢◌, ◌⊎◌, List, ℕ, Option, Some};
 ghost use Rattle.mq_outside.specs.Disk.{Moves};
 ghost use Rattle.mq_outside.specs.Files.{Same};
-ghost use Rattle.segment_files.specs.Outside.{StaysOutside};
+ghost use Rattle.log_model.specs.Stored.{StaysOutside};
 ghost use Rattle.store_open.specs.Words.{texts_of, IsCommand, IsFirstWrong};
 ghost use Rattle.store_open.specs.Openings.{FORMAT, IsForeign};
 ghost use Rattle.mq_broker.specs.Promise.{StatusTells, StatusTellsFault, Call, Causes};

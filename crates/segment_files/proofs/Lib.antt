@@ -1,4 +1,4 @@
-pub mod Outside
 mod Pieces
+pub mod Ready
 mod Standing
 pub mod Turns

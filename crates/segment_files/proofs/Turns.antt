@@ -20,13 +20,9 @@ use Rattle.log_model.proofs.Places.{placed_log, well_formed_take}
 use Rattle.log_model.proofs.Steps.{each_torn, each_more, each_has, stands_more, length-blank_of}
 use Rattle.log_model.proofs.StoreLemmas.{laid_room, stores_named, stores_still, stores_batch, stores_opened, stores_exact}
 use Rattle.log_model.proofs.Prefixes.{keeps_prefix}
-use Rattle.segment_files.specs.Turn.{IsInside, WritesAt, IsBehind, HasRecords, is_due, shape_behind, unless_opened, Opens, GoesOn, Growing, opens_segment, CanTurn, CanRetry}
+use Rattle.log_model.specs.Stored.{HasRecords}
+use Rattle.segment_files.specs.Turn.{IsInside, WritesAt, IsBehind, is_due, shape_behind, unless_opened, Opens, GoesOn, Growing, opens_segment}
 use Rattle.segment_files.specs.declared.last_file.LastFile.{LastFile}
-
--- the place of a blank, or 0 where there is none
-abbrev first_of : Option (ℕ × ℕ) → ℕ
-first_of None = 0
-first_of (Some blank) = blank.0
 
 -- ---- what holds at each moment
 
@@ -34,12 +30,6 @@ first_of (Some blank) = blank.0
 pub has_records : {S : Geometry} (log : List Entry) (flushed : ℕ) {shape : Shape} {more : ℕ} {old new : DiskState} → IsLaid S (take flushed log) shape
     → Throughout old new (Stands S shape more) → Throughout old new (HasRecords S (take flushed log))
 has_records log flushed {shape = shape} {more = more} laid so_far = weaker so_far (λ files stands. record { shape = shape; reach = more; laid = laid; stands = stands })
-
--- and an honest image of them keeps a prefix of the log
-pub keeps_records : {S : Geometry} {log : List Entry} {flushed : ℕ} {old new : DiskState} → IsWellFormed S log → flushed ≤ length log
-    → Throughout old new (HasRecords S (take flushed log)) → Throughout old new (KeepsIfHonest S log flushed)
-keeps_records {S = S} {log = log} {flushed = flushed} well within so_far = weaker so_far
-    (λ files has honest. keeps_prefix S log flushed files has.shape has.reach well within has.laid has.stands honest)
 
 -- one call more that changes nothing
 pub same_on : {old mid new : DiskState} {P : Files → Type 0} → Throughout old mid P → Moves Same mid new → Throughout old new P
@@ -134,69 +124,11 @@ writes_batch {S = S} {log = log} {flushed = flushed} {count = count} {shape = sh
       low = batch_low writes is;
     }
 
--- ---- the same batch once more
-
--- a blank that was due is not due behind it, and one that was not due stays so
-not_due : (S : Geometry) (log : List Entry) (flushed : ℕ) (shape : Shape) (was now place : ℕ) (blank : Option (ℕ × ℕ)) → used shape + 8 ≤ S.size → was ≡ segment_start S shape
-    → (is_due was blank ≡ true → Opens S log flushed shape place blank) → now ≡ segment_start S (shape_behind (is_due was blank) shape) → is_due now blank ≡ false
-not_due S log flushed shape was now place None room first opens next = refl
-not_due S log flushed shape was now place (Some b) room first opens next = ⊎_elim
-    (λ (due : nat_le was b.0 ≡ true).
-    let here : b.0 ≡ end_in S shape = ap (λ (o : Option (ℕ × ℕ)). first_of o) (opens due).filled in
-    let behind : now ≡ segment_start S (opened shape) = next ∙ ap (λ (d : Bool). segment_start S (shape_behind d shape)) due in
-    ⊎_elim
-    (λ (still : nat_le now b.0 ≡ true). absurd (omega (arith, leb-true _ _ still, here, behind, room)))
-    (λ (done : nat_le now b.0 ≡ false). done)
-    (cases_Bool (nat_le now b.0)))
-    (λ (stands : nat_le was b.0 ≡ false).
-    let same : now ≡ was = next ∙ ap (λ (d : Bool). segment_start S (shape_behind d shape)) stands ∙ sym first in
-    ap (λ (k : ℕ). nat_le k b.0) same ∙ stands)
-    (cases_Bool (nat_le was b.0))
-
 -- the same by equal numbers
 pub writes_moved : {S : Geometry} {log : List Entry} {flushed : ℕ} {shape : Shape} {reach b o now_b now_o : ℕ} {disk : DiskState}
     → WritesAt S log flushed shape reach b o disk → now_b ≡ b → now_o ≡ o → WritesAt S log flushed shape reach now_b now_o disk
 writes_moved {S = S} {log = log} {flushed = flushed} {shape = shape} {reach = reach} {b = b} {now_o = now_o} {disk = disk} writes same same_offset =
     subst (λ (k : ℕ). WritesAt S log flushed shape reach k now_o disk) (sym same) (subst (λ (k : ℕ). WritesAt S log flushed shape reach b k disk) (sym same_offset) writes)
-
--- after a fault before the blank was synced
-pub retry_first : {S : Geometry} {log : List Entry} {flushed : ℕ} {shape : Shape} {reach : ℕ} {batch : Batch} {was : LastFile} {new : Growing} (most : ℕ)
-    → GoesOn S log flushed shape (opens_segment was batch) batch → WritesAt S log flushed shape reach was.base was.offset new.disk → opens_segment was batch ≡ true
-    → new.file.base ≡ was.base → new.file.offset ≡ was.offset → CanRetry S log flushed most batch new
-retry_first {S = S} {log = log} {flushed = flushed} {shape = shape} {reach = reach} {batch = batch} {was = was} {new = new} most goes writes due same same_offset = record {
-  shape = shape;
-  reach = reach;
-  can = record {
-    writes = writes_moved writes same same_offset;
-    goes_on = subst (λ (b : ℕ). GoesOn S log flushed shape (is_due b batch.blank) batch) (sym same) goes;
-  };
-  short =
-      let still : opens_segment new.file batch ≡ true = ap (λ (b : ℕ). is_due b batch.blank) same ∙ due in
-      omega (arith, ap (λ (d : Bool). unless_opened d reach) still);
-}
-
--- after a fault behind it
-pub retry_second : {S : Geometry} {log : List Entry} {flushed : ℕ} {shape : Shape} {reach more : ℕ} {batch : Batch} {old new : Growing} (most : ℕ)
-    → CanTurn S log flushed shape reach batch old → WritesAt S log flushed (shape_behind (opens_segment old.file batch) shape) more new.file.base new.file.offset new.disk → more ≤ most
-    → CanRetry S log flushed most batch new
-retry_second {S = S} {log = log} {flushed = flushed} {shape = shape} {more = more} {batch = batch} {old = old} {new = new} most can writes short =
-    let first = can.writes in
-    let goes = can.goes_on in
-    let next : Shape = shape_behind (opens_segment old.file batch) shape in
-    let room : used shape + 8 ≤ S.size = laid_room S log flushed shape first.stores.well_formed first.stores.laid in
-    let stands : opens_segment new.file batch ≡ false = not_due S log flushed shape old.file.base new.file.base batch.place batch.blank room first.place.last goes.opens writes.place.last in
-    record {
-      shape = next;
-      reach = more;
-      can = record {
-        writes = writes;
-        goes_on = record {
-          records = subst (λ (d : Bool). IsBatch S log flushed batch.count (shape_behind d next) batch.bytes) (sym stands) goes.records;
-          opens = λ due. let full : false ≡ true = sym stands ∙ due in absurd (cc);
-        };
-      };
-      short = omega (arith, ap (λ (d : Bool). unless_opened d more) stands, short);
-    }
 
 -- ---- where the next bytes go
 

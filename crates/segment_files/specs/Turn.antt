@@ -1,13 +1,16 @@
 -- What a flush turn starts from, what it is given, and what it leaves.
-use Rattle.std.specs.Prelude.{◌≡◌, ℕ, ◌+◌, ◌-◌, ◌^◌, ◌<◌, ◌≤◌, ◌++◌, max, replicate, nat_le, List, take, length, Option, Some, None, Bool, true, false, Result, IfOk, OnOk, OnErr, if◌then◌else◌}
+use Rattle.std.specs.Prelude.{◌≡◌, ◌≢◌, ◌⊎◌, ℕ, ◌+◌, ◌-◌, ◌*◌, ◌/◌, ◌%◌, ◌^◌, ◌<◌, ◌≤◌, ◌++◌, max, replicate, nat_le, List, take, length, slice_get, Option, Some, None, Bool, true, false, Result, IfOk, OnOk, OnErr, if◌then◌else◌}
 use Rattle.mq_bytes.specs.Names.{log_file}
-use Rattle.mq_outside.specs.Files.{Files, bytes_of}
-use Rattle.mq_outside.specs.Disk.{DiskState, EachImage, Throughout}
+use Rattle.mq_outside.specs.Files.{bytes_of}
+use Rattle.mq_outside.specs.Disk.{DiskState, EachImage}
 use Rattle.record_codec.specs.Entry.{Entry}
 use Rattle.record_codec.specs.Blanks.{blank_front}
 use Rattle.log_model.specs.Bases.{Geometry}
+use Rattle.log_model.specs.Batches.{IsBatchOf}
+use Rattle.log_model.specs.Log.{IsWellFormed, end_of}
 use Rattle.log_model.specs.Segments.{Shape, opened, used, segment_start, end_in, shape_of, last_name, AreSegmentFiles}
-use Rattle.log_model.specs.Store.{Stands, IsLaid, StoresAt, IsAt, IsBatch, KeepsIfHonest}
+use Rattle.log_model.specs.Store.{StoresAt, IsAt, IsBatch}
+use Rattle.log_model.specs.Stored.{Stored, KeepsAtLeast, flushed_of, with_flushed, with_more}
 use Rattle.log_model.specs.declared.batch.Batch.{Batch}
 use Rattle.log_model.specs.declared.batch.Receipt.{Receipt}
 use Rattle.segment_files.specs.declared.last_file.LastFile.{LastFile}
@@ -35,13 +38,6 @@ pub record IsBehind (S : Geometry) (shape : Shape) (name : List ℕ) (offset : �
   pub low : segment_start S shape < 2 ^ 64
   pub named : name ≡ last_name S shape
   pub behind : used shape ≤ offset
-
--- the files have these records at their places with their blanks, and behind them bytes as may be
-pub record HasRecords (S : Geometry) (records : List Entry) (files : Files) : Type 0 where
-  pub shape : Shape
-  pub reach : ℕ
-  pub laid : IsLaid S records shape
-  pub stands : Stands S shape reach files
 
 -- ---- what is to be written
 
@@ -91,33 +87,61 @@ growing file disk = record { file = file; disk = disk }
 abbrev pub opens_segment : LastFile → Batch → Bool
 opens_segment file batch = is_due file.base batch.blank
 
--- The disk stores the log with so many of its records flushed, in these segments and up to this reach, and the batch goes on
--- behind them.
-pub record CanTurn (S : Geometry) (log : List Entry) (flushed : ℕ) (shape : Shape) (reach : ℕ) (batch : Batch) (at : Growing) : Type 0 where
-  pub writes : WritesAt S log flushed shape reach at.file.base at.file.offset at.disk
-  pub goes_on : GoesOn S log flushed shape (opens_segment at.file batch) batch
+-- the next record of the log opens a new segment: it doesn't stand where the flushed records end
+pub record NextOpens (it : Stored) : Type 0 where
+  pub next : Entry
+  pub is : slice_get it.log it.flushed ≡ Some next
+  pub apart : next.offset ≢ end_of it.geometry.base (flushed_of it)
 
--- The same in some segments, and nothing stands past so many bytes of the file that the batch comes into.
-pub record CanRetry (S : Geometry) (log : List Entry) (flushed most : ℕ) (batch : Batch) (at : Growing) : Type 0 where
+-- These are the segments of the flushed records, or a new one is opened behind them, which the next record begins.
+abbrev pub IsLaidFor : Stored → Shape → Type 0
+IsLaidFor it shape = (shape ≡ shape_of it.geometry (flushed_of it)) ⊎ ((shape ≡ opened (shape_of it.geometry (flushed_of it))) × NextOpens it)
+
+-- The log is open for batches: the disk stores it, and the next bytes go behind its flushed records, or to a new segment that the
+-- next record opens. At most so many bytes stand behind the place of the next record.
+pub record IsReady (it : Stored) (behind : ℕ) (at : Growing) : Type 0 where
   pub shape : Shape
   pub reach : ℕ
-  pub can : CanTurn S log flushed shape reach batch at
-  pub short : unless_opened (opens_segment at.file batch) reach ≤ most
+  pub writes : WritesAt it.geometry it.log it.flushed shape reach at.file.base at.file.offset at.disk
+  pub laid : IsLaidFor it shape
+  pub short : (reach ≤ at.file.offset + behind) ⊎ ((shape ≡ shape_of it.geometry (flushed_of it)) × NextOpens it)
 
--- What a turn did to such a log. At each moment of it each image has what was flushed before, and each honest one keeps it. A
--- fault leaves the log as before, and the same batch may come again. After Ok the batch is flushed too, and where nothing
--- longer stood behind it every image is exactly the log's files.
-pub record HasTurned {E : Type 0} (S : Geometry) (log : List Entry) (flushed reach : ℕ) (batch : Batch) (result : Result Receipt E) (old new : Growing) : Type 0 where
-  pub any_moment : Throughout old.disk new.disk (HasRecords S (take flushed log))
-  pub honest : Throughout old.disk new.disk (KeepsIfHonest S log flushed)
-  pub retry : OnErr result (CanRetry S log flushed (max (unless_opened (opens_segment old.file batch) reach) (unless_opened (opens_segment old.file batch) old.file.offset + length batch.bytes)) batch new)
-  pub stored : OnOk result (WritesAt S log (flushed + batch.count) (shape_of S (take (flushed + batch.count) log)) (max (unless_opened (opens_segment old.file batch) reach) new.file.offset)
-      new.file.base new.file.offset new.disk)
-  pub exact : unless_opened (opens_segment old.file batch) reach ≤ new.file.offset → OnOk result (EachImage (AreSegmentFiles S (take (flushed + batch.count) log)) new.disk)
+-- a turn can be made: the log is open for batches, and this one has its records from the flushed number on
+pub record CanTurn (it : Stored) (behind : ℕ) (batch : Batch) (at : Growing) : Type 0 where
+  pub ready : IsReady it behind at
+  pub next : IsBatchOf it.geometry it.log it.flushed batch
 
--- the same of whatever log it is that the batch goes on with
-abbrev pub Turns : {E : Type 0} → Batch → Result Receipt E → Growing → Growing → Type 0
-Turns batch result old new = (S : Geometry) (log : List Entry) (flushed : ℕ) (shape : Shape) (reach : ℕ) → CanTurn S log flushed shape reach batch old → HasTurned S log flushed reach batch result old new
+-- What a turn did. At each moment of it a crash leaves the records that were flushed before, and of the log no others. After a
+-- fault a turn can be made with each batch that comes next in this log, or in it with more appended. After Ok the batch is
+-- flushed, and where nothing longer stood behind the records, every crash leaves exactly the log's files.
+pub record HasTurned {E : Type 0} (it : Stored) (behind : ℕ) (batch : Batch) (result : Result Receipt E) (old new : Growing) : Type 0 where
+  pub any_moment : KeepsAtLeast it.geometry (flushed_of it) (λ m. it.flushed) old.disk new.disk
+  pub fault : OnErr result ((more : List Entry) (next : Batch) → IsWellFormed it.geometry (it.log ++ more) → IsBatchOf it.geometry (it.log ++ more) it.flushed next
+      → CanTurn (with_more more it) (max behind (length batch.bytes)) next new)
+  pub flushed : OnOk result (IsReady (with_flushed batch.count it) (behind - length batch.bytes) new)
+  pub exact : behind ≤ length batch.bytes → OnOk result (EachImage (AreSegmentFiles it.geometry (flushed_of (with_flushed batch.count it))) new.disk)
+
+-- ---- where the next bytes go, whatever the disk tells
+
+-- they go where the flushed records end
+pub record GoesToEnd (it : Stored) (file : LastFile) : Type 0 where
+  pub base : file.base ≡ end_of it.geometry.base (flushed_of it) / it.geometry.size * it.geometry.size
+  pub offset : file.offset ≡ end_of it.geometry.base (flushed_of it) % it.geometry.size
+
+-- they go to the start of the next segment, which the next record opens
+pub record GoesToNext (it : Stored) (file : LastFile) : Type 0 where
+  pub opens : NextOpens it
+  pub base : file.base ≡ (end_of it.geometry.base (flushed_of it) / it.geometry.size + 1) * it.geometry.size
+  pub offset : file.offset ≡ 0
+
+-- one of both
+abbrev pub IsPlaced : Stored → LastFile → Type 0
+IsPlaced it file = GoesToEnd it file ⊎ GoesToNext it file
+
+-- after Ok they go to the end of the batch, and after a fault to where the log's next record can go
+pub record PlacesOn {E : Type 0} (it : Stored) (batch : Batch) (result : Result Receipt E) (new : LastFile) : Type 0 where
+  pub ok : OnOk result (GoesToEnd (with_flushed batch.count it) new)
+  pub err : OnErr result (IsPlaced it new)
 
 -- the receipt is of this batch, which was written up to where the next bytes go
 pub record IsReceipt (tells : Type 0) (batch : Batch) (file : LastFile) (receipt : Receipt) : Type 0 where
@@ -128,9 +152,15 @@ pub record IsReceipt (tells : Type 0) (batch : Batch) (file : LastFile) (receipt
   pub long : receipt.piece.len ≡ length batch.bytes
   pub held : tells → receipt.piece.held ≡ Some batch.bytes
 
--- Where the next bytes go, whatever the log is: behind the batch, or after a fault no further than before.
+-- the file and the offset behind the blank, if one is due
+pub record IsOpened (batch : Batch) (old new : LastFile) : Type 0 where
+  pub base : new.base ≡ base_behind (opens_segment old batch) batch.place old.base
+  pub offset : new.offset ≡ unless_opened (opens_segment old batch) old.offset
+
+-- Where the next bytes go, whatever the log is: behind the batch, or after a fault where they went, or behind the blank.
 pub record MovesOn {E : Type 0} (tells : Type 0) (batch : Batch) (result : Result Receipt E) (old new : LastFile) : Type 0 where
   pub receipt : IfOk result (IsReceipt tells batch new)
   pub base : OnOk result (new.base ≡ base_behind (opens_segment old batch) batch.place old.base)
   pub offset : OnOk result (new.offset ≡ unless_opened (opens_segment old batch) old.offset + length batch.bytes)
   pub back : OnErr result (new.offset ≤ old.offset)
+  pub fault : OnErr result (((new.base ≡ old.base) × (new.offset ≡ old.offset)) ⊎ IsOpened batch old new)

@@ -13,7 +13,7 @@ ghost use Rattle.mq_outside.specs.Disk.{EachImage, Throughout};
 ghost use Rattle.log_model.specs.Bases.{Geometry};
 ghost use Rattle.log_model.specs.Segments.{Shape, blank_of, IsLogFile};
 ghost use Rattle.log_model.specs.Store.{Stands};
-ghost use Rattle.segment_files.specs.Outside.{StaysOutside};
+ghost use Rattle.log_model.specs.Stored.{StaysOutside};
 ghost use Rattle.segment_files.specs.Turn.{IsBehind};
 
 use mq_outside::{Disk, Failed};

@@ -4,15 +4,17 @@
 //! blank comes first, and it is synced before the new file is made: else a crash could leave a new file behind a segment
 //! that has no end. After a fault the same batch is written again at the same place. A blank that was synced stays.
 
-ghost use Rattle.std.specs.Prelude.{◌≡◌, true, ◌+◌, ◌-◌, ◌*◌, ◌/◌, ◌%◌, ◌<◌, ◌≤◌, ◌^◌, max, List, ℕ, length, take, drop, Some, OnOk, OnErr, IfOk};
-ghost use Rattle.mq_outside.specs.Counts.{CountsFailure};
+ghost use Rattle.std.specs.Prelude.{◌≡◌, true, false, ◌+◌, ◌-◌, ◌*◌, ◌/◌, ◌%◌, ◌<◌, ◌≤◌, ◌^◌, max, List, ℕ, length, take, drop, Some, OnOk, OnErr, IfOk};
+ghost use Rattle.mq_outside.specs.Counts.{Counted, CountsFailure};
 ghost use Rattle.mq_outside.specs.Disk.{Throughout};
 ghost use Rattle.record_codec.specs.Entry.{Entry};
 ghost use Rattle.log_model.specs.Bases.{Geometry};
+ghost use Rattle.log_model.specs.Batches.{IsBatchOf};
+ghost use Rattle.log_model.specs.Log.{IsWellFormed};
 ghost use Rattle.log_model.specs.Segments.{Shape, added, opened, used, segment_start, shape_of};
 ghost use Rattle.log_model.specs.Store.{IsBatch};
-ghost use Rattle.segment_files.specs.Outside.{StaysOutside};
-ghost use Rattle.segment_files.specs.Turn.{IsInside, WritesAt, HasRecords, Opens, Turns, MovesOn, growing, opens_segment, is_due, shape_behind, base_behind, unless_opened, syncs_of};
+ghost use Rattle.log_model.specs.Stored.{Stored, StaysOutside, HasRecords};
+ghost use Rattle.segment_files.specs.Turn.{IsInside, WritesAt, Opens, CanTurn, HasTurned, IsPlaced, PlacesOn, MovesOn, growing, opens_segment, is_due, shape_behind, base_behind, unless_opened, syncs_of};
 
 use crate::blank::write_blank;
 use bytes::Bytes;
@@ -62,6 +64,7 @@ impl LastFile {
         ensures moved { OnOk result ((self.new.base ≡ next) × (self.new.offset ≡ 0)) }
         ensures stays { OnErr result ((self.new.base ≡ self.old.base) × (self.new.offset ≡ self.old.offset)) }
         ensures cause { CountsFailure result (D.faults disk.old) (D.faults disk.new) }
+        ensures synced { OnOk result (Counted 1 (D.syncs disk.old) (D.syncs disk.new)) }
         ensures syncs { D.syncs disk.new ≤ D.syncs disk.old + 1 }
     {
         let file = LogFile::of(self.base);
@@ -94,6 +97,7 @@ impl LastFile {
         ensures range { IfOk result (λ piece. (piece.base ≡ self.old.base) × (piece.from ≡ self.old.offset) × (piece.len ≡ length bytes)) }
         ensures held { D.tells → IfOk result (λ piece. piece.held ≡ Some bytes) }
         ensures cause { CountsFailure result (D.faults disk.old) (D.faults disk.new) }
+        ensures synced { OnOk result (Counted 1 (D.syncs disk.old) (D.syncs disk.new)) }
         ensures syncs { D.syncs disk.new ≤ D.syncs disk.old + 1 }
     {
         let file = LogFile::of(self.base);
@@ -129,6 +133,8 @@ impl LastFile {
         ensures stays { OnErr result ((self.new.base ≡ self.old.base) × (self.new.offset ≡ self.old.offset)) }
         ensures due { OnErr result (is_due self.old.base blank ≡ true) }
         ensures cause { CountsFailure result (D.faults disk.old) (D.faults disk.new) }
+        ensures synced { is_due self.old.base blank ≡ true → OnOk result (Counted 1 (D.syncs disk.old) (D.syncs disk.new)) }
+        ensures quiet { is_due self.old.base blank ≡ false → D.syncs disk.new ≡ D.syncs disk.old }
         ensures syncs { D.syncs disk.new + 1 ≤ D.syncs disk.old + syncs_of (is_due self.old.base blank) }
     {
         let Some((at, size)) = blank else {
@@ -140,20 +146,26 @@ impl LastFile {
         Ok(())
     }
 
-    /// Writes a batch behind the flushed records and syncs it. It takes no memory. At `Err` the log is stored as before,
-    /// and the same batch may come again.
+    /// Writes a batch behind the flushed records and syncs it. It takes no memory. At `Err` the log is stored as before, and
+    /// the next batch begins at the same place: the same one, or a longer one.
     pub fn write_batch<D: Disk>(&mut self, disk: &mut D, batch: Batch) -> Result<Receipt, Failed>
         requires room { self.old.offset + length batch.bytes < 2 ^ 63 }
         requires inside { D.tells → IsInside self.old.base self.old.offset (D.state disk.old) }
 
-        // What it does to a log with which the batch goes on, and to the files outside the log's folder.
-        ensures turns { D.tells → Turns batch result (growing self.old (D.state disk.old)) (growing self.new (D.state disk.new)) }
+        // What it does to each log that is open there and of which this is the next batch. Files outside the log's folder stay.
+        ensures turned { D.tells → (it : Stored) (behind : ℕ) → CanTurn it behind batch (growing self.old (D.state disk.old))
+            → HasTurned it behind batch result (growing self.old (D.state disk.old)) (growing self.new (D.state disk.new)) }
         ensures outside { D.tells → StaysOutside (D.state disk.old) (D.state disk.new) }
 
-        // What was written, and where the next bytes go.
+        // Where the next bytes go: at Ok to the end of the batch, whatever the disk tells.
+        ensures places { (it : Stored) → IsWellFormed it.geometry it.log → IsBatchOf it.geometry it.log it.flushed batch → IsPlaced it self.old
+            → PlacesOn it batch result self.new }
         ensures moves { MovesOn D.tells batch result self.old self.new }
         ensures inside { D.tells → IsInside self.new.base self.new.offset (D.state disk.new) }
+
+        // An Ok has synced the batch, and the blank before it. A fault is the disk's.
         ensures cause { CountsFailure result (D.faults disk.old) (D.faults disk.new) }
+        ensures synced { OnOk result (Counted (syncs_of (opens_segment self.old batch)) (D.syncs disk.old) (D.syncs disk.new)) }
         ensures syncs { D.syncs disk.new ≤ D.syncs disk.old + syncs_of (opens_segment self.old batch) }
     {
         self.open_next(disk, batch.place, batch.blank)?;

@@ -3,11 +3,11 @@
 
 mod blank;
 mod last_file;
+mod laws;
 mod read;
-mod segments;
-mod size;
 #[cfg(test)]
 mod tests;
 
 pub use last_file::LastFile;
-pub use segments::Segments;
+pub use laws::{a_ready_log_has_its_records, a_ready_log_stays_ready, a_stored_log_is_ready};
+pub use read::read_record;

@@ -1,4 +1,4 @@
-use Rattle.log_writer.proofs.DurableLemmas.{first_keeps}
+use Rattle.log_model.proofs.StoredLemmas.{first_keeps}
 use Rattle.log_writer.proofs.laws.first_records_are_kept.Goals as goal
 
 pub returns : goal.returns

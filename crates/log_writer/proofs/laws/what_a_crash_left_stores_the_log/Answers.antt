@@ -1,4 +1,4 @@
-use Rattle.log_writer.proofs.DurableLemmas.{first_stores}
+use Rattle.log_model.proofs.StoredLemmas.{first_stores}
 use Rattle.log_writer.proofs.laws.what_a_crash_left_stores_the_log.Goals as goal
 
 pub returns : goal.returns

@@ -1,5 +1,5 @@
 use Rattle.std.proofs.Common.{◌∙◌, [], refl}
-use Rattle.segment_files.proofs.Outside.{outside_start, outside_then}
+use Rattle.log_model.proofs.OutsideLemmas.{outside_start, outside_then}
 use Rattle.mq_broker.proofs.ProgressLemmas.{ran_nothing}
 use Rattle.mq_broker.proofs.HeldLemmas.{served_more, ended_more, halted_by_frame, next_strict}
 use Rattle.mq_broker.proofs.held.serve_held.Goals as goal

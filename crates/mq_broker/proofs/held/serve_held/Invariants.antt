@@ -1,6 +1,6 @@
 use Rattle.std.proofs.Common.{◌≡◌, List, length}
 use Rattle.record_codec.specs.Entry.{Entry}
-use Rattle.segment_files.specs.Outside.{StaysOutside}
+use Rattle.log_model.specs.Stored.{StaysOutside}
 use Rattle.log_writer.specs.Durable.{CanGoOn}
 use Rattle.mq_broker.specs.Seen.{tells_of, faults_of, devices_of}
 use Rattle.mq_broker.specs.Progress.{point_of, StandsAt}

@@ -1,4 +1,4 @@
-use Rattle.log_writer.proofs.DurableLemmas.{first_stores}
+use Rattle.log_model.proofs.StoredLemmas.{first_stores}
 use Rattle.mq_broker.proofs.laws.a_run_that_is_cut_off_leaves_a_store.Goals as goal
 
 pub returns-clause-opening : goal.returns-clause-opening

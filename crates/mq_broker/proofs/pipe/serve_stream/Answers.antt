@@ -2,7 +2,7 @@ use Rattle.std.proofs.Common.{◌≡◌, ◌∙◌, ℕ, ◌++◌, length, take,
 use Rattle.std.proofs.lemmas.List.{length-take, append-nil}
 use Rattle.remoting_frame.specs.Held.{Held}
 use Rattle.remoting_frame.specs.Frames.{next_of}
-use Rattle.segment_files.proofs.Outside.{outside_start, outside_then}
+use Rattle.log_model.proofs.OutsideLemmas.{outside_start, outside_then}
 use Rattle.mq_broker.proofs.PipeLemmas.{none_waits, so_far_start, read_failed, source_ended, limit_reached, not_fed, piece_served, piece_halted, counts_end, counts_halt}
 use Rattle.mq_broker.proofs.pipe.serve_stream.Goals as goal
 

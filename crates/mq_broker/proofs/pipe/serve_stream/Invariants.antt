@@ -1,7 +1,7 @@
 use Rattle.std.proofs.Common.{◌≡◌, List, ◌≤◌, ◌-◌, ◌^◌, Ok, None}
 use Rattle.record_codec.specs.Entry.{Entry}
 use Rattle.remoting_frame.specs.Frames.{next_of}
-use Rattle.segment_files.specs.Outside.{StaysOutside}
+use Rattle.log_model.specs.Stored.{StaysOutside}
 use Rattle.log_writer.specs.Durable.{CanGoOn}
 use Rattle.mq_broker.specs.Seen.{tells_of, faults_of, devices_of, seen_of}
 use Rattle.mq_broker.specs.Progress.{StandsAt}

@@ -1,5 +1,5 @@
 use Rattle.std.proofs.Common.{◌∙◌, inl, inr, ℕ, Option, sym, subst, refl}
-use Rattle.segment_files.proofs.Outside.{outside_start, outside_same, outside_then}
+use Rattle.log_model.proofs.OutsideLemmas.{outside_start, outside_same, outside_then}
 use Rattle.log_writer.specs.Durable.{Opened}
 use Rattle.log_writer.specs.Openings.{GoesOnBehind}
 use Rattle.store_open.specs.Openings.{FORMAT, IsForeign}

@@ -3,7 +3,7 @@ use Rattle.std.proofs.lemmas.List.{length-take, length-replicate}
 use Rattle.mq_outside.specs.Files.{bytes_of, overwritten}
 use Rattle.mq_outside.proofs.Moments.{at_start}
 use Rattle.log_model.specs.Store.{Stands}
-use Rattle.segment_files.proofs.Outside.{outside_start, outside_call}
+use Rattle.log_model.proofs.OutsideLemmas.{outside_start, outside_call}
 use Rattle.segment_files.proofs.Pieces.{writes_on, blank_next}
 use Rattle.segment_files.proofs.blank.write_blank.Goals as goal
 

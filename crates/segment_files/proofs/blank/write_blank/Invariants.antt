@@ -4,7 +4,7 @@ use Rattle.mq_outside.specs.Disk.{EachImage, Throughout}
 use Rattle.log_model.specs.Bases.{Geometry}
 use Rattle.log_model.specs.Segments.{Shape, blank_of, IsLogFile}
 use Rattle.log_model.specs.Store.{Stands}
-use Rattle.segment_files.specs.Outside.{StaysOutside}
+use Rattle.log_model.specs.Stored.{StaysOutside}
 use Rattle.segment_files.specs.Turn.{IsBehind, blank_to}
 use Rattle.segment_files.proofs.blank.write_blank.Given as goal
 

@@ -1,7 +1,7 @@
 use Rattle.std.proofs.Common.{length, ◌∙◌}
 use Rattle.mq_outside.proofs.Moments.{at_start, weaker}
-use Rattle.segment_files.proofs.Outside.{outside_start}
-use Rattle.segment_files.specs.Turn.{HasRecords}
+use Rattle.log_model.proofs.OutsideLemmas.{outside_start}
+use Rattle.log_model.specs.Stored.{HasRecords}
 use Rattle.log_writer.specs.Places.{next_entry, with_next}
 use Rattle.log_writer.proofs.DurableLemmas.{each_stored}
 use Rattle.log_writer.proofs.TurnLemmas.{keeps_front, starts, appended_in, has_front, stores_sent, stores_failed}

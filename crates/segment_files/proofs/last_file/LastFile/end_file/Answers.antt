@@ -1,6 +1,6 @@
 use Rattle.std.proofs.Common.{◌∙◌, arith}
 use Rattle.mq_outside.proofs.Moments.{at_end}
-use Rattle.segment_files.proofs.Outside.{in_folder, outside_same}
+use Rattle.log_model.proofs.OutsideLemmas.{in_folder, outside_same}
 use Rattle.segment_files.proofs.Turns.{has_records, same_on, writes_still, end_behind, blank_fits, each_to_end, writes_opened}
 use Rattle.segment_files.proofs.last_file.LastFile.end_file.Goals as goal
 

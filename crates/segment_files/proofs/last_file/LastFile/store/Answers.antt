@@ -3,7 +3,7 @@ use Rattle.log_model.specs.Segments.{shape_of}
 use Rattle.segment_files.specs.Turn.{WritesAt}
 use Rattle.mq_outside.specs.Files.{bytes_of, overwritten}
 use Rattle.mq_outside.proofs.Moments.{at_end}
-use Rattle.segment_files.proofs.Outside.{in_folder, outside_start, outside_same, outside_call}
+use Rattle.log_model.proofs.OutsideLemmas.{in_folder, outside_start, outside_same, outside_call}
 use Rattle.segment_files.proofs.Pieces.{each_piece}
 use Rattle.segment_files.proofs.Turns.{has_records, same_on, writes_still, writes_same, batch_low, write_stands, writes_batch}
 use Rattle.segment_files.proofs.last_file.LastFile.store.Goals as goal
