@@ -6,7 +6,7 @@ use crate::{FlushFault, Flusher};
 use bytes::Bytes;
 use log_model::Batch;
 use mq_outside::{MemDisk, Room};
-use segment_files::Segments;
+use segment_files::LastFile;
 use std::alloc::{AllocError, Global};
 use std::test::Fail;
 
@@ -35,15 +35,15 @@ fn a_failed_turn_tells_the_count_of_faults_and_the_next_one_writes_at_the_same_p
 ) -> Result<(), Fail> {
     let mut fails = Vec::new(rt.alloc());
     fails.push(2)?;
-    let disk = MemDisk::new(rt.alloc(), Vec::new(rt.alloc()), ROOM, fails)?;
-    let mut flusher = Flusher::new(Segments::open(disk, 4096, 0));
+    let mut disk = MemDisk::new(rt.alloc(), Vec::new(rt.alloc()), ROOM, fails)?;
+    let mut flusher = Flusher::new(LastFile::at(4096, 0));
     let first = hello(rt.alloc())?;
-    let Err(FlushFault { count }) = flusher.turn(first) else {
+    let Err(FlushFault { count }) = flusher.turn(&mut disk, first) else {
         return Err(Fail::from("the other answer"));
     };
     assert_eq!(rt; count, 1);
     let again = hello(rt.alloc())?;
-    let Ok(receipt) = flusher.turn(again) else {
+    let Ok(receipt) = flusher.turn(&mut disk, again) else {
         return Err(Fail::from("the other answer"));
     };
     assert_eq!(rt; (receipt.from, receipt.count), (0, 1));

@@ -3,7 +3,7 @@
 ghost use Rattle.std.specs.Prelude.{◌+◌, ◌≤◌, length, IfOk, OnOk};
 ghost use Rattle.segment_files.specs.Turn.{IsInside};
 
-use crate::Segments;
+use crate::{LastFile, read_record};
 use bytes::Bytes;
 use log_model::{Batch, LoadFault};
 use mq_bytes::LogFile;
@@ -33,16 +33,21 @@ fn batch_of(alloc: Global, second: bool) -> Result<Batch, AllocError>
 }
 
 // Writes a batch, and where that fails, once more.
-fn write_again<D: Disk>(alloc: Global, segments: &mut Segments<D>, second: bool) -> Result<(), Fail>
-    requires room { segments.old.file.offset ≤ 10000 }
-    requires inside { D.tells → IsInside segments.old.file.base segments.old.file.offset (D.state segments.old.disk) }
-    ensures room { OnOk result (segments.new.file.offset ≤ segments.old.file.offset + 3178) }
-    ensures inside { D.tells → IsInside segments.new.file.base segments.new.file.offset (D.state segments.new.disk) }
+fn write_again<D: Disk>(
+    alloc: Global,
+    file: &mut LastFile,
+    disk: &mut D,
+    second: bool,
+) -> Result<(), Fail>
+    requires room { file.old.offset ≤ 10000 }
+    requires inside { D.tells → IsInside file.old.base file.old.offset (D.state disk.old) }
+    ensures room { OnOk result (file.new.offset ≤ file.old.offset + 3178) }
+    ensures inside { D.tells → IsInside file.new.base file.new.offset (D.state disk.new) }
 {
     let first = batch_of(alloc, second)?;
-    if segments.write_batch(first).is_err() {
+    if file.write_batch(disk, first).is_err() {
         let again = batch_of(alloc, second)?;
-        segments.write_batch(again)?;
+        file.write_batch(disk, again)?;
     }
     Ok(())
 }
@@ -57,12 +62,12 @@ hi\x01T\x00\x0ESEAL\x01B1FC2CE2\x02";
 // Whether damage is told, at this place and in this file.
 fn is_damaged<D: Disk>(
     alloc: Global,
-    segments: &mut Segments<D>,
+    disk: &mut D,
     place: u64,
     size: u32,
     file: u64,
 ) -> bool {
-    match segments.read_record(alloc, place, size) {
+    match read_record(disk, alloc, 4096, place, size) {
         Err(LoadFault::Damaged(told, name)) => {
             told == place && name.as_str() == LogFile::of(file).as_str()
         }
@@ -76,26 +81,25 @@ fn a_record_is_read_where_it_stands_and_nowhere_else(rt: HostRuntime) -> Result<
     fails.push(6)?;
     let mut disk = MemDisk::new(rt.alloc(), Vec::new(rt.alloc()), ROOM, fails)?;
     disk.write_at(LogFile::of(4096).as_str(), 0, BEHIND_ZEROS)?;
-    let mut segments = Segments::open(disk, 4096, 0);
-    let Ok(record) = segments.read_record(rt.alloc(), 4104, 108) else {
+    let Ok(record) = read_record(&mut disk, rt.alloc(), 4096, 4104, 108) else {
         return Err(Fail::from("the other answer"));
     };
     assert_eq!(rt; (record.draft.queue, record.size), (1023, 108));
     assert!(rt;
-        is_damaged(rt.alloc(), &mut segments, 4104, 107, 4096),
+        is_damaged(rt.alloc(), &mut disk, 4104, 107, 4096),
         "another size"
     );
     assert!(rt;
-        is_damaged(rt.alloc(), &mut segments, 4103, 108, 4096),
+        is_damaged(rt.alloc(), &mut disk, 4103, 108, 4096),
         "another place"
     );
     assert!(rt;
-        is_damaged(rt.alloc(), &mut segments, 8, 108, 0),
+        is_damaged(rt.alloc(), &mut disk, 8, 108, 0),
         "an absent file"
     );
     assert!(rt;
         matches!(
-            segments.read_record(rt.alloc(), 4104, 108),
+            read_record(&mut disk, rt.alloc(), 4096, 4104, 108),
             Err(LoadFault::Failed)
         )
     );
@@ -112,16 +116,15 @@ fn a_batch_that_opens_a_segment_stands_whole_whichever_call_failed_first(
     for fail in 0..=7 {
         let mut fails = Vec::new(rt.alloc());
         fails.push(fail)?;
-        let disk = MemDisk::new(rt.alloc(), Vec::new(rt.alloc()), ROOM, fails)?;
-        let mut segments = Segments::open(disk, 4096, 0);
-        write_again(rt.alloc(), &mut segments, false)?;
-        write_again(rt.alloc(), &mut segments, true)?;
+        let mut disk = MemDisk::new(rt.alloc(), Vec::new(rt.alloc()), ROOM, fails)?;
+        let mut file = LastFile::at(4096, 0);
+        write_again(rt.alloc(), &mut file, &mut disk, false)?;
+        write_again(rt.alloc(), &mut file, &mut disk, true)?;
         assert_eq!(rt;
-            segments.fault_count(),
+            disk.fault_count(),
             u64::from(fail > 0),
             "each listed call is made"
         );
-        let disk = segments.into_disk();
         assert_eq!(rt;
             disk.bytes(LogFile::of(0).as_str()),
             Some(expected.as_slice())
