@@ -1,18 +1,15 @@
 -- A run of records, one after another: what each moment keeps of them.
 use Rattle.std.proofs.Common.{◌≡◌, inl, ⊎_elim, ◌∙◌, ℕ, ◌+◌, ◌<◌, ◌≤◌, ◌++◌, List, [], ◌∷◌, length, take, nat_le, cond, refl, ap, sym, subst, arith, append_assoc, length-append}
-use Rattle.std.proofs.lemmas.List.{map-append, append-nil, length_push, length-map, take-append-le, take_all}
+use Rattle.std.proofs.lemmas.List.{map-append, append-nil, length_push, length-map}
 use Rattle.std.proofs.lemmas.List.Sums.{sum_by-append, count_by-le-length}
 use Rattle.std.proofs.lemmas.Bool.{cases_lt, cond-false, lt-leb}
-use Rattle.mq_outside.specs.Files.{Files}
 use Rattle.mq_outside.specs.Disk.{DiskState, EachImage, Throughout}
 use Rattle.mq_outside.proofs.Moments.{weaker, chained}
 use Rattle.record_codec.specs.Entry.{Entry}
 use Rattle.log_model.specs.Bases.{Geometry}
-use Rattle.log_model.specs.Log.{IsWellFormed}
 use Rattle.log_model.specs.Segments.{used, shape_of}
-use Rattle.log_model.specs.Store.{Stands, KeepsIfHonest}
-use Rattle.log_model.proofs.Prefixes.{keeps_prefix}
-use Rattle.log_model.specs.Stored.{HasRecords, HasFirst, StoresFirst}
+use Rattle.log_model.specs.Stored.{HasRecords, HasFirst}
+use Rattle.log_model.proofs.StoredLemmas.{has_more, has_all}
 use Rattle.log_writer.specs.Durable.{Stores, Flushed, entries_of, flushed_by, log_with, Flushes}
 use Rattle.log_writer.specs.declared.writer.LogWriter.{LogWriter}
 
@@ -20,58 +17,6 @@ use Rattle.log_writer.specs.declared.writer.LogWriter.{LogWriter}
 pub each_stored : {S : Geometry} {log : List Entry} {writer : LogWriter} {disk : DiskState} → Stores S log writer disk → EachImage (HasRecords S log) disk
 each_stored {S = S} {log = log} stores = record {
   at = λ files image. record { shape = shape_of S log; reach = used (shape_of S log); laid = inl refl; stands = stores.writes.stores.each.at files image };
-}
-
--- files that have the first records of a log are kept to them, where they are honest for any longer log
-keeps_first : (S : Geometry) (log : List Entry) (number : ℕ) (files : Files) → IsWellFormed S log → number ≤ length log → HasRecords S (take number log) files → KeepsIfHonest S log number files
-keeps_first S log number files well within has honest = keeps_prefix S log number files has.shape has.reach well within has.laid has.stands honest
-
-keeps_least : (S : Geometry) (log : List Entry) (least number : ℕ) (files : Files) → least ≤ number → KeepsIfHonest S log number files → KeepsIfHonest S log least files
-keeps_least S log least number files low keeps honest =
-    let kept = keeps (λ k shape r above within looks next. honest k shape r (omega (arith, above, low)) within looks next) in
-    record { number = kept.number; low = omega (arith, kept.low, low); high = kept.high; keeps = kept.keeps }
-
--- the front of a longer log
-front_same : (log more : List Entry) (number : ℕ) → number ≤ length log → take number (log ++ more) ≡ take number log
-front_same log more number within = take-append-le number log more within
-
--- and of a longer log
-pub has_more : (S : Geometry) (log more : List Entry) (least : ℕ) (files : Files) → HasFirst S log least files → HasFirst S (log ++ more) least files
-has_more S log more least files first = record {
-  number = first.number;
-  low = first.low;
-  high = omega (arith, first.high, length-append log more);
-  has = subst (λ (l : List Entry). HasRecords S l files) (sym (front_same log more first.number first.high)) first.has;
-}
-
-has_all : (S : Geometry) (log : List Entry) (least : ℕ) (files : Files) → least ≤ length log → HasRecords S log files → HasFirst S log least files
-has_all S log least files within has = record {
-  number = length log;
-  low = within;
-  high = omega arith;
-  has = subst (λ (l : List Entry). HasRecords S l files) (sym (take_all (length log) log (omega arith))) has;
-}
-
--- what recovery keeps of files with the first records of a log
-pub first_keeps : (S : Geometry) (log : List Entry) (least : ℕ) (files : Files) → IsWellFormed S log → HasFirst S log least files → KeepsIfHonest S log least files
-first_keeps S log least files well first = keeps_least S log least first.number files first.low (keeps_first S log first.number files well first.high first.has)
-
--- a disk with these files alone stores the log
-pub first_stores : (S : Geometry) (log : List Entry) (least : ℕ) (files : Files) (disk : DiskState) → IsWellFormed S log → HasFirst S log least files → EachImage (λ image. image ≡ files) disk
-    → StoresFirst S log least disk
-first_stores S log least files disk well first left = record {
-  number = first.number;
-  low = first.low;
-  stores = record {
-    shape = first.has.shape;
-    reach = first.has.reach;
-    at = record {
-      well_formed = well;
-      within = first.high;
-      laid = first.has.laid;
-      each = record { at = λ image there. subst (Stands S first.has.shape first.has.reach) (sym (left.at image there)) first.has.stands };
-    };
-  };
 }
 
 -- ---- counts

@@ -6,8 +6,7 @@ use Rattle.mq_outside.specs.Disk.{DiskState, Throughout}
 use Rattle.record_codec.specs.Entry.{Entry}
 use Rattle.log_model.specs.Bases.{Geometry}
 use Rattle.log_model.specs.Segments.{used, shape_of}
-use Rattle.log_model.specs.Store.{StoresLog}
-use Rattle.log_model.specs.Stored.{HasRecords}
+use Rattle.log_model.specs.Stored.{HasFirst}
 use Rattle.segment_files.specs.Turn.{IsInside, WritesAt}
 use Rattle.log_tail.specs.Tails.{StandsFor}
 use Rattle.log_writer.specs.declared.writer.LogWriter.{LogWriter}
@@ -48,19 +47,6 @@ flushed_by m = count_by (λ done. nat_le done.moment m)
 -- the log with these records behind it
 abbrev pub log_with : List Entry → List Flushed → List Entry
 log_with log done = log ++ entries_of done
-
--- the files have the first records of the log at their places, at least so many
-pub record HasFirst (S : Geometry) (log : List Entry) (least : ℕ) (files : Files) : Type 0 where
-  pub number : ℕ
-  pub low : least ≤ number
-  pub high : number ≤ length log
-  pub has : HasRecords S (take number log) files
-
--- the disk stores the log with at least so many of its records flushed
-pub record StoresFirst (S : Geometry) (log : List Entry) (least : ℕ) (disk : DiskState) : Type 0 where
-  pub number : ℕ
-  pub low : least ≤ number
-  pub stores : StoresLog S log number disk
 
 -- These records were put behind the log, one after another, while the disk went from one state to another. At each moment
 -- each crash leaves what was flushed before the run, and what was flushed in it by then.

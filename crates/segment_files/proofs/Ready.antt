@@ -1,8 +1,8 @@
 -- A log that is open for batches: where a batch goes from there, and that it is open again behind the turn.
-use Rattle.std.proofs.Common.{◌≡◌, ◌≢◌, ◌⊎◌, inl, inr, ⊎_elim, ℕ, suc, ◌+◌, ◌-◌, ◌*◌, ◌/◌, ◌%◌, ◌<◌, ◌≤◌, max, Bool, true, false, nat_le, List, ◌++◌, ◌∷◌, length, take, drop, slice_get, Option, Some, None, refl, sym, ◌∙◌, ap, subst, arith}
+use Rattle.std.proofs.Common.{◌≡◌, ◌≢◌, ◌⊎◌, inl, inr, ⊎_elim, ℕ, suc, ◌+◌, ◌-◌, ◌*◌, ◌/◌, ◌%◌, ◌<◌, ◌≤◌, max, Bool, true, false, nat_le, List, ◌++◌, [], ◌∷◌, length, take, drop, slice_get, Option, Some, None, refl, sym, ◌∙◌, ap, subst, arith}
 use Rattle.std.specs.Prelude.{Result, Ok, Err, OnErr, OnOk}
 use Rattle.std.proofs.lemmas.Bool.{cases_Bool, le-leb, lt-leb}
-use Rattle.std.proofs.lemmas.List.{take_at, take-append-le}
+use Rattle.std.proofs.lemmas.List.{append-nil, take_at, take-append-le}
 use Rattle.mq_bytes.specs.Names.{log_file}
 use Rattle.mq_outside.specs.Files.{bytes_in}
 use Rattle.mq_outside.specs.Counts.{Counted}
@@ -212,6 +212,16 @@ ready_flushed it behind batch reach new writes low =
 pub synced_both : (due : Bool) (first next last : ℕ) → (due ≡ true → Counted 1 first next) → (due ≡ false → next ≡ first) → Counted 1 next last → Counted (syncs_of due) first last
 synced_both true first next last opened stays synced = omega (arith, opened refl, synced)
 synced_both false first next last opened stays synced = omega (arith, stays refl, synced)
+
+-- a log of which the same batch can come again is open for batches
+pub fault_ready : (it : Stored) (behind most : ℕ) (batch : Batch) (old new : Growing) → CanTurn it behind batch old
+    → ((more : List Entry) (next : Batch) → IsWellFormed it.geometry (it.log ++ more) → IsBatchOf it.geometry (it.log ++ more) it.flushed next → CanTurn (with_more more it) most next new)
+    → IsReady it most new
+fault_ready it behind most batch old new can fault =
+    let none : it.log ++ [] ≡ it.log = append-nil it.log in
+    let again = fault [] batch (subst (IsWellFormed it.geometry) (sym none) can.ready.writes.stores.well_formed)
+    (subst (λ (l : List Entry). IsBatchOf it.geometry l it.flushed batch) (sym none) can.next) in
+    subst (λ (l : List Entry). IsReady (record { geometry = it.geometry; log = l; flushed = it.flushed }) most new) none again.ready
 
 -- ---- a log whose files stay
 

@@ -1,10 +1,11 @@
-use Rattle.std.proofs.Common.{length, ◌∙◌}
+use Rattle.std.proofs.Common.{◌∙◌, arith}
 use Rattle.mq_outside.proofs.Moments.{at_start, weaker}
 use Rattle.log_model.proofs.OutsideLemmas.{outside_start}
 use Rattle.log_model.specs.Stored.{HasRecords}
-use Rattle.log_writer.specs.Places.{next_entry, with_next}
+use Rattle.segment_files.proofs.Ready.{fault_ready}
+use Rattle.log_writer.specs.Places.{next_entry}
 use Rattle.log_writer.proofs.DurableLemmas.{each_stored}
-use Rattle.log_writer.proofs.TurnLemmas.{keeps_front, starts, appended_in, has_front, stores_sent, stores_failed}
+use Rattle.log_writer.proofs.TurnLemmas.{keeps_front, appended_to, starts, appended_in, has_front, stores_sent, stores_failed}
 use Rattle.log_writer.proofs.writer.LogWriter.append_and_flush.Goals as goal
 
 pub returns-in-Err-LogEnd-clause-any_moment : goal.returns-in-Err-LogEnd-clause-any_moment
@@ -26,13 +27,13 @@ pub returns-in_default-clause-any_moment : goal.returns-in_default-clause-any_mo
 returns-in_default-clause-any_moment g c tells S log stores =
     let start = starts S log c.args.draft.now c.args.reading c.append_behind.new.tail c.in-Ok.appended.place c.in-Ok.appended.batch c.args.self.now (g.D.Disk.state c.args.disk.now) stores
     (c.in-Ok.ensures.appended S.base log stores.stands) (c.in-Ok.ensures.well_formed S.base log stores.stands) in
-    has_front S log (next_entry S log c.args.draft.now c.args.reading) (c.write_batch.ensures.turns tells S (with_next S log c.args.draft.now c.args.reading) (length log) _ _ start).any_moment
+    has_front S log (next_entry S log c.args.draft.now c.args.reading) (c.write_batch.ensures.turned tells (appended_to S log c.args.draft.now c.args.reading) 0 start).any_moment
 
 pub returns-in_default-clause-honest : goal.returns-in_default-clause-honest
 returns-in_default-clause-honest g c tells S log more stores well =
     let start = starts S log c.args.draft.now c.args.reading c.append_behind.new.tail c.in-Ok.appended.place c.in-Ok.appended.batch c.args.self.now (g.D.Disk.state c.args.disk.now) stores
     (c.in-Ok.ensures.appended S.base log stores.stands) (c.in-Ok.ensures.well_formed S.base log stores.stands) in
-    weaker (has_front S log (next_entry S log c.args.draft.now c.args.reading) (c.write_batch.ensures.turns tells S (with_next S log c.args.draft.now c.args.reading) (length log) _ _ start).any_moment) (λ files has. keeps_front S log more files well has)
+    weaker (has_front S log (next_entry S log c.args.draft.now c.args.reading) (c.write_batch.ensures.turned tells (appended_to S log c.args.draft.now c.args.reading) 0 start).any_moment) (λ files has. keeps_front S log more files well has)
 
 pub returns-clause-outcome : goal.returns-clause-outcome
 returns-clause-outcome g c base log stands = let done = c.in-Ok.ensures.appended base log stands in (done.room, done.place, done.stands)
@@ -41,27 +42,28 @@ pub returns-clause-any_moment : goal.returns-clause-any_moment
 returns-clause-any_moment g c tells S log stores =
     let start = starts S log c.args.draft.now c.args.reading c.append_behind.new.tail c.in-Ok.appended.place c.in-Ok.appended.batch c.args.self.now (g.D.Disk.state c.args.disk.now) stores
     (c.in-Ok.ensures.appended S.base log stores.stands) (c.in-Ok.ensures.well_formed S.base log stores.stands) in
-    has_front S log (next_entry S log c.args.draft.now c.args.reading) (c.write_batch.ensures.turns tells S (with_next S log c.args.draft.now c.args.reading) (length log) _ _ start).any_moment
+    has_front S log (next_entry S log c.args.draft.now c.args.reading) (c.write_batch.ensures.turned tells (appended_to S log c.args.draft.now c.args.reading) 0 start).any_moment
 
 pub returns-clause-honest : goal.returns-clause-honest
 returns-clause-honest g c tells S log more stores well =
     let start = starts S log c.args.draft.now c.args.reading c.append_behind.new.tail c.in-Ok.appended.place c.in-Ok.appended.batch c.args.self.now (g.D.Disk.state c.args.disk.now) stores
     (c.in-Ok.ensures.appended S.base log stores.stands) (c.in-Ok.ensures.well_formed S.base log stores.stands) in
-    weaker (has_front S log (next_entry S log c.args.draft.now c.args.reading) (c.write_batch.ensures.turns tells S (with_next S log c.args.draft.now c.args.reading) (length log) _ _ start).any_moment) (λ files has. keeps_front S log more files well has)
+    weaker (has_front S log (next_entry S log c.args.draft.now c.args.reading) (c.write_batch.ensures.turned tells (appended_to S log c.args.draft.now c.args.reading) 0 start).any_moment) (λ files has. keeps_front S log more files well has)
 
 pub returns-in_default-clause-not_flushed : goal.returns-in_default-clause-not_flushed
 returns-in_default-clause-not_flushed g c tells S log stores =
     let start = starts S log c.args.draft.now c.args.reading c.append_behind.new.tail c.in-Ok.appended.place c.in-Ok.appended.batch c.args.self.now (g.D.Disk.state c.args.disk.now) stores
     (c.in-Ok.ensures.appended S.base log stores.stands) (c.in-Ok.ensures.well_formed S.base log stores.stands) in
-    stores_failed (c.in_default.ensures.turns tells S (with_next S log c.args.draft.now c.args.reading) (length log) _ _ start).retry
+    stores_failed (fault_ready (appended_to S log c.args.draft.now c.args.reading) 0 _ c.in-Ok.appended.batch _ _ start (c.in_default.ensures.turned tells (appended_to S log c.args.draft.now c.args.reading) 0 start).fault)
 
 pub returns-clause-sent : goal.returns-clause-sent
 returns-clause-sent g c tells S log stores =
     let start = starts S log c.args.draft.now c.args.reading c.append_behind.new.tail c.in-Ok.appended.place c.in-Ok.appended.batch c.args.self.now (g.D.Disk.state c.args.disk.now) stores
     (c.in-Ok.ensures.appended S.base log stores.stands) (c.in-Ok.ensures.well_formed S.base log stores.stands) in
     let done = appended_in S c.args.self.now.tail.segment log c.args.draft.now c.args.reading c.append_behind.new.tail c.in-Ok.appended.place c.in-Ok.appended.batch stores.size (c.in-Ok.ensures.appended S.base log stores.stands) in
-    stores_sent S log (next_entry S log c.args.draft.now c.args.reading) _ c.in-Ok.appended.batch.count _ _ _ _ done.one (c.append_behind.ensures.segment ∙ stores.size) done.stands
-    stores.writes.place.end c.in-Ok-write_batch.ensures.moves.offset (c.in-Ok-write_batch.ensures.turns tells S (with_next S log c.args.draft.now c.args.reading) (length log) _ _ start).stored
+    let turned = c.in-Ok-write_batch.ensures.turned tells (appended_to S log c.args.draft.now c.args.reading) 0 start in
+    stores_sent S log (next_entry S log c.args.draft.now c.args.reading) _ c.in-Ok.appended.batch.count _ _ done.one (c.append_behind.ensures.segment ∙ stores.size) done.stands
+    turned.flushed (turned.exact (omega arith))
 
 pub returns-in-Err-LogEnd-clause-still : goal.returns-in-Err-LogEnd-clause-still
 returns-in-Err-LogEnd-clause-still g c tells S log stores = record { size = c.append_behind.ensures.segment ∙ stores.size; stands = c.in-Err-LogEnd.ensures.still S.base log stores.stands; writes = stores.writes }
