@@ -13,3 +13,5 @@ pub mod MemSource
 pub mod MemSink
 pub mod MemClock
 pub mod Pieces
+pub mod Readings
+pub mod GivesHeld

@@ -5,7 +5,7 @@
 //! a sync that answered Ok a crash leaves what a read gives. A removal that answered Ok stays done. `DiskState` says this
 //! as one relation.
 
-ghost use Rattle.std.specs.Prelude.{◌≡◌, ◌+◌, ◌-◌, ◌≤◌, ℕ, length, take, drop, map, min, Some, None, IfOk, OnOk, MatchResult, string_bytes};
+ghost use Rattle.std.specs.Prelude.{◌≡◌, ◌+◌, ◌-◌, ◌≤◌, ℕ, length, take, drop, map, min, Some, None, IfOk, IfSome, OnOk, MatchResult, string_bytes};
 ghost use Rattle.mq_outside.specs.Counts.{Counted, CountsFailure, CountsDiskFault};
 ghost use Rattle.mq_outside.specs.Files.{Same, At, Torn, Shortened, Vanished, Lists, bytes_of, overwritten};
 ghost use Rattle.mq_outside.specs.Disk.{DiskState, EachImage, Moves, IsDurable, IsCrashImage};
@@ -117,6 +117,7 @@ pub trait Disk {
         requires { tells → EachImage (HasPiece base from bytes) (state self.old) }
         ensures range { (result.base ≡ base) × (result.from ≡ from) × (result.len ≡ length bytes) }
         ensures held { tells → result.held ≡ Some bytes }
+        ensures no_others { IfSome result.held (λ held. held ≡ bytes) }
         ensures moves { tells → Moves Same (state self.old) (state self.new) }
         ensures faults { faults self.new ≡ faults self.old }
         ensures syncs { syncs self.new ≡ syncs self.old }

@@ -79,9 +79,20 @@ impl<R: Files<File = File> + AllocGlobal + Clone + Drop> FolderReader<R> {
 }
 
 impl<R: Files<File = File> + AllocGlobal + Clone + Drop> Reader for FolderReader<R> {
+    ghost use Rattle.mq_outside.specs.GivesHeld.{gives_held, held_law, parts_law, alike_law};
+
     ghost faults = { λ reader. reader.faults };
 
     ghost reads = { λ reader. reader.reads };
+
+    // Of a piece that holds nothing it says nothing.
+    ghost gives = { gives_held };
+
+    ghost held = { held_law };
+
+    ghost parts = { parts_law };
+
+    ghost alike = { alike_law };
 
     fn read(&mut self, piece: &Frozen, at: u64, out: &mut [u8]) -> Result<(), Failed> {
         self.reads = self.reads.saturating_add(1);

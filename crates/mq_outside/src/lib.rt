@@ -25,6 +25,7 @@ mod mem_keep;
 mod mem_reader;
 mod mem_sink;
 mod mem_source;
+mod pieces;
 mod reader;
 mod std_streams;
 mod stream;

@@ -42,14 +42,23 @@ impl MemReader {
 
 impl Reader for MemReader {
     ghost use Rattle.mq_outside.specs.Listed.{IsListed, after_call};
+    ghost use Rattle.mq_outside.specs.GivesHeld.{gives_held, held_law, parts_law, alike_law};
 
     ghost faults = { λ reader. reader.faults };
 
     ghost reads = { λ reader. reader.reads };
 
+    ghost gives = { gives_held };
+
+    ghost held = { held_law };
+
+    ghost parts = { parts_law };
+
+    ghost alike = { alike_law };
+
     fn read(&mut self, piece: &Frozen, at: u64, out: &mut [u8]) -> Result<(), Failed>
         requires { at + length out.old ≤ piece.now.len }
-        ensures bytes { OnOk result (IfSome piece.now.held (λ held. out.new ≡ take (length out.old) (drop at held))) }
+        ensures gives { OnOk result (gives_held piece.now at out.new) }
         ensures cause { CountsFailure result self.old.faults self.new.faults }
         ensures reads { Counted 1 self.old.reads self.new.reads }
 

@@ -1,7 +1,8 @@
 //! Reading frozen ranges of the log, in any thread.
 
-ghost use Rattle.std.specs.Prelude.{◌≡◌, ◌+◌, ◌≤◌, ℕ, length, take, drop, OnOk, IfSome};
+ghost use Rattle.std.specs.Prelude.{◌≡◌, ◌+◌, ◌≤◌, ℕ, length, OnOk};
 ghost use Rattle.mq_outside.specs.Counts.{Counted, CountsFailure};
+ghost use Rattle.mq_outside.specs.Readings.{Giving, GivesHeld, GivesParts, GivesAlike};
 
 use crate::faults::Failed;
 use crate::frozen::Frozen;
@@ -14,10 +15,22 @@ pub trait Reader {
     /// How many reads were asked of it.
     ghost reads: { Self → ℕ };
 
+    /// Which bytes a read of a piece at an offset gives. Only a read that answered Ok shows it.
+    ghost gives: { Giving };
+
     /// Fills `out` with what the piece has from this offset in it on.
     fn read(&mut self, piece: &Frozen, at: u64, out: &mut [u8]) -> Result<(), Failed>
         requires { at + length out.old ≤ piece.now.len }
-        ensures bytes { OnOk result (IfSome piece.now.held (λ held. out.new ≡ take (length out.old) (drop at held))) }
+        ensures gives { OnOk result (gives piece.now at out.new) }
         ensures cause { CountsFailure result (faults self.old) (faults self.new) }
         ensures reads { Counted 1 (reads self.old) (reads self.new) };
+
+    /// Of a piece that holds its bytes it gives these.
+    ghost held: { GivesHeld gives };
+
+    /// What it gives at once it gives in parts.
+    ghost parts: { GivesParts gives };
+
+    /// It gives the same of pieces that are alike.
+    ghost alike: { GivesAlike gives };
 }

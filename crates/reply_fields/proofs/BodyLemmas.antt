@@ -1,15 +1,16 @@
 -- How many bytes slices have, and that what is read of a stretch is its slices' bytes.
 use Rattle.std.proofs.Common.{◌≡◌, ◌∙◌, ℕ, ◌+◌, ◌≤◌, ◌<◌, ◌++◌, List, [], ◌∷◌, length, take, drop, get_or, ap, refl, sym, subst, arith}
-use Rattle.std.specs.Prelude.{Option, Some, None, IfSome, if◌then◌else◌}
+use Rattle.std.specs.Prelude.{if◌then◌else◌}
 use Rattle.std.proofs.Math.Seq.{take-add}
-use Rattle.std.proofs.lemmas.List.{length-take, length-drop, take-take, drop-take, drop-drop, take-append-le, drop-append-le, take_more}
+use Rattle.std.proofs.lemmas.List.{length-take, length-drop, take-append-le, drop-append-le, take_more}
 use Rattle.std.proofs.lemmas.List.Sums.{sum_by-append, sum_by-take-le}
+use Rattle.mq_outside.specs.Readings.{Giving, GivesParts, GivesAlike, IsSamePart}
 use Rattle.reply_fields.specs.declared.slice.StoredRange.{StoredRange}
 use Rattle.reply_fields.specs.declared.slice.Slice.{Slice}
 use Rattle.reply_fields.specs.declared.slice.Slice.TheVariants.{Held, Kept}
 use Rattle.reply_fields.specs.Slices.{slice_len, body_len, kept_count, is_kept, IsSlice, IsBody}
-use Rattle.reply_fields.specs.Ranges.{RisesAtMost}
-use Rattle.reply_fields.specs.Stretches.{HasSame, GoesOn, GoOn, IsStretch}
+use Rattle.reply_fields.specs.Ranges.{RisesAtMost, AreAsked}
+use Rattle.reply_fields.specs.Stretches.{GoesOn, GoOn, IsStretch}
 
 -- ---- lengths
 
@@ -46,34 +47,39 @@ rises-more a b first mid last some more = (omega (arith, some.0, more.0), omega 
 pub rises-most : (a b first last : ℕ) → a ≤ b → RisesAtMost a first last → RisesAtMost b first last
 rises-most a b first last few some = (some.0, omega (arith, few, some.1))
 
-length-slice : (s : Slice) (bytes : List ℕ) → IsSlice s bytes → length bytes ≡ slice_len s
-length-slice (Held held) bytes same = ap length same
-length-slice (Kept range) bytes given = given.0
+-- what a first part of the slices asked and then another
+pub asked-more : (a b first mid last : ℕ) → RisesAtMost a first mid → AreAsked a first mid → RisesAtMost b mid last → AreAsked b mid last → AreAsked (a + b) first last
+asked-more zero b first mid last some asked more then any = omega (arith, some.0, then any)
+asked-more (suc a) b first mid last some asked more then any = omega (arith, asked (omega arith), more.0)
+
+length-slice : (gives : Giving) (s : Slice) (bytes : List ℕ) → IsSlice gives s bytes → length bytes ≡ slice_len s
+length-slice gives (Held held) bytes same = ap length same
+length-slice gives (Kept range) bytes given = given.0
 
 -- what is as long as its first n bytes has n
 has_front : (n : ℕ) (bytes : List ℕ) → length (take n bytes) ≡ n → n ≤ length bytes
 has_front n bytes whole = omega (arith, length-take n bytes, whole)
 
-pub length-body : (slices : List Slice) (bytes : List ℕ) → IsBody slices bytes → length bytes ≡ body_len slices
-length-body [] bytes none = ap length none
-length-body (s ∷ slices) bytes given =
-    let front = has_front (slice_len s) bytes (length-slice s (take (slice_len s) bytes) given.0) in
-    omega (arith, body_len-cons s slices, length-drop (slice_len s) bytes, length-body slices (drop (slice_len s) bytes) given.1, front)
+pub length-body : (gives : Giving) (slices : List Slice) (bytes : List ℕ) → IsBody gives slices bytes → length bytes ≡ body_len slices
+length-body gives [] bytes none = ap length none
+length-body gives (s ∷ slices) bytes given =
+    let front = has_front (slice_len s) bytes (length-slice gives s (take (slice_len s) bytes) given.0) in
+    omega (arith, body_len-cons s slices, length-drop (slice_len s) bytes, length-body gives slices (drop (slice_len s) bytes) given.1, front)
 
 -- ---- bodies one after another
 
-pub body-append : (first second : List Slice) (xs ys : List ℕ) → IsBody first xs → IsBody second ys → IsBody (first ++ second) (xs ++ ys)
-body-append [] second xs ys none given = subst (λ (l : List ℕ). IsBody second (l ++ ys)) (sym none) given
-body-append (s ∷ first) second xs ys given more =
-    let front = has_front (slice_len s) xs (length-slice s (take (slice_len s) xs) given.0) in (
-      subst (IsSlice s) (sym (take-append-le (slice_len s) xs ys front)) given.0,
-      subst (IsBody (first ++ second)) (sym (drop-append-le (slice_len s) xs ys front)) (body-append first second (drop (slice_len s) xs) ys given.1 more),
+body-append : (gives : Giving) (first second : List Slice) (xs ys : List ℕ) → IsBody gives first xs → IsBody gives second ys → IsBody gives (first ++ second) (xs ++ ys)
+body-append gives [] second xs ys none given = subst (λ (l : List ℕ). IsBody gives second (l ++ ys)) (sym none) given
+body-append gives (s ∷ first) second xs ys given more =
+    let front = has_front (slice_len s) xs (length-slice gives s (take (slice_len s) xs) given.0) in (
+      subst (IsSlice gives s) (sym (take-append-le (slice_len s) xs ys front)) given.0,
+      subst (IsBody gives (first ++ second)) (sym (drop-append-le (slice_len s) xs ys front)) (body-append gives first second (drop (slice_len s) xs) ys given.1 more),
     )
 
 -- the slices up to one place have these bytes, and those that follow have these
-pub body-more : (a b : ℕ) (slices rest : List Slice) (xs ys : List ℕ) → rest ≡ drop a slices → IsBody (take a slices) xs → IsBody (take b rest) ys → IsBody (take (a + b) slices) (xs ++ ys)
-body-more a b slices rest xs ys is so_far more =
-    subst (λ (l : List Slice). IsBody l (xs ++ ys)) (sym (slices-add a b slices rest is)) (body-append (take a slices) (take b rest) xs ys so_far more)
+pub body-more : (gives : Giving) (a b : ℕ) (slices rest : List Slice) (xs ys : List ℕ) → rest ≡ drop a slices → IsBody gives (take a slices) xs → IsBody gives (take b rest) ys → IsBody gives (take (a + b) slices) (xs ++ ys)
+body-more gives a b slices rest xs ys is so_far more =
+    subst (λ (l : List Slice). IsBody gives l (xs ++ ys)) (sym (slices-add a b slices rest is)) (body-append gives (take a slices) (take b rest) xs ys so_far more)
 
 -- ---- stretches
 
@@ -99,62 +105,43 @@ goes_on-within first len (Kept next ∷ slices) within on =
     let end : next.at + next.len ≤ first.piece.len = omega (arith, next.within, on.0.piece.len) in
     omega (arith, body_len-cons (Kept next) slices, goes_on-within first (len + next.len) slices (omega arith) on.1)
 
--- the bytes of a piece, where it has them, from a place on
-abbrev IsReadAt : Option (List ℕ) → ℕ → List ℕ → Type 0
-IsReadAt held at bytes = IfSome held (λ h. bytes ≡ take (length bytes) (drop at h))
-
-same_part : (other held : Option (List ℕ)) (at n : ℕ) (bytes : List ℕ) → HasSame other held at n → IfSome other (λ h. bytes ≡ take n (drop at h)) → IfSome held (λ h. bytes ≡ take n (drop at h))
-same_part other None at n bytes same given = tt
-same_part None (Some held) at n bytes same given = absurd same
-same_part (Some other) (Some held) at n bytes same given = given ∙ sym same
-
-front_part : (held : Option (List ℕ)) (at n : ℕ) (bytes : List ℕ) → n ≤ length bytes → IsReadAt held at bytes → IfSome held (λ h. take n bytes ≡ take n (drop at h))
-front_part None at n bytes within given = tt
-front_part (Some h) at n bytes within given = ap (take n) given ∙ take-take n (length bytes) (drop at h) within
-
-back_read : (h : List ℕ) (at n m : ℕ) (bytes : List ℕ) → bytes ≡ take (n + m) (drop at h) → drop n bytes ≡ take m (drop (at + n) h)
-back_read h at n m bytes given = ap (drop n) given ∙ drop-take n m (drop at h) ∙ ap (take m) (drop-drop n at h)
-
-back_part : (held : Option (List ℕ)) (at n : ℕ) (bytes : List ℕ) → n ≤ length bytes → IsReadAt held at bytes → IsReadAt held (at + n) (drop n bytes)
-back_part None at n bytes within given = tt
-back_part (Some h) at n bytes within given =
-    let len : length bytes ≡ n + length (drop n bytes) = omega (arith, length-drop n bytes) in
-    back_read h at n (length (drop n bytes)) bytes (subst (λ (k : ℕ). bytes ≡ take k (drop at h)) len given)
-
 -- what is read behind the first bytes of a stretch is the bytes of the slices that go on
-pub read-goes_on : (first : StoredRange) (len : ℕ) (slices : List Slice) (bytes : List ℕ) → GoOn first len slices → length bytes ≡ body_len slices → IsReadAt first.piece.held (first.at + len) bytes → IsBody slices bytes
-read-goes_on first len [] [] on size given = refl
-read-goes_on first len [] (b ∷ bytes) on size given = absurd (omega arith)
-read-goes_on first len (Held held ∷ slices) bytes on size given = absurd on.0
-read-goes_on first len (Kept next ∷ slices) bytes on size given =
+pub read-goes_on : (gives : Giving) → GivesParts gives → GivesAlike gives → (first : StoredRange) (len : ℕ) (slices : List Slice) (bytes : List ℕ) → GoOn first len slices
+    → length bytes ≡ body_len slices → gives first.piece (first.at + len) bytes → IsBody gives slices bytes
+read-goes_on gives parts alike first len [] [] on size given = refl
+read-goes_on gives parts alike first len [] (b ∷ bytes) on size given = absurd (omega arith)
+read-goes_on gives parts alike first len (Held held ∷ slices) bytes on size given = absurd on.0
+read-goes_on gives parts alike first len (Kept next ∷ slices) bytes on size given =
     let cons = body_len-cons (Kept next) slices in
     let within : next.len ≤ length bytes = omega (arith, cons) in
-    let front = subst (λ (at : ℕ). IfSome first.piece.held (λ h. take next.len bytes ≡ take next.len (drop at h))) (sym on.0.at) (front_part first.piece.held (first.at + len) next.len bytes within given) in
+    let long : length (take next.len bytes) ≡ next.len = omega (arith, length-take next.len bytes) in
+    let both = parts first.piece (first.at + len) next.len bytes within given in
+    let front = subst (λ (at : ℕ). gives first.piece at (take next.len bytes)) (sym on.0.at) both.0 in
     let later : (first.at + len) + next.len ≡ first.at + (len + next.len) = omega arith in
-    let rest = subst (λ (at : ℕ). IsReadAt first.piece.held at (drop next.len bytes)) later (back_part first.piece.held (first.at + len) next.len bytes within given) in (
-      (omega (arith, length-take next.len bytes), same_part first.piece.held next.piece.held next.at next.len (take next.len bytes) on.0.same front),
-      read-goes_on first (len + next.len) slices (drop next.len bytes) on.1 (omega (arith, length-drop next.len bytes)) rest,
+    let rest = subst (λ (at : ℕ). gives first.piece at (drop next.len bytes)) later both.1 in (
+      (long, alike first.piece next.piece next.at (take next.len bytes) (subst (IsSamePart first.piece next.piece next.at) (sym long) on.0.piece) front),
+      read-goes_on gives parts alike first (len + next.len) slices (drop next.len bytes) on.1 (omega (arith, length-drop next.len bytes)) rest,
     )
 
 -- what is read of a stretch is the bytes of its slices
-read-stretch : (range : StoredRange) (slices : List Slice) (bytes : List ℕ) → GoOn range range.len slices → length bytes ≡ body_len (Kept range ∷ slices) → IsReadAt range.piece.held range.at bytes → IsBody (Kept range ∷ slices) bytes
-read-stretch range slices bytes on size given =
+read-stretch : (gives : Giving) → GivesParts gives → GivesAlike gives → (range : StoredRange) (slices : List Slice) (bytes : List ℕ) → GoOn range range.len slices
+    → length bytes ≡ body_len (Kept range ∷ slices) → gives range.piece range.at bytes → IsBody gives (Kept range ∷ slices) bytes
+read-stretch gives parts alike range slices bytes on size given =
     let cons = body_len-cons (Kept range) slices in
-    let within : range.len ≤ length bytes = omega (arith, cons) in (
-      (omega (arith, length-take range.len bytes), front_part range.piece.held range.at range.len bytes within given),
-      read-goes_on range range.len slices (drop range.len bytes) on (omega (arith, length-drop range.len bytes)) (back_part range.piece.held range.at range.len bytes within given),
+    let within : range.len ≤ length bytes = omega (arith, cons) in
+    let both = parts range.piece range.at range.len bytes within given in (
+      (omega (arith, length-take range.len bytes), both.0),
+      read-goes_on gives parts alike range range.len slices (drop range.len bytes) on (omega (arith, length-drop range.len bytes)) both.1,
     )
 
 -- the same, of a stretch whose first slice is known
-pub read-front : (slices : List Slice) (s : Slice) (range : StoredRange) (n : ℕ) (bytes : List ℕ) → s ≡ get_or slices 0 s → s ≡ Kept range → IsStretch slices → length bytes ≡ n → n ≡ body_len slices
-    → IfSome range.piece.held (λ h. bytes ≡ take n (drop range.at h)) → IsBody slices bytes
-read-front [] s range n bytes is kept stretch len size given = absurd stretch
-read-front (Held held ∷ slices) s range n bytes is kept stretch len size given = cc
-read-front (Kept first ∷ slices) s range n bytes is kept stretch len size given =
+pub read-front : (gives : Giving) → GivesParts gives → GivesAlike gives → (slices : List Slice) (s : Slice) (range : StoredRange) (bytes : List ℕ) → s ≡ get_or slices 0 s → s ≡ Kept range → IsStretch slices
+    → length bytes ≡ body_len slices → gives range.piece range.at bytes → IsBody gives slices bytes
+read-front gives parts alike [] s range bytes is kept stretch size given = absurd stretch
+read-front gives parts alike (Held held ∷ slices) s range bytes is kept stretch size given = cc
+read-front gives parts alike (Kept first ∷ slices) s range bytes is kept stretch size given =
     let same : range ≡ first = cc in
-    read-stretch first slices bytes stretch (len ∙ size)
-    (subst (λ (m : ℕ). IfSome first.piece.held (λ h. bytes ≡ take m (drop first.at h))) (sym len)
-    (subst (λ (r : StoredRange). IfSome r.piece.held (λ h. bytes ≡ take n (drop r.at h))) same given))
+    read-stretch gives parts alike first slices bytes stretch size (subst (λ (r : StoredRange). gives r.piece r.at bytes) same given)
 
 -- where the bytes of a stretch stand
 pub front-within : (slices : List Slice) (s : Slice) (range : StoredRange) → s ≡ get_or slices 0 s → s ≡ Kept range → IsStretch slices → range.at + body_len slices ≤ range.piece.len

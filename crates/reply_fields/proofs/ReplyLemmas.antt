@@ -2,6 +2,7 @@
 use Rattle.std.proofs.Common.{◌≡◌, ◌∙◌, ℕ, ℤ, pos, negsuc, ◌≤◌, ◌++◌, List, [], ◌∷◌, codes, length, ap, sym, subst, arith, append_assoc, length-append, FitsSigned, w32}
 use Rattle.std.proofs.lemmas.Fmt.{length_signed_le}
 use Rattle.std.specs.List.Sorted.{IsStrictlySortedBy}
+use Rattle.mq_outside.specs.Readings.{Giving}
 use Rattle.mq_bytes.specs.Decimal.{decimal}
 use Rattle.remoting_frame.specs.Head.{IsInOrder}
 use Rattle.remoting_frame.specs.Headers.{front_bytes}
@@ -13,13 +14,13 @@ use Rattle.reply_fields.specs.Replies.{reply_head, AppendsReply}
 use Rattle.reply_fields.proofs.BodyLemmas.{length-body}
 
 -- a front, and behind it a body of that size, is a whole frame
-pub appends-reply : (form : Form) (opaque : ℤ) (reply : ReplyParts) (slices : List Slice) (size : ℕ) (old front new : List ℕ) → slices ≡ reply.body → size ≡ body_len slices
-    → front ≡ old ++ front_bytes form (reply_head reply opaque) size → AppendsBody slices front new → AppendsReply form opaque reply old new
-appends-reply form opaque reply slices size old front new is sized begun added = record {
+pub appends-reply : (gives : Giving) (form : Form) (opaque : ℤ) (reply : ReplyParts) (slices : List Slice) (size : ℕ) (old front new : List ℕ) → slices ≡ reply.body → size ≡ body_len slices
+    → front ≡ old ++ front_bytes form (reply_head reply opaque) size → AppendsBody gives slices front new → AppendsReply gives form opaque reply old new
+appends-reply gives form opaque reply slices size old front new is sized begun added = record {
   body = added.body;
-  given = subst (λ (l : List Slice). IsBody l added.body) is added.given;
+  given = subst (λ (l : List Slice). IsBody gives l added.body) is added.given;
   behind = added.behind ∙ ap (λ (l : List ℕ). l ++ added.body) begun ∙ append_assoc old (front_bytes form (reply_head reply opaque) size) added.body
-      ∙ ap (λ (n : ℕ). old ++ (front_bytes form (reply_head reply opaque) n ++ added.body)) (sized ∙ sym (length-body slices added.body added.given));
+      ∙ ap (λ (n : ℕ). old ++ (front_bytes form (reply_head reply opaque) n ++ added.body)) (sized ∙ sym (length-body gives slices added.body added.given));
 }
 
 pub none_in_order : IsInOrder []

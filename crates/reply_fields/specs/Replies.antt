@@ -1,6 +1,7 @@
 -- Replies, and their bytes on the wire.
 use Rattle.std.specs.Prelude.{◌≡◌, ℕ, ◌+◌, ◌^◌, ◌<◌, ◌≤◌, ◌++◌, List, ℤ, pos, length, FitsSigned}
 use Rattle.std.specs.Int.{w16}
+use Rattle.mq_outside.specs.Readings.{Giving}
 use Rattle.remoting_frame.specs.Head.{Head, IsInOrder, pairs_size}
 use Rattle.remoting_frame.specs.Headers.{frame_bytes}
 use Rattle.remoting_frame.specs.declared.frame.Form.{Form}
@@ -23,7 +24,7 @@ abbrev pub reply_bytes : Form → ℤ → ReplyParts → List ℕ → List ℕ
 reply_bytes form opaque reply body = frame_bytes form (reply_head reply opaque) body
 
 -- behind the old bytes stands the frame of the reply, with a body that its slices give
-pub record AppendsReply (form : Form) (opaque : ℤ) (reply : ReplyParts) (old new : List ℕ) : Type 0 where
+pub record AppendsReply (gives : Giving) (form : Form) (opaque : ℤ) (reply : ReplyParts) (old new : List ℕ) : Type 0 where
   pub body : List ℕ
-  pub given : IsBody reply.body body
+  pub given : IsBody gives reply.body body
   pub behind : new ≡ old ++ reply_bytes form opaque reply body

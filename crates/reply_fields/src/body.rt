@@ -1,14 +1,13 @@
 //! The bytes of a body. Ranges that adjoin in one piece are a stretch, and are read together.
 
-ghost use Rattle.std.specs.Prelude.{◌≡◌, ◌+◌, ◌≤◌, ◌<◌, ◌^◌, length, take, Some, IsTrue, IfSome, OnOk, OnErr};
+ghost use Rattle.std.specs.Prelude.{◌≡◌, ◌+◌, ◌≤◌, ◌<◌, ◌^◌, length, take, IsTrue, IfSome, OnOk, OnErr};
 ghost use Rattle.mq_outside.specs.Counts.{CountsFailure, CountsDiskFault};
-ghost use Rattle.reply_fields.specs.Ranges.{RisesAtMost};
+ghost use Rattle.reply_fields.specs.Ranges.{RisesAtMost, AreAsked};
 ghost use Rattle.reply_fields.specs.Slices.{slice_len, body_len, kept_count, IsBody, AppendsBody};
-ghost use Rattle.reply_fields.specs.Stretches.{IsSamePiece, HasSame, Adjoins, GoesOn, GoOn, IsStretch};
+ghost use Rattle.reply_fields.specs.Stretches.{Adjoins, GoesOn, GoOn, IsStretch};
 
 use crate::slice::{Slice, StoredRange};
-use bytes::Bytes;
-use mq_outside::{DiskFault, Failed, Frozen, Reader};
+use mq_outside::{DiskFault, Failed, Reader};
 
 // How many bytes a slice has.
 fn len_of(slice: &Slice) -> usize
@@ -32,33 +31,6 @@ pub(crate) fn size_of(slices: &[Slice]) -> usize
     size
 }
 
-fn are_same(first: &Bytes, next: &Bytes, at: usize, len: usize) -> bool
-    requires first { at + len ≤ length first.now }
-    requires next { at + len ≤ length next.now }
-    ensures { IsTrue result → HasSame (Some first.now) (Some next.now) at len }
-{
-    &first.as_slice()[at..at + len] == &next.as_slice()[at..at + len]
-}
-
-// Whether the two are one piece, and a range of the second can be read from the first.
-fn has_same(first: &Frozen, next: &Frozen, at: u64, len: u32) -> bool
-    requires within { at + len ≤ next.now.len }
-    ensures piece { IsTrue result → IsSamePiece first.now next.now }
-    ensures fits { IsTrue result → at + len < 2 ^ 64 }
-    ensures same { IsTrue result → HasSame first.now.held next.now.held at len }
-{
-    if first.base != next.base || first.from != next.from || first.len != next.len {
-        return false;
-    }
-    let Some(held) = &next.held else {
-        return first.held.is_none();
-    };
-    match &first.held {
-        Some(other) => are_same(other, held, at as usize, len as usize),
-        None => false,
-    }
-}
-
 // Whether the next range goes on where so many bytes from the first one's start end.
 fn adjoins(first: &StoredRange, len: u64, next: &StoredRange) -> bool
     ensures next { IsTrue result → Adjoins first.now len next.now }
@@ -66,7 +38,7 @@ fn adjoins(first: &StoredRange, len: u64, next: &StoredRange) -> bool
 {
     next.at >= first.at
         && next.at - first.at == len
-        && has_same(&first.piece, &next.piece, next.at, next.len)
+        && first.piece.has_same(&next.piece, next.at, next.len)
 }
 
 // How many bytes the slice has, if it goes on where so many bytes from the range's start end.
@@ -118,9 +90,10 @@ fn stretch_of(slices: &[Slice]) -> (usize, usize)
 fn fill_stretch<R: Reader>(slices: &[Slice], reader: &mut R, out: &mut [u8]) -> Result<(), Failed>
     requires stretch { IsStretch slices.now }
     requires len { length out.old ≡ body_len slices.now }
-    ensures body { OnOk result (IsBody slices.now out.new) }
+    ensures body { OnOk result (IsBody R.gives slices.now out.new) }
     ensures cause { CountsFailure result (R.faults reader.old) (R.faults reader.new) }
     ensures reads { RisesAtMost (kept_count slices.now) (R.reads reader.old) (R.reads reader.new) }
+    ensures asked { OnOk result (AreAsked (kept_count slices.now) (R.reads reader.old) (R.reads reader.new)) }
 {
     match &slices[0] {
         Slice::Held(bytes) => {
@@ -141,9 +114,10 @@ pub(crate) fn fill<R: Reader>(
     out: &mut [u8],
 ) -> Result<(), Failed>
     requires { length out.old ≡ body_len slices.now }
-    ensures body { OnOk result (IsBody slices.now out.new) }
+    ensures body { OnOk result (IsBody R.gives slices.now out.new) }
     ensures cause { CountsFailure result (R.faults reader.old) (R.faults reader.new) }
     ensures reads { RisesAtMost (kept_count slices.now) (R.reads reader.old) (R.reads reader.new) }
+    ensures asked { OnOk result (AreAsked (kept_count slices.now) (R.reads reader.old) (R.reads reader.new)) }
 {
     let mut done = 0;
     let mut at = 0;
@@ -166,10 +140,11 @@ pub(crate) fn write_body<R: Reader>(
 ) -> Result<(), DiskFault>
     requires size { size ≡ body_len slices.now }
     requires within { size < 2 ^ 30 }
-    ensures body { OnOk result (AppendsBody slices.now out.old.items out.new.items) }
+    ensures body { OnOk result (AppendsBody R.gives slices.now out.old.items out.new.items) }
     ensures err { OnErr result (out.new.items ≡ out.old.items) }
     ensures cause { CountsDiskFault result (R.faults reader.old) (R.faults reader.new) }
     ensures reads { RisesAtMost (kept_count slices.now) (R.reads reader.old) (R.reads reader.new) }
+    ensures asked { OnOk result (AreAsked (kept_count slices.now) (R.reads reader.old) (R.reads reader.new)) }
 {
     let start = out.len();
     if out.resize(start + size, 0).is_err() {

@@ -7,7 +7,7 @@ ghost use Rattle.remoting_frame.specs.BinaryText.{Has16Bits};
 ghost use Rattle.remoting_frame.specs.Head.{pairs_size};
 ghost use Rattle.remoting_frame.specs.Headers.{header_in, header_text, front_bytes};
 ghost use Rattle.reply_fields.specs.Parts.{plain as plain_of};
-ghost use Rattle.reply_fields.specs.Ranges.{RisesAtMost};
+ghost use Rattle.reply_fields.specs.Ranges.{RisesAtMost, AreAsked};
 ghost use Rattle.reply_fields.specs.Replies.{reply_head, AppendsReply};
 ghost use Rattle.reply_fields.specs.Slices.{body_len, kept_count, AppendsBody};
 
@@ -109,11 +109,12 @@ impl Reply {
         reader: &mut R,
         out: &mut Vec<u8>,
     ) -> Result<(), DiskFault>
-        ensures written { OnOk result (AppendsReply form opaque self.now out.old.items out.new.items) }
+        ensures written { OnOk result (AppendsReply R.gives form opaque self.now out.old.items out.new.items) }
         ensures again { OnOk result (header_in form (header_text form (reply_head self.now opaque)) ≡ Some (reply_head self.now opaque)) }
         ensures err { OnErr result (out.new.items ≡ out.old.items) }
         ensures cause { CountsDiskFault result (R.faults reader.old) (R.faults reader.new) }
         ensures reads { RisesAtMost (kept_count self.now.body) (R.reads reader.old) (R.reads reader.new) }
+        ensures asked { OnOk result (AreAsked (kept_count self.now.body) (R.reads reader.old) (R.reads reader.new)) }
     {
         let slices = self.body.as_slice();
         let size = size_of(slices);

@@ -4,9 +4,8 @@ ghost use Rattle.std.specs.Prelude.{◌≡◌, ◌+◌, ◌<◌, ◌≤◌, ◌^
 ghost use Rattle.reply_fields.specs.Slices.{slice_len, body_len};
 
 use crate::{Reply, Slice, StoredRange};
-use bytes::Bytes;
-use mq_bytes::{Rows, Text};
-use mq_outside::{DiskFault, Frozen, MemReader};
+use mq_bytes::{LogFile, Rows, Text};
+use mq_outside::{Disk, DiskFault, Frozen, MemDisk, MemReader, Room};
 use remoting_frame::Form;
 use request_fields::RequestFault;
 use std::alloc::{AllocError, Global};
@@ -35,25 +34,29 @@ fn max_offset(alloc: Global) -> Result<Reply, AllocError> {
     })
 }
 
-// A piece that holds the digits.
-fn piece_of_digits(alloc: Global) -> Result<Frozen, AllocError>
+// Ten digits in a log file of this disk.
+fn piece_of_digits<D: Disk>(alloc: Global, disk: &mut D) -> Result<Frozen, Fail>
     ensures { IfOk result (λ piece. piece.len ≡ 10) }
 {
-    let held = Bytes::copy_from_slice(alloc, b"0123456789")?;
-    Ok(Frozen {
-        base: 0,
-        from: 100,
-        len: 10,
-        held: Some(held),
-    })
+    let file = LogFile::of(0);
+    disk.write_at(file.as_str(), 0, b"0123456789")?;
+    disk.sync(file.as_str())?;
+    let piece = disk.freeze_stored(alloc, 0, 0, 10)?;
+    Ok(piece)
 }
 
-// A range of it.
-fn digits(alloc: Global, at: u64, len: u32) -> Result<Slice, AllocError>
+// A range of them.
+fn digits(alloc: Global, at: u64, len: u32) -> Result<Slice, Fail>
     requires { at + len ≤ 10 }
     ensures { IfOk result (λ slice. slice_len slice ≡ len) }
 {
-    let piece = piece_of_digits(alloc)?;
+    let room = Room {
+        bytes: 80,
+        files: 1,
+        calls: 2,
+    };
+    let mut disk = MemDisk::new(alloc, Vec::new(alloc), room, Vec::new(alloc))?;
+    let piece = piece_of_digits(alloc, &mut disk)?;
     Ok(Slice::Kept(StoredRange { piece, at, len }))
 }
 

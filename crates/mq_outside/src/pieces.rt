@@ -1,0 +1,53 @@
+//! What is asked of frozen pieces with no reader. No answer shows whether a piece holds its bytes.
+
+ghost use Rattle.std.specs.Prelude.{◌≡◌, ◌+◌, ◌≤◌, ◌<◌, ◌^◌, IsTrue, IfOk, length, take, drop};
+ghost use Rattle.mq_outside.specs.Readings.{IsSamePart};
+
+use crate::frozen::Frozen;
+use bytes::Bytes;
+use std::alloc::AllocError;
+
+// Whether both have the same bytes in this range.
+fn are_same(first: &Bytes, next: &Bytes, at: usize, len: usize) -> bool
+    requires first { at + len ≤ length first.now }
+    requires next { at + len ≤ length next.now }
+    ensures { IsTrue result → take len (drop at next.now) ≡ take len (drop at first.now) }
+{
+    &first.as_slice()[at..at + len] == &next.as_slice()[at..at + len]
+}
+
+impl Frozen {
+    /// The piece once more. It shares what is held.
+    pub fn share(&self) -> Result<Frozen, AllocError>
+        ensures { IfOk result (λ piece. piece ≡ self.now) }
+    {
+        let held = match &self.held {
+            None => None,
+            Some(bytes) => Some(bytes.slice(..)?),
+        };
+        Ok(Frozen {
+            base: self.base,
+            from: self.from,
+            len: self.len,
+            held,
+        })
+    }
+
+    /// Whether both pieces are the same part of a log file, and a read of this range gives the same from either.
+    pub fn has_same(&self, next: &Frozen, at: u64, len: u32) -> bool
+        requires within { at + len ≤ next.now.len }
+        ensures same { IsTrue result → IsSamePart self.now next.now at len }
+        ensures fits { IsTrue result → at + len < 2 ^ 64 }
+    {
+        if self.base != next.base || self.from != next.from || self.len != next.len {
+            return false;
+        }
+        match &next.held {
+            None => self.held.is_none(),
+            Some(held) => match &self.held {
+                None => false,
+                Some(other) => are_same(other, held, at as usize, len as usize),
+            },
+        }
+    }
+}
