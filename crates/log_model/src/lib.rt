@@ -6,6 +6,7 @@ mod base;
 mod batch;
 mod fault;
 mod laws;
+mod origin;
 mod place;
 mod queues;
 
@@ -22,6 +23,7 @@ pub use laws::{
     kept_records_stand_at_their_places, recovery_is_idempotent, recovery_is_unique,
     the_last_file_ends_with_the_log, torn_ends_leave_a_prefix,
 };
+pub use origin::OriginState;
 pub use place::next_place;
 pub use queues::queue_of;
 
