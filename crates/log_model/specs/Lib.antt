@@ -8,6 +8,7 @@ pub mod Keys
 pub mod Kinds
 pub mod Log
 pub mod Numbered
+pub mod Origins
 pub mod Pulls
 pub mod Queues
 pub mod Segments

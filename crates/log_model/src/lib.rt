@@ -6,6 +6,7 @@ mod base;
 mod batch;
 mod fault;
 mod laws;
+mod origin;
 mod place;
 mod queues;
 
@@ -24,6 +25,7 @@ pub use laws::{
     first_records_are_kept, the_last_file_ends_with_the_log, torn_ends_leave_a_prefix,
     what_a_crash_left_stores_the_log, what_is_kept_stays_kept,
 };
+pub use origin::OriginState;
 pub use place::next_place;
 pub use queues::queue_of;
 

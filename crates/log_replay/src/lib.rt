@@ -1,0 +1,12 @@
+//! What a log says of its queues, keys, transactions and delays, found by looking at each record: slow, and plain to read
+//! beside the definitions.
+#![tactic(auto)]
+
+mod halves;
+mod keys;
+mod kinds;
+mod queries;
+
+pub use halves::{copies_of, family_of, halves_of, state_of};
+pub use keys::index_keys_of;
+pub use queries::{query_of, query_reply};
