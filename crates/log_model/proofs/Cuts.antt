@@ -6,8 +6,9 @@ use Rattle.std.proofs.lemmas.Slice.Eq.{bytes_eq-Decides}
 use Rattle.mq_outside.specs.Files.{Files, bytes_in, bytes_of, At, Shortened}
 use Rattle.record_codec.specs.Entry.{Entry}
 use Rattle.record_codec.specs.Layout.{layout}
+use Rattle.log_model.specs.Bases.{Geometry}
 use Rattle.log_model.specs.Log.{IsWellFormed}
-use Rattle.log_model.specs.Segments.{layouts, used, shape_of, segment_file, last_name, last_bytes, AreSegmentFiles}
+use Rattle.log_model.specs.Segments.{layouts, used, shape_of, segment_file, last_name, last_bytes, AreSegmentFiles, next_segment}
 use Rattle.log_model.specs.Store.{StartsWith, AreEnded, IsHonest}
 use Rattle.log_model.proofs.Lists.{option_cases}
 use Rattle.log_model.proofs.Places.{placed_log}
@@ -26,7 +27,7 @@ starts_back bytes tail n r long starts = record {
   split = drop-append-le n bytes tail long ∙ ap (λ (l : List ℕ). l ++ tail) starts.split ∙ append_assoc (layout r) starts.rest tail;
 }
 
-module _ (S : ℕ) (log : List Entry) (files cut : Files) (well : IsWellFormed S log) (are : AreSegmentFiles S log files)
+module _ (S : Geometry) (log : List Entry) (files cut : Files) (well : IsWellFormed S log) (are : AreSegmentFiles S log files)
     (step : At (last_name S (shape_of S log)) (Shortened 0) files cut) where
   same_or_last : (other : List ℕ) → (cut other ≡ files other) ⊎ (other ≡ last_name S (shape_of S log))
   same_or_last other = ⊎_elim
@@ -67,12 +68,12 @@ module _ (S : ℕ) (log : List Entry) (files cut : Files) (well : IsWellFormed S
   ended_back [] are_ended = tt
   ended_back (records ∷ older) are_ended = (
     ⊎_elim
-        (λ (same : cut (segment_file S (length older)) ≡ files (segment_file S (length older))). (are_ended.0.0, sym same ∙ are_ended.0.1, are_ended.0.2))
-        (λ (last : segment_file S (length older) ≡ last_name S (shape_of S log)).
+        (λ (same : cut (segment_file S (next_segment S older)) ≡ files (segment_file S (next_segment S older))). (are_ended.0.0, sym same ∙ are_ended.0.1, are_ended.0.2))
+        (λ (last : segment_file S (next_segment S older) ≡ last_name S (shape_of S log)).
         let bytes : last_bytes S (shape_of S log) cut ≡ are_ended.0.0 = ap (λ (n : List ℕ). bytes_of cut n) (sym last) ∙ ap bytes_in are_ended.0.1 in
         let tail = tail_of (last_name S (shape_of S log)) in
         absurd (omega (arith, ap length bytes, are_ended.0.2.long, ap length tail.1, length-append (last_bytes S (shape_of S log) cut) tail.0, ap length are.last, (placed_log S log well).room)))
-        (same_or_last (segment_file S (length older))),
+        (same_or_last (segment_file S (next_segment S older))),
     ended_back older are_ended.1,
   )
 
@@ -97,6 +98,6 @@ module _ (S : ℕ) (log : List Entry) (files cut : Files) (well : IsWellFormed S
       })
 
 -- so they recover to a prefix, with no premise on their bytes
-pub cut_files_honest : (S : ℕ) (log : List Entry) (flushed : ℕ) (files cut : Files) → IsWellFormed S log → AreSegmentFiles S log files
+pub cut_files_honest : (S : Geometry) (log : List Entry) (flushed : ℕ) (files cut : Files) → IsWellFormed S log → AreSegmentFiles S log files
     → At (last_name S (shape_of S log)) (Shortened 0) files cut → IsHonest S log flushed cut
 cut_files_honest S log flushed files cut well are step = cut_honest S log files cut well are step flushed

@@ -9,6 +9,7 @@ use Rattle.record_codec.specs.Parsed.{parsed}
 use Rattle.record_codec.specs.Blanks.{blank_front}
 use Rattle.record_codec.proofs.Records.{parsed_again}
 use Rattle.record_codec.proofs.LayoutLengths.{length-layout}
+use Rattle.log_model.specs.Bases.{Geometry}
 use Rattle.log_model.specs.Segments.{layouts, closed, AreClosed, blank_of}
 use Rattle.log_model.specs.Store.{StartsWith, EndsInBlank, AreEnded}
 use Rattle.log_model.proofs.Places.{AreRoomy}
@@ -42,13 +43,13 @@ starts_no_blank bytes r n rest starts is =
     omega (arith, sym (magic_byte r starts.rest) ∙ sym (ap (λ (l : List ℕ). get_or l 4 0) starts.split) ∙ ap (λ (l : List ℕ). get_or l 4 0) is ∙ blank_byte n rest)
 
 -- a segment that is closed ends in a blank
-pub closed_ends : (S : ℕ) (records : List Entry) → length (layouts records) + 8 ≤ S → EndsInBlank S records (closed S records)
+pub closed_ends : (S : Geometry) (records : List Entry) → length (layouts records) + 8 ≤ S.size → EndsInBlank S records (closed S records)
 closed_ends S records room = record {
-  rest = replicate (S - length (layouts records) - 8) 0;
+  rest = replicate (S.size - length (layouts records) - 8) 0;
   split = refl;
-  long = omega (arith, length-append (layouts records) (blank_of (S - length (layouts records))), length-blank_of (S - length (layouts records)) (omega (arith, room)), room);
+  long = omega (arith, length-append (layouts records) (blank_of (S.size - length (layouts records))), length-blank_of (S.size - length (layouts records)) (omega (arith, room)), room);
 }
 
-pub closed_ended : (S : ℕ) (older : List (List Entry)) (files : Files) → AreRoomy S older → AreClosed S older files → AreEnded S older files
+pub closed_ended : (S : Geometry) (older : List (List Entry)) (files : Files) → AreRoomy S older → AreClosed S older files → AreEnded S older files
 closed_ended S [] files roomy are = tt
 closed_ended S (records ∷ older) files roomy are = ((closed S records, are.0, closed_ends S records roomy.0), closed_ended S older files roomy.1 are.1)

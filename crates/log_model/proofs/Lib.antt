@@ -14,3 +14,4 @@ pub mod Damage
 pub mod OneDamage
 pub mod BatchLemmas
 pub mod Cuts
+pub mod AdmissibleLemmas

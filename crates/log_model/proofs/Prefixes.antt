@@ -8,8 +8,9 @@ use Rattle.mq_outside.specs.Files.{Files, bytes_in}
 use Rattle.record_codec.specs.Entry.{Entry}
 use Rattle.record_codec.specs.Layout.{layout, size}
 use Rattle.record_codec.specs.Blanks.{blank_front}
+use Rattle.log_model.specs.Bases.{Geometry}
 use Rattle.log_model.specs.Log.{fits, IsWellFormed}
-use Rattle.log_model.specs.Segments.{layouts, Shape, added, opened, used, grown, laid, shape_of, base, end_in, closed, segment_file, last_name, last_bytes, AreClosed, NoOther}
+use Rattle.log_model.specs.Segments.{layouts, Shape, added, opened, used, grown, laid, shape_of, segment_start, end_in, closed, segment_file, last_name, last_bytes, AreClosed, NoOther, next_segment}
 use Rattle.log_model.specs.Store.{StartsWith, LooksAt, IsNext, IsHonest, KeepsPrefix, Stands, IsLaid}
 use Rattle.log_model.proofs.Lists.{take_got, drop_got, get_within, option_cases}
 use Rattle.log_model.proofs.Places.{well_formed_take, placed_log, layouts_push, grown_here, grown_next, shape_of-append, place_here, place_next, AreRoomy}
@@ -17,7 +18,7 @@ use Rattle.log_model.proofs.FileNames.{IsNamed, named_less, next_absent, less_ot
 use Rattle.log_model.proofs.Fronts.{starts_layout, starts_no_blank, closed_ended}
 
 -- the blank rule puts record k into the segment where it says that it stands
-pub rule_by_place : (S : ℕ) (log : List Entry) (k : ℕ) (r : Entry) (shape : Shape) → IsWellFormed S log → slice_get log k ≡ Some r → IsLaid S (take k log) shape
+pub rule_by_place : (S : Geometry) (log : List Entry) (k : ℕ) (r : Entry) (shape : Shape) → IsWellFormed S log → slice_get log k ≡ Some r → IsLaid S (take k log) shape
     → r.offset ≡ end_in S shape → shape_of S (take (k + 1) log) ≡ added shape (r ∷ [])
 rule_by_place S log k r shape well got laid place =
     let front : List Entry = take k log in
@@ -27,33 +28,33 @@ rule_by_place S log k r shape well got laid place =
     let rule : shape_of S (take (k + 1) log) ≡ grown S old r = ap (shape_of S) (take_got log k r got) ∙ shape_of-append S front (r ∷ []) in
     ⊎_elim
     (λ (at_end : shape ≡ old). ⊎_elim
-    (λ (here : fits S (used old) (size r) ≡ true). rule ∙ grown_here S old r here ∙ ap (λ (s : Shape). added s (r ∷ [])) (sym at_end))
-    (λ (full : fits S (used old) (size r) ≡ false). absurd (omega (arith, placed.room, place_next S front old r placed follows full, place, ap (end_in S) at_end)))
-    (cases_Bool (fits S (used old) (size r))))
+    (λ (here : fits S.size (used old) (size r) ≡ true). rule ∙ grown_here S old r here ∙ ap (λ (s : Shape). added s (r ∷ [])) (sym at_end))
+    (λ (full : fits S.size (used old) (size r) ≡ false). absurd (omega (arith, placed.room, place_next S front old r placed follows full, place, ap (end_in S) at_end)))
+    (cases_Bool (fits S.size (used old) (size r))))
     (λ (at_next : shape ≡ opened old). ⊎_elim
-    (λ (here : fits S (used old) (size r) ≡ true). absurd (omega (arith, placed.room, place_here S front old r placed follows here, place, ap (end_in S) at_next)))
-    (λ (full : fits S (used old) (size r) ≡ false). rule ∙ grown_next S old r full ∙ ap (λ (s : Shape). added s (r ∷ [])) (sym at_next))
-    (cases_Bool (fits S (used old) (size r))))
+    (λ (here : fits S.size (used old) (size r) ≡ true). absurd (omega (arith, placed.room, place_here S front old r placed follows here, place, ap (end_in S) at_next)))
+    (λ (full : fits S.size (used old) (size r) ≡ false). rule ∙ grown_next S old r full ∙ ap (λ (s : Shape). added s (r ∷ [])) (sym at_next))
+    (cases_Bool (fits S.size (used old) (size r))))
     laid
 
 -- where recovery has come to
-pub record Reached (S : ℕ) (records : List Entry) (files : Files) (shape : Shape) : Type 0 where
+pub record Reached (S : Geometry) (records : List Entry) (files : Files) (shape : Shape) : Type 0 where
   pub looks : (shape ≡ shape_of S records) ⊎ ((shape ≡ opened (shape_of S records)) × IsSome (files (last_name S shape)))
   pub older : AreClosed S shape.older files
   pub last : take (used shape) (last_bytes S shape files) ≡ layouts shape.last
-  pub others : NoOther S (length shape.older) files
+  pub others : NoOther S (next_segment S shape.older) files
 
-module _ (S : ℕ) (log : List Entry) (files : Files) (well : IsWellFormed S log) where
+module _ (S : Geometry) (log : List Entry) (files : Files) (well : IsWellFormed S log) where
   laid_of : (k : ℕ) (shape : Shape) → Reached S (take k log) files shape → IsLaid S (take k log) shape
   laid_of k shape reached = ⊎_elim (λ at_end. inl at_end) (λ at_next. inr at_next.0) reached.looks
 
-  named_of : (k : ℕ) (shape : Shape) → Reached S (take k log) files shape → IsNamed S (suc (length shape.older))
+  named_of : (k : ℕ) (shape : Shape) → Reached S (take k log) files shape → IsNamed S (suc (next_segment S shape.older))
   named_of k shape reached =
       let named = shape_named S (take k log) (well_formed_take S k log well) in
       ⊎_elim
-      (λ (at_end : shape ≡ shape_of S (take k log)). subst (λ (s : Shape). IsNamed S (suc (length s.older))) (sym at_end) (named_less S _ _ (omega arith) named))
+      (λ (at_end : shape ≡ shape_of S (take k log)). subst (λ (s : Shape). IsNamed S (suc (next_segment S s.older))) (sym at_end) (named_less S _ _ (omega arith) named))
       (λ (at_next : (shape ≡ opened (shape_of S (take k log))) × IsSome (files (last_name S shape))).
-      subst (λ (s : Shape). IsNamed S (suc (length s.older))) (sym at_next.0) named)
+      subst (λ (s : Shape). IsNamed S (suc (next_segment S s.older))) (sym at_next.0) named)
       reached.looks
 
   roomy_of : (k : ℕ) (shape : Shape) → Reached S (take k log) files shape → AreRoomy S shape.older
@@ -65,18 +66,18 @@ module _ (S : ℕ) (log : List Entry) (files : Files) (well : IsWellFormed S log
       subst (λ (s : Shape). AreRoomy S s.older) (sym at_next.0) (placed.room, placed.roomy))
       reached.looks
 
-  low_of : (k : ℕ) (shape : Shape) → Reached S (take k log) files shape → base S shape < 2 ^ 63
+  low_of : (k : ℕ) (shape : Shape) → Reached S (take k log) files shape → segment_start S shape < 2 ^ 63
   low_of k shape reached =
       let low = shape_low S (take k log) (well_formed_take S k log well) in
       ⊎_elim
-      (λ (at_end : shape ≡ shape_of S (take k log)). omega (arith, low, ap (base S) at_end))
-      (λ (at_next : (shape ≡ opened (shape_of S (take k log))) × IsSome (files (last_name S shape))). omega (arith, low, ap (base S) at_next.0))
+      (λ (at_end : shape ≡ shape_of S (take k log)). omega (arith, low, ap (segment_start S) at_end))
+      (λ (at_next : (shape ≡ opened (shape_of S (take k log))) × IsSome (files (last_name S shape))). omega (arith, low, ap (segment_start S) at_next.0))
       reached.looks
 
   looks_at : (k : ℕ) (shape : Shape) → Reached S (take k log) files shape → LooksAt S (take k log) files shape
   looks_at k shape reached =
-      let none = next_absent S (length shape.older) files (named_of k shape reached) reached.others in
-      let low : base S shape < 2 ^ 63 = low_of k shape reached in
+      let none = next_absent S (next_segment S shape.older) files (named_of k shape reached) reached.others in
+      let low : segment_start S shape < 2 ^ 63 = low_of k shape reached in
       ⊎_elim
       (λ (at_end : shape ≡ shape_of S (take k log)). record {
         opens = 0;
@@ -172,12 +173,12 @@ module _ (S : ℕ) (log : List Entry) (files : Files) (well : IsWellFormed S log
 
   -- a segment with its blank ends recovery there, where no file stands behind it
   closed_stops : (k : ℕ) → k ≤ length log → AreClosed S ((shape_of S (take k log)).last ∷ (shape_of S (take k log)).older) files
-      → files (segment_file S (suc (length (shape_of S (take k log)).older))) ≡ None → NoOther S (suc (length (shape_of S (take k log)).older)) files
+      → files (segment_file S (suc (next_segment S (shape_of S (take k log)).older))) ≡ None → NoOther S (suc (next_segment S (shape_of S (take k log)).older)) files
       → KeepsPrefix S log k files
   closed_stops k within are none others =
       let shape : Shape = shape_of S (take k log) in
       let bytes : last_bytes S shape files ≡ closed S shape.last = ap bytes_in are.0 in
-      let size_left : ℕ = S - length (layouts shape.last) in
+      let size_left : ℕ = S.size - length (layouts shape.last) in
       let blank : drop (used shape) (last_bytes S shape files) ≡ blank_front size_left ++ replicate (size_left - 8) 0 =
       ap (λ (l : List ℕ). drop (used shape) l) bytes ∙ drop_at (layouts shape.last) _ _ refl in
       stops k shape within
@@ -185,12 +186,12 @@ module _ (S : ℕ) (log : List Entry) (files : Files) (well : IsWellFormed S log
         looks = inl refl;
         older = are.1;
         last = ap (λ (l : List ℕ). take (used shape) l) bytes ∙ take_at (layouts shape.last) _ _ refl;
-        others = less_other S (length shape.older) files none others;
+        others = less_other S (next_segment S shape.older) files none others;
       })
       (λ r next. starts_no_blank (drop (used shape) (last_bytes S shape files)) r size_left (replicate (size_left - 8) 0) next.starts blank)
 
 -- the flushed records stand in an honest image: it keeps them, and a prefix of the log
-pub keeps_prefix : (S : ℕ) (log : List Entry) (flushed : ℕ) (files : Files) (shape : Shape) (reach : ℕ) → IsWellFormed S log → flushed ≤ length log
+pub keeps_prefix : (S : Geometry) (log : List Entry) (flushed : ℕ) (files : Files) (shape : Shape) (reach : ℕ) → IsWellFormed S log → flushed ≤ length log
     → IsLaid S (take flushed log) shape → Stands S shape reach files → IsHonest S log flushed files → KeepsPrefix S log flushed files
 keeps_prefix S log flushed files shape reach well within (inl at_end) stands honest =
     keeps_from S log files well (length log - flushed) flushed shape (omega (arith, within))
@@ -198,7 +199,7 @@ keeps_prefix S log flushed files shape reach well within (inl at_end) stands hon
 keeps_prefix S log flushed files shape reach well within (inr at_next) stands honest = ⊎_elim
     (λ (none : files (last_name S shape) ≡ None).
     closed_stops S log files well flushed within (subst (λ (s : Shape). AreClosed S s.older files) at_next stands.older)
-    (subst (λ (s : Shape). files (last_name S s) ≡ None) at_next none) (subst (λ (s : Shape). NoOther S (length s.older) files) at_next stands.others))
+    (subst (λ (s : Shape). files (last_name S s) ≡ None) at_next none) (subst (λ (s : Shape). NoOther S (next_segment S s.older) files) at_next stands.others))
     (λ (some : (bytes : List ℕ) × (files (last_name S shape) ≡ Some bytes)).
     keeps_from S log files well (length log - flushed) flushed shape (omega (arith, within))
     (record { looks = inr (at_next, ap is_some some.1); older = stands.older; last = stands.last; others = stands.others }) honest)
@@ -206,8 +207,8 @@ keeps_prefix S log flushed files shape reach well within (inr at_next) stands ho
 
 -- ---- batches by their places
 
-batch_more : (S : ℕ) (log : List Entry) (k count : ℕ) (shape : Shape) → IsWellFormed S log → k + count ≤ length log → shape ≡ shape_of S (take k log)
-    → ((i : ℕ) (r : Entry) → i < count → slice_get log (k + i) ≡ Some r → r.offset < base S shape + S) → shape_of S (take (k + count) log) ≡ added shape (take count (drop k log))
+batch_more : (S : Geometry) (log : List Entry) (k count : ℕ) (shape : Shape) → IsWellFormed S log → k + count ≤ length log → shape ≡ shape_of S (take k log)
+    → ((i : ℕ) (r : Entry) → i < count → slice_get log (k + i) ≡ Some r → r.offset < segment_start S shape + S.size) → shape_of S (take (k + count) log) ≡ added shape (take count (drop k log))
 batch_more S log k zero shape well within is low =
     let zero_is : k + 0 ≡ k = omega arith in
     ap (λ (n : ℕ). shape_of S (take n log)) zero_is ∙ sym is ∙ ap (λ (l : List Entry). record { older = shape.older; last = l }) (sym (append-nil shape.last))
@@ -217,11 +218,11 @@ batch_more S log k (suc count) shape well within is low =
     let front : List Entry = take k log in
     let placed = placed_log S front (well_formed_take S k log well) in
     let old : Shape = shape_of S front in
-    let here : r.offset < base S shape + S = low 0 r (omega arith) (ap (slice_get log) (omega arith) ∙ got.1) in
+    let here : r.offset < segment_start S shape + S.size = low 0 r (omega arith) (ap (slice_get log) (omega arith) ∙ got.1) in
     let place : r.offset ≡ end_in S shape = ⊎_elim
-    (λ (fit : fits S (used old) (size r) ≡ true). place_here S front old r placed (well.each k r got.1) fit ∙ ap (end_in S) (sym is))
-    (λ (full : fits S (used old) (size r) ≡ false). absurd (omega (arith, here, ap (base S) is, place_next S front old r placed (well.each k r got.1) full)))
-    (cases_Bool (fits S (used old) (size r))) in
+    (λ (fit : fits S.size (used old) (size r) ≡ true). place_here S front old r placed (well.each k r got.1) fit ∙ ap (end_in S) (sym is))
+    (λ (full : fits S.size (used old) (size r) ≡ false). absurd (omega (arith, here, ap (segment_start S) is, place_next S front old r placed (well.each k r got.1) full)))
+    (cases_Bool (fits S.size (used old) (size r))) in
     let one : shape_of S (take (k + 1) log) ≡ added shape (r ∷ []) = rule_by_place S log k r shape well got.1 (inl is) place in
     let number : k + suc count ≡ (k + 1) + count = omega arith in
     let rest = batch_more S log (k + 1) count (added shape (r ∷ [])) well (omega (arith, within)) (sym one)
@@ -231,9 +232,9 @@ batch_more S log k (suc count) shape well within is low =
     ∙ ap (λ (l : List Entry). shape.last ++ take (suc count) l) (sym (drop_got k log r got.1)))
 
 -- Records that all stand in the last of these segments, the first of them no earlier than the segment, are a batch for it.
-pub batch_rule : (S : ℕ) (log : List Entry) (flushed count : ℕ) (shape : Shape) (first : Entry) → IsWellFormed S log → IsLaid S (take flushed log) shape → flushed + count ≤ length log
-    → 0 < count → slice_get log flushed ≡ Some first → base S shape ≤ first.offset
-    → ((i : ℕ) (r : Entry) → i < count → slice_get log (flushed + i) ≡ Some r → r.offset < base S shape + S)
+pub batch_rule : (S : Geometry) (log : List Entry) (flushed count : ℕ) (shape : Shape) (first : Entry) → IsWellFormed S log → IsLaid S (take flushed log) shape → flushed + count ≤ length log
+    → 0 < count → slice_get log flushed ≡ Some first → segment_start S shape ≤ first.offset
+    → ((i : ℕ) (r : Entry) → i < count → slice_get log (flushed + i) ≡ Some r → r.offset < segment_start S shape + S.size)
     → shape_of S (take (flushed + count) log) ≡ added shape (take count (drop flushed log))
 batch_rule S log flushed zero shape first well laid within some got start low = absurd (omega (arith, some))
 batch_rule S log flushed (suc count) shape first well laid within some got start low =
@@ -241,17 +242,17 @@ batch_rule S log flushed (suc count) shape first well laid within some got start
     let placed = placed_log S front (well_formed_take S flushed log well) in
     let old : Shape = shape_of S front in
     let follows = well.each flushed first got in
-    let here : first.offset < base S shape + S = low 0 first (omega arith) (ap (slice_get log) (omega arith) ∙ got) in
+    let here : first.offset < segment_start S shape + S.size = low 0 first (omega arith) (ap (slice_get log) (omega arith) ∙ got) in
     let place : first.offset ≡ end_in S shape = ⊎_elim
-    (λ (fit : fits S (used old) (size first) ≡ true). ⊎_elim
+    (λ (fit : fits S.size (used old) (size first) ≡ true). ⊎_elim
     (λ (at_end : shape ≡ old). place_here S front old first placed follows fit ∙ ap (end_in S) (sym at_end))
-    (λ (at_next : shape ≡ opened old). absurd (omega (arith, start, ap (base S) at_next, place_here S front old first placed follows fit, placed.room)))
+    (λ (at_next : shape ≡ opened old). absurd (omega (arith, start, ap (segment_start S) at_next, place_here S front old first placed follows fit, placed.room)))
     laid)
-    (λ (full : fits S (used old) (size first) ≡ false). ⊎_elim
-    (λ (at_end : shape ≡ old). absurd (omega (arith, here, ap (base S) at_end, place_next S front old first placed follows full)))
+    (λ (full : fits S.size (used old) (size first) ≡ false). ⊎_elim
+    (λ (at_end : shape ≡ old). absurd (omega (arith, here, ap (segment_start S) at_end, place_next S front old first placed follows full)))
     (λ (at_next : shape ≡ opened old). place_next S front old first placed follows full ∙ ap (end_in S) (sym at_next))
     laid)
-    (cases_Bool (fits S (used old) (size first))) in
+    (cases_Bool (fits S.size (used old) (size first))) in
     let one : shape_of S (take (flushed + 1) log) ≡ added shape (first ∷ []) = rule_by_place S log flushed first shape well got laid place in
     let number : flushed + suc count ≡ (flushed + 1) + count = omega arith in
     let rest = batch_more S log (flushed + 1) count (added shape (first ∷ [])) well (omega (arith, within)) (sym one)

@@ -1,7 +1,16 @@
+pub mod Admissible
+pub mod Bases
 pub mod Batches
+pub mod Delays
 pub mod Examples
 pub mod Faults
+pub mod Keys
+pub mod Kinds
 pub mod Log
+pub mod Numbered
+pub mod Pulls
 pub mod Queues
 pub mod Segments
 pub mod Store
+pub mod Told
+pub mod Transactions

@@ -1,11 +1,12 @@
 -- The segment files of a log: where its records lie, and the blank that fills each segment but the last.
-use Rattle.std.specs.Prelude.{◌≡◌, ◌≢◌, ℕ, ◌+◌, ◌-◌, ◌*◌, ◌≤◌, replicate, List, [], ◌∷◌, ◌++◌, length, take, codes, Some, None, if◌then◌else◌}
+use Rattle.std.specs.Prelude.{◌≡◌, ◌≢◌, ℕ, suc, ◌+◌, ◌-◌, ◌*◌, ◌<◌, ◌≤◌, replicate, List, [], ◌∷◌, ◌++◌, length, take, codes, Some, None, if◌then◌else◌}
 use Rattle.std.specs.List.{flat_map}
 use Rattle.mq_bytes.specs.Names.{log_file}
 use Rattle.mq_outside.specs.Files.{Files, bytes_of}
 use Rattle.record_codec.specs.Entry.{Entry}
 use Rattle.record_codec.specs.Layout.{layout, size}
 use Rattle.record_codec.specs.Blanks.{blank_front}
+use Rattle.log_model.specs.Bases.{Geometry, first_segment}
 use Rattle.log_model.specs.Log.{fits}
 
 -- the bytes of these records, one after another
@@ -38,59 +39,69 @@ abbrev pub used : Shape → ℕ
 used shape = length (layouts shape.last)
 
 -- with one record more, in the last segment where it fits there, else in a new one
-abbrev pub grown : ℕ → Shape → Entry → Shape
-grown S shape r = if fits S (used shape) (size r) then added shape (r ∷ []) else added (opened shape) (r ∷ [])
+abbrev pub grown : Geometry → Shape → Entry → Shape
+grown S shape r = if fits S.size (used shape) (size r) then added shape (r ∷ []) else added (opened shape) (r ∷ [])
 
 -- with more records, one after another
-abbrev pub laid : ℕ → Shape → List Entry → Shape
+abbrev pub laid : Geometry → Shape → List Entry → Shape
 laid S shape [] = shape
 laid S shape (r ∷ records) = laid S (grown S shape r) records
 
 -- the segments of a log
-abbrev pub shape_of : ℕ → List Entry → Shape
+abbrev pub shape_of : Geometry → List Entry → Shape
 shape_of S log = laid S empty_shape log
 
--- where the last segment begins, and where its records end
-abbrev pub base : ℕ → Shape → ℕ
-base S shape = length shape.older * S
+-- the number of the segment behind these: the first one's where there are none
+abbrev pub next_segment : Geometry → List (List Entry) → ℕ
+next_segment S [] = first_segment S
+next_segment S (records ∷ older) = suc (next_segment S older)
 
-abbrev pub end_in : ℕ → Shape → ℕ
-end_in S shape = base S shape + used shape
+-- where the last segment begins, and where its records end
+abbrev pub segment_start : Geometry → Shape → ℕ
+segment_start S shape = next_segment S shape.older * S.size
+
+abbrev pub end_in : Geometry → Shape → ℕ
+end_in S shape = segment_start S shape + used shape
 
 -- the path of the file of segment k, whose name is the place where the segment begins
-abbrev pub segment_file : ℕ → ℕ → List ℕ
-segment_file S k = log_file (k * S)
+abbrev pub segment_file : Geometry → ℕ → List ℕ
+segment_file S k = log_file (k * S.size)
 
 -- the path and the bytes of the last segment's file
-abbrev pub last_name : ℕ → Shape → List ℕ
-last_name S shape = segment_file S (length shape.older)
+abbrev pub last_name : Geometry → Shape → List ℕ
+last_name S shape = segment_file S (next_segment S shape.older)
 
-abbrev pub last_bytes : ℕ → Shape → Files → List ℕ
+abbrev pub last_bytes : Geometry → Shape → Files → List ℕ
 last_bytes S shape files = bytes_of files (last_name S shape)
 
 -- a segment behind which another stands: its records, and a blank to its end
-abbrev pub closed : ℕ → List Entry → List ℕ
-closed S records = layouts records ++ blank_of (S - length (layouts records))
+abbrev pub closed : Geometry → List Entry → List ℕ
+closed S records = layouts records ++ blank_of (S.size - length (layouts records))
 
 -- the segments before the last, the newest first, stand whole with their blanks
-abbrev pub AreClosed : ℕ → List (List Entry) → Files → Type 0
+abbrev pub AreClosed : Geometry → List (List Entry) → Files → Type 0
 AreClosed S [] files = Unit {0}
-AreClosed S (records ∷ older) files = (files (segment_file S (length older)) ≡ Some (closed S records)) × AreClosed S older files
+AreClosed S (records ∷ older) files = (files (segment_file S (next_segment S older)) ≡ Some (closed S records)) × AreClosed S older files
 
 -- a path in the folder of the log
 abbrev pub IsLogFile : List ℕ → Type 0
 IsLogFile name = take 10 name ≡ codes "commitlog/"
 
--- the folder of the log has no file but those of segments 0 to n
-abbrev pub NoOther : ℕ → ℕ → Files → Type 0
+-- a path in the folder of the log that isn't of a segment before the base
+pub record Counts (S : Geometry) (name : List ℕ) : Type 0 where
+  pub in_folder : IsLogFile name
+  pub kept : (k : ℕ) → k < first_segment S → name ≢ segment_file S k
+
+-- the folder of the log has no file but those of segments 0 to n; the files of segments before the base may be there or not
+abbrev pub NoOther : Geometry → ℕ → Files → Type 0
 NoOther S n files = (name : List ℕ) → IsLogFile name → ((k : ℕ) → k ≤ n → name ≢ segment_file S k) → files name ≡ None
 
 -- the log's files are exactly those of these segments; the first file may be absent while it has no bytes
-pub record AreFilesOf (S : ℕ) (shape : Shape) (files : Files) : Type 0 where
+pub record AreFilesOf (S : Geometry) (shape : Shape) (files : Files) : Type 0 where
   pub older : AreClosed S shape.older files
   pub last : last_bytes S shape files ≡ layouts shape.last
-  pub others : NoOther S (length shape.older) files
+  pub others : NoOther S (next_segment S shape.older) files
 
 -- the segment files of a log: its records at their places, and a blank to the end of each file but the last
-abbrev pub AreSegmentFiles : ℕ → List Entry → Files → Type 0
+abbrev pub AreSegmentFiles : Geometry → List Entry → Files → Type 0
 AreSegmentFiles S log files = AreFilesOf S (shape_of S log) files

@@ -4,8 +4,9 @@ ghost use Rattle.std.specs.Prelude.{◌≡◌, ◌⊎◌, ◌<◌, ◌≤◌, �
 ghost use Rattle.mq_outside.specs.Disk.{EachImage, IsCrashImage, IsDurable};
 ghost use Rattle.mq_outside.specs.Files.{Files, HasNoFile, At, Shortened, bytes_of};
 ghost use Rattle.record_codec.specs.Entry.{Entry};
-ghost use Rattle.log_model.specs.Log.{place_after, end_of, IsSegmentSize, IsWellFormed};
-ghost use Rattle.log_model.specs.Segments.{Shape, shape_of, segment_file, last_name, IsLogFile, AreSegmentFiles};
+ghost use Rattle.log_model.specs.Bases.{Geometry, first_segment};
+ghost use Rattle.log_model.specs.Log.{place_after, end_of, IsGeometry, IsWellFormed};
+ghost use Rattle.log_model.specs.Segments.{Shape, shape_of, segment_file, last_name, Counts, AreSegmentFiles};
 ghost use Rattle.log_model.specs.Store.{StartsWith, IsDamagedAt, IsHonest, IsLaid, Keeps, KeepsPrefix, Stands, StoresLog};
 
 use mq_outside::Disk;
@@ -21,113 +22,113 @@ pub fn a_place_is_the_first_that_fits()
 
 /// Each log has segment files.
 pub fn each_log_has_files()
-    ensures { (S : ℕ) (log : List Entry) → IsWellFormed S log → (files : Files) × AreSegmentFiles S log files }
+    ensures { (S : Geometry) (log : List Entry) → IsWellFormed S log → (files : Files) × AreSegmentFiles S log files }
 {}
 
 /// The file of the segment where a log ends has no byte behind its records.
 pub fn the_last_file_ends_with_the_log()
-    ensures { (S : ℕ) (log : List Entry) (files : Files) → IsWellFormed S log → AreSegmentFiles S log files
-        → length (bytes_of files (segment_file S (end_of log / S))) ≡ end_of log % S }
+    ensures { (S : Geometry) (log : List Entry) (files : Files) → IsWellFormed S log → AreSegmentFiles S log files
+        → length (bytes_of files (segment_file S (end_of S.base log / S.size))) ≡ end_of S.base log % S.size }
 {}
 
 /// The file of each segment before that one has a segment's size, and so has each file behind which another stands.
 pub fn files_before_the_last_are_full()
-    ensures before { (S : ℕ) (log : List Entry) (files : Files) (k : ℕ) → IsWellFormed S log → AreSegmentFiles S log files
-        → k < end_of log / S → length (bytes_of files (segment_file S k)) ≡ S }
-    ensures behind { (S : ℕ) (log : List Entry) (files : Files) (k : ℕ) → IsWellFormed S log → AreSegmentFiles S log files
-        → suc k * S < 2 ^ 64 → IsSome (files (segment_file S (suc k))) → length (bytes_of files (segment_file S k)) ≡ S }
+    ensures before { (S : Geometry) (log : List Entry) (files : Files) (k : ℕ) → IsWellFormed S log → AreSegmentFiles S log files
+        → first_segment S ≤ k → k < end_of S.base log / S.size → length (bytes_of files (segment_file S k)) ≡ S.size }
+    ensures behind { (S : Geometry) (log : List Entry) (files : Files) (k : ℕ) → IsWellFormed S log → AreSegmentFiles S log files
+        → first_segment S ≤ k → suc k * S.size < 2 ^ 64 → IsSome (files (segment_file S (suc k))) → length (bytes_of files (segment_file S k)) ≡ S.size }
 {}
 
 /// Where a disk stores a log, each crash leaves the files before the one where the flushed records end as they are read.
 pub fn images_agree_before_the_last_file<D: Disk>(disk: &D)
-    ensures { D.tells → (S : ℕ) (log : List Entry) (flushed k : ℕ) → StoresLog S log flushed (D.state disk.now)
-        → k < end_of (take flushed log) / S → IsDurable (segment_file S k) (D.state disk.now) }
+    ensures { D.tells → (S : Geometry) (log : List Entry) (flushed k : ℕ) → StoresLog S log flushed (D.state disk.now)
+        → first_segment S ≤ k → k < end_of S.base (take flushed log) / S.size → IsDurable (segment_file S k) (D.state disk.now) }
 {}
 
 /// Each honest crash of a disk that stores a log leaves a prefix of the log with all that is flushed.
 pub fn crashes_leave_a_prefix<D: Disk>(disk: &D)
-    ensures { D.tells → (S : ℕ) (log : List Entry) (flushed : ℕ) (files : Files) → StoresLog S log flushed (D.state disk.now)
+    ensures { D.tells → (S : Geometry) (log : List Entry) (flushed : ℕ) (files : Files) → StoresLog S log flushed (D.state disk.now)
         → IsCrashImage (D.state disk.now) files → IsHonest S log flushed files → KeepsPrefix S log flushed files }
 {}
 
 /// A disk without files stores the empty log.
 pub fn an_empty_disk_stores_the_empty_log<D: Disk>(disk: &D)
-    ensures { D.tells → (S : ℕ) → IsSegmentSize S → EachImage HasNoFile (D.state disk.now) → StoresLog S [] 0 (D.state disk.now) }
+    ensures { D.tells → (S : Geometry) → IsGeometry S → EachImage HasNoFile (D.state disk.now) → StoresLog S [] 0 (D.state disk.now) }
 {}
 
 /// What a disk is after a crash, which holds one of the images, stores the same log.
 pub fn a_crashed_disk_stores_the_log<D: Disk, E: Disk>(before: &D, after: &E)
-    ensures { D.tells → E.tells → (S : ℕ) (log : List Entry) (flushed : ℕ) (files : Files) → StoresLog S log flushed (D.state before.now)
+    ensures { D.tells → E.tells → (S : Geometry) (log : List Entry) (flushed : ℕ) (files : Files) → StoresLog S log flushed (D.state before.now)
         → IsCrashImage (D.state before.now) files → EachImage (λ image. image ≡ files) (E.state after.now)
         → StoresLog S log flushed (E.state after.now) }
 {}
 
 /// Recovery of a log's own files keeps the log.
 pub fn files_recover_to_their_log()
-    ensures { (S : ℕ) (log : List Entry) (files : Files) → IsWellFormed S log → AreSegmentFiles S log files → Keeps S log files }
+    ensures { (S : Geometry) (log : List Entry) (files : Files) → IsWellFormed S log → AreSegmentFiles S log files → Keeps S log files }
 {}
 
 /// Logs with the same files are the same.
 pub fn files_tell_their_log()
-    ensures { (S : ℕ) (first second : List Entry) (files : Files) → IsWellFormed S first → IsWellFormed S second
+    ensures { (S : Geometry) (first second : List Entry) (files : Files) → IsWellFormed S first → IsWellFormed S second
         → AreSegmentFiles S first files → AreSegmentFiles S second files → first ≡ second }
 {}
 
 /// Recovery keeps one list of records of any files.
 pub fn recovery_is_unique()
-    ensures { (S : ℕ) (first second : List Entry) (files : Files) → Keeps S first files → Keeps S second files → first ≡ second }
+    ensures { (S : Geometry) (first second : List Entry) (files : Files) → Keeps S first files → Keeps S second files → first ≡ second }
 {}
 
 /// Recovery of what recovery kept keeps the same.
 pub fn recovery_is_idempotent()
-    ensures { (S : ℕ) (records again : List Entry) (files after : Files) → Keeps S records files → AreSegmentFiles S records after
+    ensures { (S : Geometry) (records again : List Entry) (files after : Files) → Keeps S records files → AreSegmentFiles S records after
         → Keeps S again after → again ≡ records }
 {}
 
 /// What recovery keeps is a well-formed log.
 pub fn kept_is_well_formed()
-    ensures { (S : ℕ) (records : List Entry) (files : Files) → Keeps S records files → IsWellFormed S records }
+    ensures { (S : Geometry) (records : List Entry) (files : Files) → Keeps S records files → IsWellFormed S records }
 {}
 
 /// Each record that recovery keeps stands where it says: in the file of its segment, at its offset there.
 pub fn kept_records_stand_at_their_places()
-    ensures { (S : ℕ) (records : List Entry) (files : Files) (k : ℕ) (r : Entry) → Keeps S records files → slice_get records k ≡ Some r
-        → StartsWith (drop (r.offset % S) (bytes_of files (segment_file S (r.offset / S)))) r }
+    ensures { (S : Geometry) (records : List Entry) (files : Files) (k : ℕ) (r : Entry) → Keeps S records files → slice_get records k ≡ Some r
+        → StartsWith (drop (r.offset % S.size) (bytes_of files (segment_file S (r.offset / S.size)))) r }
 {}
 
 /// The files that a log is recovered from are honest for it.
 pub fn kept_files_are_honest()
-    ensures { (S : ℕ) (log : List Entry) (flushed : ℕ) (files : Files) → Keeps S log files → IsHonest S log flushed files }
+    ensures { (S : Geometry) (log : List Entry) (flushed : ℕ) (files : Files) → Keeps S log files → IsHonest S log flushed files }
 {}
 
 /// Where the flushed records stand at the front of the files, and any bytes behind them that are honest, recovery keeps a prefix.
 pub fn torn_ends_leave_a_prefix()
-    ensures { (S : ℕ) (log : List Entry) (flushed : ℕ) (shape : Shape) (reach : ℕ) (files : Files) → IsWellFormed S log
+    ensures { (S : Geometry) (log : List Entry) (flushed : ℕ) (shape : Shape) (reach : ℕ) (files : Files) → IsWellFormed S log
         → flushed ≤ length log → IsLaid S (take flushed log) shape → Stands S shape reach files
         → IsHonest S log flushed files → KeepsPrefix S log flushed files }
 {}
 
 /// Files that recovery keeps records of are not damaged.
 pub fn kept_files_are_undamaged()
-    ensures { (S : ℕ) (records : List Entry) (files : Files) (place : ℕ) (name : List ℕ) → Keeps S records files
+    ensures { (S : Geometry) (records : List Entry) (files : Files) (place : ℕ) (name : List ℕ) → Keeps S records files
         → IsDamagedAt S files place name → ⊥ }
 {}
 
 /// Damage stands at one place, in one file.
 pub fn damage_has_one_place()
-    ensures { (S : ℕ) (files : Files) (place other_place : ℕ) (name other : List ℕ) → IsDamagedAt S files place name
+    ensures { (S : Geometry) (files : Files) (place other_place : ℕ) (name other : List ℕ) → IsDamagedAt S files place name
         → IsDamagedAt S files other_place other → (place ≡ other_place) × (name ≡ other) }
 {}
 
 /// Each file of a log begins that file of each longer log.
 pub fn files_only_grow()
-    ensures { (S : ℕ) (log more : List Entry) (files longer : Files) (name : List ℕ) → IsWellFormed S (log ++ more)
-        → AreSegmentFiles S log files → AreSegmentFiles S (log ++ more) longer → IsLogFile name
+    ensures { (S : Geometry) (log more : List Entry) (files longer : Files) (name : List ℕ) → IsWellFormed S (log ++ more)
+        → AreSegmentFiles S log files → AreSegmentFiles S (log ++ more) longer → Counts S name
         → take (length (bytes_of files name)) (bytes_of longer name) ≡ bytes_of files name }
 {}
 
 /// The files of a log whose last one was cut anywhere are honest for the log.
 pub fn cut_files_are_honest()
-    ensures { (S : ℕ) (log : List Entry) (flushed : ℕ) (files cut : Files) → IsWellFormed S log → AreSegmentFiles S log files
+    ensures { (S : Geometry) (log : List Entry) (flushed : ℕ) (files cut : Files) → IsWellFormed S log → AreSegmentFiles S log files
         → At (last_name S (shape_of S log)) (Shortened 0) files cut → IsHonest S log flushed cut }
 {}

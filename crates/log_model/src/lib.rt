@@ -2,13 +2,15 @@
 #![tactic(auto)]
 
 mod admissible;
+mod base;
 mod batch;
 mod fault;
 mod laws;
 mod place;
 mod queues;
 
-pub use admissible::{is_admissible, is_system_topic};
+pub use admissible::{is_admissible, is_system_topic, names_earlier};
+pub use base::Base;
 pub use batch::{Batch, Receipt};
 pub use fault::LoadFault;
 pub use laws::{

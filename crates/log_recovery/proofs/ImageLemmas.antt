@@ -4,7 +4,8 @@ use Rattle.std.proofs.lemmas.Bool.{cases_eq}
 use Rattle.std.proofs.lemmas.List.{take_all}
 use Rattle.mq_outside.specs.Files.{Files, At, Vanished, Shortened}
 use Rattle.record_codec.specs.Entry.{Entry}
-use Rattle.log_model.specs.Segments.{layouts, Shape, opened, used, shape_of, segment_file, last_bytes, IsLogFile, AreClosed, NoOther}
+use Rattle.log_model.specs.Bases.{Geometry}
+use Rattle.log_model.specs.Segments.{layouts, Shape, opened, used, shape_of, segment_file, last_bytes, IsLogFile, AreClosed, NoOther, next_segment}
 use Rattle.log_model.specs.Store.{Stands}
 use Rattle.log_model.proofs.FileNames.{IsNamed, named_less, names_apart, is_log_file}
 use Rattle.log_model.proofs.Steps.{cut_stands, vanished_stands, opened_closes}
@@ -12,16 +13,16 @@ use Rattle.log_recovery.specs.Settle.{IsPruned, IsTrimmed}
 use Rattle.log_recovery.proofs.KeptShapes.{Extends, EndIn}
 
 -- a file that is removed
-abbrev Removed : ℕ → ℕ → ℕ → List ℕ → Type 0
+abbrev Removed : Geometry → ℕ → ℕ → List ℕ → Type 0
 Removed S m n name = (k : ℕ) × (m < k) × (k ≤ n) × (name ≡ segment_file S k)
 
 -- files behind the last are absent before they are removed
-absent : (S j n : ℕ) (files : Files) (name : List ℕ) (k : ℕ) → IsNamed S n → NoOther S j files → j < k → k ≤ n → name ≡ segment_file S k → files name ≡ None
+absent : (S : Geometry) (j n : ℕ) (files : Files) (name : List ℕ) (k : ℕ) → IsNamed S n → NoOther S j files → j < k → k ≤ n → name ≡ segment_file S k → files name ≡ None
 absent S j n files name k named others low high is = others name (subst IsLogFile (sym is) (is_log_file S k))
     (λ i within same. names_apart S n k i named high (omega (arith, within, low, high)) (λ e. omega (arith, e, within, low)) (sym is ∙ same))
 
 -- where the last segment holds the last record, nothing is there to remove
-pruned_same : (S m n j : ℕ) (before mid : Files) → IsNamed S n → j ≡ m → NoOther S j before → IsPruned S m n before mid → mid ≡ before
+pruned_same : (S : Geometry) (m n j : ℕ) (before mid : Files) → IsNamed S n → j ≡ m → NoOther S j before → IsPruned S.size m n before mid → mid ≡ before
 pruned_same S m n j before mid named number others pruned =
     let each : (name : List ℕ) → mid name ≡ before name = λ name. ⊎_elim
     (λ (same : mid name ≡ before name). same)
@@ -30,7 +31,7 @@ pruned_same S m n j before mid named number others pruned =
     λ i name. each name i
 
 -- where a next segment is opened, its file is removed
-pruned_vanishes : (S m n : ℕ) (before mid : Files) → IsNamed S n → NoOther S (suc m) before → IsPruned S m n before mid → At (segment_file S (suc m)) Vanished before mid
+pruned_vanishes : (S : Geometry) (m n : ℕ) (before mid : Files) → IsNamed S n → NoOther S (suc m) before → IsPruned S.size m n before mid → At (segment_file S (suc m)) Vanished before mid
 pruned_vanishes S m n before mid named others pruned = record {
   here = ⊎_elim
       (λ (same : mid (segment_file S (suc m)) ≡ before (segment_file S (suc m))). inr same)
@@ -45,19 +46,19 @@ pruned_vanishes S m n before mid named others pruned = record {
       (pruned name);
 }
 
-module _ (S : ℕ) (log : List Entry) (flushed k : ℕ) (shape : Shape) (reach n : ℕ) (named : IsNamed S n) (behind : length (shape_of S (take k log)).older < n) where
+module _ (S : Geometry) (log : List Entry) (flushed k : ℕ) (shape : Shape) (reach n : ℕ) (named : IsNamed S n) (behind : next_segment S (shape_of S (take k log)).older < n) where
   abbrev last : Shape
   last = shape_of S (take k log)
 
   -- before the cut each image is as it was, but for a next segment
-  pub pruned_stands : (before mid : Files) → EndIn S log flushed k shape → Stands S shape reach before → IsPruned S (length last.older) n before mid → Stands S shape reach mid
+  pub pruned_stands : (before mid : Files) → EndIn S log flushed k shape → Stands S shape reach before → IsPruned S.size (next_segment S last.older) n before mid → Stands S shape reach mid
   pruned_stands before mid ends stands pruned = ⊎_elim
       (λ (here : Extends shape last).
-      subst (Stands S shape reach) (sym (pruned_same S (length last.older) n (length shape.older) before mid named (sym (ap (λ (l : List (List Entry)). length l) here.older)) stands.others pruned)) stands)
+      subst (Stands S shape reach) (sym (pruned_same S (next_segment S last.older) n (next_segment S shape.older) before mid named (sym (ap (λ (l : List (List Entry)). next_segment S l) here.older)) stands.others pruned)) stands)
       (λ (next : (k ≡ flushed) × (shape ≡ opened last)).
       let was : Stands S (opened last) reach before = subst (λ (s : Shape). Stands S s reach before) next.1 stands in
       subst (λ (s : Shape). Stands S s reach mid) (sym next.1)
-      (vanished_stands S last reach before mid (named_less S n _ (omega (arith, behind)) named) (pruned_vanishes S (length last.older) n before mid named was.others pruned) was))
+      (vanished_stands S last reach before mid (named_less S n _ (omega (arith, behind)) named) (pruned_vanishes S (next_segment S last.older) n before mid named was.others pruned) was))
       ends
 
   -- the segments that stand after the cut has begun
@@ -67,19 +68,19 @@ module _ (S : ℕ) (log : List Entry) (flushed k : ℕ) (shape : Shape) (reach n
 
   abbrev pub reaching : EndIn S log flushed k shape → ℕ
   reaching (inl here) = reach
-  reaching (inr next) = S
+  reaching (inr next) = S.size
 
-  pub trimmed_stands : (before files : Files) → (ends : EndIn S log flushed k shape) → used last + 8 ≤ S → Stands S shape reach before → IsTrimmed S (length last.older) n (used last) before files
+  pub trimmed_stands : (before files : Files) → (ends : EndIn S log flushed k shape) → used last + 8 ≤ S.size → Stands S shape reach before → IsTrimmed S.size (next_segment S last.older) n (used last) before files
       → Stands S (standing ends) (reaching ends) files
   trimmed_stands before files (inl here) room stands trimmed =
-      let number : length last.older ≡ length shape.older = ap (λ (l : List (List Entry)). length l) here.older in
+      let number : next_segment S last.older ≡ next_segment S shape.older = ap (λ (l : List (List Entry)). next_segment S l) here.older in
       cut_stands S shape reach (used last) trimmed.mid files (named_less S n _ (omega (arith, behind, number)) named) here.longer
       (subst (λ (j : ℕ). At (segment_file S j) (Shortened (used last)) trimmed.mid files) number trimmed.cut)
       (pruned_stands before trimmed.mid (inl here) stands trimmed.pruned)
   trimmed_stands before files (inr next) room stands trimmed =
       let still : Stands S (opened last) reach trimmed.mid = subst (λ (s : Shape). Stands S s reach trimmed.mid) next.1 (pruned_stands before trimmed.mid (inr next) stands trimmed.pruned) in
-      cut_stands S last S (used last) trimmed.mid files (named_less S n _ (omega (arith, behind)) named) (omega arith) trimmed.cut
-      (opened_closes S last reach trimmed.mid room (trimmed.gone (suc (length last.older)) (omega arith) (omega (arith, behind))) still)
+      cut_stands S last S.size (used last) trimmed.mid files (named_less S n _ (omega (arith, behind)) named) (omega arith) trimmed.cut
+      (opened_closes S last reach trimmed.mid room (trimmed.gone (suc (next_segment S last.older)) (omega arith) (omega (arith, behind))) still)
 
   -- once the last file has just its records, the image is that of the kept records
   pub settled_stands : (files : Files) → (ends : EndIn S log flushed k shape) → Stands S (standing ends) (reaching ends) files → last_bytes S last files ≡ layouts last.last → Stands S last (used last) files
@@ -87,7 +88,7 @@ module _ (S : ℕ) (log : List Entry) (flushed k : ℕ) (shape : Shape) (reach n
     older = subst (λ (l : List (List Entry)). AreClosed S l files) (sym here.older) stands.older;
     last = ap (λ (l : List ℕ). take (used last) l) bytes ∙ take_all (used last) (layouts last.last) (omega arith);
     short = omega (arith, ap length bytes);
-    others = subst (λ (l : List (List Entry)). NoOther S (length l) files) (sym here.older) stands.others;
+    others = subst (λ (l : List (List Entry)). NoOther S (next_segment S l) files) (sym here.older) stands.others;
   }
   settled_stands files (inr next) stands bytes = record {
     older = stands.older;

@@ -1,3 +1,4 @@
+pub mod Digits
 pub mod NameLemmas
 pub mod SettleLemmas
 pub mod WindowLemmas

@@ -8,10 +8,11 @@ use Rattle.mq_outside.specs.Files.{Files, bytes_of}
 use Rattle.mq_outside.specs.Disk.{DiskState, IsCrashImage, EachImage, Rests}
 use Rattle.mq_outside.proofs.Moments.{at_end}
 use Rattle.record_codec.specs.Entry.{Entry}
+use Rattle.log_model.specs.Bases.{Geometry, first_segment}
 use Rattle.log_model.specs.Log.{IsSegmentSize, IsWellFormed, end_of}
-use Rattle.log_model.specs.Segments.{Shape, used, shape_of, segment_file, last_bytes, IsLogFile, NoOther}
+use Rattle.log_model.specs.Segments.{Shape, used, shape_of, segment_file, last_bytes, IsLogFile, NoOther, next_segment}
 use Rattle.log_model.specs.Store.{Keeps}
-use Rattle.log_model.proofs.Places.{placed_log}
+use Rattle.log_model.proofs.Places.{next_low, placed_log}
 use Rattle.log_model.proofs.FileNames.{IsNamed, names_apart, is_log_file}
 use Rattle.log_model.proofs.Longer.{find_name}
 use Rattle.log_model.proofs.NameOrder.{Precedes, precede_once, files_precede}
@@ -25,36 +26,36 @@ use Rattle.log_recovery.proofs.KeptShapes.{kept_reads}
 -- ---- where the records end
 
 -- the segment and the offset in it
-pub ends_at : (S : ℕ) (records : List Entry) (end : ℕ) → IsWellFormed S records → end ≡ end_of records
-    → (end / S ≡ length (shape_of S records).older) × (end % S ≡ used (shape_of S records))
+pub ends_at : (S : Geometry) (records : List Entry) (end : ℕ) → IsWellFormed S records → end ≡ end_of S.base records
+    → (end / S.size ≡ next_segment S (shape_of S records).older) × (end % S.size ≡ used (shape_of S records))
 ends_at S records end well is =
     let placed = placed_log S records well in
     let shape : Shape = shape_of S records in
-    let small : used shape < S = omega (arith, placed.room) in (
-      ap (λ (n : ℕ). n / S) (is ∙ placed.end) ∙ div-mul-add (length shape.older) S (used shape) small,
-      ap (λ (n : ℕ). n % S) (is ∙ placed.end) ∙ mod-mul-add (length shape.older) S (used shape) small,
+    let small : used shape < S.size = omega (arith, placed.room) in (
+      ap (λ (n : ℕ). n / S.size) (is ∙ placed.end) ∙ div-mul-add (next_segment S shape.older) S.size (used shape) small,
+      ap (λ (n : ℕ). n % S.size) (is ∙ placed.end) ∙ mod-mul-add (next_segment S shape.older) S.size (used shape) small,
     )
 
 -- so many bytes are there
-pub ends_within : (S : ℕ) (records : List Entry) (files : Files) → Keeps S records files → used (shape_of S records) ≤ length (bytes_of files (segment_file S (length (shape_of S records).older)))
+pub ends_within : (S : Geometry) (records : List Entry) (files : Files) → Keeps S records files → used (shape_of S records) ≤ length (bytes_of files (segment_file S (next_segment S (shape_of S records).older)))
 ends_within S records files keeps =
     let reads = kept_reads S records files keeps in
     omega (arith, ap length reads.last, length-take (used (shape_of S records)) (last_bytes S (shape_of S records) files))
 
 -- the files that are removed have names
-pub top_named : (S end count : ℕ) → IsSegmentSize S → end ≤ 2 ^ 62 → ((k : ℕ) → k < count → k * S < 2 ^ 63) → IsNamed S (max (end / S + 1) (count - 1))
+pub top_named : (S : Geometry) (end count : ℕ) → IsSegmentSize S.size → end ≤ 2 ^ 62 → ((k : ℕ) → k < count → k * S.size < 2 ^ 63) → IsNamed S (max (end / S.size + 1) (count - 1))
 top_named S end count segment low each = record {
   some = omega (arith, segment.low);
   low = ⊎_elim
-      (λ (less : end / S + 1 < count - 1).
-      let is : max (end / S + 1) (count - 1) ≡ count - 1 = omega (arith, less) in
-      omega (arith, ap (λ (n : ℕ). n * S) is, each (count - 1) (omega (arith, less))))
-      (λ (more : count - 1 ≤ end / S + 1).
-      let is : max (end / S + 1) (count - 1) ≡ end / S + 1 = omega (arith, more) in
-      let whole : end / S * S ≤ end = div-mul-le_self end S in
-      let step : (end / S + 1) * S ≡ end / S * S + S = omega arith in
-      omega (arith, ap (λ (n : ℕ). n * S) is, whole, step, low, segment.high))
-      (cases_lt (end / S + 1) (count - 1));
+      (λ (less : end / S.size + 1 < count - 1).
+      let is : max (end / S.size + 1) (count - 1) ≡ count - 1 = omega (arith, less) in
+      omega (arith, ap (λ (n : ℕ). n * S.size) is, each (count - 1) (omega (arith, less))))
+      (λ (more : count - 1 ≤ end / S.size + 1).
+      let is : max (end / S.size + 1) (count - 1) ≡ end / S.size + 1 = omega (arith, more) in
+      let whole : end / S.size * S.size ≤ end = div-mul-le_self end S.size in
+      let step : (end / S.size + 1) * S.size ≡ end / S.size * S.size + S.size = omega arith in
+      omega (arith, ap (λ (n : ℕ). n * S.size) is, whole, step, low, segment.high))
+      (cases_lt (end / S.size + 1) (count - 1));
 }
 
 none_some : {A : Type 0} (o : Option A) → o ≡ None → IsSome o → ⊥
@@ -63,16 +64,16 @@ none_some (Some x) is some = absurd (cc)
 
 -- ---- any files
 
-module _ (S count n : ℕ) (records : List Entry) (read before files : Files) (named : IsNamed S n) (keeps : Keeps S records read) (low : count ≤ n + 1) (behind : length (shape_of S records).older < n)
-    (front : AreNamed S count read) (all : NoFurther S count read) (last_there : (0 < length (shape_of S records).older) → length (shape_of S records).older < count)
-    (settled : (name : List ℕ) → IsLogFile name → (before name ≡ read name) ⊎ IsLastFile read name) (trimmed : IsTrimmed S (length (shape_of S records).older) n (used (shape_of S records)) before files)
-    (cut : CutsTo (segment_file S (length (shape_of S records).older)) (used (shape_of S records)) read files) where
+module _ (S : Geometry) (count n : ℕ) (records : List Entry) (read before files : Files) (named : IsNamed S n) (keeps : Keeps S records read) (low : count ≤ n + 1) (behind : next_segment S (shape_of S records).older < n)
+    (front : AreNamed S count read) (all : NoFurther S count read) (last_there : (first_segment S < next_segment S (shape_of S records).older) → next_segment S (shape_of S records).older < count)
+    (settled : (name : List ℕ) → IsLogFile name → (before name ≡ read name) ⊎ IsLastFile read name) (trimmed : IsTrimmed S.size (next_segment S (shape_of S records).older) n (used (shape_of S records)) before files)
+    (cut : CutsTo (segment_file S (next_segment S (shape_of S records).older)) (used (shape_of S records)) read files) where
   abbrev m : ℕ
-  m = length (shape_of S records).older
+  m = next_segment S (shape_of S records).older
 
   -- a segment before the last stays
-  stays : (k : ℕ) → k < m → files (segment_file S k) ≡ read (segment_file S k)
-  stays k less =
+  stays : (k : ℕ) → first_segment S ≤ k → k < m → files (segment_file S k) ≡ read (segment_file S k)
+  stays k from less =
       let apart : segment_file S k ≢ segment_file S m = names_apart S n k m named (omega (arith, less, behind)) (omega (arith, behind)) (λ is. omega (arith, is, less)) in
       let from_mid : files (segment_file S k) ≡ trimmed.mid (segment_file S k) = trimmed.cut.others (segment_file S k) apart in
       let from_before : trimmed.mid (segment_file S k) ≡ before (segment_file S k) = ⊎_elim
@@ -80,12 +81,12 @@ module _ (S count n : ℕ) (records : List Entry) (read before files : Files) (n
       (λ (gone : (trimmed.mid (segment_file S k) ≡ None) × ((j : ℕ) × (m < j) × (j ≤ n) × (segment_file S k ≡ segment_file S j))).
       absurd (names_apart S n k gone.1.0 named (omega (arith, less, behind)) gone.1.2 (λ is. omega (arith, is, less, gone.1.1)) gone.1.3))
       (trimmed.pruned (segment_file S k)) in
-      let there = front m (last_there (omega (arith, less))) in
+      let there = front m (next_low S (shape_of S records).older) (last_there (omega (arith, from, less))) in
       from_mid ∙ from_before ∙ ⊎_elim
       (λ (same : before (segment_file S k) ≡ read (segment_file S k)). same)
       (λ (last : IsLastFile read (segment_file S k)).
       let after : Precedes (segment_file S m) (segment_file S k) = last.behind (segment_file S m) (is_log_file S m) there.1.there (λ is. apart (sym is)) in
-      let ahead : Precedes (segment_file S k) (segment_file S m) = files_precede (k * S) (m * S) (mul-lt-mul_of_pos_right less named.some) (omega (arith, there.0)) in
+      let ahead : Precedes (segment_file S k) (segment_file S m) = files_precede (k * S.size) (m * S.size) (mul-lt-mul_of_pos_right less named.some) (omega (arith, there.0)) in
       absurd (precede_once (segment_file S k) (segment_file S m) ahead after))
       (settled (segment_file S k) (is_log_file S k))
 
@@ -114,33 +115,33 @@ module _ (S count n : ℕ) (records : List Entry) (read before files : Files) (n
 
 -- ---- from what was read
 
-pub read_within : (S count end : ℕ) (files again : Files) (before after : List Entry → Type 0) → ReadLog S files before after count end → again ≡ files
-    → end % S ≤ length (bytes_of again (segment_file S (end / S)))
+pub read_within : (S : Geometry) (count end : ℕ) (files again : Files) (before after : List Entry → Type 0) → ReadLog S files before after count end → again ≡ files
+    → end % S.size ≤ length (bytes_of again (segment_file S (end / S.size)))
 read_within S count end files again before after log same =
     let at = ends_at S log.records end log.keeps.well_formed log.ends in
-    subst (λ (j : ℕ). j ≤ length (bytes_of again (segment_file S (end / S)))) (sym at.1)
+    subst (λ (j : ℕ). j ≤ length (bytes_of again (segment_file S (end / S.size)))) (sym at.1)
     (subst (λ (j : ℕ). used (shape_of S log.records) ≤ length (bytes_of again (segment_file S j))) (sym at.0)
-    (subst (λ (f : Files). used (shape_of S log.records) ≤ length (bytes_of f (segment_file S (length (shape_of S log.records).older)))) (sym same)
+    (subst (λ (f : Files). used (shape_of S log.records) ≤ length (bytes_of f (segment_file S (next_segment S (shape_of S log.records).older)))) (sym same)
     (ends_within S log.records files log.keeps)))
 
-pub settles_here : (S end n m len : ℕ) (old new : DiskState) → (end / S ≡ m) × (end % S ≡ len) → Settles S (end / S) n (end % S) old new → Settles S m n len old new
-settles_here S end n m len old new at settles = subst (λ (j : ℕ). Settles S m n j old new) at.1 (subst (λ (j : ℕ). Settles S j n (end % S) old new) at.0 settles)
+pub settles_here : (S : Geometry) (end n m len : ℕ) (old new : DiskState) → (end / S.size ≡ m) × (end % S.size ≡ len) → Settles S.size (end / S.size) n (end % S.size) old new → Settles S.size m n len old new
+settles_here S end n m len old new at settles = subst (λ (j : ℕ). Settles S.size m n j old new) at.1 (subst (λ (j : ℕ). Settles S.size j n (end % S.size) old new) at.0 settles)
 
-pub settled_here : (S end n m len : ℕ) (old new : DiskState) → (end / S ≡ m) × (end % S ≡ len) → EachImage (IsSettledAt S (end / S) n (end % S) old) new → EachImage (IsSettledAt S m n len old) new
+pub settled_here : (S : Geometry) (end n m len : ℕ) (old new : DiskState) → (end / S.size ≡ m) × (end % S.size ≡ len) → EachImage (IsSettledAt S.size (end / S.size) n (end % S.size) old) new → EachImage (IsSettledAt S.size m n len old) new
 settled_here S end n m len old new at settled =
-    subst (λ (j : ℕ). EachImage (IsSettledAt S m n j old) new) at.1 (subst (λ (j : ℕ). EachImage (IsSettledAt S j n (end % S) old) new) at.0 settled)
+    subst (λ (j : ℕ). EachImage (IsSettledAt S.size m n j old) new) at.1 (subst (λ (j : ℕ). EachImage (IsSettledAt S.size j n (end % S.size) old) new) at.0 settled)
 
 -- the file in which the records end is there, but maybe for the first
-read_there : (S count end : ℕ) (files : Files) (before after : List Entry → Type 0) → (log : ReadLog S files before after count end) → 0 < length (shape_of S log.records).older
-    → length (shape_of S log.records).older < count
+read_there : (S : Geometry) (count end : ℕ) (files : Files) (before after : List Entry → Type 0) → (log : ReadLog S files before after count end) → first_segment S < next_segment S (shape_of S log.records).older
+    → next_segment S (shape_of S log.records).older < count
 read_there S count end files before after log some = ⊎_elim
-    (λ (none : (count ≡ 0) × (log.records ≡ [])). absurd (omega (arith, some, ap (λ (l : List Entry). length (shape_of S l).older) none.1)))
-    (λ (last : count ≡ suc (length log.keeps.shape.older)).
-    omega (arith, last, ap (λ (s : Shape). length s.older) log.keeps.looks.is, times_length log.keeps.looks.opens (shape_of S log.records)))
+    (λ (none : (count ≡ first_segment S) × (log.records ≡ [])). absurd (omega (arith, some, ap (λ (l : List Entry). next_segment S (shape_of S l).older) none.1)))
+    (λ (last : count ≡ suc (next_segment S log.keeps.shape.older)).
+    omega (arith, last, ap (λ (s : Shape). next_segment S s.older) log.keeps.looks.is, times_length S log.keeps.looks.opens (shape_of S log.records)))
     log.last
 
-pub exact_each : (S count end n : ℕ) (before after : List Entry → Type 0) (first old new : DiskState) → (log : ReadLog S first.reads before after count end) → Rests first old → IsNamed S n → count ≤ n + 1
-    → length (shape_of S log.records).older < n → IsSettled first → EachImage (IsSettledAt S (length (shape_of S log.records).older) n (used (shape_of S log.records)) old) new
+pub exact_each : (S : Geometry) (count end n : ℕ) (before after : List Entry → Type 0) (first old new : DiskState) → (log : ReadLog S first.reads before after count end) → Rests first old → IsNamed S n → count ≤ n + 1
+    → next_segment S (shape_of S log.records).older < n → IsSettled first → EachImage (IsSettledAt S.size (next_segment S (shape_of S log.records).older) n (used (shape_of S log.records)) old) new
     → (records : List Entry) → Keeps S records first.reads → EachImage (IsCutTo S records first.reads) new
 exact_each S count end n before after first old new log rests named low behind is_settled each records keeps =
     let same : log.records ≡ records = keeps_unique S log.records records first.reads log.keeps keeps in
@@ -149,7 +150,7 @@ exact_each S count end n before after first old new log rests named low behind i
           let settled = each.at files image in
           let from = settled.trimmed in
           let was : IsCrashImage first from.before = (at_end rests.quiet).at from.before from.image in
-          let m : ℕ = length (shape_of S log.records).older in
+          let m : ℕ = next_segment S (shape_of S log.records).older in
           exact_image S count n log.records first.reads from.before files named log.keeps low behind log.named log.all (read_there S count end first.reads before after log)
           (is_settled.at from.before was) from.changed
           (subst (λ (f : Files). CutsTo (segment_file S m) (used (shape_of S log.records)) f files) rests.same settled.last);

@@ -1,5 +1,5 @@
 -- The reading of one file after another.
-use Rattle.std.proofs.Common.{◌≡◌, ◌⊎◌, inl, inr, ⊎_elim, ℕ, zero, suc, ◌+◌, ◌*◌, ◌^◌, ◌<◌, ◌≤◌, List, [], ◌∷◌, ◌++◌, length, take, refl, sym, ◌∙◌, ap, subst, arith}
+use Rattle.std.proofs.Common.{◌≡◌, ◌⊎◌, inl, inr, ⊎_elim, ℕ, zero, suc, ◌+◌, ◌*◌, ◌^◌, ◌<◌, ◌≤◌, List, [], ◌∷◌, ◌++◌, take, refl, sym, ◌∙◌, ap, subst, arith}
 use Rattle.std.specs.Prelude.{Result, Ok, Err}
 use Rattle.std.specs.Result.{IsErrAnd}
 use Rattle.std.proofs.lemmas.Bool.{cases_eq, cases_order}
@@ -7,10 +7,11 @@ use Rattle.std.proofs.Math.Nat.{mul-lt-mul_of_pos_right}
 use Rattle.mq_bytes.specs.Names.{log_file}
 use Rattle.mq_outside.specs.Files.{Files, bytes_of}
 use Rattle.record_codec.specs.Entry.{Entry}
-use Rattle.log_model.specs.Log.{IsSegmentSize}
-use Rattle.log_model.specs.Segments.{layouts, Shape, empty_shape, added, opened, segment_file, last_name, last_bytes}
+use Rattle.log_model.specs.Bases.{Geometry, first_segment}
+use Rattle.log_model.specs.Log.{IsSegmentSize, IsGeometry}
+use Rattle.log_model.specs.Segments.{layouts, Shape, empty_shape, added, opened, segment_file, last_name, last_bytes, next_segment}
 use Rattle.log_model.specs.Store.{EndsInBlank, ComesNext, IsDamagedAt}
-use Rattle.log_model.proofs.Places.{used_push}
+use Rattle.log_model.proofs.Places.{next_low, used_push}
 use Rattle.log_tail.specs.declared.tail.LogTail.{LogTail}
 use Rattle.log_recovery.specs.declared.fault.RecoverFault.{RecoverFault}
 use Rattle.log_recovery.specs.declared.fault.RecoverFault.TheVariants.{Damaged, Failed, Memory}
@@ -22,7 +23,7 @@ use Rattle.log_recovery.proofs.ReadLemmas.{reads_start, reads_room, reads_more, 
 
 -- ---- one file
 
-module _ (S : ℕ) (files : Files) (done : List Entry) (tail next : LogTail) (file_base : ℕ) (before mid after : List Entry → Type 0) (at n : ℕ) (scanned : Scanned S files done tail file_base before mid at)
+module _ (S : Geometry) (files : Files) (done : List Entry) (tail next : LogTail) (file_base : ℕ) (before mid after : List Entry → Type 0) (at n : ℕ) (scanned : Scanned S files done tail file_base before mid at)
     (step : StepsTo S files scanned.records scanned.shape next mid after n ⊎ Stops S files scanned.records scanned.shape next mid after n) where
   -- no record comes
   pub scan_end : n ≡ 0 → ScansTo S files done next file_base before after at
@@ -58,12 +59,12 @@ module _ (S : ℕ) (files : Files) (done : List Entry) (tail next : LogTail) (fi
       step
 
 -- nothing is read yet
-pub scan_start : (S : ℕ) (files : Files) (records : List Entry) (shape : Shape) (tail : LogTail) (file_base : ℕ) (before : List Entry → Type 0) → Stood S files records shape tail file_base 0
+pub scan_start : (S : Geometry) (files : Files) (records : List Entry) (shape : Shape) (tail : LogTail) (file_base : ℕ) (before : List Entry → Type 0) → Stood S files records shape tail file_base 0
     → Scanned S files records tail file_base before before 0
 scan_start S files records shape tail file_base before stood = record { records = records; shape = shape; stood = stood; handed = λ start. start }
 
 -- the records of a file can't fill its segment
-pub scan_full : (S : ℕ) (files : Files) (done : List Entry) (tail : LogTail) (file_base : ℕ) (before after : List Entry → Type 0) (at : ℕ) → Scanned S files done tail file_base before after at → S ≤ at
+pub scan_full : (S : Geometry) (files : Files) (done : List Entry) (tail : LogTail) (file_base : ℕ) (before after : List Entry → Type 0) (at : ℕ) → Scanned S files done tail file_base before after at → S.size ≤ at
     → ScansTo S files done tail file_base before after at
 scan_full S files done tail file_base before after at scanned full =
     absurd (omega (arith, full, scanned.stood.here, reads_room S scanned.records scanned.shape files scanned.stood.reads))
@@ -71,15 +72,15 @@ scan_full S files done tail file_base before after at scanned full =
 -- ---- a file behind which another stands
 
 -- the bytes of the file in which the records stand
-pub stood_bytes : (S : ℕ) (files : Files) (records : List Entry) (shape : Shape) (tail : LogTail) (file_base at : ℕ) → Stood S files records shape tail file_base at
+pub stood_bytes : (S : Geometry) (files : Files) (records : List Entry) (shape : Shape) (tail : LogTail) (file_base at : ℕ) → Stood S files records shape tail file_base at
     → bytes_of files (log_file file_base) ≡ last_bytes S shape files
 stood_bytes S files records shape tail file_base at stood = ap (λ (n : ℕ). bytes_of files (log_file n)) stood.begins
 
-pub stood_front : (S : ℕ) (files : Files) (records : List Entry) (shape : Shape) (tail : LogTail) (file_base at : ℕ) → Stood S files records shape tail file_base at
+pub stood_front : (S : Geometry) (files : Files) (records : List Entry) (shape : Shape) (tail : LogTail) (file_base at : ℕ) → Stood S files records shape tail file_base at
     → take at (bytes_of files (log_file file_base)) ≡ layouts shape.last
 stood_front S files records shape tail file_base at stood = (λ i. take (stood.here i) (stood_bytes S files records shape tail file_base at stood i)) ∙ stood.reads.last
 
-number_of : (S a b : ℕ) → 0 < S → a * S ≡ b * S → a ≡ b
+number_of : (S : Geometry) (a b : ℕ) → 0 < S.size → a * S.size ≡ b * S.size → a ≡ b
 number_of S a b some same = ⊎_elim
     (λ (is : a ≡ b). is)
     (λ order. ⊎_elim
@@ -88,23 +89,23 @@ number_of S a b some same = ⊎_elim
     order)
     (cases_order a b)
 
-module _ (S : ℕ) (files : Files) (records : List Entry) (shape : Shape) (first tail : LogTail) (file_base : ℕ) (before after : List Entry → Type 0) (at : ℕ) (stood : Stood S files records shape first file_base 0)
+module _ (S : Geometry) (files : Files) (records : List Entry) (shape : Shape) (first tail : LogTail) (file_base : ℕ) (before after : List Entry → Type 0) (at : ℕ) (stood : Stood S files records shape first file_base 0)
     (to : ScansTo S files records tail file_base before after at) where
   -- the file is still the same
-  here_number : length to.scanned.shape.older ≡ length shape.older
-  here_number = number_of S (length to.scanned.shape.older) (length shape.older) (omega (arith, stood.reads.well_formed.segment.low)) (sym to.scanned.stood.begins ∙ stood.begins)
+  here_number : next_segment S to.scanned.shape.older ≡ next_segment S shape.older
+  here_number = number_of S (next_segment S to.scanned.shape.older) (next_segment S shape.older) (omega (arith, stood.reads.well_formed.segment.low)) (sym to.scanned.stood.begins ∙ stood.begins)
 
   here_name : log_file file_base ≡ last_name S to.scanned.shape
   here_name = ap log_file to.scanned.stood.begins
 
   -- a blank ends it, and the next file is to be read
-  pub file_ended : ComesNext S (length shape.older) files (log_file file_base) → EndsInBlank S to.scanned.shape.last (bytes_of files (log_file file_base))
-      → Opened S files records (length shape.older + 1) tail before after
+  pub file_ended : ComesNext S (next_segment S shape.older) files (log_file file_base) → EndsInBlank S to.scanned.shape.last (bytes_of files (log_file file_base))
+      → Opened S files records (next_segment S shape.older + 1) tail before after
   file_ended next ended = record {
     records = to.scanned.records;
     shape = opened to.scanned.shape;
     reads = reads_ended S to.scanned.records to.scanned.shape files to.scanned.stood.reads (omega (arith, to.scanned.stood.low, to.scanned.stood.begins))
-        (subst (ComesNext S (length to.scanned.shape.older) files) here_name (subst (λ (n : ℕ). ComesNext S n files (log_file file_base)) (sym here_number) next))
+        (subst (ComesNext S (next_segment S to.scanned.shape.older) files) here_name (subst (λ (n : ℕ). ComesNext S n files (log_file file_base)) (sym here_number) next))
         (subst (EndsInBlank S to.scanned.shape.last) (ap (λ (n : List ℕ). bytes_of files n) here_name) ended);
     left = to.scanned.stood.left;
     so_many = omega (arith, here_number);
@@ -113,7 +114,7 @@ module _ (S : ℕ) (files : Files) (records : List Entry) (shape : Shape) (first
   }
 
   -- or it is damaged where its records end
-  pub file_broken : (behind : List ℕ) → ComesNext S (length shape.older) files (log_file file_base) → ComesNext S (length shape.older + 1) files behind
+  pub file_broken : (behind : List ℕ) → ComesNext S (next_segment S shape.older) files (log_file file_base) → ComesNext S (next_segment S shape.older + 1) files behind
       → (EndsInBlank S to.scanned.shape.last (bytes_of files (log_file file_base)) → ⊥) → IsDamagedAt S files (file_base + at) (log_file file_base)
   file_broken behind next further full = damaged_there S to.scanned.records to.scanned.shape files (file_base + at) (log_file file_base) behind to.scanned.stood.reads
       (omega (arith, to.scanned.stood.low, to.scanned.stood.begins)) here_name
@@ -125,7 +126,7 @@ module _ (S : ℕ) (files : Files) (records : List Entry) (shape : Shape) (first
 -- ---- one file after another
 
 -- before the first file
-pub front_start : (S : ℕ) (files : Files) (tail : LogTail) (before : List Entry → Type 0) → IsSegmentSize S → StandsIn S tail [] → Opened S files [] 0 tail before before
+pub front_start : (S : Geometry) (files : Files) (tail : LogTail) (before : List Entry → Type 0) → IsGeometry S → StandsIn S tail [] → Opened S files [] (first_segment S) tail before before
 front_start S files tail before segment left = record {
   records = [];
   shape = empty_shape;
@@ -137,19 +138,19 @@ front_start S files tail before segment left = record {
 }
 
 -- at the front of the next file
-pub front_stood : (S i file_base : ℕ) (files : Files) (done : List Entry) (tail : LogTail) (before after : List Entry → Type 0) → (so_far : Opened S files done i tail before after) → file_base ≡ i * S → file_base < 2 ^ 63
+pub front_stood : (S : Geometry) (i file_base : ℕ) (files : Files) (done : List Entry) (tail : LogTail) (before after : List Entry → Type 0) → (so_far : Opened S files done i tail before after) → file_base ≡ i * S.size → file_base < 2 ^ 63
     → Stood S files so_far.records so_far.shape tail file_base 0
 front_stood S i file_base files done tail before after so_far is low = record {
   reads = so_far.reads;
   left = so_far.left;
-  begins = is ∙ ap (λ (n : ℕ). n * S) (sym so_far.so_many);
+  begins = is ∙ ap (λ (n : ℕ). n * S.size) (sym so_far.so_many);
   here = sym so_far.starts;
   low = low;
 }
 
 -- and behind it
-pub front_more : (S i : ℕ) (files : Files) (done : List Entry) (tail next : LogTail) (before mid after : List Entry → Type 0) → (so_far : Opened S files done i tail before mid)
-    → Opened S files so_far.records (length so_far.shape.older + 1) next mid after → Opened S files done (i + 1) next before after
+pub front_more : (S : Geometry) (i : ℕ) (files : Files) (done : List Entry) (tail next : LogTail) (before mid after : List Entry → Type 0) → (so_far : Opened S files done i tail before mid)
+    → Opened S files so_far.records (next_segment S so_far.shape.older + 1) next mid after → Opened S files done (i + 1) next before after
 front_more S i files done tail next before mid after so_far more = record {
   records = more.records;
   shape = more.shape;
@@ -161,27 +162,27 @@ front_more S i files done tail next before mid after so_far more = record {
 }
 
 -- the next file comes next
-pub front_next : (S i file_base count : ℕ) (files : Files) (done : List Entry) (tail : LogTail) (before after : List Entry → Type 0) → (so_far : Opened S files done i tail before after) → file_base ≡ i * S → i < count → AreNamed S count files
-    → ComesNext S (length so_far.shape.older) files (log_file file_base)
+pub front_next : (S : Geometry) (i file_base count : ℕ) (files : Files) (done : List Entry) (tail : LogTail) (before after : List Entry → Type 0) → (so_far : Opened S files done i tail before after) → file_base ≡ i * S.size → i < count → AreNamed S count files
+    → ComesNext S (next_segment S so_far.shape.older) files (log_file file_base)
 front_next S i file_base count files done tail before after so_far is low named =
-    subst (λ (n : ℕ). ComesNext S n files (log_file file_base)) (sym so_far.so_many) (subst (λ (n : ℕ). ComesNext S i files (log_file n)) (sym is) (named i low).1)
+    subst (λ (n : ℕ). ComesNext S n files (log_file file_base)) (sym so_far.so_many) (subst (λ (n : ℕ). ComesNext S i files (log_file n)) (sym is) (named i (omega (arith, so_far.so_many, next_low S so_far.shape.older)) low).1)
 
 -- and one more comes behind it
-pub front_behind : (S i count : ℕ) (files : Files) (done : List Entry) (tail : LogTail) (before after : List Entry → Type 0) (behind : List ℕ) → (so_far : Opened S files done i tail before after) → i < count
-    → AreNamed S count files → ComesNext S count files behind → (other : List ℕ) × ComesNext S (length so_far.shape.older + 1) files other
+pub front_behind : (S : Geometry) (i count : ℕ) (files : Files) (done : List Entry) (tail : LogTail) (before after : List Entry → Type 0) (behind : List ℕ) → (so_far : Opened S files done i tail before after) → i < count
+    → AreNamed S count files → ComesNext S count files behind → (other : List ℕ) × ComesNext S (next_segment S so_far.shape.older + 1) files other
 front_behind S i count files done tail before after behind so_far low named further = ⊎_elim
     (λ (last : i + 1 ≡ count). (behind, subst (λ (n : ℕ). ComesNext S n files behind) (sym last ∙ ap (λ (n : ℕ). n + 1) (sym so_far.so_many)) further))
-    (λ (other : i + 1 ≡ count → ⊥). (segment_file S (i + 1), subst (λ (n : ℕ). ComesNext S n files (segment_file S (i + 1))) (ap (λ (n : ℕ). n + 1) (sym so_far.so_many)) (named (i + 1) (omega (arith, low, other))).1))
+    (λ (other : i + 1 ≡ count → ⊥). (segment_file S (i + 1), subst (λ (n : ℕ). ComesNext S n files (segment_file S (i + 1))) (ap (λ (n : ℕ). n + 1) (sym so_far.so_many)) (named (i + 1) (omega (arith, so_far.so_many, next_low S so_far.shape.older)) (omega (arith, low, other))).1))
     (cases_eq (i + 1) count)
 
 -- ---- all files
 
 -- the last file too was read
-pub all_read : (S last : ℕ) (files : Files) (tail next : LogTail) (before mid after : List Entry → Type 0) (file_base at : ℕ) → (so_far : Opened S files [] last tail before mid) → file_base ≡ last * S
+pub all_read : (S : Geometry) (last : ℕ) (files : Files) (tail next : LogTail) (before mid after : List Entry → Type 0) (file_base at : ℕ) → (so_far : Opened S files [] last tail before mid) → file_base ≡ last * S.size
     → AreNamed S (last + 1) files → NoFurther S (last + 1) files → ScansTo S files so_far.records next file_base mid after at → ReadLog S files before after (last + 1) next.end
 all_read S last files tail next before mid after file_base at so_far is named all to =
-    let number : length to.scanned.shape.older ≡ last =
-    number_of S (length to.scanned.shape.older) last (omega (arith, so_far.reads.well_formed.segment.low)) (sym to.scanned.stood.begins ∙ is) in
+    let number : next_segment S to.scanned.shape.older ≡ last =
+    number_of S (next_segment S to.scanned.shape.older) last (omega (arith, so_far.reads.well_formed.segment.low)) (sym to.scanned.stood.begins ∙ is) in
     record {
       records = to.scanned.records;
       keeps = reads_keep S last to.scanned.records to.scanned.shape files to.scanned.stood.reads number named all to.ends;
@@ -193,7 +194,7 @@ all_read S last files tail next before mid after file_base at so_far is named al
     }
 
 -- there is no file
-pub none_read : (S : ℕ) (files : Files) (tail : LogTail) (before : List Entry → Type 0) → IsSegmentSize S → StandsIn S tail [] → AreNamed S 0 files → NoFurther S 0 files → ReadLog S files before before 0 tail.end
+pub none_read : (S : Geometry) (files : Files) (tail : LogTail) (before : List Entry → Type 0) → IsGeometry S → StandsIn S tail [] → AreNamed S (first_segment S) files → NoFurther S (first_segment S) files → ReadLog S files before before (first_segment S) tail.end
 none_read S files tail before segment left named all = record {
   records = [];
   keeps = none_keep S files segment all;
@@ -205,8 +206,8 @@ none_read S files tail before segment left named all = record {
 }
 
 -- a file of another name stands behind them
-pub odd_damaged : (S count : ℕ) (files : Files) (tail : LogTail) (before after : List Entry → Type 0) (place : ℕ) (name : List ℕ) → (so_far : Opened S files [] count tail before after) → IsOdd S count files name
-    → place ≡ count * S → IsDamagedAt S files place name
+pub odd_damaged : (S : Geometry) (count : ℕ) (files : Files) (tail : LogTail) (before after : List Entry → Type 0) (place : ℕ) (name : List ℕ) → (so_far : Opened S files [] count tail before after) → IsOdd S count files name
+    → place ≡ count * S.size → IsDamagedAt S files place name
 odd_damaged S count files tail before after place name so_far odd here = damaged_name S so_far.records so_far.shape files count place name so_far.reads so_far.starts so_far.so_many odd here
 
 -- what is told as damage
@@ -224,8 +225,8 @@ passed_on A B (Ok x) fault P is told = absurd is
 passed_on A B (Err e) fault P is told = subst (λ (f : RecoverFault). OnDamage {A = A} (Err f) P) (sym is) (same_damage A B fault P told)
 
 -- where the file behind the first ones would begin
-pub count_low : (S count : ℕ) → IsSegmentSize S → ((k : ℕ) → k < count → k * S < 2 ^ 63) → count * S < 2 ^ 64
+pub count_low : (S : Geometry) (count : ℕ) → IsSegmentSize S.size → ((k : ℕ) → k < count → k * S.size < 2 ^ 63) → count * S.size < 2 ^ 64
 count_low S zero segment each = omega arith
 count_low S (suc last) segment each =
-    let step : suc last * S ≡ last * S + S = omega arith in
+    let step : suc last * S.size ≡ last * S.size + S.size = omega arith in
     omega (arith, step, each last (omega arith), segment.high)

@@ -6,6 +6,7 @@ use Rattle.std.proofs.lemmas.Slice.Eq.{bytes_eq-Decides}
 use Rattle.mq_outside.specs.Files.{Files, Same, At, Shortened, Vanished, bytes_in, bytes_of}
 use Rattle.mq_outside.specs.Disk.{DiskState, IsCrashImage, IsDurable, EachImage, Moves, Throughout}
 use Rattle.mq_outside.proofs.Moments.{at_start, at_end, goes_on, each_step, weaker, chained}
+use Rattle.log_model.specs.Bases.{whole}
 use Rattle.log_model.specs.Segments.{segment_file}
 use Rattle.log_model.proofs.FileNames.{IsNamed, names_apart}
 use Rattle.log_recovery.specs.Settle.{ComesFrom, Turns, IsPruned, IsGone, IsCut, CutsTo, IsTrimmed, Settles, IsSettledAt}
@@ -40,36 +41,36 @@ pub pruned_start : (S m n : ℕ) (files : Files) → IsPruned S m n files files
 pruned_start S m n files = λ name. inl refl
 
 pruned_on : (S m n : ℕ) (a b c : Files) (name : List ℕ) → c name ≡ b name
-    → (b name ≡ a name) ⊎ ((b name ≡ None) × ((k : ℕ) × (m < k) × (k ≤ n) × (name ≡ segment_file S k)))
-    → (c name ≡ a name) ⊎ ((c name ≡ None) × ((k : ℕ) × (m < k) × (k ≤ n) × (name ≡ segment_file S k)))
+    → (b name ≡ a name) ⊎ ((b name ≡ None) × ((k : ℕ) × (m < k) × (k ≤ n) × (name ≡ segment_file (whole S) k)))
+    → (c name ≡ a name) ⊎ ((c name ≡ None) × ((k : ℕ) × (m < k) × (k ≤ n) × (name ≡ segment_file (whole S) k)))
 pruned_on S m n a b c name same (inl as_before) = inl (same ∙ as_before)
 pruned_on S m n a b c name same (inr gone) = inr (same ∙ gone.0, gone.1)
 
-pub pruned_more : (S m n k : ℕ) → m < k → k ≤ n → (a b c : Files) → IsPruned S m n a b → At (segment_file S k) Vanished b c → IsPruned S m n a c
+pub pruned_more : (S m n k : ℕ) → m < k → k ≤ n → (a b c : Files) → IsPruned S m n a b → At (segment_file (whole S) k) Vanished b c → IsPruned S m n a c
 pruned_more S m n k low high a b c pruned step = λ name. ⊎_elim
-    (λ (here : name ≡ segment_file S k). ⊎_elim
-    (λ (gone : c (segment_file S k) ≡ None). inr (ap c here ∙ gone, (k, low, high, here)))
-    (λ (same : c (segment_file S k) ≡ b (segment_file S k)). pruned_on S m n a b c name (ap c here ∙ same ∙ ap b (sym here)) (pruned name))
+    (λ (here : name ≡ segment_file (whole S) k). ⊎_elim
+    (λ (gone : c (segment_file (whole S) k) ≡ None). inr (ap c here ∙ gone, (k, low, high, here)))
+    (λ (same : c (segment_file (whole S) k) ≡ b (segment_file (whole S) k)). pruned_on S m n a b c name (ap c here ∙ same ∙ ap b (sym here)) (pruned name))
     step.here)
-    (λ (other : name ≢ segment_file S k). pruned_on S m n a b c name (step.others name other) (pruned name))
-    (name_cases name (segment_file S k))
+    (λ (other : name ≢ segment_file (whole S) k). pruned_on S m n a b c name (step.others name other) (pruned name))
+    (name_cases name (segment_file (whole S) k))
 
 -- what is gone stays gone
-gone_stays : (S k j : ℕ) (b c : Files) → At (segment_file S j) Vanished b c → b (segment_file S k) ≡ None → c (segment_file S k) ≡ None
+gone_stays : (S k j : ℕ) (b c : Files) → At (segment_file (whole S) j) Vanished b c → b (segment_file (whole S) k) ≡ None → c (segment_file (whole S) k) ≡ None
 gone_stays S k j b c step none = ⊎_elim
-    (λ (here : segment_file S k ≡ segment_file S j). ⊎_elim
-    (λ (gone : c (segment_file S j) ≡ None). ap c here ∙ gone)
-    (λ (same : c (segment_file S j) ≡ b (segment_file S j)). ap c here ∙ same ∙ ap b (sym here) ∙ none)
+    (λ (here : segment_file (whole S) k ≡ segment_file (whole S) j). ⊎_elim
+    (λ (gone : c (segment_file (whole S) j) ≡ None). ap c here ∙ gone)
+    (λ (same : c (segment_file (whole S) j) ≡ b (segment_file (whole S) j)). ap c here ∙ same ∙ ap b (sym here) ∙ none)
     step.here)
-    (λ (other : segment_file S k ≢ segment_file S j). step.others (segment_file S k) other ∙ none)
-    (name_cases (segment_file S k) (segment_file S j))
+    (λ (other : segment_file (whole S) k ≢ segment_file (whole S) j). step.others (segment_file (whole S) k) other ∙ none)
+    (name_cases (segment_file (whole S) k) (segment_file (whole S) j))
 
 -- the file of segment j goes too, where all behind it are gone
-pub gone_more : (S j n : ℕ) {old new : DiskState} → Moves (At (segment_file S j) Vanished) old new → new.reads (segment_file S j) ≡ None → IsDurable (segment_file S j) new
-    → EachImage (λ files. (k : ℕ) → j < k → k ≤ n → files (segment_file S k) ≡ None) old → EachImage (λ files. (k : ℕ) → j ≤ k → k ≤ n → files (segment_file S k) ≡ None) new
+pub gone_more : (S j n : ℕ) {old new : DiskState} → Moves (At (segment_file (whole S) j) Vanished) old new → new.reads (segment_file (whole S) j) ≡ None → IsDurable (segment_file (whole S) j) new
+    → EachImage (λ files. (k : ℕ) → j < k → k ≤ n → files (segment_file (whole S) k) ≡ None) old → EachImage (λ files. (k : ℕ) → j ≤ k → k ≤ n → files (segment_file (whole S) k) ≡ None) new
 gone_more S j n {old} {new} moves none durable each = record {
   at = λ files image k low high. ⊎_elim
-      (λ (last : k ≡ j). ap (λ (i : ℕ). files (segment_file S i)) last ∙ durable files image ∙ none)
+      (λ (last : k ≡ j). ap (λ (i : ℕ). files (segment_file (whole S) i)) last ∙ durable files image ∙ none)
       (λ (behind : k ≡ j → ⊥).
       let from = moves.crash files image in
       gone_stays S k j from.0 files from.2 (each.at from.0 from.1 k (omega (arith, low, behind)) high))
@@ -133,7 +134,7 @@ settles_pruned S m n len old new turns = record {
 }
 
 trimmed_of : (S m n len : ℕ) (old mid : DiskState) → Turns (IsPruned S m n) old mid → EachImage (IsGone S m n) mid → (files : Files)
-    → ComesFrom (IsCut (segment_file S m) len) mid files → ComesFrom (IsTrimmed S m n len) old files
+    → ComesFrom (IsCut (segment_file (whole S) m) len) mid files → ComesFrom (IsTrimmed S m n len) old files
 trimmed_of S m n len old mid first gone files from =
     let earlier = (at_end first.images).at from.before from.image in
     record {
@@ -144,7 +145,7 @@ trimmed_of S m n len old mid first gone files from =
 
 -- they were done, and then the cut came
 pub settles_cut : (S m n len : ℕ) (old mid new : DiskState) → Turns (IsPruned S m n) old mid → EachImage (IsGone S m n) mid → IsCrashImage mid mid.reads
-    → Turns (IsCut (segment_file S m) len) mid new → Settles S m n len old new
+    → Turns (IsCut (segment_file (whole S) m) len) mid new → Settles S m n len old new
 settles_cut S m n len old mid new first gone image second =
     let later : Throughout mid new (ComesFrom (IsTrimmed S m n len) old) = weaker second.images (trimmed_of S m n len old mid first gone) in
     record {
@@ -154,7 +155,7 @@ settles_cut S m n len old mid new first gone image second =
     }
 
 pub settled_each : (S m n len : ℕ) (old mid new : DiskState) → Turns (IsPruned S m n) old mid → EachImage (IsGone S m n) mid
-    → Turns (IsCut (segment_file S m) len) mid new → mid.reads (segment_file S m) ≡ old.reads (segment_file S m) → EachImage (CutsTo (segment_file S m) len mid.reads) new
+    → Turns (IsCut (segment_file (whole S) m) len) mid new → mid.reads (segment_file (whole S) m) ≡ old.reads (segment_file (whole S) m) → EachImage (CutsTo (segment_file (whole S) m) len mid.reads) new
     → EachImage (IsSettledAt S m n len old) new
 settled_each S m n len old mid new first gone second same cut = record {
   at = λ files image.
@@ -169,9 +170,9 @@ settled_each S m n len old mid new first gone second same cut = record {
 }
 
 -- the file of segment m itself stays by the removals
-pub pruned_kept : (S m n : ℕ) (old new : Files) → IsNamed S n → IsPruned S m n old new → new (segment_file S m) ≡ old (segment_file S m)
+pub pruned_kept : (S m n : ℕ) (old new : Files) → IsNamed (whole S) n → IsPruned S m n old new → new (segment_file (whole S) m) ≡ old (segment_file (whole S) m)
 pruned_kept S m n old new named pruned = ⊎_elim
-    (λ (same : new (segment_file S m) ≡ old (segment_file S m)). same)
-    (λ (gone : (new (segment_file S m) ≡ None) × ((k : ℕ) × (m < k) × (k ≤ n) × (segment_file S m ≡ segment_file S k))).
-    absurd (names_apart S n m gone.1.0 named (omega (arith, gone.1.1, gone.1.2)) gone.1.2 (λ is. omega (arith, is, gone.1.1)) gone.1.3))
-    (pruned (segment_file S m))
+    (λ (same : new (segment_file (whole S) m) ≡ old (segment_file (whole S) m)). same)
+    (λ (gone : (new (segment_file (whole S) m) ≡ None) × ((k : ℕ) × (m < k) × (k ≤ n) × (segment_file (whole S) m ≡ segment_file (whole S) k))).
+    absurd (names_apart (whole S) n m gone.1.0 named (omega (arith, gone.1.1, gone.1.2)) gone.1.2 (λ is. omega (arith, is, gone.1.1)) gone.1.3))
+    (pruned (segment_file (whole S) m))

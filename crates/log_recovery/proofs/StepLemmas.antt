@@ -4,6 +4,7 @@ use Rattle.mq_bytes.specs.Names.{log_file}
 use Rattle.mq_outside.specs.Files.{Files, bytes_of}
 use Rattle.record_codec.specs.Entry.{Entry}
 use Rattle.record_codec.specs.Layout.{layout, IsRecord}
+use Rattle.log_model.specs.Bases.{Geometry}
 use Rattle.log_model.specs.Log.{Follows}
 use Rattle.log_model.specs.Segments.{Shape, used, last_bytes}
 use Rattle.log_model.specs.Store.{StartsWith, IsNext}
@@ -13,7 +14,7 @@ use Rattle.log_recovery.specs.declared.window.Window.{Window}
 use Rattle.log_recovery.specs.Scan.{Shows, EndsBefore, Stood, NoNext}
 use Rattle.log_recovery.proofs.WindowLemmas.{front_is, starts_there, stands_there}
 
-module _ (S : ℕ) (files : Files) (records : List Entry) (shape : Shape) (tail : LogTail) (file_base at : ℕ) (stood : Stood S files records shape tail file_base at) where
+module _ (S : Geometry) (files : Files) (records : List Entry) (shape : Shape) (tail : LogTail) (file_base at : ℕ) (stood : Stood S files records shape tail file_base at) where
   -- where the next record has to stand
   here_is : drop (used shape) (last_bytes S shape files) ≡ drop at (bytes_of files (log_file file_base))
   here_is = λ i. drop (sym stood.here i) (bytes_of files (log_file (sym stood.begins i)))
@@ -27,7 +28,7 @@ module _ (S : ℕ) (files : Files) (records : List Entry) (shape : Shape) (tail 
     front = is ∙ front_is window (bytes_of files (log_file file_base)) at shows low
 
     -- no record stands in front of the window
-    pub step_none : EndsBefore (bytes_of files (log_file file_base)) at S (window.from + window.held) → ((r : Entry) (rest : List ℕ) → IsRecord r → shown ≡ layout r ++ rest → ⊥)
+    pub step_none : EndsBefore (bytes_of files (log_file file_base)) at S.size (window.from + window.held) → ((r : Entry) (rest : List ℕ) → IsRecord r → shown ≡ layout r ++ rest → ⊥)
         → NoNext S files records shape
     step_none whole none = λ r next.
         let starts = starts_at r next in

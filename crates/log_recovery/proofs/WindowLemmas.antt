@@ -5,6 +5,7 @@ use Rattle.std.proofs.lemmas.List.{drop-take, drop-drop, drop_all, length-drop, 
 use Rattle.record_codec.specs.Entry.{Entry}
 use Rattle.record_codec.specs.Layout.{layout, size, IsRecord}
 use Rattle.record_codec.specs.Blanks.{blank_front}
+use Rattle.log_model.specs.Bases.{Geometry}
 use Rattle.log_model.specs.Segments.{layouts}
 use Rattle.log_model.specs.Store.{StartsWith, EndsInBlank}
 use Rattle.record_codec.proofs.LayoutLengths.{length-layout}
@@ -89,13 +90,13 @@ read_front_is bytes got at n is same = ⊎_elim
     (λ (long : 8 ≤ length bytes - at). let eight : n ≡ 8 = omega (arith, is, long) in same ∙ ap (λ (k : ℕ). take k (drop at bytes)) eight)
     (cases_lt (length bytes - at) 8)
 
-pub blank_ends : (S at n : ℕ) (bytes got : List ℕ) (records : List Entry) (blank : Bool) → length bytes ≡ S → at ≡ length (layouts records) → at + 8 ≤ S → take at bytes ≡ layouts records
+pub blank_ends : (S : Geometry) (at n : ℕ) (bytes got : List ℕ) (records : List Entry) (blank : Bool) → length bytes ≡ S.size → at ≡ length (layouts records) → at + 8 ≤ S.size → take at bytes ≡ layouts records
     → n ≡ min 8 (length bytes - at) → take n got ≡ take n (drop at bytes)
-    → (blank ≡ true → (rest : List ℕ) × (take n got ≡ blank_front (S - at) ++ rest)) → (blank ≡ false → (rest : List ℕ) → take n got ≡ blank_front (S - at) ++ rest → ⊥)
+    → (blank ≡ true → (rest : List ℕ) × (take n got ≡ blank_front (S.size - at) ++ rest)) → (blank ≡ false → (rest : List ℕ) → take n got ≡ blank_front (S.size - at) ++ rest → ⊥)
     → (blank ≡ true → EndsInBlank S records bytes) × (blank ≡ false → EndsInBlank S records bytes → ⊥)
 blank_ends S at n bytes got records blank long here room begins is same holds fails =
     let read : take n got ≡ take 8 (drop at bytes) = read_front_is bytes got at n is same in
-    let size_is : S - at ≡ S - length (layouts records) = ap (λ (k : ℕ). S - k) here in (
+    let size_is : S.size - at ≡ S.size - length (layouts records) = ap (λ (k : ℕ). S.size - k) here in (
       λ (yes_is : blank ≡ true).
           let found = holds yes_is in
           let tail : List ℕ = found.0 ++ drop 8 (drop at bytes) in
@@ -103,15 +104,15 @@ blank_ends S at n bytes got records blank long here room begins is same holds fa
             rest = tail;
             split = sym (take-append-drop at bytes) ∙ ap (λ (l : List ℕ). l ++ drop at bytes) begins
                 ∙ ap (λ (l : List ℕ). layouts records ++ l) (sym (take-append-drop 8 (drop at bytes)) ∙ ap (λ (l : List ℕ). l ++ drop 8 (drop at bytes)) (sym read ∙ found.1)
-                ∙ append_assoc (blank_front (S - at)) found.0 (drop 8 (drop at bytes)) ∙ ap (λ (k : ℕ). blank_front k ++ tail) size_is);
+                ∙ append_assoc (blank_front (S.size - at)) found.0 (drop 8 (drop at bytes)) ∙ ap (λ (k : ℕ). blank_front k ++ tail) size_is);
             long = long;
           },
       λ (no_is : blank ≡ false) (ends : EndsInBlank S records bytes).
-          let behind : drop at bytes ≡ blank_front (S - at) ++ ends.rest =
+          let behind : drop at bytes ≡ blank_front (S.size - at) ++ ends.rest =
           ap (λ (l : List ℕ). drop at l) ends.split ∙ drop_at (layouts records) _ at (sym here) ∙ ap (λ (k : ℕ). blank_front k ++ ends.rest) (sym size_is) in
-          fails no_is [] (read ∙ ap (λ (l : List ℕ). take 8 l) behind ∙ take_at (blank_front (S - at)) ends.rest 8 refl ∙ sym (append-nil (blank_front (S - at)))),
+          fails no_is [] (read ∙ ap (λ (l : List ℕ). take 8 l) behind ∙ take_at (blank_front (S.size - at)) ends.rest 8 refl ∙ sym (append-nil (blank_front (S.size - at)))),
     )
 
 -- a file of another length doesn't end so
-pub blank_not : (S : ℕ) (bytes : List ℕ) (records : List Entry) → (length bytes ≡ S → ⊥) → (false ≡ true → EndsInBlank S records bytes) × (false ≡ false → EndsInBlank S records bytes → ⊥)
+pub blank_not : (S : Geometry) (bytes : List ℕ) (records : List Entry) → (length bytes ≡ S.size → ⊥) → (false ≡ true → EndsInBlank S records bytes) × (false ≡ false → EndsInBlank S records bytes → ⊥)
 blank_not S bytes records apart = (λ (is : false ≡ true). absurd (cc), λ is ends. apart ends.long)

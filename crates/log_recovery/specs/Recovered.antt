@@ -6,8 +6,9 @@ use Rattle.mq_outside.specs.Counts.{Rises}
 use Rattle.mq_outside.specs.Files.{Files}
 use Rattle.mq_outside.specs.Disk.{DiskState, EachImage, Throughout}
 use Rattle.record_codec.specs.Entry.{Entry}
+use Rattle.log_model.specs.Bases.{Geometry, first_segment}
 use Rattle.log_model.specs.Log.{end_of}
-use Rattle.log_model.specs.Segments.{used, shape_of, segment_file, last_name, last_bytes, layouts, IsLogFile, NoOther}
+use Rattle.log_model.specs.Segments.{used, shape_of, segment_file, last_name, last_bytes, layouts, IsLogFile, NoOther, next_segment}
 use Rattle.log_model.specs.Store.{Keeps, StoresAt, StoresLog, IsHonest, KeepsIfHonest}
 use Rattle.segment_files.specs.Turn.{HasRecords}
 use Rattle.log_recovery.specs.declared.fault.RecoverFault.{RecoverFault}
@@ -15,11 +16,11 @@ use Rattle.log_recovery.specs.declared.fault.RecoverFault.TheVariants.{Damaged, 
 
 -- Recovery keeps records of these files. It handed them, in order, to the visitor that is this before and that after, and
 -- they end here.
-pub record Kept (S : ℕ) (files : Files) (before after : List Entry → Type 0) (end : ℕ) : Type 0 where
+pub record Kept (S : Geometry) (files : Files) (before after : List Entry → Type 0) (end : ℕ) : Type 0 where
   pub records : List Entry
   pub keeps : Keeps S records files
   pub handed : before [] → after records
-  pub ends : end ≡ end_of records
+  pub ends : end ≡ end_of S.base records
 
 -- a place and a file that are told as damaged
 abbrev pub OnDamage : {A : Type 0} → Result A RecoverFault → (ℕ → List ℕ → Type 0) → Type 0
@@ -53,29 +54,29 @@ IsSettled disk = EachImage (λ files. (name : List ℕ) → IsLogFile name → (
 
 -- The files are those of these records alone: as they were read before the last, and in the last, which is there where it was
 -- read, nothing behind its records.
-pub record IsCutTo (S : ℕ) (records : List Entry) (read files : Files) : Type 0 where
-  pub older : (k : ℕ) → k < length (shape_of S records).older → files (segment_file S k) ≡ read (segment_file S k)
+pub record IsCutTo (S : Geometry) (records : List Entry) (read files : Files) : Type 0 where
+  pub older : (k : ℕ) → first_segment S ≤ k → k < next_segment S (shape_of S records).older → files (segment_file S k) ≡ read (segment_file S k)
   pub last : last_bytes S (shape_of S records) files ≡ layouts (shape_of S records).last
   pub there : IsSome (files (last_name S (shape_of S records))) ↔ IsSome (read (last_name S (shape_of S records)))
-  pub others : NoOther S (length (shape_of S records).older) files
+  pub others : NoOther S (next_segment S (shape_of S records).older) files
 
 -- Recovery of a disk that stores a log: a prefix of it with all that was flushed was handed to the visitor, and is now the
 -- log that the disk stores, all of it flushed and nothing behind it.
-pub record Recovered (S : ℕ) (log : List Entry) (flushed : ℕ) (before after : List Entry → Type 0) (disk : DiskState) (end : ℕ) : Type 0 where
+pub record Recovered (S : Geometry) (log : List Entry) (flushed : ℕ) (before after : List Entry → Type 0) (disk : DiskState) (end : ℕ) : Type 0 where
   pub number : ℕ
   pub low : flushed ≤ number
   pub high : number ≤ length log
   pub handed : before [] → after (take number log)
-  pub ends : end ≡ end_of (take number log)
+  pub ends : end ≡ end_of S.base (take number log)
   pub stores : StoresAt S (take number log) number (shape_of S (take number log)) (used (shape_of S (take number log))) disk
 
 -- From old to new what was flushed of this log stays: the disk still stores it, and at each moment each crash image has the
 -- flushed records at their places, and keeps them where it is honest.
-pub record Stays (S : ℕ) (log : List Entry) (flushed : ℕ) (old new : DiskState) : Type 0 where
+pub record Stays (S : Geometry) (log : List Entry) (flushed : ℕ) (old new : DiskState) : Type 0 where
   pub still : StoresLog S log flushed new
   pub any_moment : Throughout old new (HasRecords S (take flushed log))
   pub honest : Throughout old new (KeepsIfHonest S log flushed)
 
 -- and so it is for each log and each flushed number that the disk stored, and was read honestly for
-abbrev pub StaysFlushed : ℕ → DiskState → DiskState → Type 0
+abbrev pub StaysFlushed : Geometry → DiskState → DiskState → Type 0
 StaysFlushed S old new = (log : List Entry) (flushed : ℕ) → StoresLog S log flushed old → IsHonest S log flushed old.reads → Stays S log flushed old new

@@ -2,6 +2,7 @@
 use Rattle.std.specs.Prelude.{◌≡◌, ◌⊎◌, ◌↔◌, ℕ, ◌<◌, ◌≤◌, List, take, None, IsSome}
 use Rattle.mq_outside.specs.Files.{Files, bytes_of, At, Shortened}
 use Rattle.mq_outside.specs.Disk.{DiskState, IsCrashImage, EachImage, Throughout}
+use Rattle.log_model.specs.Bases.{whole}
 use Rattle.log_model.specs.Segments.{segment_file}
 
 -- an image that comes from one of the old disk by this change
@@ -17,11 +18,11 @@ pub record Turns (change : Files → Files → Type 0) (old new : DiskState) : T
 
 -- each file stays as it was, or it is one of those behind segment m up to segment n, and gone
 abbrev pub IsPruned : ℕ → ℕ → ℕ → Files → Files → Type 0
-IsPruned S m n old new = (name : List ℕ) → (new name ≡ old name) ⊎ ((new name ≡ None) × ((k : ℕ) × (m < k) × (k ≤ n) × (name ≡ segment_file S k)))
+IsPruned S m n old new = (name : List ℕ) → (new name ≡ old name) ⊎ ((new name ≡ None) × ((k : ℕ) × (m < k) × (k ≤ n) × (name ≡ segment_file (whole S) k)))
 
 -- the files behind segment m up to segment n are gone
 abbrev pub IsGone : ℕ → ℕ → ℕ → Files → Type 0
-IsGone S m n files = (k : ℕ) → m < k → k ≤ n → files (segment_file S k) ≡ None
+IsGone S m n files = (k : ℕ) → m < k → k ≤ n → files (segment_file (whole S) k) ≡ None
 
 -- this file is cut to some length between, and the others stay
 abbrev pub IsCut : List ℕ → ℕ → Files → Files → Type 0
@@ -37,7 +38,7 @@ pub record IsTrimmed (S m n len : ℕ) (old new : Files) : Type 0 where
   pub mid : Files
   pub pruned : IsPruned S m n old mid
   pub gone : IsGone S m n mid
-  pub cut : IsCut (segment_file S m) len mid new
+  pub cut : IsCut (segment_file (whole S) m) len mid new
 
 -- on the way each crash image is pruned, or trimmed; at the end all are the one, or all the other
 pub record Settles (S m n len : ℕ) (old new : DiskState) : Type 0 where
@@ -48,4 +49,4 @@ pub record Settles (S m n len : ℕ) (old new : DiskState) : Type 0 where
 -- each image is trimmed, and has of the last file just its first bytes
 pub record IsSettledAt (S m n len : ℕ) (old : DiskState) (files : Files) : Type 0 where
   pub trimmed : ComesFrom (IsTrimmed S m n len) old files
-  pub last : CutsTo (segment_file S m) len old.reads files
+  pub last : CutsTo (segment_file (whole S) m) len old.reads files

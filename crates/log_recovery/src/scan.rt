@@ -1,12 +1,14 @@
 //! Reads the records of one file after another, as long as each follows those before it.
 
-ghost use Rattle.std.specs.Prelude.{◌≡◌, ◌⊎◌, ◌+◌, ◌*◌, ◌^◌, ◌<◌, ◌≤◌, [], ◌++◌, List, ℕ, true, false, take, length, IfOk, OnOk};
+ghost use Rattle.std.specs.Prelude.{◌≡◌, ◌⊎◌, ◌+◌, ◌*◌, ◌/◌, ◌^◌, ◌<◌, ◌≤◌, [], ◌++◌, List, ℕ, true, false, take, length, IfOk, OnOk};
 ghost use Rattle.mq_outside.specs.Files.{Files, bytes_of};
 ghost use Rattle.mq_bytes.specs.Names.{log_file};
 ghost use Rattle.record_codec.specs.Blanks.{blank_front};
 ghost use Rattle.record_codec.specs.Entry.{Entry};
-ghost use Rattle.log_model.specs.Log.{IsSegmentSize};
-ghost use Rattle.log_model.specs.Segments.{Shape, layouts, segment_file};
+ghost use Rattle.log_model.specs.Bases.{Base as Begun, geometry};
+ghost use Rattle.log_model.specs.Told.{base_of};
+ghost use Rattle.log_model.specs.Log.{IsSegmentSize, IsGeometry};
+ghost use Rattle.log_model.specs.Segments.{Shape, layouts, segment_file, next_segment};
 ghost use Rattle.log_model.specs.Store.{ComesNext, EndsInBlank, IsDamagedAt};
 ghost use Rattle.log_recovery.specs.Reads.{OnlyReads};
 ghost use Rattle.log_recovery.specs.Recovered.{OnDamage};
@@ -18,6 +20,7 @@ use crate::load::load;
 use crate::names::order_of;
 use crate::visitor::Visit;
 use crate::window::Window;
+use log_model::Base;
 use log_tail::LogTail;
 use mq_bytes::{LogFile, Text};
 use mq_outside::Disk;
@@ -49,9 +52,9 @@ fn step<D: Disk, V: Visit>(
     ensures small { IfOk result (λ n. n < 2 ^ 32) }
     ensures from { OnOk result (scan.new.window.from ≤ at) }
     ensures shows { D.tells → (bytes : List ℕ) → bytes_of (D.state disk.old).reads (log_file base) ≡ bytes → Shows scan.old.window bytes → OnOk result (Shows scan.new.window bytes) }
-    ensures next { D.tells → (files : Files) (records : List Entry) (shape : Shape) → (D.state disk.old).reads ≡ files → Shows scan.old.window (bytes_of files (log_file base))
-        → Stood segment files records shape scan.old.tail base at
-        → IfOk result (λ n. StepsTo segment files records shape scan.new.tail (V.stands each.old) (V.stands each.new) n ⊎ Stops segment files records shape scan.new.tail (V.stands each.old) (V.stands each.new) n) }
+    ensures next { D.tells → (begun : Begun) (files : Files) (records : List Entry) (shape : Shape) → (D.state disk.old).reads ≡ files → Shows scan.old.window (bytes_of files (log_file base))
+        → Stood (geometry segment begun) files records shape scan.old.tail base at
+        → IfOk result (λ n. StepsTo (geometry segment begun) files records shape scan.new.tail (V.stands begun each.old) (V.stands begun each.new) n ⊎ Stops (geometry segment begun) files records shape scan.new.tail (V.stands begun each.old) (V.stands begun each.new) n) }
     ensures damage { OnDamage result (λ place name. ⊥) }
     ensures only_reads { OnlyReads D.Disk result disk.old disk.new }
 {
@@ -81,9 +84,9 @@ fn scan_file<D: Disk, V: Visit>(
     requires size { IsSegmentSize segment }
     requires base { base ≤ 2 ^ 63 }
     ensures low { IfOk result (λ at. at ≤ 2 ^ 62) }
-    ensures scanned { D.tells → (files : Files) (records : List Entry) (shape : Shape) → (D.state disk.old).reads ≡ files
-        → Stood segment files records shape scan.old.tail base 0
-        → IfOk result (ScansTo segment files records scan.new.tail base (V.stands each.old) (V.stands each.new)) }
+    ensures scanned { D.tells → (begun : Begun) (files : Files) (records : List Entry) (shape : Shape) → (D.state disk.old).reads ≡ files
+        → Stood (geometry segment begun) files records shape scan.old.tail base 0
+        → IfOk result (ScansTo (geometry segment begun) files records scan.new.tail base (V.stands begun each.old) (V.stands begun each.new)) }
     ensures damage { OnDamage result (λ place name. ⊥) }
     ensures only_reads { OnlyReads D.Disk result disk.old disk.new }
 {
@@ -120,8 +123,8 @@ fn ends_in_blank<D: Disk>(
     base: u64,
     at: u64,
 ) -> Result<bool, RecoverFault>
-    ensures ended { D.tells → (bytes : List ℕ) (records : List Entry) → bytes_of (D.state disk.old).reads (log_file base) ≡ bytes → at ≡ length (layouts records) → at + 8 ≤ segment
-        → take at bytes ≡ layouts records → IfOk result (λ is. (is ≡ true → EndsInBlank segment records bytes) × (is ≡ false → EndsInBlank segment records bytes → ⊥)) }
+    ensures ended { D.tells → (begun : Begun) (bytes : List ℕ) (records : List Entry) → bytes_of (D.state disk.old).reads (log_file base) ≡ bytes → at ≡ length (layouts records) → at + 8 ≤ segment
+        → take at bytes ≡ layouts records → IfOk result (λ is. (is ≡ true → EndsInBlank (geometry segment begun) records bytes) × (is ≡ false → EndsInBlank (geometry segment begun) records bytes → ⊥)) }
     ensures damage { OnDamage result (λ place name. ⊥) }
     ensures only_reads { OnlyReads D.Disk result disk.old disk.new }
 {
@@ -154,12 +157,12 @@ fn read_ended<D: Disk, V: Visit>(
 ) -> Result<(), RecoverFault>
     requires size { IsSegmentSize segment }
     requires base { base ≤ 2 ^ 63 }
-    ensures opened { D.tells → (files : Files) (records : List Entry) (shape : Shape) → (D.state disk.old).reads ≡ files
-        → Stood segment files records shape scan.old.tail base 0 → base < 2 ^ 63 → ComesNext segment (length shape.older) files (log_file base)
-        → OnOk result (Opened segment files records (length shape.older + 1) scan.new.tail (V.stands each.old) (V.stands each.new)) }
-    ensures damaged { D.tells → (files : Files) (records : List Entry) (shape : Shape) (behind : List ℕ) → (D.state disk.old).reads ≡ files
-        → Stood segment files records shape scan.old.tail base 0 → base < 2 ^ 63 → ComesNext segment (length shape.older) files (log_file base) → ComesNext segment (length shape.older + 1) files behind
-        → OnDamage result (IsDamagedAt segment files) }
+    ensures opened { D.tells → (begun : Begun) (files : Files) (records : List Entry) (shape : Shape) → (D.state disk.old).reads ≡ files
+        → Stood (geometry segment begun) files records shape scan.old.tail base 0 → base < 2 ^ 63 → ComesNext (geometry segment begun) (next_segment (geometry segment begun) shape.older) files (log_file base)
+        → OnOk result (Opened (geometry segment begun) files records (next_segment (geometry segment begun) shape.older + 1) scan.new.tail (V.stands begun each.old) (V.stands begun each.new)) }
+    ensures damaged { D.tells → (begun : Begun) (files : Files) (records : List Entry) (shape : Shape) (behind : List ℕ) → (D.state disk.old).reads ≡ files
+        → Stood (geometry segment begun) files records shape scan.old.tail base 0 → base < 2 ^ 63 → ComesNext (geometry segment begun) (next_segment (geometry segment begun) shape.older) files (log_file base) → ComesNext (geometry segment begun) (next_segment (geometry segment begun) shape.older + 1) files behind
+        → OnDamage result (IsDamagedAt (geometry segment begun) files) }
     ensures only_reads { OnlyReads D.Disk result disk.old disk.new }
 {
     let at = scan_file(disk, segment, base, scan, each)?;
@@ -170,24 +173,35 @@ fn read_ended<D: Disk, V: Visit>(
     Ok(())
 }
 
+// The number of the segment where the log begins.
+fn first_of(segment: u32, base: &Base) -> u64
+    requires { 0 < segment }
+    ensures { result ≡ base.now.place / segment }
+{
+    base.place / u64::from(segment)
+}
+
 // Reads the files of the first segments, so many, behind each of which another stands.
 fn read_front<D: Disk, V: Visit>(
     alloc: Global,
     disk: &mut D,
     segment: u32,
+    base: &Base,
     count: u64,
     scan: &mut Scan,
     each: &mut V,
 ) -> Result<(), RecoverFault>
-    requires size { IsSegmentSize segment }
+    requires size { IsGeometry (geometry segment (base_of base.now)) }
+    requires from { base.now.place / segment ≤ count }
     requires low { (k : ℕ) → k < count → k * segment < 2 ^ 63 }
-    ensures opened { D.tells → (files : Files) → (D.state disk.old).reads ≡ files → StandsIn segment scan.old.tail [] → AreNamed segment count files
-        → OnOk result (Opened segment files [] count scan.new.tail (V.stands each.old) (V.stands each.new)) }
-    ensures damaged { D.tells → (files : Files) (behind : List ℕ) → (D.state disk.old).reads ≡ files → StandsIn segment scan.old.tail [] → AreNamed segment count files → ComesNext segment count files behind
-        → OnDamage result (IsDamagedAt segment files) }
+    ensures opened { D.tells → (files : Files) → (D.state disk.old).reads ≡ files → StandsIn (geometry segment (base_of base.now)) scan.old.tail [] → AreNamed (geometry segment (base_of base.now)) count files
+        → OnOk result (Opened (geometry segment (base_of base.now)) files [] count scan.new.tail (V.stands (base_of base.now) each.old) (V.stands (base_of base.now) each.new)) }
+    ensures damaged { D.tells → (files : Files) (behind : List ℕ) → (D.state disk.old).reads ≡ files → StandsIn (geometry segment (base_of base.now)) scan.old.tail [] → AreNamed (geometry segment (base_of base.now)) count files → ComesNext (geometry segment (base_of base.now)) count files behind
+        → OnDamage result (IsDamagedAt (geometry segment (base_of base.now)) files) }
     ensures only_reads { OnlyReads D.Disk result disk.old disk.new }
 {
-    for i in 0..count {
+    let first = first_of(segment, base);
+    for i in first..count {
         read_ended(alloc, disk, segment, i * u64::from(segment), scan, each)?;
     }
     Ok(())
@@ -205,24 +219,27 @@ fn read_all<D: Disk, V: Visit>(
     alloc: Global,
     disk: &mut D,
     segment: u32,
+    base: &Base,
     count: u64,
     scan: &mut Scan,
     each: &mut V,
 ) -> Result<u64, RecoverFault>
-    requires size { IsSegmentSize segment }
+    requires size { IsGeometry (geometry segment (base_of base.now)) }
+    requires from { base.now.place / segment ≤ count }
     requires low { (k : ℕ) → k < count → k * segment < 2 ^ 63 }
     ensures low { IfOk result (λ end. end ≤ 2 ^ 62) }
-    ensures read { D.tells → (files : Files) → (D.state disk.old).reads ≡ files → StandsIn segment scan.old.tail [] → AreNamed segment count files → NoFurther segment count files
-        → IfOk result (ReadLog segment files (V.stands each.old) (V.stands each.new) count) }
-    ensures damaged { D.tells → (files : Files) → (D.state disk.old).reads ≡ files → StandsIn segment scan.old.tail [] → AreNamed segment count files → NoFurther segment count files
-        → OnDamage result (IsDamagedAt segment files) }
+    ensures read { D.tells → (files : Files) → (D.state disk.old).reads ≡ files → StandsIn (geometry segment (base_of base.now)) scan.old.tail [] → AreNamed (geometry segment (base_of base.now)) count files → NoFurther (geometry segment (base_of base.now)) count files
+        → IfOk result (ReadLog (geometry segment (base_of base.now)) files (V.stands (base_of base.now) each.old) (V.stands (base_of base.now) each.new) count) }
+    ensures damaged { D.tells → (files : Files) → (D.state disk.old).reads ≡ files → StandsIn (geometry segment (base_of base.now)) scan.old.tail [] → AreNamed (geometry segment (base_of base.now)) count files → NoFurther (geometry segment (base_of base.now)) count files
+        → OnDamage result (IsDamagedAt (geometry segment (base_of base.now)) files) }
     ensures only_reads { OnlyReads D.Disk result disk.old disk.new }
 {
-    if count == 0 {
+    let first = first_of(segment, base);
+    if count == first {
         return Ok(scan.tail.end());
     }
     let last = count - 1;
-    read_front(alloc, disk, segment, last, scan, each)?;
+    read_front(alloc, disk, segment, base, last, scan, each)?;
     scan_file(disk, segment, last * u64::from(segment), scan, each)?;
     Ok(scan.tail.end())
 }
@@ -232,27 +249,29 @@ pub(crate) fn read_log<D: Disk, V: Visit>(
     alloc: Global,
     disk: &mut D,
     segment: u32,
+    base: &Base,
     each: &mut V,
 ) -> Result<Log, RecoverFault>
-    requires { IsSegmentSize segment }
+    requires { IsGeometry (geometry segment (base_of base.now)) }
     ensures low { IfOk result (λ log. log.end ≤ 2 ^ 62) }
     ensures count { IfOk result (λ log. (k : ℕ) → k < log.count → k * segment < 2 ^ 63) }
-    ensures read { D.tells → IfOk result (λ log. ReadLog segment (D.state disk.old).reads (V.stands each.old) (V.stands each.new) log.count log.end) }
-    ensures damaged { D.tells → OnDamage result (IsDamagedAt segment (D.state disk.old).reads) }
+    ensures read { D.tells → IfOk result (λ log. ReadLog (geometry segment (base_of base.now)) (D.state disk.old).reads (V.stands (base_of base.now) each.old) (V.stands (base_of base.now) each.new) log.count log.end) }
+    ensures damaged { D.tells → OnDamage result (IsDamagedAt (geometry segment (base_of base.now)) (D.state disk.old).reads) }
     ensures only_reads { OnlyReads D.Disk result disk.old disk.new }
 {
     let names = disk.list(alloc)?;
-    let order = order_of(&names, segment);
+    let order = order_of(&names, segment, base);
+    let tail = LogTail::begin(alloc, segment, base)?;
     let mut scan = Scan {
-        tail: LogTail::new(alloc, segment),
+        tail,
         window: Window::new(alloc)?,
     };
     if let Some(name) = order.odd {
-        read_front(alloc, disk, segment, order.count, &mut scan, each)?;
+        read_front(alloc, disk, segment, base, order.count, &mut scan, each)?;
         let place = order.count * u64::from(segment);
         return Err(damaged(alloc, place, name)?);
     }
-    let end = read_all(alloc, disk, segment, order.count, &mut scan, each)?;
+    let end = read_all(alloc, disk, segment, base, order.count, &mut scan, each)?;
     Ok(Log {
         count: order.count,
         end,

@@ -9,6 +9,7 @@ ghost use Rattle.mq_bytes.specs.Names.{log_file};
 ghost use Rattle.mq_outside.specs.Counts.{CountsFailure};
 ghost use Rattle.mq_outside.specs.Disk.{EachImage};
 ghost use Rattle.mq_outside.specs.Files.{bytes_of};
+ghost use Rattle.log_model.specs.Bases.{whole};
 ghost use Rattle.log_model.specs.Log.{IsSegmentSize};
 ghost use Rattle.log_model.specs.Segments.{segment_file};
 ghost use Rattle.log_recovery.specs.Settle.{Turns, IsPruned, IsGone, IsCut, CutsTo, Settles, IsSettledAt};
@@ -75,7 +76,7 @@ fn settle_at<D: Disk>(
     requires ordered { kept ≤ top }
     requires low { top * segment < 2 ^ 64 }
     requires base { kept * segment < 2 ^ 64 }
-    requires within { D.tells → len ≤ length (bytes_of (D.state disk.old).reads (segment_file segment kept)) }
+    requires within { D.tells → len ≤ length (bytes_of (D.state disk.old).reads (segment_file (whole segment) kept)) }
     ensures settles { D.tells → Settles segment kept top len (D.state disk.old) (D.state disk.new) }
     ensures settled { D.tells → OnOk result (EachImage (IsSettledAt segment kept top len (D.state disk.old)) (D.state disk.new)) }
     ensures cause { CountsFailure result (D.faults disk.old) (D.faults disk.new) }
@@ -96,7 +97,7 @@ pub(crate) fn settle<D: Disk>(
     requires size { IsSegmentSize segment }
     requires low { end ≤ 2 ^ 62 }
     requires count { (k : ℕ) → k < count → k * segment < 2 ^ 63 }
-    requires within { D.tells → end % segment ≤ length (bytes_of (D.state disk.old).reads (segment_file segment (end / segment))) }
+    requires within { D.tells → end % segment ≤ length (bytes_of (D.state disk.old).reads (segment_file (whole segment) (end / segment))) }
     ensures settles { D.tells → Settles segment (end / segment) (max (end / segment + 1) (count - 1)) (end % segment) (D.state disk.old) (D.state disk.new) }
     ensures settled { D.tells → OnOk result (EachImage (IsSettledAt segment (end / segment) (max (end / segment + 1) (count - 1)) (end % segment) (D.state disk.old)) (D.state disk.new)) }
     ensures cause { CountsFailure result (D.faults disk.old) (D.faults disk.new) }

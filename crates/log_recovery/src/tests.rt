@@ -1,6 +1,7 @@
 //! Recovery of small logs, whose record bytes were made apart, with the sums of zlib.
 
 use super::*;
+use log_model::Base;
 use mq_bytes::LogFile;
 use mq_outside::{Disk, Failed, MemDisk, Room};
 use record_codec::View;
@@ -29,7 +30,7 @@ struct Count {
 }
 
 impl Visit for Count {
-    ghost stands = { λ _ _. Unit {0} };
+    ghost stands = { λ _ _ _. Unit {0} };
 
     fn record(&mut self, _view: &View<'_>) -> Result<(), AllocError> {
         self.records = self.records.saturating_add(1);
@@ -75,7 +76,7 @@ fn disk_of(alloc: Global, first: &[u8], second: &[u8], fail: u64) -> Result<MemD
 /// What recovery answers, and how many records it hands on.
 fn recovered(alloc: Global, disk: &mut MemDisk) -> (Result<u64, RecoverFault>, u64) {
     let mut count = Count { records: 0 };
-    let answer = recover(alloc, disk, SEGMENT, &mut count);
+    let answer = recover(alloc, disk, SEGMENT, &Base::none(alloc), &mut count);
     (answer, count.records)
 }
 
@@ -172,5 +173,24 @@ fn tells_in_two_files(alloc: Global) -> Result<[bool; 4], Fail> {
 fn damage_is_told_with_its_place_and_file(rt: HostRuntime) -> Result<(), Fail> {
     assert!(rt; tells_a_changed_record(rt.alloc())?);
     assert_eq!(rt; tells_in_two_files(rt.alloc())?, [true; 4]);
+    Ok(())
+}
+
+#[test]
+fn a_file_before_the_base_does_not_count(rt: HostRuntime) -> Result<(), Fail> {
+    let mut disk = disk_of(rt.alloc(), FIRST, &[], 0)?;
+    let mut queues = Vec::new(rt.alloc());
+    queues.push((String::from_str(rt.alloc(), "T")?, 0, 2))?;
+    let base = Base {
+        place: 4096,
+        records: 2,
+        queues,
+        levels: [0; 18],
+    };
+    let mut count = Count { records: 0 };
+    let answer = recover(rt.alloc(), &mut disk, SEGMENT, &base, &mut count);
+    assert!(rt; matches!(answer, Ok(4096)));
+    assert_eq!(rt; count.records, 0);
+    assert!(rt; holds(&disk, 0, FIRST));
     Ok(())
 }

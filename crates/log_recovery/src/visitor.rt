@@ -2,6 +2,7 @@
 
 ghost use Rattle.std.specs.Prelude.{◌++◌, ◌∷◌, List, [], ℕ, OnOk};
 ghost use Rattle.record_codec.specs.Entry.{Entry};
+ghost use Rattle.log_model.specs.Bases.{Base, Geometry};
 ghost use Rattle.log_model.specs.Log.{Follows};
 ghost use Rattle.log_tail.specs.Tails.{StandsFor};
 
@@ -11,12 +12,12 @@ use std::alloc::AllocError;
 
 /// What recovery hands each kept record to, in the order of the log.
 pub trait Visit {
-    /// That these are the records that it was handed.
-    ghost stands: { Self → List Entry → Type 0 };
+    /// That these are the records that it was handed, of a log that begins at this base.
+    ghost stands: { Base → Self → List Entry → Type 0 };
 
     /// Takes the record behind those that it was handed. `Err` ends the recovery, which answers `Memory`.
     fn record(&mut self, view: &View<'_>) -> Result<(), AllocError>
-        ensures { (S : ℕ) (records : List Entry) → Follows S records view.now → stands self.old records → OnOk result (stands self.new (records ++ view.now ∷ [])) };
+        ensures { (S : Geometry) (records : List Entry) → Follows S records view.now → stands S.base self.old records → OnOk result (stands S.base self.new (records ++ view.now ∷ [])) };
 }
 
 // The end of a log takes the records that recovery keeps, one after another.

@@ -4,6 +4,7 @@ use Rattle.std.proofs.lemmas.List.{length_push}
 use Rattle.std.proofs.lemmas.Option.{same_Some}
 use Rattle.record_codec.specs.Entry.{Entry}
 use Rattle.record_codec.specs.Layout.{size}
+use Rattle.log_model.specs.Bases.{Base}
 use Rattle.log_model.specs.Queues.{queue_end}
 use Rattle.log_model.proofs.Places.{end_of-append}
 use Rattle.log_tail.specs.Counts.{count_in}
@@ -30,11 +31,11 @@ store_from-append now [] r = refl
 store_from-append now (x ∷ log) r = store_from-append x.store log r
 
 -- The tail that a record moves on stands for the log with it.
-pub stands_more : (old new : LogTail) (log : List Entry) (r : Entry) → StandsFor old log → new.end ≡ r.offset + size r → new.records ≡ old.records + 1
+pub stands_more : (base : Base) (old new : LogTail) (log : List Entry) (r : Entry) → StandsFor base old log → new.end ≡ r.offset + size r → new.records ≡ old.records + 1
     → new.stored ≡ r.store → old.stored ≤ r.store
-    → ((topic : List ℕ) (queue : ℕ) → count_in new.counts topic queue ≡ queue_end (log ++ r ∷ []) topic queue) → StandsFor new (log ++ r ∷ [])
-stands_more old new log r stands end records time later counts = record {
-  end = end ∙ sym (end_of-append log r);
+    → ((topic : List ℕ) (queue : ℕ) → count_in new.counts topic queue ≡ queue_end base (log ++ r ∷ []) topic queue) → StandsFor base new (log ++ r ∷ [])
+stands_more base old new log r stands end records time later counts = record {
+  end = end ∙ sym (end_of-append base log r);
   records = omega (arith, records, stands.records, length_push log r);
   time = time ∙ sym (store_from-append 0 log r);
   latest = λ k s got. ⊎_elim
@@ -45,9 +46,9 @@ stands_more old new log r stands end records time later counts = record {
 }
 
 -- the same end, number and time, and the same counts
-pub stands_same : (old new : LogTail) (log : List Entry) → StandsFor old log → new.end ≡ old.end → new.records ≡ old.records → new.stored ≡ old.stored
-    → ((topic : List ℕ) (queue : ℕ) → count_in new.counts topic queue ≡ count_in old.counts topic queue) → StandsFor new log
-stands_same old new log stands end records time counts = record {
+pub stands_same : (base : Base) (old new : LogTail) (log : List Entry) → StandsFor base old log → new.end ≡ old.end → new.records ≡ old.records → new.stored ≡ old.stored
+    → ((topic : List ℕ) (queue : ℕ) → count_in new.counts topic queue ≡ count_in old.counts topic queue) → StandsFor base new log
+stands_same base old new log stands end records time counts = record {
   end = end ∙ stands.end;
   records = records ∙ stands.records;
   time = time ∙ stands.time;

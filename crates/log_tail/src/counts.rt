@@ -1,7 +1,8 @@
 //! How many records each queue of a topic has, by the queue's number.
 
-ghost use Rattle.std.specs.Prelude.{◌≡◌, ◌==◌, ◌&&◌, ◌<◌, ◌^◌, ℕ, List, [], slice_index, if◌then◌else◌, OnOk, OnErr};
+ghost use Rattle.std.specs.Prelude.{◌≡◌, ◌==◌, ◌&&◌, ◌<◌, ◌^◌, ℕ, List, [], slice_index, if◌then◌else◌, IfOk, OnOk, OnErr};
 ghost use Rattle.std.specs.Str.{bytes_eq};
+ghost use Rattle.log_model.specs.Told.{counts_in};
 ghost use Rattle.log_tail.specs.Counts.{count_in};
 
 use std::alloc::{AllocError, Global};
@@ -98,4 +99,18 @@ pub(crate) fn set_count(
     let name = String::from_str(alloc, topic)?;
     counts.insert(name, of_topic)?;
     Ok(())
+}
+
+/// The counts of these entries, of which the last one counts where a queue has several.
+pub(crate) fn counts_of(
+    alloc: Global,
+    entries: &[(String, u32, u64)],
+) -> Result<BTreeMap<String, QueueCounts>, AllocError>
+    ensures { IfOk result (λ counts. (topic : List ℕ) (queue : ℕ) → count_in counts topic queue ≡ counts_in entries.now topic queue) }
+{
+    let mut counts = BTreeMap::new(alloc);
+    for entry in entries {
+        set_count(alloc, &mut counts, entry.0.as_str(), entry.1, entry.2)?;
+    }
+    Ok(counts)
 }

@@ -6,8 +6,8 @@ ghost use Rattle.log_model.specs.Log.{IsSegmentSize};
 ghost use Rattle.log_tail.specs.Counts.{count_in};
 ghost use Rattle.log_tail.specs.Matches.{Matches};
 
-use crate::counts::{QueueCounts, count_of, set_count};
-use log_model::{is_admissible, next_place};
+use crate::counts::{QueueCounts, count_of, counts_of, set_count};
+use log_model::{Base, is_admissible, names_earlier, next_place};
 use record_codec::{BLANK_FRONT, Place, View};
 use std::alloc::{AllocError, Global};
 use std::collections::BTreeMap;
@@ -38,10 +38,17 @@ pub struct LogTail {
 }
 
 // The numbers of this record are those that records up to `end` leave for it.
-fn is_match(segment: u32, end: u64, stored: u64, count: u64, view: &View<'_>) -> bool
+fn is_match(
+    segment: u32,
+    end: u64,
+    stored: u64,
+    count: u64,
+    halves: u64,
+    view: &View<'_>,
+) -> bool
     requires size { IsSegmentSize segment }
     requires low { end ≤ 2 ^ 62 }
-    ensures { IsTrue result ↔ Matches segment end stored count view.now }
+    ensures { IsTrue result ↔ Matches segment end stored count halves view.now }
 {
     let size = view.size();
     view.offset() == next_place(segment, end, size)
@@ -50,14 +57,17 @@ fn is_match(segment: u32, end: u64, stored: u64, count: u64, view: &View<'_>) ->
         && view.queue_offset() == count
         && stored <= view.store()
         && is_admissible(view)
+        && names_earlier(view, halves)
 }
 
 impl LogTail {
-    ghost use Rattle.std.specs.Prelude.{◌≡◌, ◌↔◌, ◌+◌, ◌<◌, ◌≤◌, ◌^◌, ◌++◌, IsTrue, max, List, ℕ, [], ◌∷◌, IfSome, OnOk, OnErr};
+    ghost use Rattle.std.specs.Prelude.{◌≡◌, ◌↔◌, ◌+◌, ◌<◌, ◌≤◌, ◌^◌, ◌++◌, IsTrue, max, List, ℕ, [], ◌∷◌, IfSome, IfOk, OnOk, OnErr};
     ghost use Rattle.std.specs.Option.{SomeIff};
     ghost use Rattle.record_codec.specs.Entry.{Entry};
     ghost use Rattle.record_codec.specs.Layout.{IsRecord};
-    ghost use Rattle.log_model.specs.Log.{Follows, IsSegmentSize};
+    ghost use Rattle.log_model.specs.Bases.{Base as Removed, Geometry, geometry, no_base};
+    ghost use Rattle.log_model.specs.Log.{Follows, IsSegmentSize, IsGeometry};
+    ghost use Rattle.log_model.specs.Told.{base_of};
     ghost use Rattle.log_tail.specs.Tails.{StandsFor, ComesBehind};
     ghost use Rattle.log_tail.specs.Places.{place_behind, HasRoom};
 
@@ -65,7 +75,7 @@ impl LogTail {
     pub fn new(alloc: Global, segment: u32) -> LogTail
         requires { IsSegmentSize segment }
         ensures segment { result.segment ≡ segment }
-        ensures empty { StandsFor result [] }
+        ensures empty { StandsFor no_base result [] }
     {
         LogTail {
             segment,
@@ -75,6 +85,22 @@ impl LogTail {
             counts: BTreeMap::new(alloc),
             alloc,
         }
+    }
+
+    /// The end of a log without records that begins at this base.
+    pub fn begin(alloc: Global, segment: u32, base: &Base) -> Result<LogTail, AllocError>
+        requires { IsGeometry (geometry segment (base_of base.now)) }
+        ensures segment { IfOk result (λ tail. tail.segment ≡ segment) }
+        ensures empty { IfOk result (λ tail. StandsFor (base_of base.now) tail []) }
+    {
+        Ok(LogTail {
+            segment,
+            end: base.place,
+            records: base.records,
+            stored: 0,
+            counts: counts_of(alloc, &base.queues)?,
+            alloc,
+        })
     }
 
     /// How many bytes a segment has.
@@ -105,7 +131,7 @@ impl LogTail {
         requires { IsSegmentSize segment }
         ensures segment { result.segment ≡ segment }
         ensures end { result.end ≡ self.end }
-        ensures stands { (log : List Entry) → StandsFor self log → StandsFor result log }
+        ensures stands { (base : Removed) (log : List Entry) → StandsFor base self log → StandsFor base result log }
     {
         self.segment = segment;
         self
@@ -113,8 +139,8 @@ impl LogTail {
 
     /// The place of the next record, of `size` bytes. None where it would end past the greatest place that a log has.
     pub fn place(&self, topic: &str, queue: u32, size: u32, reading: u64) -> Option<Place>
-        ensures place { (log : List Entry) → StandsFor self.now log
-            → SomeIff result (HasRoom self.now.segment log size) (place_behind self.now.segment log topic.now queue size reading) }
+        ensures place { (base : Removed) (log : List Entry) → StandsFor base self.now log
+            → SomeIff result (HasRoom (geometry self.now.segment base) log size) (place_behind (geometry self.now.segment base) log topic.now queue size reading) }
         ensures behind { IfSome result (λ place. (self.now.end ≤ place.offset) × (place.offset ≤ self.now.end + self.now.segment)) }
         ensures low { IfSome result (λ place. place.offset + size ≤ 2 ^ 62) }
         ensures counted { IfSome result (λ place. place.queue_offset ≤ self.now.records) }
@@ -148,8 +174,8 @@ impl LogTail {
         ensures segment { self.new.segment ≡ self.old.segment }
         ensures end { OnOk result (self.new.end ≡ place.now.offset + size) }
         ensures stays { OnErr result (self.new.end ≡ self.old.end) }
-        ensures moved { (log : List Entry) (r : Entry) → StandsFor self.old log → ComesBehind log topic.now queue place.now size r → OnOk result (StandsFor self.new (log ++ r ∷ [])) }
-        ensures still { (log : List Entry) → StandsFor self.old log → OnErr result (StandsFor self.new log) }
+        ensures moved { (base : Removed) (log : List Entry) (r : Entry) → StandsFor base self.old log → ComesBehind base log topic.now queue place.now size r → OnOk result (StandsFor base self.new (log ++ r ∷ [])) }
+        ensures still { (base : Removed) (log : List Entry) → StandsFor base self.old log → OnErr result (StandsFor base self.new log) }
     {
         set_count(
             alloc,
@@ -167,17 +193,25 @@ impl LogTail {
     /// Whether this record may stand behind the log.
     pub fn is_next(&self, view: &View<'_>) -> bool
         requires { IsRecord view.now }
-        ensures { (log : List Entry) → StandsFor self.now log → (IsTrue result ↔ Follows self.now.segment log view.now) }
+        ensures { (base : Removed) (log : List Entry) → StandsFor base self.now log → (IsTrue result ↔ Follows (geometry self.now.segment base) log view.now) }
     {
         let count = count_of(&self.counts, view.topic(), view.queue());
-        is_match(self.segment, self.end, self.stored, count, view)
+        let halves = count_of(&self.counts, "RMQ_SYS_TRANS_HALF_TOPIC", 0);
+        is_match(
+            self.segment,
+            self.end,
+            self.stored,
+            count,
+            halves,
+            view,
+        )
     }
 
     /// Takes a record that follows the log, in segments of any size. At `Err` the tail stands for what it stood for.
     pub fn add(&mut self, view: &View<'_>) -> Result<(), AllocError>
         ensures segment { self.new.segment ≡ self.old.segment }
-        ensures taken { (S : ℕ) (log : List Entry) → StandsFor self.old log → Follows S log view.now → OnOk result (StandsFor self.new (log ++ view.now ∷ [])) }
-        ensures still { (log : List Entry) → StandsFor self.old log → OnErr result (StandsFor self.new log) }
+        ensures taken { (S : Geometry) (log : List Entry) → StandsFor S.base self.old log → Follows S log view.now → OnOk result (StandsFor S.base self.new (log ++ view.now ∷ [])) }
+        ensures still { (base : Removed) (log : List Entry) → StandsFor base self.old log → OnErr result (StandsFor base self.new log) }
     {
         let place = Place {
             queue_offset: view.queue_offset(),

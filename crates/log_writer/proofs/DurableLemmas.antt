@@ -7,6 +7,7 @@ use Rattle.mq_outside.specs.Files.{Files}
 use Rattle.mq_outside.specs.Disk.{DiskState, EachImage, Throughout}
 use Rattle.mq_outside.proofs.Moments.{weaker, chained}
 use Rattle.record_codec.specs.Entry.{Entry}
+use Rattle.log_model.specs.Bases.{Geometry}
 use Rattle.log_model.specs.Log.{IsWellFormed}
 use Rattle.log_model.specs.Segments.{used, shape_of}
 use Rattle.log_model.specs.Store.{Stands, KeepsIfHonest}
@@ -16,16 +17,16 @@ use Rattle.log_writer.specs.Durable.{Stores, Flushed, entries_of, flushed_by, lo
 use Rattle.log_writer.specs.declared.writer.LogWriter.{LogWriter}
 
 -- each image of a disk that stores a log has its records
-pub each_stored : {S : ℕ} {log : List Entry} {writer : LogWriter} {disk : DiskState} → Stores S log writer disk → EachImage (HasRecords S log) disk
+pub each_stored : {S : Geometry} {log : List Entry} {writer : LogWriter} {disk : DiskState} → Stores S log writer disk → EachImage (HasRecords S log) disk
 each_stored {S = S} {log = log} stores = record {
   at = λ files image. record { shape = shape_of S log; reach = used (shape_of S log); laid = inl refl; stands = stores.writes.stores.each.at files image };
 }
 
 -- files that have the first records of a log are kept to them, where they are honest for any longer log
-keeps_first : (S : ℕ) (log : List Entry) (number : ℕ) (files : Files) → IsWellFormed S log → number ≤ length log → HasRecords S (take number log) files → KeepsIfHonest S log number files
+keeps_first : (S : Geometry) (log : List Entry) (number : ℕ) (files : Files) → IsWellFormed S log → number ≤ length log → HasRecords S (take number log) files → KeepsIfHonest S log number files
 keeps_first S log number files well within has honest = keeps_prefix S log number files has.shape has.reach well within has.laid has.stands honest
 
-keeps_least : (S : ℕ) (log : List Entry) (least number : ℕ) (files : Files) → least ≤ number → KeepsIfHonest S log number files → KeepsIfHonest S log least files
+keeps_least : (S : Geometry) (log : List Entry) (least number : ℕ) (files : Files) → least ≤ number → KeepsIfHonest S log number files → KeepsIfHonest S log least files
 keeps_least S log least number files low keeps honest =
     let kept = keeps (λ k shape r above within looks next. honest k shape r (omega (arith, above, low)) within looks next) in
     record { number = kept.number; low = omega (arith, kept.low, low); high = kept.high; keeps = kept.keeps }
@@ -35,7 +36,7 @@ front_same : (log more : List Entry) (number : ℕ) → number ≤ length log �
 front_same log more number within = take-append-le number log more within
 
 -- and of a longer log
-pub has_more : (S : ℕ) (log more : List Entry) (least : ℕ) (files : Files) → HasFirst S log least files → HasFirst S (log ++ more) least files
+pub has_more : (S : Geometry) (log more : List Entry) (least : ℕ) (files : Files) → HasFirst S log least files → HasFirst S (log ++ more) least files
 has_more S log more least files first = record {
   number = first.number;
   low = first.low;
@@ -43,7 +44,7 @@ has_more S log more least files first = record {
   has = subst (λ (l : List Entry). HasRecords S l files) (sym (front_same log more first.number first.high)) first.has;
 }
 
-has_all : (S : ℕ) (log : List Entry) (least : ℕ) (files : Files) → least ≤ length log → HasRecords S log files → HasFirst S log least files
+has_all : (S : Geometry) (log : List Entry) (least : ℕ) (files : Files) → least ≤ length log → HasRecords S log files → HasFirst S log least files
 has_all S log least files within has = record {
   number = length log;
   low = within;
@@ -52,11 +53,11 @@ has_all S log least files within has = record {
 }
 
 -- what recovery keeps of files with the first records of a log
-pub first_keeps : (S : ℕ) (log : List Entry) (least : ℕ) (files : Files) → IsWellFormed S log → HasFirst S log least files → KeepsIfHonest S log least files
+pub first_keeps : (S : Geometry) (log : List Entry) (least : ℕ) (files : Files) → IsWellFormed S log → HasFirst S log least files → KeepsIfHonest S log least files
 first_keeps S log least files well first = keeps_least S log least first.number files first.low (keeps_first S log first.number files well first.high first.has)
 
 -- a disk with these files alone stores the log
-pub first_stores : (S : ℕ) (log : List Entry) (least : ℕ) (files : Files) (disk : DiskState) → IsWellFormed S log → HasFirst S log least files → EachImage (λ image. image ≡ files) disk
+pub first_stores : (S : Geometry) (log : List Entry) (least : ℕ) (files : Files) (disk : DiskState) → IsWellFormed S log → HasFirst S log least files → EachImage (λ image. image ≡ files) disk
     → StoresFirst S log least disk
 first_stores S log least files disk well first left = record {
   number = first.number;
@@ -90,7 +91,7 @@ length-log_with log done = length-append log (entries_of done) ∙ ap (λ (n : �
 -- ---- the run
 
 -- before the first record
-pub flushes_start : {S : ℕ} {before : ℕ} {old new : DiskState} (log : List Entry) → before ≤ length log → Throughout old new (HasRecords S (take before log)) → Flushes S log before [] old new
+pub flushes_start : {S : Geometry} {before : ℕ} {old new : DiskState} (log : List Entry) → before ≤ length log → Throughout old new (HasRecords S (take before log)) → Flushes S log before [] old new
 flushes_start {S = S} {before = before} {old = old} {new = new} log within so_far =
     let none : log_with log [] ≡ log = append-nil log in
     let first : Throughout old new (HasFirst S (log_with log []) before) = weaker so_far (λ files has. record {
@@ -102,7 +103,7 @@ flushes_start {S = S} {before = before} {old = old} {new = new} log within so_fa
     record { within = within; kept = first; each = λ m files low high image. subst (λ (n : ℕ). HasFirst S (log_with log []) n files) (omega arith) (first.each m files low high image) }
 
 -- a call that flushed nothing more
-pub flushes_on : {S : ℕ} {log : List Entry} {before : ℕ} {done : List Flushed} {old mid new : DiskState} → Flushes S log before done old mid
+pub flushes_on : {S : Geometry} {log : List Entry} {before : ℕ} {done : List Flushed} {old mid new : DiskState} → Flushes S log before done old mid
     → Throughout mid new (HasRecords S (log_with log done)) → Flushes S log before done old new
 flushes_on {S = S} {log = log} {before = before} {done = done} {mid = mid} flushes more = record {
   within = flushes.within;
@@ -118,7 +119,7 @@ later : (m moment n : ℕ) → m < moment → n + cond (nat_le moment m) 1 0 ≡
 later m moment n early = ap (λ (k : ℕ). n + k) (cond-false (nat_le moment m) 1 0 (lt-leb moment m early)) ∙ omega arith
 
 -- a record that was flushed at the end of its call
-pub flushes_sent : {S : ℕ} {log : List Entry} {before : ℕ} {done : List Flushed} {old mid new : DiskState} (r : Entry) → Flushes S log before done old mid
+pub flushes_sent : {S : Geometry} {log : List Entry} {before : ℕ} {done : List Flushed} {old mid new : DiskState} (r : Entry) → Flushes S log before done old mid
     → Throughout mid new (HasRecords S (log_with log done)) → EachImage (HasRecords S (log_with log done ++ r ∷ [])) new
     → Flushes S log before (done ++ record { entry = r; moment = new.moment } ∷ []) old new
 flushes_sent {S = S} {log = log} {before = before} {done = done} {old = old} {new = new} r flushes more here =

@@ -10,10 +10,12 @@ use Rattle.record_codec.specs.Drafts.{entry_of, draft_size}
 use Rattle.record_codec.specs.declared.draft.Draft.{Draft}
 use Rattle.record_codec.specs.declared.draft.Place.{Place}
 use Rattle.record_codec.proofs.DraftLemmas.{HasNoFault-from}
+use Rattle.log_model.specs.Bases.{Geometry}
 use Rattle.log_model.specs.declared.batch.Batch.{Batch}
 use Rattle.log_model.specs.Log.{fits, end_of, place_after, Follows, IsWellFormed}
 use Rattle.log_model.specs.Segments.{layouts}
 use Rattle.log_model.specs.Batches.{blank_between, IsBatchOf}
+use Rattle.log_model.proofs.AdmissibleLemmas.{plain_shaped, plain_names}
 use Rattle.log_model.proofs.Recovery.{well_formed_push}
 use Rattle.log_tail.specs.Tails.{StandsFor, ComesBehind}
 use Rattle.log_tail.specs.Places.{place_behind, HasRoom}
@@ -34,25 +36,22 @@ place_within S end n some = ⊎_elim
     (omega (arith, is, above), omega (arith, is, below)))
     (cases_Bool (fits S (end % S) n))
 
-pub next_follows : (S : ℕ) (log : List Entry) (draft : Draft) (reading : ℕ) (tail : LogTail) → StandsFor tail log → IsPlainDraft S draft → HasRoom S log (draft_size draft)
+pub next_follows : (S : Geometry) (log : List Entry) (draft : Draft) (reading : ℕ) (tail : LogTail) → StandsFor S.base tail log → IsPlainDraft S.size draft → HasRoom S log (draft_size draft)
     → IsRecord (next_entry S log draft reading) → Follows S log (next_entry S log draft reading)
 next_follows S log draft reading tail stands plain room is = record {
   layout = is;
   place = refl;
-  room = (HasNoFault-from S draft plain.passes).fits;
+  room = (HasNoFault-from S.size draft plain.passes).fits;
   low = room;
   queue_offset = refl;
   store = λ k earlier got. omega (arith, stands.latest k earlier got, stands.time);
-  admissible = record {
-    queue = plain.queue;
-    copy = λ eight. absurd (plain.copy eight);
-    kind = record { topic = plain.topic; delivery = plain.delivery; renewal = plain.renewal };
-  };
+  shaped = plain_shaped (next_entry S log draft reading) plain.topic plain.queue (λ eight. absurd (plain.copy eight)) plain.delivery plain.renewal;
+  names = plain_names (next_entry S log draft reading) plain.topic _;
 }
 
 -- one record behind the log, as a batch
-pub one_is_batch : (S : ℕ) (log : List Entry) (r : Entry) (batch : Batch) → batch.from ≡ length log → batch.count ≡ 1 → batch.place ≡ r.offset → batch.bytes ≡ layout r
-    → batch.blank ≡ blank_between (end_of log) batch.place → IsBatchOf S (log ++ r ∷ []) (length log) batch
+pub one_is_batch : (S : Geometry) (log : List Entry) (r : Entry) (batch : Batch) → batch.from ≡ S.base.records + length log → batch.count ≡ 1 → batch.place ≡ r.offset → batch.bytes ≡ layout r
+    → batch.blank ≡ blank_between (end_of S.base log) batch.place → IsBatchOf S (log ++ r ∷ []) (length log) batch
 one_is_batch S log r batch from count place bytes blank =
     let front : take (length log) (log ++ r ∷ []) ≡ log = take_at log (r ∷ []) (length log) refl in
     let rest : drop (length log) (log ++ r ∷ []) ≡ r ∷ [] = drop_at log (r ∷ []) (length log) refl in
@@ -65,20 +64,20 @@ one_is_batch S log r batch from count place bytes blank =
       segment = λ i s low got.
           let zero_is : length log + i ≡ length log = omega (arith, count, low) in
           let same : r ≡ s = same_Some r s (sym (get_push log r) ∙ ap (slice_get (log ++ r ∷ [])) (sym zero_is) ∙ got) in
-          ap (λ (e : Entry). e.offset / S) (sym same) ∙ ap (λ (n : ℕ). n / S) (sym place);
+          ap (λ (e : Entry). e.offset / S.size) (sym same) ∙ ap (λ (n : ℕ). n / S.size) (sym place);
       bytes = bytes ∙ sym (append-nil (layout r)) ∙ ap layouts (sym one);
-      blank = blank ∙ ap (λ (l : List Entry). blank_between (end_of l) batch.place) (sym front);
+      blank = blank ∙ ap (λ (l : List Entry). blank_between (end_of S.base l) batch.place) (sym front);
     }
 
 -- where the record of a draft is put is its place behind the log
-place_is : (S : ℕ) (log : List Entry) (draft : Draft) (reading : ℕ) (at : Place) (n : ℕ) (topic : List ℕ) → n ≡ draft_size draft → topic ≡ draft.topic
+place_is : (S : Geometry) (log : List Entry) (draft : Draft) (reading : ℕ) (at : Place) (n : ℕ) (topic : List ℕ) → n ≡ draft_size draft → topic ≡ draft.topic
     → at ≡ place_behind S log topic draft.queue n reading → at ≡ place_of S log draft reading
 place_is S log draft reading at n topic size_is topic_is is = is ∙ (λ i. place_behind S log (topic_is i) draft.queue (size_is i) reading)
 
-pub appended : (S : ℕ) (log : List Entry) (draft : Draft) (reading : ℕ) (old new : LogTail) (at : Place) (batch : Batch) (n : ℕ) (topic : List ℕ)
-    → n ≡ draft_size draft → topic ≡ draft.topic → StandsFor old log → (HasRoom S log n) × (at ≡ place_behind S log topic draft.queue n reading)
+pub appended : (S : Geometry) (log : List Entry) (draft : Draft) (reading : ℕ) (old new : LogTail) (at : Place) (batch : Batch) (n : ℕ) (topic : List ℕ)
+    → n ≡ draft_size draft → topic ≡ draft.topic → StandsFor S.base old log → (HasRoom S log n) × (at ≡ place_behind S log topic draft.queue n reading)
     → IsAlone old.records old.end (entry_of draft at) batch
-    → ((r : Entry) → StandsFor old log → ComesBehind log topic draft.queue at n r → StandsFor new (log ++ r ∷ [])) → IsAppended S log draft reading new at batch
+    → ((r : Entry) → StandsFor S.base old log → ComesBehind S.base log topic draft.queue at n r → StandsFor S.base new (log ++ r ∷ [])) → IsAppended S log draft reading new at batch
 appended S log draft reading old new at batch n topic size_is topic_is stands placed alone moved =
     let is : at ≡ place_of S log draft reading = place_is S log draft reading at n topic size_is topic_is placed.1 in
     let r : Entry = next_entry S log draft reading in
@@ -100,9 +99,9 @@ appended S log draft reading old new at batch n topic size_is topic_is stands pl
           (alone.blank ∙ (λ i. blank_between (stands.end i) (sym alone.at i)));
     }
 
-pub next_well_formed : (S : ℕ) (log : List Entry) (draft : Draft) (reading : ℕ) (tail : LogTail) (at : Place) (n : ℕ) (topic : List ℕ)
-    → n ≡ draft_size draft → topic ≡ draft.topic → StandsFor tail log → (HasRoom S log n) × (at ≡ place_behind S log topic draft.queue n reading)
-    → IsPlainDraft S draft → IsRecord (entry_of draft at) → IsWellFormed S log → IsWellFormed S (with_next S log draft reading)
+pub next_well_formed : (S : Geometry) (log : List Entry) (draft : Draft) (reading : ℕ) (tail : LogTail) (at : Place) (n : ℕ) (topic : List ℕ)
+    → n ≡ draft_size draft → topic ≡ draft.topic → StandsFor S.base tail log → (HasRoom S log n) × (at ≡ place_behind S log topic draft.queue n reading)
+    → IsPlainDraft S.size draft → IsRecord (entry_of draft at) → IsWellFormed S log → IsWellFormed S (with_next S log draft reading)
 next_well_formed S log draft reading tail at n topic size_is topic_is stands placed plain is_record well =
     let is : at ≡ place_of S log draft reading = place_is S log draft reading at n topic size_is topic_is placed.1 in
     well_formed_push S log (next_entry S log draft reading) well (next_follows S log draft reading tail stands plain (subst (λ (k : ℕ). HasRoom S log k) size_is placed.0)

@@ -1,5 +1,5 @@
 -- One turn of the flusher, for a batch behind a log that is all flushed.
-use Rattle.std.proofs.Common.{◌≡◌, ◌⊎◌, ⊎_elim, ◌∙◌, ℕ, ◌+◌, max, ◌++◌, List, [], ◌∷◌, length, take, Bool, true, false, Option, refl, ap, sym, subst, arith, length-append}
+use Rattle.std.proofs.Common.{◌≡◌, ◌⊎◌, ⊎_elim, ◌∙◌, ℕ, ◌+◌, max, ◌++◌, List, [], ◌∷◌, length, take, Bool, true, false, refl, ap, sym, subst, arith, length-append}
 use Rattle.std.proofs.lemmas.List.{length_push, take_at, take_all}
 use Rattle.std.proofs.lemmas.Bool.{le-leb}
 use Rattle.mq_outside.specs.Files.{Files}
@@ -7,9 +7,10 @@ use Rattle.mq_outside.specs.Disk.{DiskState, Throughout}
 use Rattle.record_codec.specs.Entry.{Entry}
 use Rattle.record_codec.specs.declared.draft.Draft.{Draft}
 use Rattle.record_codec.specs.declared.draft.Place.{Place}
+use Rattle.log_model.specs.Bases.{Geometry, geometry}
 use Rattle.log_model.specs.declared.batch.Batch.{Batch}
 use Rattle.log_model.specs.Log.{IsWellFormed}
-use Rattle.log_model.specs.Segments.{Shape, opened, used, base, end_in, shape_of}
+use Rattle.log_model.specs.Segments.{Shape, opened, used, segment_start, end_in, shape_of}
 use Rattle.log_model.specs.Store.{StoresLog, KeepsIfHonest, IsBatch}
 use Rattle.log_model.specs.Batches.{IsBatchOf}
 use Rattle.log_model.proofs.BatchLemmas.{batch_goes, GoesHere, GoesNext}
@@ -26,8 +27,8 @@ front_is : (log : List Entry) (r : Entry) → take (length log) (log ++ r ∷ []
 front_is log r = take_at log (r ∷ []) (length log) refl
 
 -- the batch goes on where a log that is all flushed ends
-pub batch_goes_on : (S : ℕ) (log : List Entry) (flushed : ℕ) (batch : Batch) (file_base : ℕ) → IsWellFormed S log → IsBatchOf S log flushed batch
-    → file_base ≡ base S (shape_of S (take flushed log))
+pub batch_goes_on : (S : Geometry) (log : List Entry) (flushed : ℕ) (batch : Batch) (file_base : ℕ) → IsWellFormed S log → IsBatchOf S log flushed batch
+    → file_base ≡ segment_start S (shape_of S (take flushed log))
     → GoesOn S log flushed (shape_of S (take flushed log)) (is_due file_base batch.blank) batch
 batch_goes_on S log flushed batch file_base well is at =
     let shape : Shape = shape_of S (take flushed log) in
@@ -47,7 +48,7 @@ batch_goes_on S log flushed batch file_base well is at =
     (batch_goes S log flushed batch well is)
 
 -- a disk that stores the log stores it with one record more that is not flushed yet
-writes_longer : (S : ℕ) (log : List Entry) (r : Entry) (reach file_base offset : ℕ) (disk : DiskState) → IsWellFormed S (log ++ r ∷ [])
+writes_longer : (S : Geometry) (log : List Entry) (r : Entry) (reach file_base offset : ℕ) (disk : DiskState) → IsWellFormed S (log ++ r ∷ [])
     → WritesAt S log (length log) (shape_of S log) reach file_base offset disk
     → WritesAt S (log ++ r ∷ []) (length log) (shape_of S (take (length log) (log ++ r ∷ []))) reach file_base offset disk
 writes_longer S log r reach file_base offset disk well writes =
@@ -59,25 +60,25 @@ writes_longer S log r reach file_base offset disk well writes =
     })
 
 -- what was appended, in the segments of the disk
-pub appended_in : (S size : ℕ) (log : List Entry) (draft : Draft) (reading : ℕ) (tail : LogTail) (at : Place) (batch : Batch) → size ≡ S
-    → IsAppended size log draft reading tail at batch → IsAppended S log draft reading tail at batch
-appended_in S size log draft reading tail at batch same appended = subst (λ (k : ℕ). IsAppended k log draft reading tail at batch) same appended
+pub appended_in : (S : Geometry) (size : ℕ) (log : List Entry) (draft : Draft) (reading : ℕ) (tail : LogTail) (at : Place) (batch : Batch) → size ≡ S.size
+    → IsAppended (geometry size S.base) log draft reading tail at batch → IsAppended S log draft reading tail at batch
+appended_in S size log draft reading tail at batch same appended = subst (λ (k : ℕ). IsAppended (geometry k S.base) log draft reading tail at batch) same appended
 
 -- a turn can be made with this record behind the log
-pub starts : (S : ℕ) (log : List Entry) (draft : Draft) (reading : ℕ) (tail : LogTail) (at : Place) (batch : Batch) (writer : LogWriter) (disk : DiskState)
-    → Stores S log writer disk → IsAppended writer.tail.segment log draft reading tail at batch
-    → (IsWellFormed writer.tail.segment log → IsWellFormed writer.tail.segment (with_next writer.tail.segment log draft reading))
+pub starts : (S : Geometry) (log : List Entry) (draft : Draft) (reading : ℕ) (tail : LogTail) (at : Place) (batch : Batch) (writer : LogWriter) (disk : DiskState)
+    → Stores S log writer disk → IsAppended (geometry writer.tail.segment S.base) log draft reading tail at batch
+    → (IsWellFormed (geometry writer.tail.segment S.base) log → IsWellFormed (geometry writer.tail.segment S.base) (with_next (geometry writer.tail.segment S.base) log draft reading))
     → CanTurn S (with_next S log draft reading) (length log) (shape_of S (take (length log) (with_next S log draft reading))) (used (shape_of S log)) batch (growing writer.file disk)
 starts S log draft reading tail at batch writer disk stores appended well_formed =
     let r : Entry = next_entry S log draft reading in
     let here = appended_in S writer.tail.segment log draft reading tail at batch stores.size appended in
     let well : IsWellFormed S (log ++ r ∷ []) =
-    subst (λ (k : ℕ). IsWellFormed k log → IsWellFormed k (with_next k log draft reading)) stores.size well_formed stores.writes.stores.well_formed in
+    subst (λ (k : ℕ). IsWellFormed (geometry k S.base) log → IsWellFormed (geometry k S.base) (with_next (geometry k S.base) log draft reading)) stores.size well_formed stores.writes.stores.well_formed in
     let writes = writes_longer S log r (used (shape_of S log)) writer.file.base writer.file.offset disk well stores.writes in
     record { writes = writes; goes_on = batch_goes_on S (log ++ r ∷ []) (length log) batch writer.file.base well here.is writes.place.last }
 
 -- the records at the front of a longer log
-pub has_front : (S : ℕ) (log : List Entry) (r : Entry) {old new : DiskState} → Throughout old new (HasRecords S (take (length log) (log ++ r ∷ []))) → Throughout old new (HasRecords S log)
+pub has_front : (S : Geometry) (log : List Entry) (r : Entry) {old new : DiskState} → Throughout old new (HasRecords S (take (length log) (log ++ r ∷ []))) → Throughout old new (HasRecords S log)
 has_front S log r {old = old} {new = new} so_far = subst (λ (l : List Entry). Throughout old new (HasRecords S l)) (front_is log r) so_far
 
 -- behind a batch that went where the records ended nothing was written
@@ -86,7 +87,7 @@ behind_batch true before offset now n same moved = omega arith
 behind_batch false before offset now n same moved = omega (arith, same, moved)
 
 -- the record was flushed
-pub stores_sent : (S : ℕ) (log : List Entry) (r : Entry) (writer : LogWriter) (count offset n : ℕ) (due : Bool) (disk : DiskState) → count ≡ 1 → writer.tail.segment ≡ S → StandsFor writer.tail (log ++ r ∷ [])
+pub stores_sent : (S : Geometry) (log : List Entry) (r : Entry) (writer : LogWriter) (count offset n : ℕ) (due : Bool) (disk : DiskState) → count ≡ 1 → writer.tail.segment ≡ S.size → StandsFor S.base writer.tail (log ++ r ∷ [])
     → offset ≡ used (shape_of S log) → writer.file.offset ≡ unless_opened due offset + n
     → WritesAt S (log ++ r ∷ []) (length log + count) (shape_of S (take (length log + count) (log ++ r ∷ []))) (max (unless_opened due (used (shape_of S log))) writer.file.offset)
     writer.file.base writer.file.offset disk
@@ -106,11 +107,11 @@ stores_sent S log r writer count offset n due disk one size stands end moved wri
     }
 
 -- the record was not flushed
-pub stores_failed : {S : ℕ} {log : List Entry} {flushed most : ℕ} {batch : Batch} {at : Growing} → CanRetry S log flushed most batch at → StoresLog S log flushed at.disk
+pub stores_failed : {S : Geometry} {log : List Entry} {flushed most : ℕ} {batch : Batch} {at : Growing} → CanRetry S log flushed most batch at → StoresLog S log flushed at.disk
 stores_failed retry = record { shape = retry.shape; reach = retry.reach; at = retry.can.writes.stores }
 
 -- the records at the front of any longer log are kept of each honest image
-pub keeps_front : (S : ℕ) (log more : List Entry) (files : Files) → IsWellFormed S (log ++ more) → HasRecords S log files → KeepsIfHonest S (log ++ more) (length log) files
+pub keeps_front : (S : Geometry) (log more : List Entry) (files : Files) → IsWellFormed S (log ++ more) → HasRecords S log files → KeepsIfHonest S (log ++ more) (length log) files
 keeps_front S log more files well has honest =
     keeps_prefix S (log ++ more) (length log) files has.shape has.reach well (omega (arith, length-append log more))
     (subst (λ (l : List Entry). (has.shape ≡ shape_of S l) ⊎ (has.shape ≡ opened (shape_of S l))) (sym (take_at log more (length log) refl)) has.laid) has.stands honest

@@ -4,6 +4,7 @@ use Rattle.std.specs.List.{count_by}
 use Rattle.mq_outside.specs.Files.{Files}
 use Rattle.mq_outside.specs.Disk.{DiskState, Throughout}
 use Rattle.record_codec.specs.Entry.{Entry}
+use Rattle.log_model.specs.Bases.{Geometry}
 use Rattle.log_model.specs.Segments.{used, shape_of}
 use Rattle.log_model.specs.Store.{StoresLog}
 use Rattle.segment_files.specs.Turn.{IsInside, WritesAt, HasRecords}
@@ -16,13 +17,13 @@ pub record CanGoOn (tells : Type 0) (writer : LogWriter) (disk : DiskState) : Ty
   pub inside : tells → IsInside writer.file.base writer.file.offset disk
 
 -- The disk stores the log, all of it flushed and nothing behind it, and the writer goes on there.
-pub record Stores (S : ℕ) (log : List Entry) (writer : LogWriter) (disk : DiskState) : Type 0 where
-  pub size : writer.tail.segment ≡ S
-  pub stands : StandsFor writer.tail log
+pub record Stores (S : Geometry) (log : List Entry) (writer : LogWriter) (disk : DiskState) : Type 0 where
+  pub size : writer.tail.segment ≡ S.size
+  pub stands : StandsFor S.base writer.tail log
   pub writes : WritesAt S log (length log) (shape_of S log) (used (shape_of S log)) writer.file.base writer.file.offset disk
 
 -- A log that was opened: a prefix of it with all that was flushed is stored, and all of that is flushed now.
-pub record Opened (S : ℕ) (log : List Entry) (flushed : ℕ) (disk : DiskState) (writer : LogWriter) : Type 0 where
+pub record Opened (S : Geometry) (log : List Entry) (flushed : ℕ) (disk : DiskState) (writer : LogWriter) : Type 0 where
   pub number : ℕ
   pub low : flushed ≤ number
   pub high : number ≤ length log
@@ -48,21 +49,21 @@ abbrev pub log_with : List Entry → List Flushed → List Entry
 log_with log done = log ++ entries_of done
 
 -- the files have the first records of the log at their places, at least so many
-pub record HasFirst (S : ℕ) (log : List Entry) (least : ℕ) (files : Files) : Type 0 where
+pub record HasFirst (S : Geometry) (log : List Entry) (least : ℕ) (files : Files) : Type 0 where
   pub number : ℕ
   pub low : least ≤ number
   pub high : number ≤ length log
   pub has : HasRecords S (take number log) files
 
 -- the disk stores the log with at least so many of its records flushed
-pub record StoresFirst (S : ℕ) (log : List Entry) (least : ℕ) (disk : DiskState) : Type 0 where
+pub record StoresFirst (S : Geometry) (log : List Entry) (least : ℕ) (disk : DiskState) : Type 0 where
   pub number : ℕ
   pub low : least ≤ number
   pub stores : StoresLog S log number disk
 
 -- These records were put behind the log, one after another, while the disk went from one state to another. At each moment
 -- each crash leaves what was flushed before the run, and what was flushed in it by then.
-pub record Flushes (S : ℕ) (log : List Entry) (before : ℕ) (done : List Flushed) (old new : DiskState) : Type 0 where
+pub record Flushes (S : Geometry) (log : List Entry) (before : ℕ) (done : List Flushed) (old new : DiskState) : Type 0 where
   pub within : before ≤ length log
   pub kept : Throughout old new (HasFirst S (log_with log done) before)
   pub each : (m : ℕ) (files : Files) → old.moment ≤ m → m ≤ new.moment → new.image_at m files → HasFirst S (log_with log done) (before + flushed_by m done) files

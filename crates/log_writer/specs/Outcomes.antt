@@ -12,6 +12,7 @@ use Rattle.log_writer.specs.declared.append.AppendFault.{AppendFault}
 use Rattle.log_writer.specs.declared.append.AppendFault.TheVariants as faults
 use Rattle.log_writer.specs.declared.writer.Outcome.{Outcome}
 use Rattle.log_writer.specs.declared.writer.Outcome.TheVariants.{Sent, NotFlushed, LogEnd, Memory}
+use Rattle.log_model.specs.Bases.{Geometry}
 
 -- what holds where the end of the log is told
 abbrev pub OnLogEnd : {A : Type 0} → Result A AppendFault → Type 0 → Type 0
@@ -20,13 +21,13 @@ OnLogEnd (Err faults.LogEnd) P = P
 OnLogEnd (Err faults.Memory) P = Unit {0}
 
 -- The record was put behind the log where its place is told, and nowhere else. The log's end is told only where there is no room.
-abbrev pub IsOutcome : ℕ → List Entry → Draft → ℕ → LogTail → Outcome → Type 0
+abbrev pub IsOutcome : Geometry → List Entry → Draft → ℕ → LogTail → Outcome → Type 0
 IsOutcome S log draft reading tail (Sent place) =
-    HasRoom S log (draft_size draft) × (place ≡ place_of S log draft reading) × StandsFor tail (with_next S log draft reading)
+    HasRoom S log (draft_size draft) × (place ≡ place_of S log draft reading) × StandsFor S.base tail (with_next S log draft reading)
 IsOutcome S log draft reading tail (NotFlushed place count) =
-    HasRoom S log (draft_size draft) × (place ≡ place_of S log draft reading) × StandsFor tail (with_next S log draft reading)
-IsOutcome S log draft reading tail LogEnd = (HasRoom S log (draft_size draft) → ⊥) × StandsFor tail log
-IsOutcome S log draft reading tail Memory = StandsFor tail log
+    HasRoom S log (draft_size draft) × (place ≡ place_of S log draft reading) × StandsFor S.base tail (with_next S log draft reading)
+IsOutcome S log draft reading tail LogEnd = (HasRoom S log (draft_size draft) → ⊥) × StandsFor S.base tail log
+IsOutcome S log draft reading tail Memory = StandsFor S.base tail log
 
 -- what holds where the record was flushed
 abbrev pub OnSent : Outcome → Type 0 → Type 0

@@ -6,7 +6,8 @@ use Rattle.record_codec.specs.Layout.{layout}
 use Rattle.record_codec.specs.Drafts.{entry_of, draft_size, draft_fault}
 use Rattle.record_codec.specs.declared.draft.Draft.{Draft}
 use Rattle.record_codec.specs.declared.draft.Place.{Place}
-use Rattle.log_model.specs.Log.{is_system_topic}
+use Rattle.log_model.specs.Bases.{Geometry}
+use Rattle.log_model.specs.Admissible.{is_system_topic}
 use Rattle.log_model.specs.declared.batch.Batch.{Batch}
 use Rattle.log_model.specs.Batches.{blank_between, IsBatchOf}
 use Rattle.log_tail.specs.Places.{place_behind, HasRoom}
@@ -14,15 +15,15 @@ use Rattle.log_tail.specs.Tails.{StandsFor}
 use Rattle.log_tail.specs.declared.tail.LogTail.{LogTail}
 
 -- the place of the record of this draft
-abbrev pub place_of : ℕ → List Entry → Draft → ℕ → Place
+abbrev pub place_of : Geometry → List Entry → Draft → ℕ → Place
 place_of S log draft reading = place_behind S log draft.topic draft.queue (draft_size draft) reading
 
 -- the record of this draft behind the log
-abbrev pub next_entry : ℕ → List Entry → Draft → ℕ → Entry
+abbrev pub next_entry : Geometry → List Entry → Draft → ℕ → Entry
 next_entry S log draft reading = entry_of draft (place_of S log draft reading)
 
 -- the log with the record of this draft
-abbrev pub with_next : ℕ → List Entry → Draft → ℕ → List Entry
+abbrev pub with_next : Geometry → List Entry → Draft → ℕ → List Entry
 with_next S log draft reading = log ++ next_entry S log draft reading ∷ []
 
 -- A draft whose record may stand behind any log where there is room: it can be written into a segment, and is a plain
@@ -47,9 +48,9 @@ pub record IsAlone (records end : ℕ) (r : Entry) (batch : Batch) : Type 0 wher
   pub bytes : batch.bytes ≡ layout r
 
 -- the record of this draft was put behind the log: the tail stands for both, and the batch has this record alone
-pub record IsAppended (S : ℕ) (log : List Entry) (draft : Draft) (reading : ℕ) (tail : LogTail) (at : Place) (batch : Batch) : Type 0 where
+pub record IsAppended (S : Geometry) (log : List Entry) (draft : Draft) (reading : ℕ) (tail : LogTail) (at : Place) (batch : Batch) : Type 0 where
   pub room : HasRoom S log (draft_size draft)
   pub place : at ≡ place_of S log draft reading
-  pub stands : StandsFor tail (with_next S log draft reading)
+  pub stands : StandsFor S.base tail (with_next S log draft reading)
   pub one : batch.count ≡ 1
   pub is : IsBatchOf S (with_next S log draft reading) (length log) batch

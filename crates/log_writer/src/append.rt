@@ -4,6 +4,7 @@ ghost use Rattle.std.specs.Prelude.{◌≡◌, ◌+◌, ◌<◌, ◌≤◌, ◌^
 ghost use Rattle.record_codec.specs.Entry.{Entry};
 ghost use Rattle.record_codec.specs.Layout.{layout, IsRecord};
 ghost use Rattle.record_codec.specs.Drafts.{entry_of, draft_size, draft_fault, IsEncodable};
+ghost use Rattle.log_model.specs.Bases.{Base, geometry};
 ghost use Rattle.log_model.specs.Log.{IsWellFormed};
 ghost use Rattle.log_model.specs.Batches.{blank_between as blank_of};
 ghost use Rattle.log_tail.specs.Places.{HasRoom};
@@ -104,12 +105,12 @@ pub fn append_behind(
     ensures segment { tail.new.segment ≡ tail.old.segment }
     ensures grows { IfOk result (λ done. tail.old.end + length done.batch.bytes ≤ tail.new.end) }
     ensures stays { OnErr result (tail.new.end ≡ tail.old.end) }
-    ensures appended { (log : List Entry) → StandsFor tail.old log
-        → IfOk result (λ done. IsAppended tail.old.segment log draft.now reading tail.new done.place done.batch) }
-    ensures well_formed { (log : List Entry) → StandsFor tail.old log → IsWellFormed tail.old.segment log
-        → OnOk result (IsWellFormed tail.old.segment (with_next tail.old.segment log draft.now reading)) }
-    ensures full { (log : List Entry) → StandsFor tail.old log → OnLogEnd result (HasRoom tail.old.segment log (draft_size draft.now) → ⊥) }
-    ensures still { (log : List Entry) → StandsFor tail.old log → OnErr result (StandsFor tail.new log) }
+    ensures appended { (base : Base) (log : List Entry) → StandsFor base tail.old log
+        → IfOk result (λ done. IsAppended (geometry tail.old.segment base) log draft.now reading tail.new done.place done.batch) }
+    ensures well_formed { (base : Base) (log : List Entry) → StandsFor base tail.old log → IsWellFormed (geometry tail.old.segment base) log
+        → OnOk result (IsWellFormed (geometry tail.old.segment base) (with_next (geometry tail.old.segment base) log draft.now reading)) }
+    ensures full { (base : Base) (log : List Entry) → StandsFor base tail.old log → OnLogEnd result (HasRoom (geometry tail.old.segment base) log (draft_size draft.now) → ⊥) }
+    ensures still { (base : Base) (log : List Entry) → StandsFor base tail.old log → OnErr result (StandsFor base tail.new log) }
 {
     let size = size_of(draft, tail.segment());
     let topic = draft.topic.as_str();

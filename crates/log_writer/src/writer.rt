@@ -6,6 +6,7 @@
 ghost use Rattle.std.specs.Prelude.{◌≡◌, ◌+◌, ◌<◌, ◌≤◌, ◌^◌, ◌++◌, List, ℕ, length};
 ghost use Rattle.mq_outside.specs.Disk.{Throughout};
 ghost use Rattle.record_codec.specs.Entry.{Entry};
+ghost use Rattle.log_model.specs.Bases.{Base, Geometry, geometry};
 ghost use Rattle.log_model.specs.Log.{IsWellFormed};
 ghost use Rattle.log_model.specs.Store.{StoresLog, KeepsIfHonest};
 ghost use Rattle.log_tail.specs.Tails.{StandsFor};
@@ -65,21 +66,21 @@ impl LogWriter {
         ensures goes_on { CanGoOn D.tells self.new (D.state disk.new) }
 
         // What is told, and what the tail stands for then.
-        ensures outcome { (log : List Entry) → StandsFor self.old.tail log → IsOutcome self.old.tail.segment log draft.now reading self.new.tail result }
+        ensures outcome { (base : Base) (log : List Entry) → StandsFor base self.old.tail log → IsOutcome (geometry self.old.tail.segment base) log draft.now reading self.new.tail result }
         ensures cause { CountsOutcome result (D.faults disk.old) (D.faults disk.new) }
 
         // At each moment of the call each image has what was flushed before it, and each that is honest for a longer log keeps it.
-        ensures any_moment { D.tells → (S : ℕ) (log : List Entry) → Stores S log self.old (D.state disk.old)
+        ensures any_moment { D.tells → (S : Geometry) (log : List Entry) → Stores S log self.old (D.state disk.old)
             → Throughout (D.state disk.old) (D.state disk.new) (HasRecords S log) }
-        ensures honest { D.tells → (S : ℕ) (log more : List Entry) → Stores S log self.old (D.state disk.old) → IsWellFormed S (log ++ more)
+        ensures honest { D.tells → (S : Geometry) (log more : List Entry) → Stores S log self.old (D.state disk.old) → IsWellFormed S (log ++ more)
             → Throughout (D.state disk.old) (D.state disk.new) (KeepsIfHonest S (log ++ more) (length log)) }
 
         // What the disk stores then.
-        ensures sent { D.tells → (S : ℕ) (log : List Entry) → Stores S log self.old (D.state disk.old)
+        ensures sent { D.tells → (S : Geometry) (log : List Entry) → Stores S log self.old (D.state disk.old)
             → OnSent result (Stores S (with_next S log draft.now reading) self.new (D.state disk.new)) }
-        ensures not_flushed { D.tells → (S : ℕ) (log : List Entry) → Stores S log self.old (D.state disk.old)
+        ensures not_flushed { D.tells → (S : Geometry) (log : List Entry) → Stores S log self.old (D.state disk.old)
             → OnNotFlushed result (StoresLog S (with_next S log draft.now reading) (length log) (D.state disk.new)) }
-        ensures still { D.tells → (S : ℕ) (log : List Entry) → Stores S log self.old (D.state disk.old) → OnUnwritten result (Stores S log self.new (D.state disk.new)) }
+        ensures still { D.tells → (S : Geometry) (log : List Entry) → Stores S log self.old (D.state disk.old) → OnUnwritten result (Stores S log self.new (D.state disk.new)) }
         ensures unwritten { OnUnwritten result (disk.new ≡ disk.old) }
 
         // Files outside the log's folder stay. A blank takes a sync, and the record takes one.

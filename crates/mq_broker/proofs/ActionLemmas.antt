@@ -12,6 +12,7 @@ use Rattle.request_fields.specs.declared.request.Request.{Request}
 use Rattle.request_fields.specs.declared.fault.RequestFault.{RequestFault}
 use Rattle.request_fields.specs.declared.fault.RequestFault.TheVariants as faults
 use Rattle.reply_fields.specs.Refusals.{fault_reply}
+use Rattle.log_model.specs.Bases.{Geometry}
 use Rattle.log_model.specs.Log.{next_place}
 use Rattle.log_model.specs.Store.{StoresLog}
 use Rattle.log_tail.specs.Tails.{StandsFor}
@@ -57,49 +58,49 @@ asks_fault segment frame (faults.BadNumber field) (Ok action) send reads memory 
 asks_fault segment frame faults.BadBody (Ok action) send reads memory by = asks segment frame (Err faults.BadBody) action send reads by
 
 -- the same for a log whose segments have this size
-pub asked_of : (segment S : ℕ) (frame : Frame) (action : Action) → segment ≡ S → action ≡ action_for segment frame → action ≡ action_for S frame
-asked_of segment S frame action size asked = asked ∙ ap (λ (n : ℕ). action_for n frame) size
+pub asked_of : (segment size : ℕ) (frame : Frame) (action : Action) → segment ≡ size → action ≡ action_for segment frame → action ≡ action_for size frame
+asked_of segment size frame action same asked = asked ∙ ap (λ (n : ℕ). action_for n frame) same
 
 -- ---- what was put behind the log
 
 -- the log with the record that this outcome of a draft appends, where it fits
-fits : (S : ℕ) (log : List Entry) (reading : ℕ) (draft : Draft) → HasRoom S log (draft_size draft)
+fits : (S : Geometry) (log : List Entry) (reading : ℕ) (draft : Draft) → HasRoom S log (draft_size draft)
     → with_record log (if has_room S log (draft_size draft) then Some (next_entry S log draft reading) else None) ≡ with_next S log draft reading
 fits S log reading draft room =
     ap (λ (b : Bool). with_record log (if b then Some (next_entry S log draft reading) else None)) (le-leb (next_place S log (draft_size draft) + draft_size draft) (2 ^ 62) room)
 
 -- and where it doesn't
-full : (S : ℕ) (log : List Entry) (reading : ℕ) (draft : Draft) → (HasRoom S log (draft_size draft) → ⊥)
+full : (S : Geometry) (log : List Entry) (reading : ℕ) (draft : Draft) → (HasRoom S log (draft_size draft) → ⊥)
     → with_record log (if has_room S log (draft_size draft) then Some (next_entry S log draft reading) else None) ≡ log
 full S log reading draft none =
     ap (λ (b : Bool). with_record log (if b then Some (next_entry S log draft reading) else None))
     (lt-leb (next_place S log (draft_size draft) + draft_size draft) (2 ^ 62) (omega (arith, none)))
 
 -- the log behind a draft's outcome, as it is answered
-abbrev log_behind : ℕ → List Entry → ℕ → Draft → Answer → List Entry
+abbrev log_behind : Geometry → List Entry → ℕ → Draft → Answer → List Entry
 log_behind S log reading draft answer = with_record log (appended_by S log reading (Appends draft) (outcome_of answer))
 
-unwritten : (S : ℕ) (log : List Entry) (reading : ℕ) (draft : Draft) (answer : Answer) → (HasRoom S log (draft_size draft) → ⊥) → IsAnswerTo written.LogEnd answer → log_behind S log reading draft answer ≡ log
+unwritten : (S : Geometry) (log : List Entry) (reading : ℕ) (draft : Draft) (answer : Answer) → (HasRoom S log (draft_size draft) → ⊥) → IsAnswerTo written.LogEnd answer → log_behind S log reading draft answer ≡ log
 unwritten S log reading draft answer none answers = ⊎_elim
     (λ (told : answer ≡ Told log_end). ap (log_behind S log reading draft) told ∙ full S log reading draft none)
     (λ (memory : answer ≡ NoMemory). ap (log_behind S log reading draft) memory)
     answers
 
-stands_for : (S : ℕ) (log : List Entry) (reading : ℕ) (draft : Draft) (tail : LogTail) (outcome : Written) (answer : Answer)
-    → IsOutcome S log draft reading tail outcome → IsAnswerTo outcome answer → StandsFor tail (log_behind S log reading draft answer)
+stands_for : (S : Geometry) (log : List Entry) (reading : ℕ) (draft : Draft) (tail : LogTail) (outcome : Written) (answer : Answer)
+    → IsOutcome S log draft reading tail outcome → IsAnswerTo outcome answer → StandsFor S.base tail (log_behind S log reading draft answer)
 stands_for S log reading draft tail (written.Sent place) answer is answers =
-    subst (StandsFor tail) (sym (ap (log_behind S log reading draft) answers ∙ fits S log reading draft is.0)) is.2
+    subst (StandsFor S.base tail) (sym (ap (log_behind S log reading draft) answers ∙ fits S log reading draft is.0)) is.2
 stands_for S log reading draft tail (written.NotFlushed place count) answer is answers =
-    subst (StandsFor tail) (sym (ap (log_behind S log reading draft) answers ∙ fits S log reading draft is.0)) is.2
-stands_for S log reading draft tail written.LogEnd answer is answers = subst (StandsFor tail) (sym (unwritten S log reading draft answer is.0 answers)) is.1
-stands_for S log reading draft tail written.Memory answer is answers = subst (StandsFor tail) (sym (ap (log_behind S log reading draft) answers)) is
+    subst (StandsFor S.base tail) (sym (ap (log_behind S log reading draft) answers ∙ fits S log reading draft is.0)) is.2
+stands_for S log reading draft tail written.LogEnd answer is answers = subst (StandsFor S.base tail) (sym (unwritten S log reading draft answer is.0 answers)) is.1
+stands_for S log reading draft tail written.Memory answer is answers = subst (StandsFor S.base tail) (sym (ap (log_behind S log reading draft) answers)) is
 
-pub stands_behind : (S : ℕ) (log : List Entry) (reading : ℕ) (draft : Draft) (tail : LogTail) (outcome : Written) (answer : Answer) (action : Action) → Appends draft ≡ action
-    → IsOutcome S log draft reading tail outcome → IsAnswerTo outcome answer → StandsFor tail (with_record log (appended_by S log reading action (outcome_of answer)))
+pub stands_behind : (S : Geometry) (log : List Entry) (reading : ℕ) (draft : Draft) (tail : LogTail) (outcome : Written) (answer : Answer) (action : Action) → Appends draft ≡ action
+    → IsOutcome S log draft reading tail outcome → IsAnswerTo outcome answer → StandsFor S.base tail (with_record log (appended_by S log reading action (outcome_of answer)))
 stands_behind S log reading draft tail outcome answer action asked is answers =
-    subst (λ (a : Action). StandsFor tail (with_record log (appended_by S log reading a (outcome_of answer)))) asked (stands_for S log reading draft tail outcome answer is answers)
+    subst (λ (a : Action). StandsFor S.base tail (with_record log (appended_by S log reading a (outcome_of answer)))) asked (stands_for S log reading draft tail outcome answer is answers)
 
-stored_for : (S : ℕ) (log : List Entry) (reading : ℕ) (draft : Draft) (tail : LogTail) (writer : LogWriter) (disk : DiskState) (outcome : Written) (answer : Answer)
+stored_for : (S : Geometry) (log : List Entry) (reading : ℕ) (draft : Draft) (tail : LogTail) (writer : LogWriter) (disk : DiskState) (outcome : Written) (answer : Answer)
     → IsOutcome S log draft reading tail outcome → IsAnswerTo outcome answer → OnSent outcome (Stores S (with_next S log draft reading) writer disk) → OnUnwritten outcome (Stores S log writer disk)
     → UnlessFailed answer (Stores S (log_behind S log reading draft answer) writer disk)
 stored_for S log reading draft tail writer disk (written.Sent place) answer is answers sent still =
@@ -115,14 +116,14 @@ stored_for S log reading draft tail writer disk written.LogEnd answer is answers
 stored_for S log reading draft tail writer disk written.Memory answer is answers sent still =
     subst (λ (a : Answer). UnlessFailed a (Stores S (log_behind S log reading draft a) writer disk)) (sym answers) still
 
-pub stored_behind : (S : ℕ) (log : List Entry) (reading : ℕ) (draft : Draft) (tail : LogTail) (writer : LogWriter) (disk : DiskState) (outcome : Written) (answer : Answer) (action : Action)
+pub stored_behind : (S : Geometry) (log : List Entry) (reading : ℕ) (draft : Draft) (tail : LogTail) (writer : LogWriter) (disk : DiskState) (outcome : Written) (answer : Answer) (action : Action)
     → Appends draft ≡ action → IsOutcome S log draft reading tail outcome → IsAnswerTo outcome answer → OnSent outcome (Stores S (with_next S log draft reading) writer disk)
     → OnUnwritten outcome (Stores S log writer disk) → UnlessFailed answer (Stores S (with_record log (appended_by S log reading action (outcome_of answer))) writer disk)
 stored_behind S log reading draft tail writer disk outcome answer action asked is answers sent still =
     subst (λ (a : Action). UnlessFailed answer (Stores S (with_record log (appended_by S log reading a (outcome_of answer))) writer disk)) asked
     (stored_for S log reading draft tail writer disk outcome answer is answers sent still)
 
-failed_for : (S : ℕ) (log : List Entry) (reading : ℕ) (draft : Draft) (tail : LogTail) (disk : DiskState) (outcome : Written) (answer : Answer)
+failed_for : (S : Geometry) (log : List Entry) (reading : ℕ) (draft : Draft) (tail : LogTail) (disk : DiskState) (outcome : Written) (answer : Answer)
     → IsOutcome S log draft reading tail outcome → IsAnswerTo outcome answer → OnNotFlushed outcome (StoresLog S (with_next S log draft reading) (length log) disk)
     → IfFailed answer (StoresLog S (log_behind S log reading draft answer) (length log) disk)
 failed_for S log reading draft tail disk (written.Sent place) answer is answers failed =
@@ -138,7 +139,7 @@ failed_for S log reading draft tail disk written.Memory answer is answers failed
     subst (λ (a : Answer). IfFailed a (StoresLog S (log_behind S log reading draft a) (length log) disk)) (sym answers) tt
 
 -- a record whose flush failed
-pub failed_behind : (S : ℕ) (log : List Entry) (reading : ℕ) (draft : Draft) (tail : LogTail) (disk : DiskState) (outcome : Written) (answer : Answer) (action : Action)
+pub failed_behind : (S : Geometry) (log : List Entry) (reading : ℕ) (draft : Draft) (tail : LogTail) (disk : DiskState) (outcome : Written) (answer : Answer) (action : Action)
     → Appends draft ≡ action → IsOutcome S log draft reading tail outcome → IsAnswerTo outcome answer → OnNotFlushed outcome (StoresLog S (with_next S log draft reading) (length log) disk)
     → IfFailed answer (StoresLog S (with_record log (appended_by S log reading action (outcome_of answer))) (length log) disk)
 failed_behind S log reading draft tail disk outcome answer action asked is answers failed =

@@ -8,6 +8,7 @@ use Rattle.mq_outside.specs.Files.{Files}
 use Rattle.mq_outside.specs.Disk.{DiskState, EachImage, Throughout}
 use Rattle.mq_outside.proofs.Moments.{weaker, chained, at_start}
 use Rattle.record_codec.specs.Entry.{Entry}
+use Rattle.log_model.specs.Bases.{Geometry}
 use Rattle.log_model.specs.Store.{StoresLog}
 use Rattle.log_model.specs.Segments.{used, shape_of}
 use Rattle.log_model.proofs.StoreLemmas.{stores_exact}
@@ -37,11 +38,11 @@ none_by m moment (d ∷ two) early late =
 
 -- ---- one run behind another
 
-has_least : (S : ℕ) (log : List Entry) (least less : ℕ) (files : Files) → less ≤ least → HasFirst S log least files → HasFirst S log less files
+has_least : (S : Geometry) (log : List Entry) (least less : ℕ) (files : Files) → less ≤ least → HasFirst S log least files → HasFirst S log less files
 has_least S log least less files le first = record { number = first.number; low = omega (arith, first.low, le); high = first.high; has = first.has }
 
 -- all of the first run's records were flushed before the second one began
-pub flushes_then : (S : ℕ) (log : List Entry) (before : ℕ) (one two : List Flushed) (old mid new : DiskState) → Flushes S log before one old mid
+pub flushes_then : (S : Geometry) (log : List Entry) (before : ℕ) (one two : List Flushed) (old mid new : DiskState) → Flushes S log before one old mid
     → Flushes S (log_with log one) (length (log_with log one)) two mid new → AllByRecursion (λ d. mid.moment ≤ d.moment) two → Flushes S log before (one ++ two) old new
 flushes_then S log before one two old mid new first then late =
     let whole = log_with-append log one two in
@@ -65,7 +66,7 @@ flushes_then S log before one two old mid new first then late =
 
 -- ---- events
 
-pub run-append : (S : ℕ) (log : List Entry) (first second : List Event) → run S log (first ++ second) ≡ run S (run S log first) second
+pub run-append : (S : Geometry) (log : List Entry) (first second : List Event) → run S log (first ++ second) ≡ run S (run S log first) second
 run-append S log [] second = refl
 run-append S log (event ∷ first) second = run-append S (step S log event) first second
 
@@ -73,7 +74,7 @@ flushed_before-append : (o : Option Entry) (moment : ℕ) (one two : List Flushe
 flushed_before-append None moment one two = refl
 flushed_before-append (Some r) moment one two = refl
 
-pub flushed_of-append : (S : ℕ) (log : List Entry) (first second : List Event) → flushed_of S log (first ++ second) ≡ flushed_of S log first ++ flushed_of S (run S log first) second
+pub flushed_of-append : (S : Geometry) (log : List Entry) (first second : List Event) → flushed_of S log (first ++ second) ≡ flushed_of S log first ++ flushed_of S (run S log first) second
 flushed_of-append S log [] second = refl
 flushed_of-append S log (event ∷ first) second =
     ap (λ (l : List Flushed). flushed_before (appended S log event) event.moment l) (flushed_of-append S (step S log event) first second)
@@ -84,7 +85,7 @@ log_with-before log None moment more = refl
 log_with-before log (Some r) moment more = sym (append_assoc log (r ∷ []) (entries_of more))
 
 -- the records that were flushed behind the log are those of the run
-pub log_with-flushed_of : (S : ℕ) (log : List Entry) (events : List Event) → log_with log (flushed_of S log events) ≡ run S log events
+pub log_with-flushed_of : (S : Geometry) (log : List Entry) (events : List Event) → log_with log (flushed_of S log events) ≡ run S log events
 log_with-flushed_of S log [] = append-nil log
 log_with-flushed_of S log (event ∷ events) =
     log_with-before log (appended S log event) event.moment (flushed_of S (step S log event) events) ∙ log_with-flushed_of S (step S log event) events
@@ -92,18 +93,18 @@ log_with-flushed_of S log (event ∷ events) =
 -- ---- turns
 
 -- an open log's files are exactly its own
-pub exact_now : (S : ℕ) (log : List Entry) (at : OpenLog) → IsStored S log at → IsExactAt S log at.disk.moment at.disk
+pub exact_now : (S : Geometry) (log : List Entry) (at : OpenLog) → IsStored S log at → IsExactAt S log at.disk.moment at.disk
 exact_now S log at stored = λ files image. (stores_exact S log (length log) (shape_of S log) at.disk stored.writes.stores).at files image
 
 -- and were so at that moment, looked at later
-pub exact_then : (S : ℕ) (log : List Entry) (at : OpenLog) (new : DiskState) (P : Files → Type 0) → IsStored S log at → Throughout at.disk new P → IsExactAt S log at.disk.moment new
+pub exact_then : (S : Geometry) (log : List Entry) (at : OpenLog) (new : DiskState) (P : Files → Type 0) → IsStored S log at → Throughout at.disk new P → IsExactAt S log at.disk.moment new
 exact_then S log at new P stored so_far = λ files image. exact_now S log at stored files (so_far.past at.disk.moment files (omega arith) image)
 
-turns_end : (S : ℕ) (log : List Entry) (at : ℕ) (events : List Event) (disk : DiskState) → GoesTurnByTurn S log at events disk → at ≤ disk.moment
+turns_end : (S : Geometry) (log : List Entry) (at : ℕ) (events : List Event) (disk : DiskState) → GoesTurnByTurn S log at events disk → at ≤ disk.moment
 turns_end S log at [] disk turns = turns.1
 turns_end S log at (event ∷ events) disk turns = omega (arith, turns.1, turns_end S (step S log event) event.moment events disk turns.2)
 
-turns_late : (S : ℕ) (log : List Entry) (from at : ℕ) (events : List Event) (disk : DiskState) → from ≤ at → GoesTurnByTurn S log at events disk
+turns_late : (S : Geometry) (log : List Entry) (from at : ℕ) (events : List Event) (disk : DiskState) → from ≤ at → GoesTurnByTurn S log at events disk
     → AllByRecursion (λ event. from ≤ event.moment) events
 turns_late S log from at [] disk low turns = tt
 turns_late S log from at (event ∷ events) disk low turns =
@@ -111,7 +112,7 @@ turns_late S log from at (event ∷ events) disk low turns =
     (later, turns_late S (step S log event) from event.moment events disk later turns.2)
 
 -- turns behind turns
-turns_then : (S : ℕ) (log : List Entry) (at : ℕ) (first second : List Event) (mid new : DiskState) (P : Files → Type 0) → Throughout mid new P
+turns_then : (S : Geometry) (log : List Entry) (at : ℕ) (first second : List Event) (mid new : DiskState) (P : Files → Type 0) → Throughout mid new P
     → GoesTurnByTurn S log at first mid → GoesTurnByTurn S (run S log first) mid.moment second new → GoesTurnByTurn S log at (first ++ second) new
 turns_then S log at [] [] mid new P so_far one two = ((λ files image. one.0 files (so_far.past at files one.1 image)), omega (arith, one.1, two.1))
 turns_then S log at [] (event ∷ second) mid new P so_far one two = ((λ files image. one.0 files (so_far.past at files one.1 image)), omega (arith, one.1, two.1), two.2)
@@ -123,12 +124,12 @@ late_before : (moment : ℕ) (o : Option Entry) (at : ℕ) (more : List Flushed)
 late_before moment None at more le each = each
 late_before moment (Some r) at more le each = (le, each)
 
-late_flushed : (S : ℕ) (log : List Entry) (moment : ℕ) (events : List Event) → AllByRecursion (λ event. moment ≤ event.moment) events → AllByRecursion (λ d. moment ≤ d.moment) (flushed_of S log events)
+late_flushed : (S : Geometry) (log : List Entry) (moment : ℕ) (events : List Event) → AllByRecursion (λ event. moment ≤ event.moment) events → AllByRecursion (λ d. moment ≤ d.moment) (flushed_of S log events)
 late_flushed S log moment [] late = tt
 late_flushed S log moment (event ∷ events) late =
     late_before moment (appended S log event) event.moment (flushed_of S (step S log event) events) late.0 (late_flushed S (step S log event) moment events late.1)
 
-flushes_events : (S : ℕ) (log : List Entry) (first second : List Event) (old mid new : DiskState) → Flushes S log (length log) (flushed_of S log first) old mid
+flushes_events : (S : Geometry) (log : List Entry) (first second : List Event) (old mid new : DiskState) → Flushes S log (length log) (flushed_of S log first) old mid
     → Flushes S (run S log first) (length (run S log first)) (flushed_of S (run S log first) second) mid new → GoesTurnByTurn S (run S log first) mid.moment second new
     → Flushes S log (length log) (flushed_of S log (first ++ second)) old new
 flushes_events S log first second old mid new one two turns =
@@ -139,7 +140,7 @@ flushes_events S log first second old mid new one two turns =
     (flushes_then S log (length log) (flushed_of S log first) (flushed_of S (run S log first) second) old mid new one here (late_flushed S (run S log first) mid.moment second late))
 
 -- events behind events
-pub goes_on_then : (S : ℕ) (log : List Entry) (first second : List Event) (old mid new : OpenLog) → GoesOn S log first old mid → GoesOn S (run S log first) second mid new
+pub goes_on_then : (S : Geometry) (log : List Entry) (first second : List Event) (old mid new : OpenLog) → GoesOn S log first old mid → GoesOn S (run S log first) second mid new
     → GoesOn S log (first ++ second) old new
 goes_on_then S log first second old mid new one two = record {
   flushes = flushes_events S log first second old.disk mid.disk new.disk one.flushes two.flushes two.turns;
@@ -148,7 +149,7 @@ goes_on_then S log first second old mid new one two = record {
 }
 
 -- and then one whose flush failed
-pub stays_then : (S : ℕ) (log : List Entry) (first second last : List Event) (old mid new : OpenLog) → GoesOn S log first old mid → Stays S (run S log first) second last mid new
+pub stays_then : (S : Geometry) (log : List Entry) (first second last : List Event) (old mid new : OpenLog) → GoesOn S log first old mid → Stays S (run S log first) second last mid new
     → Stays S log (first ++ second) last old new
 stays_then S log first second last old mid new one two =
     let all : run S log ((first ++ second) ++ last) ≡ run S (run S log first) (second ++ last) = ap (λ (l : List Event). run S log l) (append_assoc first second last) ∙ run-append S log first (second ++ last) in
@@ -163,18 +164,18 @@ stays_then S log first second last old mid new one two =
 -- ---- one event
 
 -- nothing has come yet
-pub flushes_none : (S : ℕ) (log : List Entry) (at : OpenLog) → IsStored S log at → Flushes S log (length log) [] at.disk at.disk
+pub flushes_none : (S : Geometry) (log : List Entry) (at : OpenLog) → IsStored S log at → Flushes S log (length log) [] at.disk at.disk
 flushes_none S log at stored =
     let all : take (length log) log ≡ log = take_all (length log) log (omega arith) in
     flushes_start log (omega arith) (subst (λ (l : List Entry). Throughout at.disk at.disk (HasRecords S l)) (sym all) (at_start at.disk (HasRecords S log) (each_stored stored)))
 
 -- a call in which nothing was flushed
-pub flushes_quiet : (S : ℕ) (log : List Entry) (old : OpenLog) (new : DiskState) → IsStored S log old → Throughout old.disk new (HasRecords S log) → Flushes S log (length log) [] old.disk new
+pub flushes_quiet : (S : Geometry) (log : List Entry) (old : OpenLog) (new : DiskState) → IsStored S log old → Throughout old.disk new (HasRecords S log) → Flushes S log (length log) [] old.disk new
 flushes_quiet S log old new stored kept =
     flushes_on (flushes_none S log old stored) (subst (λ (l : List Entry). Throughout old.disk new (HasRecords S l)) (sym (append-nil log)) kept)
 
 -- a call at whose end this record is flushed, if there is one
-pub flushes_one : (S : ℕ) (log : List Entry) (o : Option Entry) (old new : OpenLog) → IsStored S log old → Throughout old.disk new.disk (HasRecords S log) → IsStored S (with_record log o) new
+pub flushes_one : (S : Geometry) (log : List Entry) (o : Option Entry) (old new : OpenLog) → IsStored S log old → Throughout old.disk new.disk (HasRecords S log) → IsStored S (with_record log o) new
     → Flushes S log (length log) (flushed_before o new.disk.moment []) old.disk new.disk
 flushes_one S log None old new stored kept then = flushes_quiet S log old new.disk stored kept
 flushes_one S log (Some r) old new stored kept then =
@@ -183,5 +184,5 @@ flushes_one S log (Some r) old new stored kept then =
     (subst (λ (l : List Entry). EachImage (HasRecords S (l ++ r ∷ [])) new.disk) (sym same) (each_stored then))
 
 -- the log that an open one stores
-pub stored_log : (S : ℕ) (log : List Entry) (at : OpenLog) → IsStored S log at → StoresLog S log (length log) at.disk
+pub stored_log : (S : Geometry) (log : List Entry) (at : OpenLog) → IsStored S log at → StoresLog S log (length log) at.disk
 stored_log S log at stored = record { shape = shape_of S log; reach = used (shape_of S log); at = stored.writes.stores }

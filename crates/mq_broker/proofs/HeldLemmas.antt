@@ -20,6 +20,7 @@ use Rattle.mq_broker.specs.declared.stop.Stop.TheVariants as stops
 use Rattle.mq_broker.specs.declared.stop.Halt.{Halt}
 use Rattle.mq_broker.specs.declared.stop.Halt.TheVariants.{BadFrame, Read, Stopped}
 use Rattle.mq_broker.proofs.ProgressLemmas.{ran_then, ended_then, memory_then}
+use Rattle.log_model.specs.Bases.{Geometry}
 
 -- ---- a frame is never empty
 
@@ -51,7 +52,7 @@ begins_gave from old new frames frame begins is =
     let place : old.at + (length old.bytes - length new.bytes) ≡ new.at = omega (arith, is.1, next_shorter old.at old.bytes frame new.bytes is.0) in
     subst (λ (at : ℕ). BeginsWith from.at from.bytes (frames ++ frame ∷ []) at new.bytes) place (begins_next from.at from.bytes frames old.at old.bytes frame new.bytes begins is.0)
 
-pub served_more : (S : ℕ) (log : List Entry) (from old new : Held) (frame : Frame) (tells : Tells) (first mid last : Point) (served : ServedHeld S log from old tells first mid)
+pub served_more : (S : Geometry) (log : List Entry) (from old new : Held) (frame : Frame) (tells : Tells) (first mid last : Point) (served : ServedHeld S log from old tells first mid)
     → NextIs old (Ok (Some frame)) new → Ran S (run S log served.ran.events) (frame ∷ []) tells mid last → ServedHeld S log from new tells first last
 served_more S log from old new frame tells first mid last served is ran = record {
   frames = served.frames ++ frame ∷ [];
@@ -59,7 +60,7 @@ served_more S log from old new frame tells first mid last served is ran = record
   ran = ran_then S log served.frames (frame ∷ []) tells first mid last served.ran ran;
 }
 
-pub ended_more : (stop : Stop) (S : ℕ) (log : List Entry) (from old new : Held) (frame : Frame) (tells : Tells) (first mid last : Point) (served : ServedHeld S log from old tells first mid)
+pub ended_more : (stop : Stop) (S : Geometry) (log : List Entry) (from old new : Held) (frame : Frame) (tells : Tells) (first mid last : Point) (served : ServedHeld S log from old tells first mid)
     → NextIs old (Ok (Some frame)) new → mid.devices.faults.disk ≡ first.devices.faults.disk → Ended stop S (run S log served.ran.events) (frame ∷ []) tells mid last
     → EndedHeld stop S log from new tells first last
 ended_more stop S log from old new frame tells first mid last served is same ended = record {
@@ -70,7 +71,7 @@ ended_more stop S log from old new frame tells first mid last served is same end
 
 -- ---- no frame
 
-out_of_memory : (S : ℕ) (log : List Entry) (from held : Held) (tells : Tells) (old new : Point) → ServedHeld S log from held tells old new → new.devices.faults.disk ≡ old.devices.faults.disk
+out_of_memory : (S : Geometry) (log : List Entry) (from held : Held) (tells : Tells) (old new : Point) → ServedHeld S log from held tells old new → new.devices.faults.disk ≡ old.devices.faults.disk
     → EndedHeld stops.Memory S log from held tells old new
 out_of_memory S log from held tells old new served same = record {
   frames = served.frames ++ [];
@@ -78,7 +79,7 @@ out_of_memory S log from held tells old new served same = record {
   ended = memory_then S log served.frames tells old new served.ran same;
 }
 
-pub halted_by_frame : (halt : Halt) (S : ℕ) (log : List Entry) (from old new : Held) (tells : Tells) (first last : Point) → NextFrame old (Err halt) new
+pub halted_by_frame : (halt : Halt) (S : Geometry) (log : List Entry) (from old new : Held) (tells : Tells) (first last : Point) → NextFrame old (Err halt) new
     → last.devices.faults.disk ≡ first.devices.faults.disk → ServedHeld S log from old tells first last → ServesHeld (Err halt) S log from new tells first last
 halted_by_frame (BadFrame place) S log from old new tells first last none same served =
     subst (λ (held : Held). ServedHeld S log from held tells first last × FaultAt place held) (sym none.1) (served, none.0)

@@ -8,6 +8,7 @@ use Rattle.remoting_frame.specs.Streams.{BeginsWith}
 use Rattle.remoting_frame.specs.declared.frame.Frame.{Frame}
 use Rattle.remoting_frame.proofs.StreamLaws.{begins_more}
 use Rattle.record_codec.specs.Entry.{Entry}
+use Rattle.log_model.specs.Bases.{Geometry}
 use Rattle.log_model.specs.Store.{StoresLog}
 use Rattle.log_writer.specs.declared.writer.LogWriter.{LogWriter}
 use Rattle.mq_broker.specs.Outcomes.{Event}
@@ -34,14 +35,14 @@ begins_then at bytes [] more mid end held rest first then =
 begins_then at bytes (frame ∷ frames) more mid end held rest first then = (first.0, first.1, begins_then (at + (length bytes - length first.0)) first.0 frames more mid end held rest first.2 then)
 
 -- no event's flush failed
-stays_of : (S : ℕ) (log : List Entry) (events : List Event) (old new : OpenLog) → GoesOn S log events old new → Stays S log events [] old new
+stays_of : (S : Geometry) (log : List Entry) (events : List Event) (old new : OpenLog) → GoesOn S log events old new → Stays S log events [] old new
 stays_of S log events old new on = record {
   flushes = on.flushes;
   turns = on.turns;
   stored = subst (λ (l : List Event). StoresLog S (run S log l) (length (run S log events)) new.disk) (sym (append-nil events)) (stored_log S (run S log events) new on.stored);
 }
 
-module _ (S : ℕ) (log : List Entry) (source : Type 0) (given : List ℕ) (tells : Tells) (old : Devices) (writer : LogWriter) where
+module _ (S : Geometry) (log : List Entry) (source : Type 0) (given : List ℕ) (tells : Tells) (old : Devices) (writer : LogWriter) where
   -- nothing was read
   pub so_far_start : (left : List ℕ) (held : Held) → held ≡ record { at = 0; bytes = [] } → StandsAt S log writer → SoFar S log 0 held (seen_of source given given left tells old old) writer writer
   so_far_start left held start stands = record {

@@ -7,6 +7,7 @@ use Rattle.std.specs.List.{AllByRecursion}
 use Rattle.mq_outside.specs.Disk.{Throughout}
 use Rattle.record_codec.specs.Entry.{Entry}
 use Rattle.remoting_frame.specs.declared.frame.Frame.{Frame}
+use Rattle.log_model.specs.Bases.{Geometry}
 use Rattle.log_model.specs.Store.{StoresLog}
 use Rattle.segment_files.specs.Turn.{HasRecords}
 use Rattle.log_writer.specs.Durable.{Flushes}
@@ -28,7 +29,7 @@ abbrev pub event_of : Frame → ℕ → Answer → Point → Event
 event_of frame reading answer at = record { request = frame; reading = reading; outcome = outcome_of answer; moment = at.devices.disk.moment }
 
 -- A request was carried out at this reading: what its answer says of the log and of the disk.
-pub record Carried (S : ℕ) (log : List Entry) (frame : Frame) (reading : ℕ) (answer : Answer) (tells : Tells) (old new : Point) : Type 0 where
+pub record Carried (S : Geometry) (log : List Entry) (frame : Frame) (reading : ℕ) (answer : Answer) (tells : Tells) (old new : Point) : Type 0 where
   pub request : is_response frame.header ≡ false
   pub stands : StandsAt S (step S log (event_of frame reading answer new)) new.writer
   pub says : IsAnswer answer (reply_to S log (event_of frame reading answer new)) (appended S log (event_of frame reading answer new))
@@ -54,7 +55,7 @@ if_failed (NotFlushed place count) P failed h = h
 if_failed NoMemory P failed h = absurd failed
 
 -- the event's record is flushed at its end
-one_goes_on : (S : ℕ) (log : List Entry) (event : Event) (old new : OpenLog) → event.moment ≡ new.disk.moment → IsStored S log old → Throughout old.disk new.disk (HasRecords S log)
+one_goes_on : (S : Geometry) (log : List Entry) (event : Event) (old new : OpenLog) → event.moment ≡ new.disk.moment → IsStored S log old → Throughout old.disk new.disk (HasRecords S log)
     → IsStored S (step S log event) new → GoesOn S log (event ∷ []) old new
 one_goes_on S log event old new now before kept stored = record {
   flushes = subst (λ (m : ℕ). Flushes S log (length log) (flushed_before (appended S log event) m []) old.disk new.disk) (sym now) (flushes_one S log (appended S log event) old new before kept stored);
@@ -67,11 +68,11 @@ one_goes_on S log event old new now before kept stored = record {
 }
 
 -- the same where nothing comes behind it
-one_stays : (S : ℕ) (log : List Entry) (event : Event) (old new : OpenLog) → GoesOn S log (event ∷ []) old new → Stays S log (event ∷ []) [] old new
+one_stays : (S : Geometry) (log : List Entry) (event : Event) (old new : OpenLog) → GoesOn S log (event ∷ []) old new → Stays S log (event ∷ []) [] old new
 one_stays S log event old new on = record { flushes = on.flushes; turns = on.turns; stored = stored_log S (step S log event) new on.stored }
 
 -- the flush of the event's record failed
-one_fails : (S : ℕ) (log : List Entry) (event : Event) (old new : OpenLog) → IsStored S log old → Throughout old.disk new.disk (HasRecords S log)
+one_fails : (S : Geometry) (log : List Entry) (event : Event) (old new : OpenLog) → IsStored S log old → Throughout old.disk new.disk (HasRecords S log)
     → StoresLog S (step S log event) (length log) new.disk → Stays S log [] (event ∷ []) old new
 one_fails S log event old new before kept stored = record {
   flushes = flushes_quiet S log old new.disk before kept;
@@ -80,7 +81,7 @@ one_fails S log event old new before kept stored = record {
 }
 
 -- nothing was carried out
-none_stays : (S : ℕ) (log : List Entry) (at : OpenLog) → IsStored S log at → Stays S log [] [] at at
+none_stays : (S : Geometry) (log : List Entry) (at : OpenLog) → IsStored S log at → Stays S log [] [] at at
 none_stays S log at stored = record { flushes = flushes_none S log at stored; turns = (exact_now S log at stored, omega arith); stored = stored_log S log at stored }
 
 fine_or_failed : (answer : Answer) → IsFineOutcome (outcome_of answer) ⊎ HasFailed answer
@@ -116,7 +117,7 @@ no_reason stops.Sink last faults faults_then counts = tt
 no_reason stops.Memory last faults faults_then counts = tt
 
 -- the flush of the request's record failed
-failed_of : (S : ℕ) (log : List Entry) (frame : Frame) (reading : ℕ) (answer : Answer) (tells : Tells) (old new : Point) → HasFailed answer → Carried S log frame reading answer tells old new
+failed_of : (S : Geometry) (log : List Entry) (frame : Frame) (reading : ℕ) (answer : Answer) (tells : Tells) (old new : Point) → HasFailed answer → Carried S log frame reading answer tells old new
     → Failed S log old.devices.faults.disk new.devices.faults.disk (event_of frame reading answer new)
 failed_of S log frame reading (Told reply) tells old new failed done = absurd failed
 failed_of S log frame reading (Sent place) tells old new failed done = absurd failed
@@ -128,7 +129,7 @@ failed_of S log frame reading (NotFlushed place count) tells old new failed done
   rises = done.counts.0;
 }
 
-module _ (S : ℕ) (log : List Entry) (frame : Frame) (reading : ℕ) (answer : Answer) (tells : Tells) (old new : Point) (done : Carried S log frame reading answer tells old new) where
+module _ (S : Geometry) (log : List Entry) (frame : Frame) (reading : ℕ) (answer : Answer) (tells : Tells) (old new : Point) (done : Carried S log frame reading answer tells old new) where
   on : IsFineOutcome (outcome_of answer) → tells.disk → IsStored S log (log_at old) → GoesOn S log (event_of frame reading answer new ∷ []) (log_at old) (log_at new)
   on fine told before =
       one_goes_on S log (event_of frame reading answer new) (log_at old) (log_at new) refl before (done.kept told before) (unless_failed answer _ fine (done.flushed told before))
@@ -217,7 +218,7 @@ module _ (S : ℕ) (log : List Entry) (frame : Frame) (reading : ℕ) (answer : 
   one_or_ended (Err stop) fine failed answered = ended_by_disk stop failed.0 failed.1 answered
 
 -- the clock failed, and nothing was carried out
-pub ended_by_clock : (S : ℕ) (log : List Entry) (frame : Frame) (tells : Tells) (old : Point) (readings_then : List ℕ) (clock_then : ℕ)
+pub ended_by_clock : (S : Geometry) (log : List Entry) (frame : Frame) (tells : Tells) (old : Point) (readings_then : List ℕ) (clock_then : ℕ)
     → is_response frame.header ≡ false → (tells.clock → readings_then ≡ old.devices.readings)
     → Ended stops.Clock S log (frame ∷ []) tells old
     (point_of old.writer (devices_of old.devices.taken old.devices.disk readings_then (faults_of old.devices.faults.sink old.devices.faults.disk clock_then)))
@@ -236,7 +237,7 @@ ended_by_clock S log frame tells old readings_then clock_then request still = re
 
 -- ---- one run behind another
 
-pub written-append : (S : ℕ) (log : List Entry) (first second : List Event) → written S log (first ++ second) ≡ written S log first ++ written S (run S log first) second
+pub written-append : (S : Geometry) (log : List Entry) (first second : List Event) → written S log (first ++ second) ≡ written S log first ++ written S (run S log first) second
 written-append S log [] second = refl
 written-append S log (event ∷ first) second =
     ap (λ (l : List ℕ). written_for S log event ++ l) (written-append S (step S log event) first second)
@@ -253,7 +254,7 @@ asked_both first second frames more one other =
     ∙ ap (λ (l : List Frame). requests_of frames ++ l) other ∙ sym (filter-append (λ frame. not (is_response frame.header)) frames more)
 
 -- one run behind another
-pub ran_then : (S : ℕ) (log : List Entry) (frames more : List Frame) (tells : Tells) (old mid new : Point) (first : Ran S log frames tells old mid)
+pub ran_then : (S : Geometry) (log : List Entry) (frames more : List Frame) (tells : Tells) (old mid new : Point) (first : Ran S log frames tells old mid)
     → Ran S (run S log first.events) more tells mid new → Ran S log (frames ++ more) tells old new
 ran_then S log frames more tells old mid new first then = record {
   events = first.events ++ then.events;
@@ -270,7 +271,7 @@ ran_then S log frames more tells old mid new first then = record {
 }
 
 -- nothing was done
-pub ran_nothing : (S : ℕ) (log : List Entry) (frames : List Frame) (tells : Tells) (at : Point) → requests_of frames ≡ [] → StandsAt S log at.writer → Ran S log frames tells at at
+pub ran_nothing : (S : Geometry) (log : List Entry) (frames : List Frame) (tells : Tells) (at : Point) → requests_of frames ≡ [] → StandsAt S log at.writer → Ran S log frames tells at at
 ran_nothing S log frames tells at none stands = record {
   events = [];
   asked = sym none;
@@ -282,13 +283,13 @@ ran_nothing S log frames tells at none stands = record {
 }
 
 -- a response is skipped
-pub ran_skip : (S : ℕ) (log : List Entry) (frame : Frame) (tells : Tells) (at : Point) → is_response frame.header ≡ true → StandsAt S log at.writer → Ran S log (frame ∷ []) tells at at
+pub ran_skip : (S : Geometry) (log : List Entry) (frame : Frame) (tells : Tells) (at : Point) → is_response frame.header ≡ true → StandsAt S log at.writer → Ran S log (frame ∷ []) tells at at
 ran_skip S log frame tells at response stands =
     let none : requests_of (frame ∷ []) ≡ [] = rw response refl in
     ran_nothing S log (frame ∷ []) tells at none stands
 
 -- a run that ended behind another
-pub ended_then : (stop : Stop) (S : ℕ) (log : List Entry) (frames more : List Frame) (tells : Tells) (old mid new : Point) (first : Ran S log frames tells old mid)
+pub ended_then : (stop : Stop) (S : Geometry) (log : List Entry) (frames more : List Frame) (tells : Tells) (old mid new : Point) (first : Ran S log frames tells old mid)
     → mid.devices.faults.disk ≡ old.devices.faults.disk → Ended stop S (run S log first.events) more tells mid new → Ended stop S log (frames ++ more) tells old new
 ended_then stop S log frames more tells old mid new first same then =
     let joined = append_assoc first.events then.events then.last in
@@ -326,7 +327,7 @@ ended_then stop S log frames more tells old mid new first same then =
     }
 
 -- there was no memory, and nothing was carried out
-pub ended_by_memory : (S : ℕ) (log : List Entry) (tells : Tells) (at : Point) → Ended stops.Memory S log [] tells at at
+pub ended_by_memory : (S : Geometry) (log : List Entry) (tells : Tells) (at : Point) → Ended stops.Memory S log [] tells at at
 ended_by_memory S log tells at = record {
   events = [];
   last = [];
@@ -341,6 +342,6 @@ ended_by_memory S log tells at = record {
 }
 
 -- and so behind a run
-pub memory_then : (S : ℕ) (log : List Entry) (frames : List Frame) (tells : Tells) (old new : Point) → Ran S log frames tells old new → new.devices.faults.disk ≡ old.devices.faults.disk
+pub memory_then : (S : Geometry) (log : List Entry) (frames : List Frame) (tells : Tells) (old new : Point) → Ran S log frames tells old new → new.devices.faults.disk ≡ old.devices.faults.disk
     → Ended stops.Memory S log (frames ++ []) tells old new
 memory_then S log frames tells old new ran same = ended_then stops.Memory S log frames [] tells old new new ran same (ended_by_memory S (run S log ran.events) tells new)

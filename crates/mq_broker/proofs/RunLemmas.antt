@@ -4,6 +4,7 @@ use Rattle.mq_outside.specs.Files.{Files, Same}
 use Rattle.mq_outside.specs.Disk.{DiskState, EachImage, Moves, Rests, Throughout}
 use Rattle.mq_outside.proofs.Moments.{each_same, at_start, goes_on, weaker, chained, rests_start, rests_call, rests_then}
 use Rattle.record_codec.specs.Entry.{Entry}
+use Rattle.log_model.specs.Bases.{Geometry, whole}
 use Rattle.log_model.specs.Log.{IsWellFormed}
 use Rattle.log_model.specs.Store.{Keeps, IsDamagedAt, IsHonest, StoresLog}
 use Rattle.segment_files.specs.Turn.{HasRecords}
@@ -29,29 +30,29 @@ use Rattle.mq_broker.proofs.FlushLemmas.{log_with-append, flushed_of-append, log
 -- ---- the opening
 
 -- each image of a disk that stores a log has what is flushed of it
-each_has : (S : ℕ) (stored : List Entry) (flushed : ℕ) (disk : DiskState) → StoresLog S stored flushed disk → EachImage (HasRecords S (take flushed stored)) disk
+each_has : (S : Geometry) (stored : List Entry) (flushed : ℕ) (disk : DiskState) → StoresLog S stored flushed disk → EachImage (HasRecords S (take flushed stored)) disk
 each_has S stored flushed disk stores = record {
   at = λ files image. record { shape = stores.shape; reach = stores.reach; laid = stores.at.laid; stands = stores.at.each.at files image };
 }
 
 -- which a crash leaves
-leaves_front : (S : ℕ) (stored : List Entry) (flushed : ℕ) (files : Files) → IsWellFormed S stored → flushed ≤ length stored → HasRecords S (take flushed stored) files → Leaves S stored flushed files
+leaves_front : (S : Geometry) (stored : List Entry) (flushed : ℕ) (files : Files) → IsWellFormed S stored → flushed ≤ length stored → HasRecords S (take flushed stored) files → Leaves S stored flushed files
 leaves_front S stored flushed files well within has =
     let first : HasFirst S stored flushed files = record { number = flushed; low = omega arith; high = within; has = has } in
     record { has = first; keeps = first_keeps S stored flushed files well first }
 
 -- a call that changes nothing
-pub stores_same : (S : ℕ) (stored : List Entry) (flushed : ℕ) (old new : DiskState) → Moves Same old new → StoresLog S stored flushed old → StoresLog S stored flushed new
+pub stores_same : (S : Geometry) (stored : List Entry) (flushed : ℕ) (old new : DiskState) → Moves Same old new → StoresLog S stored flushed old → StoresLog S stored flushed new
 stores_same S stored flushed old new moves stores = record {
   shape = stores.shape;
   reach = stores.reach;
   at = record { well_formed = stores.at.well_formed; within = stores.at.within; laid = stores.at.laid; each = each_same moves stores.at.each };
 }
 
-pub honest_same : (S : ℕ) (stored : List Entry) (flushed : ℕ) (old new : DiskState) → Moves Same old new → IsHonest S stored flushed old.reads → IsHonest S stored flushed new.reads
+pub honest_same : (S : Geometry) (stored : List Entry) (flushed : ℕ) (old new : DiskState) → Moves Same old new → IsHonest S stored flushed old.reads → IsHonest S stored flushed new.reads
 honest_same S stored flushed old new moves honest = subst (λ (files : Files). IsHonest S stored flushed files) (sym moves.reads) honest
 
-pub leaves_from : (S : ℕ) (stored : List Entry) (flushed : ℕ) (old mid new : DiskState) → Moves Same old mid → StoresLog S stored flushed old → Throughout mid new (HasRecords S (take flushed stored))
+pub leaves_from : (S : Geometry) (stored : List Entry) (flushed : ℕ) (old mid new : DiskState) → Moves Same old mid → StoresLog S stored flushed old → Throughout mid new (HasRecords S (take flushed stored))
     → Throughout old new (Leaves S stored flushed)
 leaves_from S stored flushed old mid new moves stores has =
     let each = each_has S stored flushed old stores in
@@ -60,12 +61,12 @@ leaves_from S stored flushed old mid new moves stores has =
 
 -- ---- what every crash leaves
 
-more_of : (S : ℕ) (log : List Entry) (events last : List Event) → log_with log (flushed_of S log events) ++ entries_of (flushed_of S (run S log events) last) ≡ run S log (events ++ last)
+more_of : (S : Geometry) (log : List Entry) (events last : List Event) → log_with log (flushed_of S log events) ++ entries_of (flushed_of S (run S log events) last) ≡ run S log (events ++ last)
 more_of S log events last =
     log_with-append log (flushed_of S log events) (flushed_of S (run S log events) last)
     ∙ ap (λ (l : List Flushed). log_with log l) (sym (flushed_of-append S log events last)) ∙ log_with-flushed_of S log (events ++ last)
 
-pub survives : (S : ℕ) (stored : List Entry) (flushed : ℕ) (log : List Entry) (events last : List Event) (old : DiskState) (opened closed : OpenLog)
+pub survives : (S : Geometry) (stored : List Entry) (flushed : ℕ) (log : List Entry) (events last : List Event) (old : DiskState) (opened closed : OpenLog)
     → Throughout old opened.disk (Leaves S stored flushed) → Stays S log events last opened closed → Survives S stored flushed log events last old closed.disk
 survives S stored flushed log events last old opened closed leaves stays =
     record {
@@ -92,9 +93,9 @@ seen_open seen disk faults = record {
   new = seen.new;
 }
 
-module _ (S : ℕ) (seen : Seen) (moved disk : DiskState) (faults : Faults) (opened writer : LogWriter) (result : Result (Unit {0}) Halt)
+module _ (S : Geometry) (seen : Seen) (moved disk : DiskState) (faults : Faults) (opened writer : LogWriter) (result : Result (Unit {0}) Halt)
     (same : faults.disk ≡ seen.old.faults.disk) (moves : seen.tells.disk → Moves Same seen.old.disk moved)
-    (piped : (S : ℕ) (log : List Entry) → StandsAt S log opened → Piped result S log (seen_open seen disk faults) opened writer) where
+    (piped : (S : Geometry) (log : List Entry) → StandsAt S log opened → Piped result S log (seen_open seen disk faults) opened writer) where
   from_log : (log : List Entry) (P : List Event → List Event → Type 0) → StandsAt S log opened
       → ((events last : List Event) → (seen.tells.disk → IsStored S log (open_log opened disk) → Stays S log events last (open_log opened disk) (open_log writer seen.new.disk)) → P events last)
       → RunFrom S log result seen P
@@ -150,23 +151,23 @@ both_told (Damaged place name) P Q p q = (p, q)
 both_told DiskFailed P Q p q = tt
 both_told NoMemory P Q p q = tt
 
-pub unrecovered : (asked : Option ℕ) (status : Status) (seen : Seen) (keep : KeepSeen) (mid : DiskState) (fault : RecoverFault) (S : ℕ)
-    → StatusTellsFault status fault → IsOpened asked S seen.tells.disk seen.old.disk.reads keep.tells keep.old keep.new → (seen.tells.disk → Moves Same seen.old.disk mid)
-    → (seen.tells.disk → OnDamage {A = LogWriter} (Err fault) (IsDamagedAt S mid.reads)) → (seen.tells.disk → OnDamage {A = LogWriter} (Err fault) (λ place name. Rests mid seen.new.disk))
-    → (seen.tells.disk → (stored : List Entry) (flushed : ℕ) → StoresLog S stored flushed mid → IsHonest S stored flushed mid.reads → StoresLog S stored flushed seen.new.disk)
-    → (seen.tells.disk → (stored : List Entry) (flushed : ℕ) → StoresLog S stored flushed mid → IsHonest S stored flushed mid.reads → Throughout mid seen.new.disk (HasRecords S (take flushed stored)))
+pub unrecovered : (asked : Option ℕ) (status : Status) (seen : Seen) (keep : KeepSeen) (mid : DiskState) (fault : RecoverFault) (segment : ℕ)
+    → StatusTellsFault status fault → IsOpened asked segment seen.tells.disk seen.old.disk.reads keep.tells keep.old keep.new → (seen.tells.disk → Moves Same seen.old.disk mid)
+    → (seen.tells.disk → OnDamage {A = LogWriter} (Err fault) (IsDamagedAt (whole segment) mid.reads)) → (seen.tells.disk → OnDamage {A = LogWriter} (Err fault) (λ place name. Rests mid seen.new.disk))
+    → (seen.tells.disk → (stored : List Entry) (flushed : ℕ) → StoresLog (whole segment) stored flushed mid → IsHonest (whole segment) stored flushed mid.reads → StoresLog (whole segment) stored flushed seen.new.disk)
+    → (seen.tells.disk → (stored : List Entry) (flushed : ℕ) → StoresLog (whole segment) stored flushed mid → IsHonest (whole segment) stored flushed mid.reads → Throughout mid seen.new.disk (HasRecords (whole segment) (take flushed stored)))
     → Unrecovered asked status seen keep
-unrecovered asked status seen keep mid fault S tells opened moves damaged rests still has = record {
+unrecovered asked status seen keep mid fault segment tells opened moves damaged rests still has = record {
   fault = fault;
   tells = tells;
-  segment = S;
+  segment = segment;
   opened = opened;
   damaged = λ told code.
-      let both = damage_told status fault (λ place name. IsDamagedAt S mid.reads place name × Rests mid seen.new.disk) tells (both_told fault _ _ (damaged told) (rests told)) code in
-      (subst (λ (files : Files). IsDamagedAt S files status.place status.name) (moves told).reads both.0, rests_then (rests_call (rests_start seen.old.disk) (moves told)) both.1);
+      let both = damage_told status fault (λ place name. IsDamagedAt (whole segment) mid.reads place name × Rests mid seen.new.disk) tells (both_told fault _ _ (damaged told) (rests told)) code in
+      (subst (λ (files : Files). IsDamagedAt (whole segment) files status.place status.name) (moves told).reads both.0, rests_then (rests_call (rests_start seen.old.disk) (moves told)) both.1);
   stores = λ told stored flushed stores honest.
-      still told stored flushed (stores_same S stored flushed seen.old.disk mid (moves told) stores) (honest_same S stored flushed seen.old.disk mid (moves told) honest);
+      still told stored flushed (stores_same (whole segment) stored flushed seen.old.disk mid (moves told) stores) (honest_same (whole segment) stored flushed seen.old.disk mid (moves told) honest);
   leaves = λ told stored flushed stores honest.
-      leaves_from S stored flushed seen.old.disk mid seen.new.disk (moves told) stores
-      (has told stored flushed (stores_same S stored flushed seen.old.disk mid (moves told) stores) (honest_same S stored flushed seen.old.disk mid (moves told) honest));
+      leaves_from (whole segment) stored flushed seen.old.disk mid seen.new.disk (moves told) stores
+      (has told stored flushed (stores_same (whole segment) stored flushed seen.old.disk mid (moves told) stores) (honest_same (whole segment) stored flushed seen.old.disk mid (moves told) honest));
 }

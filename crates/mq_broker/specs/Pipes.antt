@@ -18,6 +18,7 @@ use Rattle.mq_broker.specs.declared.stop.Stop.{Stop}
 use Rattle.mq_broker.specs.declared.stop.Stop.TheVariants.{Memory as OutOfMemory}
 use Rattle.mq_broker.specs.declared.stop.Halt.{Halt}
 use Rattle.mq_broker.specs.declared.stop.Halt.TheVariants.{BadFrame, Read, Stopped}
+use Rattle.log_model.specs.Bases.{Geometry}
 
 -- the frame that starts there is none
 abbrev pub IsFaultAt : ℕ → FrameFault → Type 0
@@ -33,19 +34,19 @@ pub record FaultAt (place : ℕ) (held : Held) : Type 0 where
   pub at : IsFaultAt place fault
 
 -- the frames at the front of what was held were served
-pub record ServedHeld (S : ℕ) (log : List Entry) (held held_then : Held) (tells : Tells) (old new : Point) : Type 0 where
+pub record ServedHeld (S : Geometry) (log : List Entry) (held held_then : Held) (tells : Tells) (old new : Point) : Type 0 where
   pub frames : List Frame
   pub cut : BeginsWith held.at held.bytes frames held_then.at held_then.bytes
   pub ran : Ran S log frames tells old new
 
 -- the same where this ended the reading at one of them
-pub record EndedHeld (stop : Stop) (S : ℕ) (log : List Entry) (held held_then : Held) (tells : Tells) (old new : Point) : Type 0 where
+pub record EndedHeld (stop : Stop) (S : Geometry) (log : List Entry) (held held_then : Held) (tells : Tells) (old new : Point) : Type 0 where
   pub frames : List Frame
   pub cut : BeginsWith held.at held.bytes frames held_then.at held_then.bytes
   pub ended : Ended stop S log frames tells old new
 
 -- what was served, by what ended it
-abbrev pub ServesHeld : Result (Unit {0}) Halt → ℕ → List Entry → Held → Held → Tells → Point → Point → Type 0
+abbrev pub ServesHeld : Result (Unit {0}) Halt → Geometry → List Entry → Held → Held → Tells → Point → Point → Type 0
 ServesHeld (Ok _) S log held held_then tells old new = ServedHeld S log held held_then tells old new
 ServesHeld (Err (BadFrame place)) S log held held_then tells old new = ServedHeld S log held held_then tells old new × FaultAt place held_then
 ServesHeld (Err Read) S log held held_then tells old new = ⊥
@@ -100,7 +101,7 @@ TookReplies (Err (Stopped stop)) taken taken_then bytes = Wrote stop taken taken
 
 -- A run from this log on: the bytes that were read are these frames and what stands behind them, the requests among the frames
 -- were carried out in order, and their replies were written. Of the events and of a last one whose flush failed this holds.
-pub record RunFrom (S : ℕ) (log : List Entry) (result : Result (Unit {0}) Halt) (seen : Seen) (holds : List Event → List Event → Type 0) : Type 0 where
+pub record RunFrom (S : Geometry) (log : List Entry) (result : Result (Unit {0}) Halt) (seen : Seen) (holds : List Event → List Event → Type 0) : Type 0 where
   pub bytes : List ℕ
   pub frames : List Frame
   pub at : ℕ
@@ -120,12 +121,12 @@ pub record RunFrom (S : ℕ) (log : List Entry) (result : Result (Unit {0}) Halt
   pub done : holds events last
 
 -- a run from this log on, which these writers began with and left
-abbrev pub Piped : Result (Unit {0}) Halt → ℕ → List Entry → Seen → LogWriter → LogWriter → Type 0
+abbrev pub Piped : Result (Unit {0}) Halt → Geometry → List Entry → Seen → LogWriter → LogWriter → Type 0
 Piped result S log seen writer writer_then = RunFrom S log result seen (λ events last. seen.tells.disk → IsStored S log (open_log writer seen.old.disk)
     → Stays S log events last (open_log writer seen.old.disk) (open_log writer_then seen.new.disk))
 
 -- So many bytes were read, all of their frames were served, and the rest is held.
-pub record SoFar (S : ℕ) (log : List Entry) (total : ℕ) (held : Held) (seen : Seen) (writer writer_then : LogWriter) : Type 0 where
+pub record SoFar (S : Geometry) (log : List Entry) (total : ℕ) (held : Held) (seen : Seen) (writer writer_then : LogWriter) : Type 0 where
   pub bytes : List ℕ
   pub frames : List Frame
   pub total_is : length bytes ≡ total

@@ -4,6 +4,7 @@ use Rattle.mq_outside.specs.Counts.{Rises}
 use Rattle.mq_outside.specs.Files.{Files}
 use Rattle.mq_outside.specs.Disk.{DiskState, Rests, Throughout}
 use Rattle.record_codec.specs.Entry.{Entry}
+use Rattle.log_model.specs.Bases.{Geometry, whole}
 use Rattle.log_model.specs.Store.{Keeps, IsDamagedAt, IsHonest, StoresLog, KeepsIfHonest}
 use Rattle.log_recovery.specs.declared.fault.RecoverFault.{RecoverFault}
 use Rattle.log_recovery.specs.declared.fault.RecoverFault.TheVariants.{Damaged, Failed as DiskFailed, Memory as NoMemory}
@@ -40,14 +41,14 @@ StatusTellsFault status NoMemory = status.code ≡ 7
 
 -- What a crash left of a log with at least so many records: the files have these at their places, and recovery keeps a prefix
 -- with these where they are honest.
-pub record Leaves (S : ℕ) (log : List Entry) (least : ℕ) (files : Files) : Type 0 where
+pub record Leaves (S : Geometry) (log : List Entry) (least : ℕ) (files : Files) : Type 0 where
   pub has : HasFirst S log least files
   pub keeps : KeepsIfHonest S log least files
 
 -- What every crash leaves of a store that had a log with so many records flushed, when a run from `log` on ended. Up to a moment
 -- it was being opened. From then on the events came turn by turn, and each record that an event flushed stays from the event's
 -- moment on.
-pub record Survives (S : ℕ) (stored : List Entry) (flushed : ℕ) (log : List Entry) (events last : List Event) (old new : DiskState) : Type 0 where
+pub record Survives (S : Geometry) (stored : List Entry) (flushed : ℕ) (log : List Entry) (events last : List Event) (old new : DiskState) : Type 0 where
   pub opened : ℕ
   pub later : old.moment ≤ opened
   pub turns : GoesTurnByTurn S log opened events new
@@ -57,14 +58,14 @@ pub record Survives (S : ℕ) (stored : List Entry) (flushed : ℕ) (log : List 
   pub stores : StoresLog S (run S log (events ++ last)) (length (run S log events)) new
 
 -- The run began with a prefix of the stored log that has all that was flushed, and every crash leaves what it flushed.
-pub record KeepsOn (S : ℕ) (stored : List Entry) (flushed : ℕ) (result : Result (Unit {0}) Halt) (seen : Seen) : Type 0 where
+pub record KeepsOn (S : Geometry) (stored : List Entry) (flushed : ℕ) (result : Result (Unit {0}) Halt) (seen : Seen) : Type 0 where
   pub number : ℕ
   pub low : flushed ≤ number
   pub high : number ≤ length stored
   pub ran : RunFrom S (take number stored) result seen (λ events last. Survives S stored flushed (take number stored) events last seen.old.disk seen.new.disk)
 
 -- The run began with what recovery keeps of the files as they were read.
-pub record BeginsWithKept (S : ℕ) (result : Result (Unit {0}) Halt) (seen : Seen) : Type 0 where
+pub record BeginsWithKept (S : Geometry) (result : Result (Unit {0}) Halt) (seen : Seen) : Type 0 where
   pub records : List Entry
   pub keeps : Keeps S records seen.old.disk.reads
   pub ran : RunFrom S records result seen (λ events last. Unit {0})
@@ -77,9 +78,9 @@ pub record Served (asked : Option ℕ) (status : Status) (seen : Seen) (keep : K
   pub tells : StatusTells status result
   pub segment : ℕ
   pub opened : IsOpened asked segment seen.tells.disk seen.old.disk.reads keep.tells keep.old keep.new
-  pub begins : seen.tells.disk → BeginsWithKept segment result seen
-  pub durable : seen.tells.disk → (stored : List Entry) (flushed : ℕ) → StoresLog segment stored flushed seen.old.disk → IsHonest segment stored flushed seen.old.disk.reads
-      → KeepsOn segment stored flushed result seen
+  pub begins : seen.tells.disk → BeginsWithKept (whole segment) result seen
+  pub durable : seen.tells.disk → (stored : List Entry) (flushed : ℕ) → StoresLog (whole segment) stored flushed seen.old.disk → IsHonest (whole segment) stored flushed seen.old.disk.reads
+      → KeepsOn (whole segment) stored flushed result seen
 
 -- nothing was read from the source or the clock, and nothing written to the sink
 pub record IsUntouched (seen : Seen) : Type 0 where
@@ -98,11 +99,11 @@ pub record Unrecovered (asked : Option ℕ) (status : Status) (seen : Seen) (kee
   pub tells : StatusTellsFault status fault
   pub segment : ℕ
   pub opened : IsOpened asked segment seen.tells.disk seen.old.disk.reads keep.tells keep.old keep.new
-  pub damaged : seen.tells.disk → status.code ≡ 8 → IsDamagedAt segment seen.old.disk.reads status.place status.name × Rests seen.old.disk seen.new.disk
-  pub stores : seen.tells.disk → (stored : List Entry) (flushed : ℕ) → StoresLog segment stored flushed seen.old.disk → IsHonest segment stored flushed seen.old.disk.reads
-      → StoresLog segment stored flushed seen.new.disk
-  pub leaves : seen.tells.disk → (stored : List Entry) (flushed : ℕ) → StoresLog segment stored flushed seen.old.disk → IsHonest segment stored flushed seen.old.disk.reads
-      → Throughout seen.old.disk seen.new.disk (Leaves segment stored flushed)
+  pub damaged : seen.tells.disk → status.code ≡ 8 → IsDamagedAt (whole segment) seen.old.disk.reads status.place status.name × Rests seen.old.disk seen.new.disk
+  pub stores : seen.tells.disk → (stored : List Entry) (flushed : ℕ) → StoresLog (whole segment) stored flushed seen.old.disk → IsHonest (whole segment) stored flushed seen.old.disk.reads
+      → StoresLog (whole segment) stored flushed seen.new.disk
+  pub leaves : seen.tells.disk → (stored : List Entry) (flushed : ℕ) → StoresLog (whole segment) stored flushed seen.old.disk → IsHonest (whole segment) stored flushed seen.old.disk.reads
+      → Throughout seen.old.disk seen.new.disk (Leaves (whole segment) stored flushed)
 
 -- The opening ended the call, or requests were served.
 abbrev pub HasCalled : Option ℕ → Status → Seen → KeepSeen → Type 0

@@ -3,6 +3,7 @@
 ghost use Rattle.std.specs.Prelude.{◌≡◌, ◌^◌, ◌<◌, List, ℕ, length};
 ghost use Rattle.mq_outside.specs.Disk.{Throughout};
 ghost use Rattle.record_codec.specs.Entry.{Entry};
+ghost use Rattle.log_model.specs.Bases.{Geometry};
 ghost use Rattle.log_model.specs.Store.{StoresLog};
 ghost use Rattle.segment_files.specs.Outside.{StaysOutside};
 ghost use Rattle.segment_files.specs.Turn.{HasRecords};
@@ -50,20 +51,20 @@ pub(crate) fn carry_out<D: Disk>(
     ensures open { CanGoOn D.tells writer.new (D.state disk.new) }
 
     // What is answered, and what the log is then.
-    ensures answer { (S : ℕ) (log : List Entry) → StandsAt S log writer.old
-        → IsAnswer result (reply_for S log reading (action_for S frame.now) (outcome_of result)) (appended_by S log reading (action_for S frame.now) (outcome_of result)) }
-    ensures stands { (S : ℕ) (log : List Entry) → StandsAt S log writer.old
-        → StandsAt S (with_record log (appended_by S log reading (action_for S frame.now) (outcome_of result))) writer.new }
+    ensures answer { (S : Geometry) (log : List Entry) → StandsAt S log writer.old
+        → IsAnswer result (reply_for S log reading (action_for S.size frame.now) (outcome_of result)) (appended_by S log reading (action_for S.size frame.now) (outcome_of result)) }
+    ensures stands { (S : Geometry) (log : List Entry) → StandsAt S log writer.old
+        → StandsAt S (with_record log (appended_by S log reading (action_for S.size frame.now) (outcome_of result))) writer.new }
     ensures cause { CountsFlush result (D.faults disk.old) (D.faults disk.new) }
     ensures outside { D.tells → StaysOutside (D.state disk.old) (D.state disk.new) }
 
     // A crash at any moment leaves what was flushed before, and what was flushed now once the answer says so.
-    ensures any_moment { D.tells → (S : ℕ) (log : List Entry) → Stores S log writer.old (D.state disk.old)
+    ensures any_moment { D.tells → (S : Geometry) (log : List Entry) → Stores S log writer.old (D.state disk.old)
         → Throughout (D.state disk.old) (D.state disk.new) (HasRecords S log) }
-    ensures flushed { D.tells → (S : ℕ) (log : List Entry) → Stores S log writer.old (D.state disk.old)
-        → UnlessFailed result (Stores S (with_record log (appended_by S log reading (action_for S frame.now) (outcome_of result))) writer.new (D.state disk.new)) }
-    ensures not_flushed { D.tells → (S : ℕ) (log : List Entry) → Stores S log writer.old (D.state disk.old)
-        → IfFailed result (StoresLog S (with_record log (appended_by S log reading (action_for S frame.now) (outcome_of result))) (length log) (D.state disk.new)) }
+    ensures flushed { D.tells → (S : Geometry) (log : List Entry) → Stores S log writer.old (D.state disk.old)
+        → UnlessFailed result (Stores S (with_record log (appended_by S log reading (action_for S.size frame.now) (outcome_of result))) writer.new (D.state disk.new)) }
+    ensures not_flushed { D.tells → (S : Geometry) (log : List Entry) → Stores S log writer.old (D.state disk.old)
+        → IfFailed result (StoresLog S (with_record log (appended_by S log reading (action_for S.size frame.now) (outcome_of result))) (length log) (D.state disk.new)) }
 {
     match action_of(alloc, writer.segment(), frame) {
         Err(_) => Answer::NoMemory,

@@ -9,6 +9,7 @@ ghost use Rattle.mq_broker.specs.Causes.{CountsHalt};
 ghost use Rattle.mq_broker.specs.Seen.{tells_of, faults_of, devices_of};
 ghost use Rattle.mq_broker.specs.Progress.{point_of, StandsAt};
 ghost use Rattle.mq_broker.specs.Pipes.{ServesHeld, NextFrame};
+ghost use Rattle.log_model.specs.Bases.{Geometry};
 
 use crate::broker::Broker;
 use crate::request::serve;
@@ -40,7 +41,7 @@ pub(crate) fn serve_held<K: Sink, D: Disk, C: Clock>(
     clock: &mut C,
 ) -> Result<(), Halt>
     requires open { CanGoOn D.tells broker.old.writer (D.state disk.old) }
-    ensures served { (S : ℕ) (log : List Entry) → StandsAt S log broker.old.writer → ServesHeld result S log cutter.old cutter.new (tells_of K.tells D.tells C.tells)
+    ensures served { (S : Geometry) (log : List Entry) → StandsAt S log broker.old.writer → ServesHeld result S log cutter.old cutter.new (tells_of K.tells D.tells C.tells)
         (point_of broker.old.writer (devices_of (K.taken sink.old) (D.state disk.old) (C.readings clock.old) (faults_of (K.faults sink.old) (D.faults disk.old) (C.faults clock.old))))
         (point_of broker.new.writer (devices_of (K.taken sink.new) (D.state disk.new) (C.readings clock.new) (faults_of (K.faults sink.new) (D.faults disk.new) (C.faults clock.new)))) }
     ensures waits { OnOk result (next_of cutter.new.at cutter.new.bytes ≡ Ok None) }

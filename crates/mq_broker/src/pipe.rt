@@ -9,6 +9,7 @@ ghost use Rattle.mq_broker.specs.Seen.{tells_of, faults_of, devices_of, seen_of}
 ghost use Rattle.mq_broker.specs.Progress.{StandsAt};
 ghost use Rattle.mq_broker.specs.Causes.{CountsPipe};
 ghost use Rattle.mq_broker.specs.Pipes.{Piped, EndsHere};
+ghost use Rattle.log_model.specs.Bases.{Geometry};
 
 use crate::broker::Broker;
 use crate::held::serve_held;
@@ -80,7 +81,7 @@ fn serve_stream<S: Source, K: Sink, D: Disk, C: Clock>(
     requires open { CanGoOn D.tells broker.old.writer (D.state disk.old) }
     requires room { 0 < length input.old }
     requires start { cutter.old ≡ record { at = 0; bytes = [] } }
-    ensures served { (segment : ℕ) (log : List Entry) → StandsAt segment log broker.old.writer → Piped result segment log
+    ensures served { (geometry : Geometry) (log : List Entry) → StandsAt geometry log broker.old.writer → Piped result geometry log
         (seen_of S.tells (S.given source.old) (S.given source.new) (S.left source.new) (tells_of K.tells D.tells C.tells)
         (devices_of (K.taken sink.old) (D.state disk.old) (C.readings clock.old) (faults_of (K.faults sink.old) (D.faults disk.old) (C.faults clock.old)))
         (devices_of (K.taken sink.new) (D.state disk.new) (C.readings clock.new) (faults_of (K.faults sink.new) (D.faults disk.new) (C.faults clock.new))))
@@ -121,7 +122,7 @@ pub(crate) fn serve_all<S: Source, K: Sink, D: Disk, C: Clock>(
     clock: &mut C,
 ) -> Result<(), Halt>
     requires open { CanGoOn D.tells broker.old.writer (D.state disk.old) }
-    ensures served { (segment : ℕ) (log : List Entry) → StandsAt segment log broker.old.writer → Piped result segment log
+    ensures served { (geometry : Geometry) (log : List Entry) → StandsAt geometry log broker.old.writer → Piped result geometry log
         (seen_of S.tells (S.given source.old) (S.given source.new) (S.left source.new) (tells_of K.tells D.tells C.tells)
         (devices_of (K.taken sink.old) (D.state disk.old) (C.readings clock.old) (faults_of (K.faults sink.old) (D.faults disk.old) (C.faults clock.old)))
         (devices_of (K.taken sink.new) (D.state disk.new) (C.readings clock.new) (faults_of (K.faults sink.new) (D.faults disk.new) (C.faults clock.new))))

@@ -12,6 +12,7 @@ ghost use Rattle.mq_broker.specs.declared.stop.Stop.TheVariants.{Disk};
 ghost use Rattle.mq_broker.specs.Causes.{CountsWrite, CountsStop};
 ghost use Rattle.mq_broker.specs.Seen.{tells_of, faults_of, devices_of};
 ghost use Rattle.mq_broker.specs.Progress.{point_of, StandsAt, Serves, IsFineOutcome};
+ghost use Rattle.log_model.specs.Bases.{Geometry};
 
 use crate::answer::Answer;
 use crate::broker::Broker;
@@ -94,7 +95,7 @@ fn serve_request<K: Sink, D: Disk, C: Clock>(
 ) -> Result<(), Stop>
     requires request { is_response_of frame.header ≡ false }
     requires open { CanGoOn D.tells broker.old.writer (D.state disk.old) }
-    ensures ran { (S : ℕ) (log : List Entry) → StandsAt S log broker.old.writer → Serves result S log (frame ∷ []) (tells_of K.tells D.tells C.tells)
+    ensures ran { (S : Geometry) (log : List Entry) → StandsAt S log broker.old.writer → Serves result S log (frame ∷ []) (tells_of K.tells D.tells C.tells)
         (point_of broker.old.writer (devices_of (K.taken sink.old) (D.state disk.old) (C.readings clock.old) (faults_of (K.faults sink.old) (D.faults disk.old) (C.faults clock.old))))
         (point_of broker.new.writer (devices_of (K.taken sink.new) (D.state disk.new) (C.readings clock.new) (faults_of (K.faults sink.new) (D.faults disk.new) (C.faults clock.new)))) }
     ensures open { CanGoOn D.tells broker.new.writer (D.state disk.new) }
@@ -131,7 +132,7 @@ pub(crate) fn serve<K: Sink, D: Disk, C: Clock>(
     frame: Frame,
 ) -> Result<(), Stop>
     requires open { CanGoOn D.tells broker.old.writer (D.state disk.old) }
-    ensures ran { (S : ℕ) (log : List Entry) → StandsAt S log broker.old.writer → Serves result S log (frame ∷ []) (tells_of K.tells D.tells C.tells)
+    ensures ran { (S : Geometry) (log : List Entry) → StandsAt S log broker.old.writer → Serves result S log (frame ∷ []) (tells_of K.tells D.tells C.tells)
         (point_of broker.old.writer (devices_of (K.taken sink.old) (D.state disk.old) (C.readings clock.old) (faults_of (K.faults sink.old) (D.faults disk.old) (C.faults clock.old))))
         (point_of broker.new.writer (devices_of (K.taken sink.new) (D.state disk.new) (C.readings clock.new) (faults_of (K.faults sink.new) (D.faults disk.new) (C.faults clock.new)))) }
     ensures open { CanGoOn D.tells broker.new.writer (D.state disk.new) }

@@ -4,6 +4,7 @@ use Rattle.mq_bytes.specs.Names.{log_file}
 use Rattle.mq_outside.specs.Files.{Files, Same, At}
 use Rattle.mq_outside.specs.Disk.{DiskState, Moves}
 use Rattle.mq_outside.proofs.Moments.{at_start, at_end, goes_on, each_step, each_same, weaker, chained}
+use Rattle.log_model.specs.Bases.{whole}
 use Rattle.log_model.specs.Segments.{IsLogFile}
 use Rattle.log_model.proofs.FileNames.{is_log_file}
 use Rattle.segment_files.specs.Outside.{IsOutsideOf, StaysOutside}
@@ -12,7 +13,7 @@ use Rattle.segment_files.specs.Outside.{IsOutsideOf, StaysOutside}
 pub in_folder : {name : List ℕ} (n : ℕ) → name ≡ log_file n → IsLogFile name
 in_folder n named =
     let once : 1 * n ≡ n = omega arith in
-    subst IsLogFile (ap log_file once ∙ sym named) (is_log_file n 1)
+    subst IsLogFile (ap log_file once ∙ sym named) (is_log_file (whole n) 1)
 
 -- before the first call
 pub outside_start : (disk : DiskState) → StaysOutside disk disk

@@ -9,7 +9,8 @@ use Rattle.mq_outside.specs.Disk.{DiskState, IsDurable, EachImage, Moves, Throug
 use Rattle.mq_outside.specs.Pieces.{HasPiece}
 use Rattle.mq_outside.proofs.Moments.{each_step, goes_on, at_end}
 use Rattle.record_codec.specs.Blanks.{blank_front}
-use Rattle.log_model.specs.Segments.{Shape, used, last_name}
+use Rattle.log_model.specs.Bases.{Geometry}
+use Rattle.log_model.specs.Segments.{Shape, used, last_name, next_segment}
 use Rattle.log_model.specs.Store.{Stands}
 use Rattle.log_model.proofs.FileNames.{IsNamed}
 use Rattle.log_model.proofs.Steps.{torn_stands}
@@ -75,23 +76,23 @@ torn_from start at n old new low torn =
     }
 
 -- a torn write somewhere behind the records, within the reach
-behind_stands : (S : ℕ) (shape : Shape) (reach : ℕ) (name : List ℕ) (at n : ℕ) (old new : Files) → IsBehind S shape name at → at + n ≤ reach
+behind_stands : (S : Geometry) (shape : Shape) (reach : ℕ) (name : List ℕ) (at n : ℕ) (old new : Files) → IsBehind S shape name at → at + n ≤ reach
     → At name (Torn at n) old new → Stands S shape reach old → Stands S shape reach new
 behind_stands S shape reach name at n old new behind low step stands =
-    let named : IsNamed S (length shape.older) = record { some = behind.some; low = behind.low } in
+    let named : IsNamed S (next_segment S shape.older) = record { some = behind.some; low = behind.low } in
     let here : At (last_name S shape) (Torn at n) old new = subst (λ (l : List ℕ). At l (Torn at n) old new) behind.named step in
     let whole : At (last_name S shape) (Torn (used shape) (at + n - used shape)) old new =
     record { here = torn_from (used shape) at n (old (last_name S shape)) (new (last_name S shape)) behind.behind here.here; others = here.others } in
     let most : max reach (used shape + (at + n - used shape)) ≡ reach = omega (arith, behind.behind, low) in
     subst (λ (r : ℕ). Stands S shape r new) most (torn_stands S shape reach (at + n - used shape) old new named whole stands)
 
-pub each_behind : {S : ℕ} {shape : Shape} {reach : ℕ} {name : List ℕ} {at n : ℕ} {old new : DiskState} → IsBehind S shape name at → at + n ≤ reach
+pub each_behind : {S : Geometry} {shape : Shape} {reach : ℕ} {name : List ℕ} {at n : ℕ} {old new : DiskState} → IsBehind S shape name at → at + n ≤ reach
     → Moves (At name (Torn at n)) old new → EachImage (Stands S shape reach) old → EachImage (Stands S shape reach) new
 each_behind {S = S} {shape = shape} {reach = reach} {name = name} {at = at} {n = n} behind low moves each =
     each_step moves (λ before after torn stands. behind_stands S shape reach name at n before after behind low torn stands) each
 
 -- one write more, at an offset that is no earlier
-pub writes_on : {S : ℕ} {shape : Shape} {reach : ℕ} {name : List ℕ} {at next n : ℕ} {first old new : DiskState} → IsBehind S shape name at → at ≤ next → next + n ≤ reach
+pub writes_on : {S : Geometry} {shape : Shape} {reach : ℕ} {name : List ℕ} {at next n : ℕ} {first old new : DiskState} → IsBehind S shape name at → at ≤ next → next + n ≤ reach
     → Moves (At name (Torn next n)) old new → Throughout first old (Stands S shape reach) → Throughout first new (Stands S shape reach)
 writes_on {S = S} {shape = shape} {name = name} {next = next} behind later low moves so_far =
     let there : IsBehind S shape name next = record { some = behind.some; low = behind.low; named = behind.named; behind = omega (arith, behind.behind, later) } in

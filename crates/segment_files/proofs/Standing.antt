@@ -9,6 +9,7 @@ use Rattle.record_codec.specs.Entry.{Entry}
 use Rattle.record_codec.specs.Layout.{layout, size, IsRecord}
 use Rattle.record_codec.proofs.Records.{no_prefix}
 use Rattle.record_codec.proofs.LayoutLengths.{length-layout}
+use Rattle.log_model.specs.Bases.{whole}
 use Rattle.log_model.specs.declared.fault.LoadFault.{LoadFault}
 use Rattle.log_model.specs.declared.fault.LoadFault.TheVariants.{Damaged, Failed, Memory}
 use Rattle.log_model.specs.Queues.{said_by, IsStored}
@@ -62,17 +63,17 @@ stored_whole r v bytes says long is whole fits =
 
 -- the file of this name is the one of the place, and from the offset on it has what stands there
 pub record Finds (S place : ℕ) (disk : DiskState) (offset : ℕ) (name : List ℕ) : Type 0 where
-  pub named : name ≡ segment_file S (place / S)
+  pub named : name ≡ segment_file (whole S) (place / S)
   pub bytes : drop offset (bytes_of disk.reads name) ≡ bytes_from S place disk
 
 pub finds : (S place s : ℕ) (disk : DiskState) (file name : List ℕ) → 0 < S → s ≡ S → file ≡ log_file (place - place % s) → name ≡ file → Finds S place disk (place % s) name
 finds S place s disk file name some same is spelled =
     let begins : place - place % S ≡ place / S * S = grind arith in
-    let named : name ≡ segment_file S (place / S) = spelled ∙ is ∙ ap (λ (n : ℕ). log_file (place - place % n)) same ∙ ap log_file begins in
+    let named : name ≡ segment_file (whole S) (place / S) = spelled ∙ is ∙ ap (λ (n : ℕ). log_file (place - place % n)) same ∙ ap log_file begins in
     record { named = named; bytes = (λ i. drop (place % same i) (bytes_of disk.reads (named i))) }
 
 -- a fault that says where tells of damage, if no record stands there
-pub tells_damage : (S place n : ℕ) (disk : DiskState) (name : List ℕ) (fault : LoadFault) → name ≡ segment_file S (place / S) → ((r : Entry) → IsRecordAt S place n disk r → ⊥)
+pub tells_damage : (S place n : ℕ) (disk : DiskState) (name : List ℕ) (fault : LoadFault) → name ≡ segment_file (whole S) (place / S) → ((r : Entry) → IsRecordAt S place n disk r → ⊥)
     → SaysWhere place name fault → TellsDamage S place n disk fault
 tells_damage S place n disk name (Damaged told file) named none says = record { at = says.0; name = says.1 ∙ named; none = none }
 tells_damage S place n disk name Failed named none says = absurd says

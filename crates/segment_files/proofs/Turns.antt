@@ -11,8 +11,9 @@ use Rattle.mq_outside.specs.Disk.{DiskState, IsCrashImage, IsDurable, EachImage,
 use Rattle.mq_outside.proofs.Moments.{at_end, weaker, at_start, goes_on, each_same}
 use Rattle.record_codec.specs.Entry.{Entry}
 use Rattle.record_codec.specs.Layout.{layout}
+use Rattle.log_model.specs.Bases.{Geometry}
 use Rattle.log_model.specs.Log.{IsWellFormed, end_of}
-use Rattle.log_model.specs.Segments.{Shape, layouts, blank_of, opened, used, base, end_in, shape_of, last_bytes, AreSegmentFiles}
+use Rattle.log_model.specs.Segments.{Shape, layouts, blank_of, opened, used, segment_start, end_in, shape_of, last_bytes, AreSegmentFiles, next_segment}
 use Rattle.log_model.specs.Store.{Stands, IsBatch, IsLaid, StoresAt, KeepsIfHonest}
 use Rattle.log_model.specs.declared.batch.Batch.{Batch}
 use Rattle.log_model.proofs.Places.{placed_log, well_formed_take}
@@ -30,12 +31,12 @@ first_of (Some blank) = blank.0
 -- ---- what holds at each moment
 
 -- files with the records of these segments
-pub has_records : {S : ℕ} (log : List Entry) (flushed : ℕ) {shape : Shape} {more : ℕ} {old new : DiskState} → IsLaid S (take flushed log) shape
+pub has_records : {S : Geometry} (log : List Entry) (flushed : ℕ) {shape : Shape} {more : ℕ} {old new : DiskState} → IsLaid S (take flushed log) shape
     → Throughout old new (Stands S shape more) → Throughout old new (HasRecords S (take flushed log))
 has_records log flushed {shape = shape} {more = more} laid so_far = weaker so_far (λ files stands. record { shape = shape; reach = more; laid = laid; stands = stands })
 
 -- and an honest image of them keeps a prefix of the log
-pub keeps_records : {S : ℕ} {log : List Entry} {flushed : ℕ} {old new : DiskState} → IsWellFormed S log → flushed ≤ length log
+pub keeps_records : {S : Geometry} {log : List Entry} {flushed : ℕ} {old new : DiskState} → IsWellFormed S log → flushed ≤ length log
     → Throughout old new (HasRecords S (take flushed log)) → Throughout old new (KeepsIfHonest S log flushed)
 keeps_records {S = S} {log = log} {flushed = flushed} well within so_far = weaker so_far
     (λ files has honest. keeps_prefix S log flushed files has.shape has.reach well within has.laid has.stands honest)
@@ -45,15 +46,15 @@ pub same_on : {old mid new : DiskState} {P : Files → Type 0} → Throughout ol
 same_on so_far moves = goes_on so_far moves (each_same moves (at_end so_far))
 
 -- the disk stores the log as before, with a longer reach
-pub writes_still : {S : ℕ} {log : List Entry} {flushed : ℕ} {shape : Shape} {reach more file_base offset : ℕ} {old new : DiskState}
-    → WritesAt S log flushed shape reach file_base offset old → more ≤ S → Throughout old new (Stands S shape more) → WritesAt S log flushed shape more file_base offset new
+pub writes_still : {S : Geometry} {log : List Entry} {flushed : ℕ} {shape : Shape} {reach more file_base offset : ℕ} {old new : DiskState}
+    → WritesAt S log flushed shape reach file_base offset old → more ≤ S.size → Throughout old new (Stands S shape more) → WritesAt S log flushed shape more file_base offset new
 writes_still {S = S} {log = log} {flushed = flushed} {shape = shape} {reach = reach} {more = more} {old = old} {new = new} writes low so_far = record {
   stores = stores_still S log flushed shape reach more old new writes.stores so_far;
   place = writes.place;
   low = low;
 }
 
-pub writes_same : {S : ℕ} {log : List Entry} {flushed : ℕ} {shape : Shape} {reach file_base offset : ℕ} {old new : DiskState}
+pub writes_same : {S : Geometry} {log : List Entry} {flushed : ℕ} {shape : Shape} {reach file_base offset : ℕ} {old new : DiskState}
     → WritesAt S log flushed shape reach file_base offset old → Moves Same old new → WritesAt S log flushed shape reach file_base offset new
 writes_same writes moves = record {
   stores = record { well_formed = writes.stores.well_formed; within = writes.stores.within; laid = writes.stores.laid; each = each_same moves writes.stores.each };
@@ -63,33 +64,33 @@ writes_same writes moves = record {
 
 -- ---- a blank
 
-pub end_behind : {S : ℕ} {log : List Entry} {flushed : ℕ} {shape : Shape} {reach file_base offset : ℕ} {disk : DiskState} {name : List ℕ}
+pub end_behind : {S : Geometry} {log : List Entry} {flushed : ℕ} {shape : Shape} {reach file_base offset : ℕ} {disk : DiskState} {name : List ℕ}
     → WritesAt S log flushed shape reach file_base offset disk → name ≡ log_file file_base → IsBehind S shape name offset
 end_behind {S = S} {log = log} {flushed = flushed} {shape = shape} {reach = reach} {disk = disk} writes named =
     let is_named = stores_named S log flushed shape reach disk writes.stores in
     record { some = is_named.some; low = is_named.low; named = named ∙ ap log_file writes.place.last; behind = omega (arith, writes.place.end) }
 
 -- the blank ends where the segment does
-pub blank_fits : {S : ℕ} {log : List Entry} {flushed : ℕ} {shape : Shape} {reach file_base offset size : ℕ} {disk : DiskState}
-    → WritesAt S log flushed shape reach file_base offset disk → size ≡ S - used shape → offset + length (blank_of size) ≤ S
+pub blank_fits : {S : Geometry} {log : List Entry} {flushed : ℕ} {shape : Shape} {reach file_base offset size : ℕ} {disk : DiskState}
+    → WritesAt S log flushed shape reach file_base offset disk → size ≡ S.size - used shape → offset + length (blank_of size) ≤ S.size
 blank_fits {S = S} {log = log} {flushed = flushed} {shape = shape} {size = size} writes fills =
-    let room : used shape + 8 ≤ S = laid_room S log flushed shape writes.stores.well_formed writes.stores.laid in
+    let room : used shape + 8 ≤ S.size = laid_room S log flushed shape writes.stores.well_formed writes.stores.laid in
     omega (arith, length-blank_of size (omega (arith, fills, room)), writes.place.end, fills, room)
 
-pub each_to_end : {S : ℕ} {log : List Entry} {flushed : ℕ} {shape : Shape} {reach file_base offset : ℕ} {disk : DiskState}
-    → WritesAt S log flushed shape reach file_base offset disk → EachImage (Stands S shape S) disk
-each_to_end {S = S} {shape = shape} {reach = reach} writes = record { at = λ files image. stands_more S shape reach S files writes.low (writes.stores.each.at files image) }
+pub each_to_end : {S : Geometry} {log : List Entry} {flushed : ℕ} {shape : Shape} {reach file_base offset : ℕ} {disk : DiskState}
+    → WritesAt S log flushed shape reach file_base offset disk → EachImage (Stands S shape S.size) disk
+each_to_end {S = S} {shape = shape} {reach = reach} writes = record { at = λ files image. stands_more S shape reach S.size files writes.low (writes.stores.each.at files image) }
 
 -- behind a blank that was synced the next segment is opened
-pub writes_opened : {S : ℕ} {log : List Entry} {flushed : ℕ} {shape : Shape} {reach file_base offset size next : ℕ} {old mid new : DiskState} {name : List ℕ}
-    → WritesAt S log flushed shape reach file_base offset old → name ≡ log_file file_base → shape ≡ shape_of S (take flushed log) → size ≡ S - used shape → next ≡ base S (opened shape)
+pub writes_opened : {S : Geometry} {log : List Entry} {flushed : ℕ} {shape : Shape} {reach file_base offset size next : ℕ} {old mid new : DiskState} {name : List ℕ}
+    → WritesAt S log flushed shape reach file_base offset old → name ≡ log_file file_base → shape ≡ shape_of S (take flushed log) → size ≡ S.size - used shape → next ≡ segment_start S (opened shape)
     → IsCrashImage old old.reads → mid.reads name ≡ Some (overwritten offset (blank_of size) (bytes_of old.reads name)) → Moves Same mid new → IsDurable name new
-    → EachImage (Stands S shape S) new → WritesAt S log flushed (opened shape) 0 next 0 new
+    → EachImage (Stands S shape S.size) new → WritesAt S log flushed (opened shape) 0 next 0 new
 writes_opened {S = S} {log = log} {flushed = flushed} {shape = shape} {offset = offset} {size = size} {old = old} {mid = mid} {new = new} {name = name} writes named is fills next read wrote moves durable still =
-    let blank : mid.reads name ≡ Some (overwritten offset (blank_of (S - used shape)) (bytes_of old.reads name)) =
+    let blank : mid.reads name ≡ Some (overwritten offset (blank_of (S.size - used shape)) (bytes_of old.reads name)) =
     subst (λ (n : ℕ). mid.reads name ≡ Some (overwritten offset (blank_of n) (bytes_of old.reads name))) fills wrote in
     record {
-      stores = stores_opened S log flushed shape S new writes.stores.well_formed writes.stores.within is (omega arith) (each_has named writes.place read writes.stores.each blank moves durable still);
+      stores = stores_opened S log flushed shape S.size new writes.stores.well_formed writes.stores.within is (omega arith) (each_has named writes.place read writes.stores.each blank moves durable still);
       place = record { last = next; end = refl };
       low = omega arith;
     }
@@ -97,7 +98,7 @@ writes_opened {S = S} {log = log} {flushed = flushed} {shape = shape} {offset = 
 -- ---- a batch
 
 -- the records of a batch behind those of the segment
-pub used_batch : {S : ℕ} {log : List Entry} {flushed count : ℕ} {shape : Shape} {batch : List ℕ} → IsBatch S log flushed count shape batch
+pub used_batch : {S : Geometry} {log : List Entry} {flushed count : ℕ} {shape : Shape} {batch : List ℕ} → IsBatch S log flushed count shape batch
     → used (shape_of S (take (flushed + count) log)) ≡ used shape + length batch
 used_batch {S = S} {log = log} {flushed = flushed} {count = count} {shape = shape} {batch = batch} is =
     let records : List Entry = take count (drop flushed log) in
@@ -106,12 +107,12 @@ used_batch {S = S} {log = log} {flushed = flushed} {count = count} {shape = shap
     ap used is.rule ∙ ap length all ∙ length-append (layouts shape.last) batch
 
 -- a batch leaves room for a blank
-pub batch_low : {S : ℕ} {log : List Entry} {flushed count : ℕ} {shape : Shape} {batch : List ℕ} {reach file_base offset : ℕ} {disk : DiskState}
-    → WritesAt S log flushed shape reach file_base offset disk → IsBatch S log flushed count shape batch → max reach (offset + length batch) ≤ S
+pub batch_low : {S : Geometry} {log : List Entry} {flushed count : ℕ} {shape : Shape} {batch : List ℕ} {reach file_base offset : ℕ} {disk : DiskState}
+    → WritesAt S log flushed shape reach file_base offset disk → IsBatch S log flushed count shape batch → max reach (offset + length batch) ≤ S.size
 batch_low {S = S} {log = log} {flushed = flushed} {count = count} {shape = shape} {batch = batch} writes is =
     omega (arith, laid_room S log (flushed + count) (shape_of S (take (flushed + count) log)) writes.stores.well_formed (inl refl), used_batch is, writes.place.end, writes.low)
 
-pub write_stands : {S : ℕ} {log : List Entry} {flushed : ℕ} {shape : Shape} {reach file_base offset n : ℕ} {old new : DiskState} {name : List ℕ} (m : ℕ)
+pub write_stands : {S : Geometry} {log : List Entry} {flushed : ℕ} {shape : Shape} {reach file_base offset n : ℕ} {old new : DiskState} {name : List ℕ} (m : ℕ)
     → WritesAt S log flushed shape reach file_base offset old → name ≡ log_file file_base → n ≡ m → Moves (At name (Torn offset n)) old new
     → Throughout old new (Stands S shape (max reach (offset + m)))
 write_stands {S = S} {log = log} {flushed = flushed} {shape = shape} {reach = reach} {offset = offset} {n = n} {old = old} {new = new} m writes named same moves =
@@ -119,7 +120,7 @@ write_stands {S = S} {log = log} {flushed = flushed} {shape = shape} {reach = re
     subst (λ (k : ℕ). Throughout old new (Stands S shape (max reach (offset + k)))) same (goes_on (at_start _ (Stands S shape (max reach (offset + n))) (each_more offset n writes.stores.each)) moves (each_torn is_named named writes.place moves writes.stores.each))
 
 -- a batch that was written and synced is flushed
-pub writes_batch : {S : ℕ} {log : List Entry} {flushed count : ℕ} {shape : Shape} {reach file_base offset : ℕ} {old mid new : DiskState} {name batch : List ℕ}
+pub writes_batch : {S : Geometry} {log : List Entry} {flushed count : ℕ} {shape : Shape} {reach file_base offset : ℕ} {old mid new : DiskState} {name batch : List ℕ}
     → WritesAt S log flushed shape reach file_base offset old → IsBatch S log flushed count shape batch → name ≡ log_file file_base
     → IsCrashImage old old.reads → mid.reads name ≡ Some (overwritten offset batch (bytes_of old.reads name)) → Moves Same mid new → IsDurable name new
     → EachImage (Stands S shape (max reach (offset + length batch))) new
@@ -129,37 +130,37 @@ writes_batch {S = S} {log = log} {flushed = flushed} {count = count} {shape = sh
     let stores = stores_batch S log flushed count shape more batch new writes.stores.well_formed is (each_has named writes.place read writes.stores.each wrote moves durable still) in
     record {
       stores = subst (λ (s : Shape). StoresAt S log (flushed + count) s more new) (sym is.rule) stores;
-      place = record { last = writes.place.last ∙ ap (base S) (sym is.rule); end = omega (arith, used_batch is, writes.place.end) };
+      place = record { last = writes.place.last ∙ ap (segment_start S) (sym is.rule); end = omega (arith, used_batch is, writes.place.end) };
       low = batch_low writes is;
     }
 
 -- ---- the same batch once more
 
 -- a blank that was due is not due behind it, and one that was not due stays so
-not_due : (S : ℕ) (log : List Entry) (flushed : ℕ) (shape : Shape) (was now place : ℕ) (blank : Option (ℕ × ℕ)) → used shape + 8 ≤ S → was ≡ base S shape
-    → (is_due was blank ≡ true → Opens S log flushed shape place blank) → now ≡ base S (shape_behind (is_due was blank) shape) → is_due now blank ≡ false
+not_due : (S : Geometry) (log : List Entry) (flushed : ℕ) (shape : Shape) (was now place : ℕ) (blank : Option (ℕ × ℕ)) → used shape + 8 ≤ S.size → was ≡ segment_start S shape
+    → (is_due was blank ≡ true → Opens S log flushed shape place blank) → now ≡ segment_start S (shape_behind (is_due was blank) shape) → is_due now blank ≡ false
 not_due S log flushed shape was now place None room first opens next = refl
 not_due S log flushed shape was now place (Some b) room first opens next = ⊎_elim
     (λ (due : nat_le was b.0 ≡ true).
     let here : b.0 ≡ end_in S shape = ap (λ (o : Option (ℕ × ℕ)). first_of o) (opens due).filled in
-    let behind : now ≡ base S (opened shape) = next ∙ ap (λ (d : Bool). base S (shape_behind d shape)) due in
+    let behind : now ≡ segment_start S (opened shape) = next ∙ ap (λ (d : Bool). segment_start S (shape_behind d shape)) due in
     ⊎_elim
     (λ (still : nat_le now b.0 ≡ true). absurd (omega (arith, leb-true _ _ still, here, behind, room)))
     (λ (done : nat_le now b.0 ≡ false). done)
     (cases_Bool (nat_le now b.0)))
     (λ (stands : nat_le was b.0 ≡ false).
-    let same : now ≡ was = next ∙ ap (λ (d : Bool). base S (shape_behind d shape)) stands ∙ sym first in
+    let same : now ≡ was = next ∙ ap (λ (d : Bool). segment_start S (shape_behind d shape)) stands ∙ sym first in
     ap (λ (k : ℕ). nat_le k b.0) same ∙ stands)
     (cases_Bool (nat_le was b.0))
 
 -- the same by equal numbers
-pub writes_moved : {S : ℕ} {log : List Entry} {flushed : ℕ} {shape : Shape} {reach b o now_b now_o : ℕ} {disk : DiskState}
+pub writes_moved : {S : Geometry} {log : List Entry} {flushed : ℕ} {shape : Shape} {reach b o now_b now_o : ℕ} {disk : DiskState}
     → WritesAt S log flushed shape reach b o disk → now_b ≡ b → now_o ≡ o → WritesAt S log flushed shape reach now_b now_o disk
 writes_moved {S = S} {log = log} {flushed = flushed} {shape = shape} {reach = reach} {b = b} {now_o = now_o} {disk = disk} writes same same_offset =
     subst (λ (k : ℕ). WritesAt S log flushed shape reach k now_o disk) (sym same) (subst (λ (k : ℕ). WritesAt S log flushed shape reach b k disk) (sym same_offset) writes)
 
 -- after a fault before the blank was synced
-pub retry_first : {S : ℕ} {log : List Entry} {flushed : ℕ} {shape : Shape} {reach : ℕ} {batch : Batch} {was : LastFile} {new : Growing} (most : ℕ)
+pub retry_first : {S : Geometry} {log : List Entry} {flushed : ℕ} {shape : Shape} {reach : ℕ} {batch : Batch} {was : LastFile} {new : Growing} (most : ℕ)
     → GoesOn S log flushed shape (opens_segment was batch) batch → WritesAt S log flushed shape reach was.base was.offset new.disk → opens_segment was batch ≡ true
     → new.file.base ≡ was.base → new.file.offset ≡ was.offset → CanRetry S log flushed most batch new
 retry_first {S = S} {log = log} {flushed = flushed} {shape = shape} {reach = reach} {batch = batch} {was = was} {new = new} most goes writes due same same_offset = record {
@@ -175,14 +176,14 @@ retry_first {S = S} {log = log} {flushed = flushed} {shape = shape} {reach = rea
 }
 
 -- after a fault behind it
-pub retry_second : {S : ℕ} {log : List Entry} {flushed : ℕ} {shape : Shape} {reach more : ℕ} {batch : Batch} {old new : Growing} (most : ℕ)
+pub retry_second : {S : Geometry} {log : List Entry} {flushed : ℕ} {shape : Shape} {reach more : ℕ} {batch : Batch} {old new : Growing} (most : ℕ)
     → CanTurn S log flushed shape reach batch old → WritesAt S log flushed (shape_behind (opens_segment old.file batch) shape) more new.file.base new.file.offset new.disk → more ≤ most
     → CanRetry S log flushed most batch new
 retry_second {S = S} {log = log} {flushed = flushed} {shape = shape} {more = more} {batch = batch} {old = old} {new = new} most can writes short =
     let first = can.writes in
     let goes = can.goes_on in
     let next : Shape = shape_behind (opens_segment old.file batch) shape in
-    let room : used shape + 8 ≤ S = laid_room S log flushed shape first.stores.well_formed first.stores.laid in
+    let room : used shape + 8 ≤ S.size = laid_room S log flushed shape first.stores.well_formed first.stores.laid in
     let stands : opens_segment new.file batch ≡ false = not_due S log flushed shape old.file.base new.file.base batch.place batch.blank room first.place.last goes.opens writes.place.last in
     record {
       shape = next;
@@ -200,7 +201,7 @@ retry_second {S = S} {log = log} {flushed = flushed} {shape = shape} {more = mor
 -- ---- where the next bytes go
 
 -- they go on inside the file as it is read
-pub writes_inside : {S : ℕ} {log : List Entry} {flushed : ℕ} {shape : Shape} {reach file_base offset : ℕ} {disk : DiskState}
+pub writes_inside : {S : Geometry} {log : List Entry} {flushed : ℕ} {shape : Shape} {reach file_base offset : ℕ} {disk : DiskState}
     → WritesAt S log flushed shape reach file_base offset disk → IsCrashImage disk disk.reads → IsInside file_base offset disk
 writes_inside {S = S} {shape = shape} {file_base = file_base} {offset = offset} {disk = disk} writes read =
     let stands = writes.stores.each.at disk.reads read in
@@ -208,23 +209,23 @@ writes_inside {S = S} {shape = shape} {file_base = file_base} {offset = offset} 
     subst (λ (b : ℕ). offset ≤ length (bytes_of disk.reads (log_file b))) (sym writes.place.last) long
 
 -- from the end of the records on
-pub writes_from : (S : ℕ) (log : List Entry) (flushed reach end file_base offset : ℕ) (disk : DiskState) → StoresAt S log flushed (shape_of S (take flushed log)) reach disk → reach ≤ S
-    → end ≡ end_of (take flushed log) → file_base ≡ end / S * S → offset ≡ end % S → WritesAt S log flushed (shape_of S (take flushed log)) reach file_base offset disk
+pub writes_from : (S : Geometry) (log : List Entry) (flushed reach end file_base offset : ℕ) (disk : DiskState) → StoresAt S log flushed (shape_of S (take flushed log)) reach disk → reach ≤ S.size
+    → end ≡ end_of S.base (take flushed log) → file_base ≡ end / S.size * S.size → offset ≡ end % S.size → WritesAt S log flushed (shape_of S (take flushed log)) reach file_base offset disk
 writes_from S log flushed reach end file_base offset disk stores low ends first behind =
     let front : List Entry = take flushed log in
     let shape : Shape = shape_of S front in
     let placed = placed_log S front (well_formed_take S flushed log stores.well_formed) in
-    let small : used shape < S = omega (arith, placed.room) in
+    let small : used shape < S.size = omega (arith, placed.room) in
     let here : end ≡ end_in S shape = ends ∙ placed.end in
-    let number : end / S ≡ length shape.older = ap (λ (n : ℕ). n / S) here ∙ div-mul-add (length shape.older) S (used shape) small in
+    let number : end / S.size ≡ next_segment S shape.older = ap (λ (n : ℕ). n / S.size) here ∙ div-mul-add (next_segment S shape.older) S.size (used shape) small in
     record {
       stores = stores;
-      place = record { last = first ∙ ap (λ (n : ℕ). n * S) number; end = behind ∙ ap (λ (n : ℕ). n % S) here ∙ mod-mul-add (length shape.older) S (used shape) small };
+      place = record { last = first ∙ ap (λ (n : ℕ). n * S.size) number; end = behind ∙ ap (λ (n : ℕ). n % S.size) here ∙ mod-mul-add (next_segment S shape.older) S.size (used shape) small };
       low = low;
     }
 
 -- where nothing longer was written, the files are exactly those of the flushed records
-pub writes_exact : {S : ℕ} {log : List Entry} {flushed reach file_base offset : ℕ} {disk : DiskState} → reach ≤ offset
+pub writes_exact : {S : Geometry} {log : List Entry} {flushed reach file_base offset : ℕ} {disk : DiskState} → reach ≤ offset
     → WritesAt S log flushed (shape_of S (take flushed log)) (max reach offset) file_base offset disk → EachImage (AreSegmentFiles S (take flushed log)) disk
 writes_exact {S = S} {log = log} {flushed = flushed} {reach = reach} {offset = offset} {disk = disk} low writes =
     let shape : Shape = shape_of S (take flushed log) in
@@ -237,7 +238,7 @@ on_err (Ok value) holds = tt
 on_err (Err fault) holds = holds
 
 -- up to the offset that the next bytes go to
-pub writes_to : {S : ℕ} {log : List Entry} {flushed : ℕ} {shape : Shape} {end b o : ℕ} {disk : DiskState} (r now : ℕ)
+pub writes_to : {S : Geometry} {log : List Entry} {flushed : ℕ} {shape : Shape} {end b o : ℕ} {disk : DiskState} (r now : ℕ)
     → WritesAt S log flushed shape (max r end) b o disk → now ≡ end → WritesAt S log flushed shape (max r now) b o disk
 writes_to {S = S} {log = log} {flushed = flushed} {shape = shape} {b = b} {o = o} {disk = disk} r now writes same =
     subst (λ (k : ℕ). WritesAt S log flushed shape (max r k) b o disk) (sym same) writes

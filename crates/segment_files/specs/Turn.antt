@@ -5,7 +5,8 @@ use Rattle.mq_outside.specs.Files.{Files, bytes_of}
 use Rattle.mq_outside.specs.Disk.{DiskState, EachImage, Throughout}
 use Rattle.record_codec.specs.Entry.{Entry}
 use Rattle.record_codec.specs.Blanks.{blank_front}
-use Rattle.log_model.specs.Segments.{Shape, opened, used, base, end_in, shape_of, last_name, AreSegmentFiles}
+use Rattle.log_model.specs.Bases.{Geometry}
+use Rattle.log_model.specs.Segments.{Shape, opened, used, segment_start, end_in, shape_of, last_name, AreSegmentFiles}
 use Rattle.log_model.specs.Store.{Stands, IsLaid, StoresAt, IsAt, IsBatch, KeepsIfHonest}
 use Rattle.log_model.specs.declared.batch.Batch.{Batch}
 use Rattle.log_model.specs.declared.batch.Receipt.{Receipt}
@@ -19,24 +20,24 @@ IsInside file_base offset disk = offset ≤ length (bytes_of disk.reads (log_fil
 
 -- The disk stores the log with so many of its records flushed, in these segments. The next bytes go behind them, and nothing
 -- was ever written past the reach, nor past the segment's end.
-pub record WritesAt (S : ℕ) (log : List Entry) (flushed : ℕ) (shape : Shape) (reach file_base offset : ℕ) (disk : DiskState) : Type 0 where
+pub record WritesAt (S : Geometry) (log : List Entry) (flushed : ℕ) (shape : Shape) (reach file_base offset : ℕ) (disk : DiskState) : Type 0 where
   pub stores : StoresAt S log flushed shape reach disk
   pub place : IsAt S shape file_base offset
-  pub low : reach ≤ S
+  pub low : reach ≤ S.size
 
 -- the first bytes of a blank: its size, its magic, and zeros up to here
 abbrev pub blank_to : ℕ → ℕ → List ℕ
 blank_to size done = blank_front size ++ replicate (done - 8) 0
 
 -- this offset of the last file is not before the end of its records
-pub record IsBehind (S : ℕ) (shape : Shape) (name : List ℕ) (offset : ℕ) : Type 0 where
-  pub some : 0 < S
-  pub low : base S shape < 2 ^ 64
+pub record IsBehind (S : Geometry) (shape : Shape) (name : List ℕ) (offset : ℕ) : Type 0 where
+  pub some : 0 < S.size
+  pub low : segment_start S shape < 2 ^ 64
   pub named : name ≡ last_name S shape
   pub behind : used shape ≤ offset
 
 -- the files have these records at their places with their blanks, and behind them bytes as may be
-pub record HasRecords (S : ℕ) (records : List Entry) (files : Files) : Type 0 where
+pub record HasRecords (S : Geometry) (records : List Entry) (files : Files) : Type 0 where
   pub shape : Shape
   pub reach : ℕ
   pub laid : IsLaid S records shape
@@ -66,13 +67,13 @@ abbrev pub syncs_of : Bool → ℕ
 syncs_of due = if due then 2 else 1
 
 -- the blank fills the last segment behind the flushed records, and the batch begins the next one
-pub record Opens (S : ℕ) (log : List Entry) (flushed : ℕ) (shape : Shape) (place : ℕ) (blank : Option (ℕ × ℕ)) : Type 0 where
+pub record Opens (S : Geometry) (log : List Entry) (flushed : ℕ) (shape : Shape) (place : ℕ) (blank : Option (ℕ × ℕ)) : Type 0 where
   pub is : shape ≡ shape_of S (take flushed log)
-  pub filled : blank ≡ Some (end_in S shape, S - used shape)
-  pub begins : place ≡ base S (opened shape)
+  pub filled : blank ≡ Some (end_in S shape, S.size - used shape)
+  pub begins : place ≡ segment_start S (opened shape)
 
 -- The batch goes on behind the flushed records: in the last of these segments, or in a new one where a blank is due.
-pub record GoesOn (S : ℕ) (log : List Entry) (flushed : ℕ) (shape : Shape) (due : Bool) (batch : Batch) : Type 0 where
+pub record GoesOn (S : Geometry) (log : List Entry) (flushed : ℕ) (shape : Shape) (due : Bool) (batch : Batch) : Type 0 where
   pub records : IsBatch S log flushed batch.count (shape_behind due shape) batch.bytes
   pub opens : due ≡ true → Opens S log flushed shape batch.place batch.blank
 
@@ -92,12 +93,12 @@ opens_segment file batch = is_due file.base batch.blank
 
 -- The disk stores the log with so many of its records flushed, in these segments and up to this reach, and the batch goes on
 -- behind them.
-pub record CanTurn (S : ℕ) (log : List Entry) (flushed : ℕ) (shape : Shape) (reach : ℕ) (batch : Batch) (at : Growing) : Type 0 where
+pub record CanTurn (S : Geometry) (log : List Entry) (flushed : ℕ) (shape : Shape) (reach : ℕ) (batch : Batch) (at : Growing) : Type 0 where
   pub writes : WritesAt S log flushed shape reach at.file.base at.file.offset at.disk
   pub goes_on : GoesOn S log flushed shape (opens_segment at.file batch) batch
 
 -- The same in some segments, and nothing stands past so many bytes of the file that the batch comes into.
-pub record CanRetry (S : ℕ) (log : List Entry) (flushed most : ℕ) (batch : Batch) (at : Growing) : Type 0 where
+pub record CanRetry (S : Geometry) (log : List Entry) (flushed most : ℕ) (batch : Batch) (at : Growing) : Type 0 where
   pub shape : Shape
   pub reach : ℕ
   pub can : CanTurn S log flushed shape reach batch at
@@ -106,7 +107,7 @@ pub record CanRetry (S : ℕ) (log : List Entry) (flushed most : ℕ) (batch : B
 -- What a turn did to such a log. At each moment of it each image has what was flushed before, and each honest one keeps it. A
 -- fault leaves the log as before, and the same batch may come again. After Ok the batch is flushed too, and where nothing
 -- longer stood behind it every image is exactly the log's files.
-pub record HasTurned {E : Type 0} (S : ℕ) (log : List Entry) (flushed reach : ℕ) (batch : Batch) (result : Result Receipt E) (old new : Growing) : Type 0 where
+pub record HasTurned {E : Type 0} (S : Geometry) (log : List Entry) (flushed reach : ℕ) (batch : Batch) (result : Result Receipt E) (old new : Growing) : Type 0 where
   pub any_moment : Throughout old.disk new.disk (HasRecords S (take flushed log))
   pub honest : Throughout old.disk new.disk (KeepsIfHonest S log flushed)
   pub retry : OnErr result (CanRetry S log flushed (max (unless_opened (opens_segment old.file batch) reach) (unless_opened (opens_segment old.file batch) old.file.offset + length batch.bytes)) batch new)
@@ -116,7 +117,7 @@ pub record HasTurned {E : Type 0} (S : ℕ) (log : List Entry) (flushed reach : 
 
 -- the same of whatever log it is that the batch goes on with
 abbrev pub Turns : {E : Type 0} → Batch → Result Receipt E → Growing → Growing → Type 0
-Turns batch result old new = (S : ℕ) (log : List Entry) (flushed : ℕ) (shape : Shape) (reach : ℕ) → CanTurn S log flushed shape reach batch old → HasTurned S log flushed reach batch result old new
+Turns batch result old new = (S : Geometry) (log : List Entry) (flushed : ℕ) (shape : Shape) (reach : ℕ) → CanTurn S log flushed shape reach batch old → HasTurned S log flushed reach batch result old new
 
 -- the receipt is of this batch, which was written up to where the next bytes go
 pub record IsReceipt (tells : Type 0) (batch : Batch) (file : LastFile) (receipt : Receipt) : Type 0 where

@@ -10,6 +10,7 @@ ghost use Rattle.std.specs.Prelude.{◌≡◌, ◌+◌, ◌<◌, ◌≤◌, ◌^
 ghost use Rattle.mq_outside.specs.Counts.{CountsFailure};
 ghost use Rattle.mq_outside.specs.Files.{bytes_of, overwritten};
 ghost use Rattle.mq_outside.specs.Disk.{EachImage, Throughout};
+ghost use Rattle.log_model.specs.Bases.{Geometry};
 ghost use Rattle.log_model.specs.Segments.{Shape, blank_of, IsLogFile};
 ghost use Rattle.log_model.specs.Store.{Stands};
 ghost use Rattle.segment_files.specs.Outside.{StaysOutside};
@@ -31,7 +32,7 @@ pub fn write_blank<D: Disk>(
     requires room { at < 2 ^ 63 }
     requires inside { D.tells → at ≤ length (bytes_of (D.state disk.old).reads name.now) }
     ensures written { D.tells → OnOk result ((D.state disk.new).reads name.now ≡ Some (overwritten at (blank_of size) (bytes_of (D.state disk.old).reads name.now))) }
-    ensures any_moment { D.tells → (S : ℕ) (shape : Shape) (reach : ℕ) → IsBehind S shape name.now at → at + length (blank_of size) ≤ reach
+    ensures any_moment { D.tells → (S : Geometry) (shape : Shape) (reach : ℕ) → IsBehind S shape name.now at → at + length (blank_of size) ≤ reach
         → EachImage (Stands S shape reach) (D.state disk.old) → Throughout (D.state disk.old) (D.state disk.new) (Stands S shape reach) }
     ensures outside { D.tells → IsLogFile name.now → StaysOutside (D.state disk.old) (D.state disk.new) }
     ensures inside { D.tells → at ≤ length (bytes_of (D.state disk.new).reads name.now) }

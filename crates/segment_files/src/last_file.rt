@@ -8,7 +8,8 @@ ghost use Rattle.std.specs.Prelude.{◌≡◌, true, ◌+◌, ◌-◌, ◌*◌, 
 ghost use Rattle.mq_outside.specs.Counts.{CountsFailure};
 ghost use Rattle.mq_outside.specs.Disk.{Throughout};
 ghost use Rattle.record_codec.specs.Entry.{Entry};
-ghost use Rattle.log_model.specs.Segments.{Shape, added, opened, used, base, shape_of};
+ghost use Rattle.log_model.specs.Bases.{Geometry};
+ghost use Rattle.log_model.specs.Segments.{Shape, added, opened, used, segment_start, shape_of};
 ghost use Rattle.log_model.specs.Store.{IsBatch};
 ghost use Rattle.segment_files.specs.Outside.{StaysOutside};
 ghost use Rattle.segment_files.specs.Turn.{IsInside, WritesAt, HasRecords, Opens, Turns, MovesOn, growing, opens_segment, is_due, shape_behind, base_behind, unless_opened, syncs_of};
@@ -47,15 +48,15 @@ impl LastFile {
     fn end_file<D: Disk>(&mut self, disk: &mut D, size: u32, next: u64) -> Result<(), Failed>
         requires room { self.old.offset < 2 ^ 63 }
         requires inside { D.tells → IsInside self.old.base self.old.offset (D.state disk.old) }
-        ensures any_moment { D.tells → (S : ℕ) (log : List Entry) (flushed : ℕ) (shape : Shape) (reach : ℕ)
-            → WritesAt S log flushed shape reach self.old.base self.old.offset (D.state disk.old) → shape ≡ shape_of S (take flushed log) → size ≡ S - used shape
+        ensures any_moment { D.tells → (S : Geometry) (log : List Entry) (flushed : ℕ) (shape : Shape) (reach : ℕ)
+            → WritesAt S log flushed shape reach self.old.base self.old.offset (D.state disk.old) → shape ≡ shape_of S (take flushed log) → size ≡ S.size - used shape
             → Throughout (D.state disk.old) (D.state disk.new) (HasRecords S (take flushed log)) }
-        ensures still { D.tells → (S : ℕ) (log : List Entry) (flushed : ℕ) (shape : Shape) (reach : ℕ)
-            → WritesAt S log flushed shape reach self.old.base self.old.offset (D.state disk.old) → shape ≡ shape_of S (take flushed log) → size ≡ S - used shape
-            → WritesAt S log flushed shape S self.old.base self.old.offset (D.state disk.new) }
-        ensures opened { D.tells → (S : ℕ) (log : List Entry) (flushed : ℕ) (shape : Shape) (reach : ℕ)
-            → WritesAt S log flushed shape reach self.old.base self.old.offset (D.state disk.old) → shape ≡ shape_of S (take flushed log) → size ≡ S - used shape
-            → next ≡ base S (opened shape) → OnOk result (WritesAt S log flushed (opened shape) 0 self.new.base self.new.offset (D.state disk.new)) }
+        ensures still { D.tells → (S : Geometry) (log : List Entry) (flushed : ℕ) (shape : Shape) (reach : ℕ)
+            → WritesAt S log flushed shape reach self.old.base self.old.offset (D.state disk.old) → shape ≡ shape_of S (take flushed log) → size ≡ S.size - used shape
+            → WritesAt S log flushed shape S.size self.old.base self.old.offset (D.state disk.new) }
+        ensures opened { D.tells → (S : Geometry) (log : List Entry) (flushed : ℕ) (shape : Shape) (reach : ℕ)
+            → WritesAt S log flushed shape reach self.old.base self.old.offset (D.state disk.old) → shape ≡ shape_of S (take flushed log) → size ≡ S.size - used shape
+            → next ≡ segment_start S (opened shape) → OnOk result (WritesAt S log flushed (opened shape) 0 self.new.base self.new.offset (D.state disk.new)) }
         ensures outside { D.tells → StaysOutside (D.state disk.old) (D.state disk.new) }
         ensures inside { D.tells → IsInside self.new.base self.new.offset (D.state disk.new) }
         ensures moved { OnOk result ((self.new.base ≡ next) × (self.new.offset ≡ 0)) }
@@ -76,13 +77,13 @@ impl LastFile {
     fn store<D: Disk>(&mut self, disk: &mut D, bytes: Bytes) -> Result<Frozen, Failed>
         requires room { self.old.offset + length bytes < 2 ^ 63 }
         requires inside { D.tells → IsInside self.old.base self.old.offset (D.state disk.old) }
-        ensures any_moment { D.tells → (S : ℕ) (log : List Entry) (flushed count : ℕ) (shape : Shape) (reach : ℕ)
+        ensures any_moment { D.tells → (S : Geometry) (log : List Entry) (flushed count : ℕ) (shape : Shape) (reach : ℕ)
             → WritesAt S log flushed shape reach self.old.base self.old.offset (D.state disk.old) → IsBatch S log flushed count shape bytes
             → Throughout (D.state disk.old) (D.state disk.new) (HasRecords S (take flushed log)) }
-        ensures still { D.tells → (S : ℕ) (log : List Entry) (flushed count : ℕ) (shape : Shape) (reach : ℕ)
+        ensures still { D.tells → (S : Geometry) (log : List Entry) (flushed count : ℕ) (shape : Shape) (reach : ℕ)
             → WritesAt S log flushed shape reach self.old.base self.old.offset (D.state disk.old) → IsBatch S log flushed count shape bytes
             → WritesAt S log flushed shape (max reach (self.old.offset + length bytes)) self.old.base self.old.offset (D.state disk.new) }
-        ensures flushed { D.tells → (S : ℕ) (log : List Entry) (flushed count : ℕ) (shape : Shape) (reach : ℕ)
+        ensures flushed { D.tells → (S : Geometry) (log : List Entry) (flushed count : ℕ) (shape : Shape) (reach : ℕ)
             → WritesAt S log flushed shape reach self.old.base self.old.offset (D.state disk.old) → IsBatch S log flushed count shape bytes
             → OnOk result (WritesAt S log (flushed + count) (shape_of S (take (flushed + count) log)) (max reach (self.old.offset + length bytes)) self.new.base self.new.offset (D.state disk.new)) }
         ensures outside { D.tells → StaysOutside (D.state disk.old) (D.state disk.new) }
@@ -113,13 +114,13 @@ impl LastFile {
     ) -> Result<(), Failed>
         requires room { self.old.offset < 2 ^ 63 }
         requires inside { D.tells → IsInside self.old.base self.old.offset (D.state disk.old) }
-        ensures any_moment { D.tells → (S : ℕ) (log : List Entry) (flushed : ℕ) (shape : Shape) (reach : ℕ)
+        ensures any_moment { D.tells → (S : Geometry) (log : List Entry) (flushed : ℕ) (shape : Shape) (reach : ℕ)
             → WritesAt S log flushed shape reach self.old.base self.old.offset (D.state disk.old) → (is_due self.old.base blank ≡ true → Opens S log flushed shape place blank)
             → Throughout (D.state disk.old) (D.state disk.new) (HasRecords S (take flushed log)) }
-        ensures still { D.tells → (S : ℕ) (log : List Entry) (flushed : ℕ) (shape : Shape) (reach : ℕ)
+        ensures still { D.tells → (S : Geometry) (log : List Entry) (flushed : ℕ) (shape : Shape) (reach : ℕ)
             → WritesAt S log flushed shape reach self.old.base self.old.offset (D.state disk.old) → (is_due self.old.base blank ≡ true → Opens S log flushed shape place blank)
-            → WritesAt S log flushed shape S self.old.base self.old.offset (D.state disk.new) }
-        ensures opened { D.tells → (S : ℕ) (log : List Entry) (flushed : ℕ) (shape : Shape) (reach : ℕ)
+            → WritesAt S log flushed shape S.size self.old.base self.old.offset (D.state disk.new) }
+        ensures opened { D.tells → (S : Geometry) (log : List Entry) (flushed : ℕ) (shape : Shape) (reach : ℕ)
             → WritesAt S log flushed shape reach self.old.base self.old.offset (D.state disk.old) → (is_due self.old.base blank ≡ true → Opens S log flushed shape place blank)
             → OnOk result (WritesAt S log flushed (shape_behind (is_due self.old.base blank) shape) (unless_opened (is_due self.old.base blank) reach) self.new.base self.new.offset (D.state disk.new)) }
         ensures outside { D.tells → StaysOutside (D.state disk.old) (D.state disk.new) }

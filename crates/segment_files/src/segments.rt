@@ -5,6 +5,7 @@ ghost use Rattle.std.specs.Borrow.{Lends, sem};
 ghost use Rattle.mq_outside.specs.Counts.{CountsFailure};
 ghost use Rattle.mq_outside.specs.Disk.{EachImage, Rests, Throughout};
 ghost use Rattle.record_codec.specs.Entry.{Entry};
+ghost use Rattle.log_model.specs.Bases.{Base, geometry};
 ghost use Rattle.log_model.specs.Faults.{CountsLoadFault};
 ghost use Rattle.log_model.specs.Log.{end_of};
 ghost use Rattle.log_model.specs.Queues.{said_by, IsStored};
@@ -40,9 +41,9 @@ impl<D: Disk> Segments<D> {
         ensures place { (result.file.base ≡ end / segment * segment) × (result.file.offset ≡ end % segment) }
 
         // The disk stores the log up to there.
-        ensures writes { D.tells → (log : List Entry) (flushed reach : ℕ) → StoresAt segment log flushed (shape_of segment (take flushed log)) reach (D.state disk) → reach ≤ segment → end ≡ end_of (take flushed log)
-            → WritesAt segment log flushed (shape_of segment (take flushed log)) reach result.file.base result.file.offset (D.state result.disk) }
-        ensures inside { D.tells → (log : List Entry) (flushed reach : ℕ) → StoresAt segment log flushed (shape_of segment (take flushed log)) reach (D.state disk) → reach ≤ segment → end ≡ end_of (take flushed log)
+        ensures writes { D.tells → (base : Base) (log : List Entry) (flushed reach : ℕ) → StoresAt (geometry segment base) log flushed (shape_of (geometry segment base) (take flushed log)) reach (D.state disk) → reach ≤ segment → end ≡ end_of base (take flushed log)
+            → WritesAt (geometry segment base) log flushed (shape_of (geometry segment base) (take flushed log)) reach result.file.base result.file.offset (D.state result.disk) }
+        ensures inside { D.tells → (base : Base) (log : List Entry) (flushed reach : ℕ) → StoresAt (geometry segment base) log flushed (shape_of (geometry segment base) (take flushed log)) reach (D.state disk) → reach ≤ segment → end ≡ end_of base (take flushed log)
             → IsInside result.file.base result.file.offset (D.state result.disk) }
     {
         Segments {

@@ -9,7 +9,7 @@ use Rattle.record_codec.specs.Props.{written}
 use Rattle.record_codec.specs.LaxProps.{read_props}
 use Rattle.record_codec.specs.Layout.{is_named, is_legal, are_hosts_short}
 use Rattle.record_codec.specs.Drafts.{draft_fault, draft_size}
-use Rattle.log_model.specs.Log.{is_system_topic}
+use Rattle.log_model.specs.Admissible.{is_system_topic}
 use Rattle.request_fields.specs.Requests.{SendSaid}
 use Rattle.send_rules.specs.Kinds.{flag_of}
 use Rattle.send_rules.specs.Records.{reserved, is_among, kept_props, plain_flag, draft_of}

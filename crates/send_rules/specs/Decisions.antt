@@ -3,7 +3,7 @@ use Rattle.std.specs.Prelude.{◌≡◌, ℕ, ◌^◌, ◌<◌, List, codes, bit
 use Rattle.record_codec.specs.Props.{value_of, has_name}
 use Rattle.record_codec.specs.Drafts.{draft_fault}
 use Rattle.record_codec.specs.declared.draft.Draft.{Draft}
-use Rattle.log_model.specs.Log.{is_system_topic}
+use Rattle.log_model.specs.Admissible.{is_system_topic}
 use Rattle.request_fields.specs.Requests.{SendSaid}
 use Rattle.send_rules.specs.Records.{reserved, is_among, draft_of}
 use Rattle.send_rules.specs.Refusals.{refusal_of}

@@ -2,7 +2,7 @@
 use Rattle.std.specs.Prelude.{ℕ, ◌+◌, [], ◌∷◌, length, nat_lt, not, Option}
 use Rattle.record_codec.specs.Layout.{is_legal, are_hosts_short}
 use Rattle.record_codec.specs.Drafts.{first_that_holds}
-use Rattle.log_model.specs.Log.{is_system_topic}
+use Rattle.log_model.specs.Admissible.{is_system_topic}
 use Rattle.request_fields.specs.Requests.{SendSaid}
 use Rattle.send_rules.specs.Kinds.{flag_of, is_unserved}
 use Rattle.send_rules.specs.declared.refusal.Refusal.{Refusal}

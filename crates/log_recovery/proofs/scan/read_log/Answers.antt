@@ -1,21 +1,24 @@
 use Rattle.std.proofs.Common.{◌*◌, ◌^◌, ◌<◌, ℕ, [], map, sym, subst, ap, arith}
 use Rattle.std.specs.Prelude.{string_bytes, IfSome, IfNone}
 use Rattle.mq_outside.specs.Files.{Files, Lists}
+use Rattle.log_model.specs.Bases.{Geometry, geometry}
+use Rattle.log_model.specs.Told.{base_of}
 use Rattle.log_model.specs.Store.{IsDamagedAt}
 use Rattle.log_recovery.specs.declared.scan.Log.{Log}
 use Rattle.log_recovery.specs.Names.{NoFurther, IsOdd}
 use Rattle.log_recovery.specs.Scan.{StandsIn}
+use Rattle.log_model.proofs.Places.{site_size}
 use Rattle.log_recovery.proofs.ScanLemmas.{odd_damaged, on_damage, passed_on, count_low}
 use Rattle.log_recovery.proofs.scan.read_log.Goals as goal
 
 pub returns-in_err-read_front-clause-damaged : goal.returns-in_err-read_front-clause-damaged
 returns-in_err-read_front-clause-damaged g c = λ tells.
-    let S : ℕ = c.args.segment in
+    let S : Geometry = geometry c.args.segment (base_of c.args.base.now) in
     let files : Files = (g.D.Disk.state c.args.disk.now).reads in
     let count : ℕ = c.order_of-order.result.count in
     let lists = subst (λ l. Lists files (map (λ name. string_bytes name) l)) (sym c.deref.ensures.value) (c.in_ok-names.ensures.names tells) in
     let named = c.order_of-order.ensures.named files lists in
-    let start : StandsIn S c.new.result [] = record { size = c.new.ensures.segment; stands = c.new.ensures.empty } in
+    let start : StandsIn S c.in_ok-tail.tail [] = record { size = c.in_ok-tail.ensures.segment; stands = c.in_ok-tail.ensures.empty } in
     let same = (c.list.ensures.moves tells).reads in
     let odd = subst (λ o. IfSome o (λ name. IsOdd S count files name.now)) c.in-Some.is (c.order_of-order.ensures.odd files lists) in
     passed_on Log (Unit {0}) c.from_residual-in_err-read_front.result c.in_err-read_front.field-0.0 (IsDamagedAt S files) c.from_residual-in_err-read_front.ensures.1
@@ -23,17 +26,17 @@ returns-in_err-read_front-clause-damaged g c = λ tells.
 
 pub overflow_mul-place : goal.overflow_mul-place
 overflow_mul-place g c =
-    let low : c.order_of-order.result.count * c.args.segment < 2 ^ 64 = count_low c.args.segment c.order_of-order.result.count c.requires c.order_of-order.ensures.low in
+    let low : c.order_of-order.result.count * c.args.segment < 2 ^ 64 = count_low (geometry c.args.segment (base_of c.args.base.now)) c.order_of-order.result.count (site_size _ c.requires) c.order_of-order.ensures.low in
     omega (arith, low, ap (λ (k : ℕ). c.order_of-order.result.count * k) c.from.ensures)
 
 pub returns-in-Some-clause-damaged : goal.returns-in-Some-clause-damaged
 returns-in-Some-clause-damaged g c = λ tells.
-    let S : ℕ = c.args.segment in
+    let S : Geometry = geometry c.args.segment (base_of c.args.base.now) in
     let files : Files = (g.D.Disk.state c.args.disk.now).reads in
     let count : ℕ = c.order_of-order.result.count in
     let lists = subst (λ l. Lists files (map (λ name. string_bytes name) l)) (sym c.deref.ensures.value) (c.in_ok-names.ensures.names tells) in
     let named = c.order_of-order.ensures.named files lists in
-    let start : StandsIn S c.new.result [] = record { size = c.new.ensures.segment; stands = c.new.ensures.empty } in
+    let start : StandsIn S c.in_ok-tail.tail [] = record { size = c.in_ok-tail.ensures.segment; stands = c.in_ok-tail.ensures.empty } in
     let same = (c.list.ensures.moves tells).reads in
     let odd = subst (λ o. IfSome o (λ name. IsOdd S count files name.now)) c.in-Some.is (c.order_of-order.ensures.odd files lists) in
     let opened = c.in_ok-read_front.ensures.opened tells files same start named in
@@ -42,12 +45,12 @@ returns-in-Some-clause-damaged g c = λ tells.
 
 pub returns-in_err-end-clause-damaged : goal.returns-in_err-end-clause-damaged
 returns-in_err-end-clause-damaged g c = λ tells.
-    let S : ℕ = c.args.segment in
+    let S : Geometry = geometry c.args.segment (base_of c.args.base.now) in
     let files : Files = (g.D.Disk.state c.args.disk.now).reads in
     let count : ℕ = c.order_of-order.result.count in
     let lists = subst (λ l. Lists files (map (λ name. string_bytes name) l)) (sym c.deref.ensures.value) (c.in_ok-names.ensures.names tells) in
     let named = c.order_of-order.ensures.named files lists in
-    let start : StandsIn S c.new.result [] = record { size = c.new.ensures.segment; stands = c.new.ensures.empty } in
+    let start : StandsIn S c.in_ok-tail.tail [] = record { size = c.in_ok-tail.ensures.segment; stands = c.in_ok-tail.ensures.empty } in
     let same = (c.list.ensures.moves tells).reads in
     let all = subst (λ o. IfNone o (NoFurther S count files)) c.in_default.is (c.order_of-order.ensures.all files lists) in
     passed_on Log ℕ c.from_residual-in_err-end.result c.in_err-end.field-0.0 (IsDamagedAt S files) c.from_residual-in_err-end.ensures.1
@@ -55,12 +58,12 @@ returns-in_err-end-clause-damaged g c = λ tells.
 
 pub returns-clause-read : goal.returns-clause-read
 returns-clause-read g c = λ tells.
-    let S : ℕ = c.args.segment in
+    let S : Geometry = geometry c.args.segment (base_of c.args.base.now) in
     let files : Files = (g.D.Disk.state c.args.disk.now).reads in
     let count : ℕ = c.order_of-order.result.count in
     let lists = subst (λ l. Lists files (map (λ name. string_bytes name) l)) (sym c.deref.ensures.value) (c.in_ok-names.ensures.names tells) in
     let named = c.order_of-order.ensures.named files lists in
-    let start : StandsIn S c.new.result [] = record { size = c.new.ensures.segment; stands = c.new.ensures.empty } in
+    let start : StandsIn S c.in_ok-tail.tail [] = record { size = c.in_ok-tail.ensures.segment; stands = c.in_ok-tail.ensures.empty } in
     let same = (c.list.ensures.moves tells).reads in
     let all = subst (λ o. IfNone o (NoFurther S count files)) c.in_default.is (c.order_of-order.ensures.all files lists) in
     c.in_ok-end.ensures.read tells files same start named all

@@ -5,13 +5,14 @@ use Rattle.mq_outside.proofs.Moments.{rests_then}
 use Rattle.log_recovery.specs.Scan.{Shows, Scanned}
 use Rattle.log_recovery.proofs.ScanLemmas.{scan_end, scan_more, scan_full}
 use Rattle.log_recovery.proofs.scan.scan_file.Goals as goal
+use Rattle.log_model.specs.Bases.{geometry}
 
 pub returns-then-size-eq0-clause-scanned : goal.returns-then-size-eq0-clause-scanned
-returns-then-size-eq0-clause-scanned g c = λ tells files records shape reads stood.
-    let so_far = c.loop-i.invariant.scanned tells files records shape reads stood in
+returns-then-size-eq0-clause-scanned g c = λ tells begun files records shape reads stood.
+    let so_far = c.loop-i.invariant.scanned tells begun files records shape reads stood in
     let shows = subst (λ (f : Files). Shows c.loop-i.scan.window (bytes_of f (log_file c.args.base))) reads (c.loop-i.invariant.shows tells) in
-    let step = c.in_ok-size.ensures.next tells files so_far.records so_far.shape ((c.loop-i.invariant.rests tells).same ∙ reads) shows so_far.stood in
-    scan_end c.args.segment files records c.loop-i.scan.tail c.step.new.scan.tail c.args.base _ (g.V.Visit.stands c.loop-i.each) _ c.loop-i.at c.in_ok-size.size so_far step c.if-size-eq0.true
+    let step = c.in_ok-size.ensures.next tells begun files so_far.records so_far.shape ((c.loop-i.invariant.rests tells).same ∙ reads) shows so_far.stood in
+    scan_end (geometry c.args.segment begun) files records c.loop-i.scan.tail c.step.new.scan.tail c.args.base _ (g.V.Visit.stands begun c.loop-i.each) _ c.loop-i.at c.in_ok-size.size so_far step c.if-size-eq0.true
 
 pub loop-i-preserved : goal.loop-i-preserved
 loop-i-preserved g c = record {
@@ -20,17 +21,17 @@ loop-i-preserved g c = record {
   far = omega (arith, c.from-at.ensures, c.loop-i.invariant.far, c.if-size-eq0.false);
   shows = λ tells. c.in_ok-size.ensures.shows tells (bytes_of (g.D.Disk.state c.args.disk.now).reads (log_file c.args.base))
       (ap (λ (f : Files). bytes_of f (log_file c.args.base)) (c.loop-i.invariant.rests tells).same) (c.loop-i.invariant.shows tells);
-  scanned = λ tells files records shape reads stood.
-      let so_far = c.loop-i.invariant.scanned tells files records shape reads stood in
+  scanned = λ tells begun files records shape reads stood.
+      let so_far = c.loop-i.invariant.scanned tells begun files records shape reads stood in
       let shows = subst (λ (f : Files). Shows c.loop-i.scan.window (bytes_of f (log_file c.args.base))) reads (c.loop-i.invariant.shows tells) in
-      let step = c.in_ok-size.ensures.next tells files so_far.records so_far.shape ((c.loop-i.invariant.rests tells).same ∙ reads) shows so_far.stood in
-      subst (λ (n : ℕ). Scanned c.args.segment files records c.step.new.scan.tail c.args.base (g.V.Visit.stands c.args.each.now) (g.V.Visit.stands c.step.new.each) (c.loop-i.at + n)) (sym c.from-at.ensures)
-      (scan_more c.args.segment files records c.loop-i.scan.tail c.step.new.scan.tail c.args.base _ (g.V.Visit.stands c.loop-i.each) _ c.loop-i.at c.in_ok-size.size so_far step c.if-size-eq0.false);
+      let step = c.in_ok-size.ensures.next tells begun files so_far.records so_far.shape ((c.loop-i.invariant.rests tells).same ∙ reads) shows so_far.stood in
+      subst (λ (n : ℕ). Scanned (geometry c.args.segment begun) files records c.step.new.scan.tail c.args.base (g.V.Visit.stands begun c.args.each.now) (g.V.Visit.stands begun c.step.new.each) (c.loop-i.at + n)) (sym c.from-at.ensures)
+      (scan_more (geometry c.args.segment begun) files records c.loop-i.scan.tail c.step.new.scan.tail c.args.base _ (g.V.Visit.stands begun c.loop-i.each) _ c.loop-i.at c.in_ok-size.size so_far step c.if-size-eq0.false);
   rests = λ tells. rests_then (c.loop-i.invariant.rests tells) (c.step.ensures.only_reads.rests tells);
   faults = c.in_ok-size.ensures.only_reads.cause ∙ c.loop-i.invariant.faults;
   syncs = c.step.ensures.only_reads.syncs ∙ c.loop-i.invariant.syncs;
 }
 
 pub returns-clause-scanned : goal.returns-clause-scanned
-returns-clause-scanned g c = λ tells files records shape reads stood.
-    scan_full c.args.segment files records c.loop-i.scan.tail c.args.base _ _ c.loop-i.at (c.loop-i.invariant.scanned tells files records shape reads stood) (omega (arith, c.loop-i.invariant.far, c.loop-i-test.false))
+returns-clause-scanned g c = λ tells begun files records shape reads stood.
+    scan_full (geometry c.args.segment begun) files records c.loop-i.scan.tail c.args.base _ _ c.loop-i.at (c.loop-i.invariant.scanned tells begun files records shape reads stood) (omega (arith, c.loop-i.invariant.far, c.loop-i-test.false))

@@ -3,6 +3,7 @@ use Rattle.mq_bytes.specs.Names.{log_file}
 use Rattle.mq_outside.specs.Files.{Files, bytes_of}
 use Rattle.mq_outside.specs.Disk.{Rests}
 use Rattle.record_codec.specs.Entry.{Entry}
+use Rattle.log_model.specs.Bases.{Base, geometry}
 use Rattle.log_model.specs.Segments.{Shape}
 use Rattle.log_recovery.specs.Scan.{Shows, Stood, Scanned}
 use Rattle.log_recovery.proofs.scan.scan_file.Given as goal
@@ -13,8 +14,8 @@ invariant-loop-i g l = record {
   low : l.at ≤ l._i * 2 ^ 32;
   far : l._i ≤ l.at;
   shows : g.D.Disk.tells → Shows l.scan.window (bytes_of (g.D.Disk.state l.fn.disk).reads (log_file l.base));
-  scanned : g.D.Disk.tells → (files : Files) (records : List Entry) (shape : Shape) → (g.D.Disk.state l.fn.disk).reads ≡ files → Stood l.segment files records shape l.fn.scan.tail l.base 0
-      → Scanned l.segment files records l.scan.tail l.base (g.V.Visit.stands l.fn.each) (g.V.Visit.stands l.each) l.at;
+  scanned : g.D.Disk.tells → (begun : Base) (files : Files) (records : List Entry) (shape : Shape) → (g.D.Disk.state l.fn.disk).reads ≡ files → Stood (geometry l.segment begun) files records shape l.fn.scan.tail l.base 0
+      → Scanned (geometry l.segment begun) files records l.scan.tail l.base (g.V.Visit.stands begun l.fn.each) (g.V.Visit.stands begun l.each) l.at;
   rests : g.D.Disk.tells → Rests (g.D.Disk.state l.fn.disk) (g.D.Disk.state l.disk);
   faults : g.D.Disk.faults l.disk ≡ g.D.Disk.faults l.fn.disk;
   syncs : g.D.Disk.syncs l.disk ≡ g.D.Disk.syncs l.fn.disk;

@@ -1,6 +1,7 @@
 use Rattle.std.proofs.Common.{◌≡◌, ◌∙◌, ℕ, ◌-◌, List, None, ap, subst, arith}
 use Rattle.mq_outside.specs.Files.{At, Vanished}
 use Rattle.mq_outside.specs.Disk.{Moves, IsDurable}
+use Rattle.log_model.specs.Bases.{whole}
 use Rattle.log_model.specs.Segments.{segment_file}
 use Rattle.log_recovery.specs.Settle.{IsPruned}
 use Rattle.log_recovery.proofs.SettleLemmas.{turns_call, pruned_more, gone_more}
@@ -10,18 +11,18 @@ pub returns-in_err-remove-clause-turns : goal.returns-in_err-remove-clause-turns
 returns-in_err-remove-clause-turns g c = λ tells.
     let S : ℕ = c.args.segment in
     let k : ℕ = c.args.top - c.loop-i.i in
-    let named : c.as_str.result.now ≡ segment_file S k = c.as_str.ensures ∙ c.of-file.ensures ∙ ap (λ (s : ℕ). segment_file s k) c.from.ensures in
-    let moves : Moves (At (segment_file S k) Vanished) (g.D.Disk.state c.loop-i.disk) (g.D.Disk.state c.remove.new.self) =
+    let named : c.as_str.result.now ≡ segment_file (whole S) k = c.as_str.ensures ∙ c.of-file.ensures ∙ ap (λ (s : ℕ). segment_file (whole s) k) c.from.ensures in
+    let moves : Moves (At (segment_file (whole S) k) Vanished) (g.D.Disk.state c.loop-i.disk) (g.D.Disk.state c.remove.new.self) =
     subst (λ (n : List ℕ). Moves (At n Vanished) (g.D.Disk.state c.loop-i.disk) (g.D.Disk.state c.remove.new.self)) named (c.remove.ensures.moves tells) in
-    turns_call (IsPruned S c.args.kept c.args.top) (At (segment_file S k) Vanished) (pruned_more S c.args.kept c.args.top k (omega arith) (omega arith)) (c.loop-i.invariant.turns tells) moves
+    turns_call (IsPruned S c.args.kept c.args.top) (At (segment_file (whole S) k) Vanished) (pruned_more S c.args.kept c.args.top k (omega arith) (omega arith)) (c.loop-i.invariant.turns tells) moves
 
 pub loop-i-preserved : goal.loop-i-preserved
 loop-i-preserved g c =
     let S : ℕ = c.args.segment in
     let k : ℕ = c.args.top - c.loop-i.i in
-    let named : c.as_str.result.now ≡ segment_file S k = c.as_str.ensures ∙ c.of-file.ensures ∙ ap (λ (s : ℕ). segment_file s k) c.from.ensures in
+    let named : c.as_str.result.now ≡ segment_file (whole S) k = c.as_str.ensures ∙ c.of-file.ensures ∙ ap (λ (s : ℕ). segment_file (whole s) k) c.from.ensures in
     record {
-      turns = λ tells. turns_call (IsPruned S c.args.kept c.args.top) (At (segment_file S k) Vanished) (pruned_more S c.args.kept c.args.top k (omega arith) (omega arith)) (c.loop-i.invariant.turns tells)
+      turns = λ tells. turns_call (IsPruned S c.args.kept c.args.top) (At (segment_file (whole S) k) Vanished) (pruned_more S c.args.kept c.args.top k (omega arith) (omega arith)) (c.loop-i.invariant.turns tells)
           (subst (λ (n : List ℕ). Moves (At n Vanished) (g.D.Disk.state c.loop-i.disk) (g.D.Disk.state c.remove.new.self)) named (c.remove.ensures.moves tells));
       gone = λ tells.
           let each = gone_more S k c.args.top

@@ -1,4 +1,4 @@
-use Rattle.std.proofs.Common.{◌≡◌, ℕ, List, ◌≤◌, ◌-◌, ◌^◌, Ok, None}
+use Rattle.std.proofs.Common.{◌≡◌, List, ◌≤◌, ◌-◌, ◌^◌, Ok, None}
 use Rattle.record_codec.specs.Entry.{Entry}
 use Rattle.remoting_frame.specs.Frames.{next_of}
 use Rattle.segment_files.specs.Outside.{StaysOutside}
@@ -7,10 +7,11 @@ use Rattle.mq_broker.specs.Seen.{tells_of, faults_of, devices_of, seen_of}
 use Rattle.mq_broker.specs.Progress.{StandsAt}
 use Rattle.mq_broker.specs.Pipes.{SoFar}
 use Rattle.mq_broker.proofs.pipe.serve_stream.Given as goal
+use Rattle.log_model.specs.Bases.{Geometry}
 
 abbrev pub invariant-loop-total : goal.invariant-loop-total
 invariant-loop-total g l = record {
-  served : (S : ℕ) (log : List Entry) → StandsAt S log l.initial.broker.writer → SoFar S log l.total l.cutter
+  served : (S : Geometry) (log : List Entry) → StandsAt S log l.initial.broker.writer → SoFar S log l.total l.cutter
       (seen_of g.S.Source.tells (g.S.Source.given l.initial.source) (g.S.Source.given l.source) (g.S.Source.left l.source) (tells_of g.K.Sink.tells g.D.Disk.tells g.C.Clock.tells)
       (devices_of (g.K.Sink.taken l.initial.sink) (g.D.Disk.state l.initial.disk) (g.C.Clock.readings l.initial.clock)
       (faults_of (g.K.Sink.faults l.initial.sink) (g.D.Disk.faults l.initial.disk) (g.C.Clock.faults l.initial.clock)))

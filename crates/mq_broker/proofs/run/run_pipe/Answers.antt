@@ -8,6 +8,7 @@ use Rattle.mq_broker.specs.Seen.{faults_of}
 use Rattle.mq_broker.proofs.CauseLemmas.{opening_causes}
 use Rattle.mq_broker.proofs.RunLemmas.{begins_with, keeps_on, unrecovered, stores_same, honest_same}
 use Rattle.mq_broker.proofs.run.run_pipe.Goals as goal
+use Rattle.log_model.specs.Bases.{whole}
 
 pub returns-in-Err-open_format-clause-foreign : goal.returns-in-Err-open_format-clause-foreign
 returns-in-Err-open_format-clause-foreign g c = λ told kept code asked command.
@@ -46,13 +47,13 @@ returns-clause-fits g c = λ fits.
         tells = c.status_of.ensures;
         segment = segment;
         opened = c.in-Ok-open_format.ensures.opened;
-        begins = λ told. begins_with segment _ _ disk faults writer _ c.serve_all-ended.result same rests c.serve_all-ended.ensures.served told
-            (subst (GoesOnBehind segment (g.D.Disk.state c.open_format.new.disk).reads) (sym c.new-broker.ensures) (c.in-Ok-open.ensures.kept told));
+        begins = λ told. begins_with (whole segment) _ _ disk faults writer _ c.serve_all-ended.result same rests c.serve_all-ended.ensures.served told
+            (subst (GoesOnBehind (whole segment) (g.D.Disk.state c.open_format.new.disk).reads) (sym c.new-broker.ensures) (c.in-Ok-open.ensures.kept told));
         durable = λ told stored flushed stores honest.
-            let mid_stores = stores_same segment stored flushed _ _ (rests told) stores in
-            let mid_honest = honest_same segment stored flushed _ _ (rests told) honest in
-            keeps_on segment _ _ disk faults writer _ c.serve_all-ended.result same rests c.serve_all-ended.ensures.served told stored flushed stores
-            (subst (Opened segment stored flushed (g.D.Disk.state c.open.new.disk)) (sym c.new-broker.ensures) (c.in-Ok-open.ensures.ours told stored flushed mid_stores mid_honest))
+            let mid_stores = stores_same (whole segment) stored flushed _ _ (rests told) stores in
+            let mid_honest = honest_same (whole segment) stored flushed _ _ (rests told) honest in
+            keeps_on (whole segment) _ _ disk faults writer _ c.serve_all-ended.result same rests c.serve_all-ended.ensures.served told stored flushed stores
+            (subst (Opened (whole segment) stored flushed (g.D.Disk.state c.open.new.disk)) (sym c.new-broker.ensures) (c.in-Ok-open.ensures.ours told stored flushed mid_stores mid_honest))
             (c.in-Ok-open.ensures.flushed told stored flushed mid_stores mid_honest).any_moment;
       });
     }

@@ -20,54 +20,54 @@ pub returns-in-Err-Memory-clause-honest : goal.returns-in-Err-Memory-clause-hone
 returns-in-Err-Memory-clause-honest g c tells S log more stores well = weaker (at_start _ (HasRecords S log) (each_stored stores)) (λ files has. keeps_front S log more files well has)
 
 pub returns-in_default-clause-outcome : goal.returns-in_default-clause-outcome
-returns-in_default-clause-outcome g c log stands = let done = c.in-Ok.ensures.appended log stands in (done.room, done.place, done.stands)
+returns-in_default-clause-outcome g c base log stands = let done = c.in-Ok.ensures.appended base log stands in (done.room, done.place, done.stands)
 
 pub returns-in_default-clause-any_moment : goal.returns-in_default-clause-any_moment
 returns-in_default-clause-any_moment g c tells S log stores =
     let start = starts S log c.args.draft.now c.args.reading c.append_behind.new.tail c.in-Ok.appended.place c.in-Ok.appended.batch c.args.self.now (g.D.Disk.state c.args.disk.now) stores
-    (c.in-Ok.ensures.appended log stores.stands) (c.in-Ok.ensures.well_formed log stores.stands) in
+    (c.in-Ok.ensures.appended S.base log stores.stands) (c.in-Ok.ensures.well_formed S.base log stores.stands) in
     has_front S log (next_entry S log c.args.draft.now c.args.reading) (c.write_batch.ensures.turns tells S (with_next S log c.args.draft.now c.args.reading) (length log) _ _ start).any_moment
 
 pub returns-in_default-clause-honest : goal.returns-in_default-clause-honest
 returns-in_default-clause-honest g c tells S log more stores well =
     let start = starts S log c.args.draft.now c.args.reading c.append_behind.new.tail c.in-Ok.appended.place c.in-Ok.appended.batch c.args.self.now (g.D.Disk.state c.args.disk.now) stores
-    (c.in-Ok.ensures.appended log stores.stands) (c.in-Ok.ensures.well_formed log stores.stands) in
+    (c.in-Ok.ensures.appended S.base log stores.stands) (c.in-Ok.ensures.well_formed S.base log stores.stands) in
     weaker (has_front S log (next_entry S log c.args.draft.now c.args.reading) (c.write_batch.ensures.turns tells S (with_next S log c.args.draft.now c.args.reading) (length log) _ _ start).any_moment) (λ files has. keeps_front S log more files well has)
 
 pub returns-clause-outcome : goal.returns-clause-outcome
-returns-clause-outcome g c log stands = let done = c.in-Ok.ensures.appended log stands in (done.room, done.place, done.stands)
+returns-clause-outcome g c base log stands = let done = c.in-Ok.ensures.appended base log stands in (done.room, done.place, done.stands)
 
 pub returns-clause-any_moment : goal.returns-clause-any_moment
 returns-clause-any_moment g c tells S log stores =
     let start = starts S log c.args.draft.now c.args.reading c.append_behind.new.tail c.in-Ok.appended.place c.in-Ok.appended.batch c.args.self.now (g.D.Disk.state c.args.disk.now) stores
-    (c.in-Ok.ensures.appended log stores.stands) (c.in-Ok.ensures.well_formed log stores.stands) in
+    (c.in-Ok.ensures.appended S.base log stores.stands) (c.in-Ok.ensures.well_formed S.base log stores.stands) in
     has_front S log (next_entry S log c.args.draft.now c.args.reading) (c.write_batch.ensures.turns tells S (with_next S log c.args.draft.now c.args.reading) (length log) _ _ start).any_moment
 
 pub returns-clause-honest : goal.returns-clause-honest
 returns-clause-honest g c tells S log more stores well =
     let start = starts S log c.args.draft.now c.args.reading c.append_behind.new.tail c.in-Ok.appended.place c.in-Ok.appended.batch c.args.self.now (g.D.Disk.state c.args.disk.now) stores
-    (c.in-Ok.ensures.appended log stores.stands) (c.in-Ok.ensures.well_formed log stores.stands) in
+    (c.in-Ok.ensures.appended S.base log stores.stands) (c.in-Ok.ensures.well_formed S.base log stores.stands) in
     weaker (has_front S log (next_entry S log c.args.draft.now c.args.reading) (c.write_batch.ensures.turns tells S (with_next S log c.args.draft.now c.args.reading) (length log) _ _ start).any_moment) (λ files has. keeps_front S log more files well has)
 
 pub returns-in_default-clause-not_flushed : goal.returns-in_default-clause-not_flushed
 returns-in_default-clause-not_flushed g c tells S log stores =
     let start = starts S log c.args.draft.now c.args.reading c.append_behind.new.tail c.in-Ok.appended.place c.in-Ok.appended.batch c.args.self.now (g.D.Disk.state c.args.disk.now) stores
-    (c.in-Ok.ensures.appended log stores.stands) (c.in-Ok.ensures.well_formed log stores.stands) in
+    (c.in-Ok.ensures.appended S.base log stores.stands) (c.in-Ok.ensures.well_formed S.base log stores.stands) in
     stores_failed (c.in_default.ensures.turns tells S (with_next S log c.args.draft.now c.args.reading) (length log) _ _ start).retry
 
 pub returns-clause-sent : goal.returns-clause-sent
 returns-clause-sent g c tells S log stores =
     let start = starts S log c.args.draft.now c.args.reading c.append_behind.new.tail c.in-Ok.appended.place c.in-Ok.appended.batch c.args.self.now (g.D.Disk.state c.args.disk.now) stores
-    (c.in-Ok.ensures.appended log stores.stands) (c.in-Ok.ensures.well_formed log stores.stands) in
-    let done = appended_in S c.args.self.now.tail.segment log c.args.draft.now c.args.reading c.append_behind.new.tail c.in-Ok.appended.place c.in-Ok.appended.batch stores.size (c.in-Ok.ensures.appended log stores.stands) in
+    (c.in-Ok.ensures.appended S.base log stores.stands) (c.in-Ok.ensures.well_formed S.base log stores.stands) in
+    let done = appended_in S c.args.self.now.tail.segment log c.args.draft.now c.args.reading c.append_behind.new.tail c.in-Ok.appended.place c.in-Ok.appended.batch stores.size (c.in-Ok.ensures.appended S.base log stores.stands) in
     stores_sent S log (next_entry S log c.args.draft.now c.args.reading) _ c.in-Ok.appended.batch.count _ _ _ _ done.one (c.append_behind.ensures.segment ∙ stores.size) done.stands
     stores.writes.place.end c.in-Ok-write_batch.ensures.moves.offset (c.in-Ok-write_batch.ensures.turns tells S (with_next S log c.args.draft.now c.args.reading) (length log) _ _ start).stored
 
 pub returns-in-Err-LogEnd-clause-still : goal.returns-in-Err-LogEnd-clause-still
-returns-in-Err-LogEnd-clause-still g c tells S log stores = record { size = c.append_behind.ensures.segment ∙ stores.size; stands = c.in-Err-LogEnd.ensures.still log stores.stands; writes = stores.writes }
+returns-in-Err-LogEnd-clause-still g c tells S log stores = record { size = c.append_behind.ensures.segment ∙ stores.size; stands = c.in-Err-LogEnd.ensures.still S.base log stores.stands; writes = stores.writes }
 
 pub returns-in-Err-Memory-clause-still : goal.returns-in-Err-Memory-clause-still
-returns-in-Err-Memory-clause-still g c tells S log stores = record { size = c.append_behind.ensures.segment ∙ stores.size; stands = c.in-Err-Memory.ensures.still log stores.stands; writes = stores.writes }
+returns-in-Err-Memory-clause-still g c tells S log stores = record { size = c.append_behind.ensures.segment ∙ stores.size; stands = c.in-Err-Memory.ensures.still S.base log stores.stands; writes = stores.writes }
 
 pub returns-in-Err-LogEnd-clause-outside : goal.returns-in-Err-LogEnd-clause-outside
 returns-in-Err-LogEnd-clause-outside g c tells = outside_start _

@@ -7,35 +7,35 @@ use Rattle.segment_files.proofs.last_file.LastFile.end_file.Goals as goal
 pub returns-in_err-write_blank-clause-any_moment : goal.returns-in_err-write_blank-clause-any_moment
 returns-in_err-write_blank-clause-any_moment g c tells S log flushed shape reach writes is fills =
     let behind = end_behind writes (c.as_str-name.ensures ∙ c.of-file.ensures) in
-    has_records log flushed writes.stores.laid (c.write_blank.ensures.any_moment tells S shape S behind (blank_fits writes fills) (each_to_end writes))
+    has_records log flushed writes.stores.laid (c.write_blank.ensures.any_moment tells S shape S.size behind (blank_fits writes fills) (each_to_end writes))
 
 pub returns-in_err-write_blank-clause-still : goal.returns-in_err-write_blank-clause-still
 returns-in_err-write_blank-clause-still g c tells S log flushed shape reach writes is fills =
     let behind = end_behind writes (c.as_str-name.ensures ∙ c.of-file.ensures) in
-    writes_still writes (omega arith) (c.write_blank.ensures.any_moment tells S shape S behind (blank_fits writes fills) (each_to_end writes))
+    writes_still writes (omega arith) (c.write_blank.ensures.any_moment tells S shape S.size behind (blank_fits writes fills) (each_to_end writes))
 
 pub returns-in_err-sync-clause-any_moment : goal.returns-in_err-sync-clause-any_moment
 returns-in_err-sync-clause-any_moment g c tells S log flushed shape reach writes is fills =
     let behind = end_behind writes (c.as_str-name.ensures ∙ c.of-file.ensures) in
-    let written = c.write_blank.ensures.any_moment tells S shape S behind (blank_fits writes fills) (each_to_end writes) in
+    let written = c.write_blank.ensures.any_moment tells S shape S.size behind (blank_fits writes fills) (each_to_end writes) in
     has_records log flushed writes.stores.laid (same_on written (c.sync.ensures.moves tells))
 
 pub returns-in_err-sync-clause-still : goal.returns-in_err-sync-clause-still
 returns-in_err-sync-clause-still g c tells S log flushed shape reach writes is fills =
     let behind = end_behind writes (c.as_str-name.ensures ∙ c.of-file.ensures) in
-    let written = c.write_blank.ensures.any_moment tells S shape S behind (blank_fits writes fills) (each_to_end writes) in
+    let written = c.write_blank.ensures.any_moment tells S shape S.size behind (blank_fits writes fills) (each_to_end writes) in
     writes_still writes (omega arith) (same_on written (c.sync.ensures.moves tells))
 
 pub returns-clause-any_moment : goal.returns-clause-any_moment
 returns-clause-any_moment g c tells S log flushed shape reach writes is fills =
     let behind = end_behind writes (c.as_str-name.ensures ∙ c.of-file.ensures) in
-    let written = c.write_blank.ensures.any_moment tells S shape S behind (blank_fits writes fills) (each_to_end writes) in
+    let written = c.write_blank.ensures.any_moment tells S shape S.size behind (blank_fits writes fills) (each_to_end writes) in
     has_records log flushed writes.stores.laid (same_on written (c.sync.ensures.moves tells))
 
 pub returns-clause-opened : goal.returns-clause-opened
 returns-clause-opened g c tells S log flushed shape reach writes is fills next =
     let named = c.as_str-name.ensures ∙ c.of-file.ensures in
-    let written = c.write_blank.ensures.any_moment tells S shape S (end_behind writes named) (blank_fits writes fills) (each_to_end writes) in
+    let written = c.write_blank.ensures.any_moment tells S shape S.size (end_behind writes named) (blank_fits writes fills) (each_to_end writes) in
     let synced = c.sync.ensures.moves tells in
     writes_opened writes named is fills next (g.met.D.Disk.reads_is_image c.args.disk.now tells)
     (c.in_ok-write_blank.ensures.written tells) synced (c.in_ok-sync.ensures.durable tells) (at_end (same_on written synced))
@@ -43,7 +43,7 @@ returns-clause-opened g c tells S log flushed shape reach writes is fills next =
 pub returns-clause-still : goal.returns-clause-still
 returns-clause-still g c tells S log flushed shape reach writes is fills =
     let behind = end_behind writes (c.as_str-name.ensures ∙ c.of-file.ensures) in
-    let written = c.write_blank.ensures.any_moment tells S shape S behind (blank_fits writes fills) (each_to_end writes) in
+    let written = c.write_blank.ensures.any_moment tells S shape S.size behind (blank_fits writes fills) (each_to_end writes) in
     writes_still writes (omega arith) (same_on written (c.sync.ensures.moves tells))
 
 pub returns-in_err-write_blank-clause-outside : goal.returns-in_err-write_blank-clause-outside
