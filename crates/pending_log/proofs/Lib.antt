@@ -1,0 +1,6 @@
+pub mod ExtentLemmas
+pub mod Lists
+pub mod LogLemmas
+pub mod FindLemmas
+pub mod LookLemmas
+pub mod PendingLemmas
