@@ -15,3 +15,4 @@ pub mod OneDamage
 pub mod BatchLemmas
 pub mod Cuts
 pub mod AdmissibleLemmas
+pub mod PullLemmas

@@ -1,11 +1,14 @@
 //! What holds of logs, of their segment files and of recovery. No call is made: the clauses speak of the definitions.
 
-ghost use Rattle.std.specs.Prelude.{◌≡◌, ◌⊎◌, ◌<◌, ◌≤◌, ◌+◌, ◌*◌, ◌/◌, ◌%◌, ◌^◌, ◌++◌, List, [], ℕ, suc, Some, IsSome, length, take, drop, slice_get};
+ghost use Rattle.std.specs.Prelude.{◌≡◌, ◌⊎◌, ◌<◌, ◌≤◌, ◌+◌, ◌*◌, ◌/◌, ◌%◌, ◌^◌, ◌++◌, List, [], ℕ, ℤ, Bool, suc, Some, IsSome, length, take, drop, map, slice_get};
 ghost use Rattle.mq_outside.specs.Disk.{EachImage, IsCrashImage, IsDurable};
 ghost use Rattle.mq_outside.specs.Files.{Files, HasNoFile, At, Shortened, bytes_of};
 ghost use Rattle.record_codec.specs.Entry.{Entry};
+ghost use Rattle.record_codec.specs.Units.{unit_of};
+ghost use Rattle.record_codec.specs.declared.unit.Unit.{Unit as QueueUnit};
 ghost use Rattle.log_model.specs.Bases.{Geometry, first_segment};
 ghost use Rattle.log_model.specs.Log.{place_after, end_of, IsGeometry, IsWellFormed};
+ghost use Rattle.log_model.specs.Pulls.{pulled, pulled_as};
 ghost use Rattle.log_model.specs.Segments.{Shape, shape_of, segment_file, last_name, Counts, AreSegmentFiles};
 ghost use Rattle.log_model.specs.Store.{StartsWith, IsDamagedAt, IsHonest, IsLaid, Keeps, KeepsPrefix, Stands, StoresLog};
 
@@ -131,4 +134,10 @@ pub fn files_only_grow()
 pub fn cut_files_are_honest()
     ensures { (S : Geometry) (log : List Entry) (flushed : ℕ) (files cut : Files) → IsWellFormed S log → AreSegmentFiles S log files
         → At (last_name S (shape_of S log)) (Shortened 0) files cut → IsHonest S log flushed cut }
+{}
+
+/// A pull of a queue's units gives the units of a pull of its records, with the same code and the same offsets.
+pub fn units_are_pulled_as_records()
+    ensures { (low most : ℕ) (queue : List Entry) (from : ℤ) (test : QueueUnit → Bool)
+        → pulled (λ unit. unit) low (map unit_of queue) from most test ≡ pulled_as unit_of (pulled unit_of low queue from most test) }
 {}

@@ -20,7 +20,7 @@ pub use laws::{
     files_recover_to_their_log, files_tell_their_log, images_agree_before_the_last_file,
     kept_files_are_honest, kept_files_are_undamaged, kept_is_well_formed,
     kept_records_stand_at_their_places, recovery_is_idempotent, recovery_is_unique,
-    the_last_file_ends_with_the_log, torn_ends_leave_a_prefix,
+    the_last_file_ends_with_the_log, torn_ends_leave_a_prefix, units_are_pulled_as_records,
 };
 pub use place::next_place;
 pub use queues::queue_of;
