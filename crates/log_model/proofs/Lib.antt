@@ -17,3 +17,4 @@ pub mod Cuts
 pub mod AdmissibleLemmas
 pub mod OutsideLemmas
 pub mod StoredLemmas
+pub mod PullLemmas

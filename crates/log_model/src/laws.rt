@@ -1,11 +1,14 @@
 //! What holds of logs, of their segment files and of recovery. No call is made: the clauses speak of the definitions.
 
-ghost use Rattle.std.specs.Prelude.{◌≡◌, ◌⊎◌, ◌<◌, ◌≤◌, ◌+◌, ◌*◌, ◌/◌, ◌%◌, ◌^◌, ◌++◌, List, [], ◌∷◌, ℕ, suc, Some, IsSome, length, take, drop, slice_get};
+ghost use Rattle.std.specs.Prelude.{◌≡◌, ◌⊎◌, ◌<◌, ◌≤◌, ◌+◌, ◌*◌, ◌/◌, ◌%◌, ◌^◌, ◌++◌, List, [], ◌∷◌, ℕ, suc, Some, IsSome, length, take, drop, slice_get, ℤ, Bool, map};
 ghost use Rattle.mq_outside.specs.Disk.{EachImage, IsCrashImage, IsDurable};
 ghost use Rattle.mq_outside.specs.Files.{Files, HasNoFile, At, Shortened, bytes_of};
 ghost use Rattle.record_codec.specs.Entry.{Entry};
+ghost use Rattle.record_codec.specs.Units.{unit_of};
+ghost use Rattle.record_codec.specs.declared.unit.Unit.{Unit as QueueUnit};
 ghost use Rattle.log_model.specs.Bases.{Geometry, first_segment};
 ghost use Rattle.log_model.specs.Log.{place_after, end_of, IsGeometry, IsWellFormed};
+ghost use Rattle.log_model.specs.Pulls.{pulled, pulled_as};
 ghost use Rattle.log_model.specs.Segments.{Shape, shape_of, segment_file, last_name, Counts, AreSegmentFiles};
 ghost use Rattle.log_model.specs.Store.{StartsWith, IsDamagedAt, IsHonest, IsLaid, Keeps, KeepsPrefix, KeepsIfHonest, Stands, StoresLog};
 ghost use Rattle.log_model.specs.Stored.{FlushTurn, HasFirst, KeepsAtLeast, LogStays, StoresFirst, flush_turn, turned_by, turned_in};
@@ -166,4 +169,10 @@ pub fn a_flush_turn_counts_from_its_end<D: Disk>(old: &D, mid: &D, new: &D)
 pub fn a_log_whose_files_stay_is_stored<D: Disk>(old: &D, new: &D)
     ensures { (S : Geometry) (log : List Entry) (flushed : ℕ) → LogStays (D.state old.now) (D.state new.now)
         → StoresLog S log flushed (D.state old.now) → StoresLog S log flushed (D.state new.now) }
+{}
+
+/// A pull of a queue's units gives the units of a pull of its records, with the same code and the same offsets.
+pub fn units_are_pulled_as_records()
+    ensures { (low most : ℕ) (queue : List Entry) (from : ℤ) (test : QueueUnit → Bool)
+        → pulled (λ unit. unit) low (map unit_of queue) from most test ≡ pulled_as unit_of (pulled unit_of low queue from most test) }
 {}

@@ -1,0 +1,15 @@
+pub mod Acknowledged
+pub mod Answers
+pub mod Appended
+pub mod Clients
+pub mod Events
+pub mod Examples
+pub mod Lawful
+pub mod Laws
+pub mod Refusals
+pub mod Removal
+pub mod Run
+pub mod Sends
+pub mod State
+pub mod Step
+pub mod Tables
