@@ -1,3 +1,4 @@
 pub mod Anys
 pub mod States
 pub mod WordLemmas
+pub mod Replies

@@ -1,2 +1,3 @@
+pub mod Replays
 pub mod Told
 pub mod Words

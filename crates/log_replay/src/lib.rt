@@ -2,11 +2,17 @@
 //! beside the definitions.
 #![tactic(auto)]
 
+mod delays;
 mod halves;
 mod keys;
 mod kinds;
 mod queries;
+mod replays;
+mod said;
 
+pub use delays::delays_of;
 pub use halves::{copies_of, family_of, halves_of, state_of};
 pub use keys::index_keys_of;
 pub use queries::{query_of, query_reply};
+pub use replays::replay;
+pub use said::Replay;

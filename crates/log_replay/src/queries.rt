@@ -95,7 +95,8 @@ pub fn query_of(
     let hash = hash(alloc, topic, key)?;
     let most = asked(i64::from(most));
     let found = newest(alloc, log, hash, i128::from(from), i128::from(to), most)?;
-    places(alloc, &found)
+    let places = places(alloc, &found)?;
+    Ok(places)
 }
 
 // Appends the places of these records, as far as they have room together.

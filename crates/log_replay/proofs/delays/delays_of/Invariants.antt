@@ -1,0 +1,7 @@
+use Rattle.std.proofs.Common.{◌≡◌, ℕ, ◌+◌, ◌<◌, get_or}
+use Rattle.log_model.specs.Delays.{progress}
+use Rattle.log_replay.specs.Told.{log_of}
+use Rattle.log_replay.proofs.delays.delays_of.Given as goal
+
+abbrev pub invariant-loop-i : goal.invariant-loop-i
+invariant-loop-i l = (k : ℕ) → k < l.i → get_or l.delays k 0 ≡ progress (log_of l.base l.log) (k + 1)
