@@ -4,3 +4,4 @@ pub mod LogLemmas
 pub mod FindLemmas
 pub mod LookLemmas
 pub mod PendingLemmas
+pub mod TakeLemmas

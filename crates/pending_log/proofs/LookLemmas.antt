@@ -1,6 +1,6 @@
 -- The last failed turn alone tells what all of them do.
 use Rattle.std.proofs.Common.{◌≡◌, refl, ap, sym, ◌∙◌, subst, arith, ℕ, zero, suc, ◌+◌, ◌<◌, ◌≤◌, ◌&&◌, cond, nat_lt, nat_le, All, Bool, true, false, List, [], ◌∷◌, length, filter, Option, Some, None, if◌then◌else◌}
-use Rattle.std.proofs.lemmas.Bool.{le-leb, lt-ltb, ltb-true, ltb-false}
+use Rattle.std.proofs.lemmas.Bool.{le-leb, lt-ltb, le-ltb, ltb-true, ltb-false}
 use Rattle.std.proofs.lemmas.List.Elements.{All-head, All-tail}
 use Rattle.std.specs.List.{AllPairs}
 use Rattle.pending_log.specs.declared.turn.FailedTurn.{FailedTurn}
@@ -35,14 +35,17 @@ skipped facts p t u turns next =
       | false ↦ λ e. refl
     ]) refl
 
+one_case : {T : Type 0} (facts : T → Turn) (t : T) (a b c : Bool) → b ≡ true → (if a && c then Failed (facts t).count else NotYet) ≡ last_count facts (if a && b && c then t ∷ [] else [])
+one_case facts t true true true e = refl
+one_case facts t true true false e = refl
+one_case facts t true false c e = cc e
+one_case facts t false b c e = refl
+
 -- one turn
 one_look : {T : Type 0} (facts : T → Turn) (flushed number turn : ℕ) (t : T) → flushed ≤ number → (facts t).from ≤ flushed
     → kept_look (Some (record { turn = (facts t).turn; held = (facts t).held; count = (facts t).count })) number turn ≡ last_count facts (filter (λ x. holds_up number turn (facts x)) (t ∷ []))
 one_look facts flushed number turn t behind from =
-    let passes : nat_le (facts t).from number ≡ true = le-leb (facts t).from number (omega (arith, from, behind)) in
-    let P : Bool → Type 0 = λ b. (if nat_lt turn (facts t).turn && nat_lt number (facts t).held then Failed (facts t).count else NotYet)
-          ≡ last_count facts (if nat_lt turn (facts t).turn && b && nat_lt number (facts t).held then t ∷ [] else []) in
-    subst P (sym passes) (elim (nat_lt turn (facts t).turn && nat_lt number (facts t).held) as (λ b. (if b then Failed (facts t).count else NotYet) ≡ last_count facts (if b then t ∷ [] else [])) [ true ↦ refl | false ↦ refl ])
+    one_case facts t (nat_lt turn (facts t).turn) (nat_le (facts t).from number) (nat_lt number (facts t).held) (le-leb (facts t).from number (omega (arith, from, behind)))
 
 -- the last turn tells the count of the last that held the record up
 pub last_tells : {T : Type 0} (facts : T → Turn) (flushed number turn : ℕ) (turns : List T) (kept : Option FailedTurn) → flushed ≤ number → AreInOrder facts flushed turns → KeepsLast facts turns kept
@@ -65,3 +68,11 @@ kept_answers facts flushed number turn turns kept order keeps =
       | true ↦ λ e. refl
       | false ↦ λ e. last_tells facts flushed number turn turns kept (ltb-false number flushed e) order keeps
     ]) refl
+
+-- what is told of a record that is not flushed
+pub unflushed_look : {T : Type 0} (facts : T → Turn) (flushed number turn : ℕ) (turns : List T) (kept : Option FailedTurn) (look : Look) → flushed ≤ number → look ≡ kept_look kept number turn
+    → AreInOrder facts flushed turns → KeepsLast facts turns kept → look ≡ looked facts flushed turns number turn
+unflushed_look facts flushed number turn turns kept look behind is order keeps =
+    let told : (if nat_lt number flushed then Flushed else kept_look kept number turn) ≡ kept_look kept number turn =
+        ap (λ b. if b then Flushed else kept_look kept number turn) (le-ltb number flushed behind) in
+    is ∙ (sym told ∙ kept_answers facts flushed number turn turns kept order keeps)

@@ -1,5 +1,5 @@
 -- What is pending of a log, when a record is appended and when a turn ends.
-use Rattle.std.proofs.Common.{◌≡◌, refl, ap, sym, ◌∙◌, subst, arith, ℕ, ◌+◌, ◌-◌, ◌*◌, ◌^◌, ◌/◌, ◌<◌, ◌≤◌, List, [], ◌∷◌, ◌++◌, length, take, drop, slice_get, Option, Some, None, IfSome}
+use Rattle.std.proofs.Common.{◌≡◌, refl, ap, sym, ◌∙◌, subst, arith, ℕ, ◌+◌, ◌-◌, ◌*◌, ◌^◌, ◌/◌, ◌<◌, ◌≤◌, List, [], ◌∷◌, ◌++◌, length, take, drop, slice_get, min, Option, Some, None, IfSome}
 use Rattle.std.proofs.lemmas.List.{length-append, take-append-le, drop-append-le, take-append-drop, length-drop}
 use Rattle.std.proofs.Math.Seq.{drop-append_seam, take-append_seam}
 use Rattle.std.proofs.lemmas.Grind.{flat_map-append}
@@ -12,9 +12,14 @@ use Rattle.log_model.specs.Numbered.{Log, count_of, place_end, below, records_fr
 use Rattle.log_model.specs.Segments.{layouts}
 use Rattle.log_model.proofs.Places.{layouts_push, end_of-append}
 use Rattle.pending_log.specs.declared.turn.Out.{Out}
-use Rattle.pending_log.specs.Parts.{PendingPart, appended}
-use Rattle.pending_log.specs.Pending.{IsPendingOf, IsOutOf, with_flushed, with_failed}
+use Rattle.record_codec.proofs.LayoutLengths.{length-layout}
+use Rattle.log_model.specs.Log.{place_after}
+use Rattle.log_model.specs.declared.batch.Batch.{Batch}
+use Rattle.log_model.specs.declared.batch.Receipt.{Receipt}
+use Rattle.pending_log.specs.Parts.{PendingPart, IsBounded, appended, turned}
+use Rattle.pending_log.specs.Pending.{IsPendingOf, IsOutOf, IsReceiptOf, IsReceiptFor, HasTaken, with_flushed, with_failed}
 use Rattle.pending_log.proofs.Lists.{get_more, drop_more}
+use Rattle.pending_log.proofs.LogLemmas.{place_past}
 
 -- ---- one record more
 
@@ -113,3 +118,57 @@ pending_flushed log p out are is =
 
 pub pending_failed : (log : Log) (p : PendingPart) (count : ℕ) (out : Out) → IsPendingOf log p → IsPendingOf log (with_failed p count (Some out))
 pending_failed log p count out are = record { kept = are.kept; within = are.within; count = are.count; start = are.start; end = are.end; bytes = are.bytes; out = tt }
+
+-- the part as the code leaves it when a turn has ended
+pub flushed_log : (log : Log) (p : PendingPart) (out : Out) (count : ℕ) (bytes : List ℕ) (none : Option Out) → IsPendingOf log p → p.out ≡ Some out
+    → count ≡ out.batch.count → bytes ≡ drop (length out.batch.bytes) p.bytes → none ≡ None
+    → IsPendingOf log (record p { flushed = p.flushed + count; start = out.end; bytes = bytes; out = none })
+flushed_log log p out count bytes none are is number rest empty =
+    subst (λ (n : ℕ). IsPendingOf log (record p { flushed = p.flushed + n; start = out.end; bytes = bytes; out = none })) (sym number)
+    (subst (λ (bs : List ℕ). IsPendingOf log (record p { flushed = p.flushed + out.batch.count; start = out.end; bytes = bs; out = none })) (sym rest)
+    (subst (λ (o : Option Out). IsPendingOf log (record p { flushed = p.flushed + out.batch.count; start = out.end; bytes = drop (length out.batch.bytes) p.bytes; out = o })) (sym empty)
+    (pending_flushed log p out are is)))
+
+-- the receipt is of the batch that is out
+pub receipt_count : (o : Option Out) (out : Out) (receipt : Receipt) → o ≡ Some out → IsReceiptOf o receipt → receipt.count ≡ out.batch.count
+receipt_count o out receipt is of = let same : IsReceiptFor out.batch receipt = subst (λ (x : Option Out). IsReceiptOf x receipt) is of in same.count
+
+-- the part as the code leaves it when it has taken a turn
+pub has_taken : (p : PendingPart) (batch : Batch) (out : Out) (turns : ℕ) → batch ≡ out.batch → out.held ≡ p.count → turns ≡ min (p.turns + 1) (2 ^ 64 - 1)
+    → HasTaken p batch (record p { out = Some (record { batch = out.batch; held = out.held; end = out.end }); turns = turns })
+has_taken p batch out turns same held next = record {
+  end = out.end;
+  is = ap (λ (b : Batch). record p { out = Some (record { batch = b; held = out.held; end = out.end }); turns = turns }) (sym same)
+    ∙ (ap (λ (n : ℕ). record p { out = Some (record { batch = batch; held = n; end = out.end }); turns = turns }) held
+    ∙ ap (λ (n : ℕ). record p { out = Some (record { batch = batch; held = p.count; end = out.end }); turns = n }) next);
+}
+
+-- ---- the bytes of one record more
+
+pub grown_by : (before after : List ℕ) (r : Entry) → after ≡ before ++ layout r → length after ≡ length before + size r
+grown_by before after r is =
+    let long = ap (λ (bs : List ℕ). length bs) is ∙ length-append before (layout r) in
+    let same = length-layout r in
+    omega (arith, long, same)
+
+pub bounded_appended : (p : PendingPart) (r : Entry) (bytes : List ℕ) (end : ℕ) → IsBounded p → r.offset ≡ place_after p.segment p.end (size r) → r.offset + size r ≤ 2 ^ 62
+    → length p.bytes + size r ≤ 67108864 → bytes ≡ p.bytes ++ layout r → end ≡ r.offset + size r → IsBounded (record p { count = p.count + 1; end = end; bytes = bytes })
+bounded_appended p r bytes end is place low room grown ends =
+    let past = place_past p.segment p.end (size r) is.some in
+    let few = is.few in
+    let ordered = is.ordered in
+    let long = grown_by p.bytes bytes r grown in
+    record {
+      some = is.some;
+      segment = is.segment;
+      ordered = omega (arith, ordered);
+      few = omega (arith, few, past, place, ends);
+      low = omega (arith, low, ends);
+      short = omega (arith, long, room);
+    }
+
+pub appended_is : (p : PendingPart) (r : Entry) (bytes : List ℕ) (end : ℕ) → bytes ≡ p.bytes ++ layout r → end ≡ r.offset + size r
+    → record p { count = p.count + 1; end = end; bytes = bytes } ≡ appended p r
+appended_is p r bytes end grown ends =
+    ap (λ (bs : List ℕ). record p { count = p.count + 1; end = end; bytes = bs }) grown
+    ∙ ap (λ (n : ℕ). record p { count = p.count + 1; end = n; bytes = p.bytes ++ layout r }) ends

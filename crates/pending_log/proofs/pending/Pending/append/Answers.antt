@@ -1,28 +1,49 @@
-use Rattle.std.proofs.Common.{rules, ◌≡◌, ◌↔◌, ◌⊎◌, ◌<◌, ◌≤◌, ◌+◌, ◌-◌, ◌*◌, ◌^◌, ◌++◌, ◌∷◌, [], ℕ, List, length, nat_lt, if◌then◌else◌, Some, None, IsTrue, IsSome, IsNone, IfSome, IfOk, OnOk, OnErr, ◌/◌, ◌%◌, Bool, true, false, nat_eq, slice_index_or, slice_set, bit_and, bit_or, Fits, w8, w32, w64, Bor, MutBor}
-use Rattle.record_codec.specs.Drafts.{entry_of, draft_size, IsEncodable}
-use Rattle.record_codec.specs.Layout.{IsRecord}
+use Rattle.std.proofs.Common.{◌≡◌, ◌∙◌, ap, sym, subst, arith, List, ℕ, length, ◌+◌, ◌-◌, ◌∷◌, [], ◌++◌, ◌≤◌}
+use Rattle.record_codec.specs.Drafts.{entry_of, draft_size}
+use Rattle.record_codec.specs.Entry.{Entry}
+use Rattle.record_codec.specs.Layout.{size, layout}
 use Rattle.log_model.specs.Log.{place_after}
-use Rattle.log_model.specs.Batches.{blank_between as blank_of}
-use Rattle.log_model.specs.Numbered.{Log, IsLawful, with_appended}
-use Rattle.pending_log.specs.Parts.{PendingPart, appended, new_part}
-use Rattle.pending_log.specs.Pending.{IsPendingOf, IsMarkOf, IsGrownFrom, IsNextBatch, IsNextTurn, HasTaken, IsIdle, IsReceiptOf, after_flushed, after_failed}
-use Rattle.pending_log.specs.Rows.{AreRowsOf}
-use Rattle.pending_log.specs.Looks.{Turn, this, AreInOrder, KeepsLast, looked, kept_look}
-use Rattle.pending_log.specs.declared.turn.Look.TheVariants.{Flushed}
+use Rattle.log_model.specs.Numbered.{with_appended}
+use Rattle.pending_log.specs.Parts.{PendingPart, part_of, appended}
+use Rattle.pending_log.specs.Pending.{IsPendingOf}
+use Rattle.pending_log.proofs.PendingLemmas.{grown_by, bounded_appended, appended_is, pending_appended}
 use Rattle.pending_log.proofs.pending.Pending.append.Goals as goal
 
--- src/pending.rt:150:20
 pub overflow_add-self-2 : goal.overflow_add-self-2
-overflow_add-self-2 c = ?
+overflow_add-self-2 c =
+    let r : Entry = entry_of c.args.draft.now c.args.place.now in
+    let grown = grown_by c.self.inside.buffer c.append.new.self r c.in_ok-append.ensures.ok in
+    let before = c.len-before.ensures in let after = c.len.ensures in let low = c.requires.low in
+    omega (arith, grown, before, after, low)
 
--- src/pending.rt:136:5
 pub invariant_of-self-2 : goal.invariant_of-self-2
-invariant_of-self-2 c = ?
+invariant_of-self-2 c =
+    let i = c.self.inside in
+    let p : PendingPart = part_of i.segment i.flushed i.count i.start i.end i.buffer i.out i.turns i.failed in
+    let r : Entry = entry_of c.args.draft.now c.args.place.now in
+    let grown = grown_by i.buffer c.append.new.self r c.in_ok-append.ensures.ok in
+    let before = c.len-before.ensures in let after = c.len.ensures in
+    bounded_appended p r c.append.new.self (c.args.place.now.offset + (c.len.result - c.len-before.result)) c.self.invariant
+      (subst (λ (q : PendingPart). c.args.place.now.offset ≡ place_after q.segment q.end (draft_size c.args.draft.now)) (sym c.self.view_is) c.requires.next) c.requires.low
+      (subst (λ (q : PendingPart). length q.bytes + draft_size c.args.draft.now ≤ 67108864) (sym c.self.view_is) c.requires.room) c.in_ok-append.ensures.ok
+      (omega (arith, grown, before, after))
 
--- src/pending.rt:136:5
 pub returns-clause-appended : goal.returns-clause-appended
-returns-clause-appended c = ?
+returns-clause-appended c =
+    let i = c.self.inside in
+    let p : PendingPart = part_of i.segment i.flushed i.count i.start i.end i.buffer i.out i.turns i.failed in
+    let r : Entry = entry_of c.args.draft.now c.args.place.now in
+    let grown = grown_by i.buffer c.append.new.self r c.in_ok-append.ensures.ok in
+    let before = c.len-before.ensures in let after = c.len.ensures in
+    appended_is p r c.append.new.self (c.args.place.now.offset + (c.len.result - c.len-before.result)) c.in_ok-append.ensures.ok (omega (arith, grown, before, after))
+    ∙ ap (λ (q : PendingPart). appended q r) c.self.view_is
 
--- src/pending.rt:136:5
 pub returns-clause-log : goal.returns-clause-log
-returns-clause-log c = ?
+returns-clause-log c log are =
+    let i = c.self.inside in
+    let p : PendingPart = part_of i.segment i.flushed i.count i.start i.end i.buffer i.out i.turns i.failed in
+    let r : Entry = entry_of c.args.draft.now c.args.place.now in
+    let grown = grown_by i.buffer c.append.new.self r c.in_ok-append.ensures.ok in
+    let before = c.len-before.ensures in let after = c.len.ensures in
+    let same = appended_is p r c.append.new.self (c.args.place.now.offset + (c.len.result - c.len-before.result)) c.in_ok-append.ensures.ok (omega (arith, grown, before, after)) in
+    subst (λ (q : PendingPart). IsPendingOf (with_appended log (r ∷ [])) q) (sym same) (pending_appended log p r (subst (λ (q : PendingPart). IsPendingOf log q) (sym c.self.view_is) are))

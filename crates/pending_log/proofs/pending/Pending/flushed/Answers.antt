@@ -1,20 +1,24 @@
-use Rattle.std.proofs.Common.{rules, ◌≡◌, ◌↔◌, ◌⊎◌, ◌<◌, ◌≤◌, ◌+◌, ◌-◌, ◌*◌, ◌^◌, ◌++◌, ◌∷◌, [], ℕ, List, length, nat_lt, if◌then◌else◌, Some, None, IsTrue, IsSome, IsNone, IfSome, IfOk, OnOk, OnErr, ◌/◌, ◌%◌, Bool, true, false, nat_eq, slice_index_or, slice_set, bit_and, bit_or, Fits, w8, w32, w64, Bor, MutBor}
-use Rattle.record_codec.specs.Drafts.{entry_of, draft_size, IsEncodable}
-use Rattle.record_codec.specs.Layout.{IsRecord}
-use Rattle.log_model.specs.Log.{place_after}
-use Rattle.log_model.specs.Batches.{blank_between as blank_of}
-use Rattle.log_model.specs.Numbered.{Log, IsLawful, with_appended}
-use Rattle.pending_log.specs.Parts.{PendingPart, appended, new_part}
-use Rattle.pending_log.specs.Pending.{IsPendingOf, IsMarkOf, IsGrownFrom, IsNextBatch, IsNextTurn, HasTaken, IsIdle, IsReceiptOf, after_flushed, after_failed}
-use Rattle.pending_log.specs.Rows.{AreRowsOf}
-use Rattle.pending_log.specs.Looks.{Turn, this, AreInOrder, KeepsLast, looked, kept_look}
-use Rattle.pending_log.specs.declared.turn.Look.TheVariants.{Flushed}
+use Rattle.std.proofs.Common.{◌≡◌, ◌∙◌, ap, sym, subst, arith, List, ℕ, length, drop, ◌≤◌, Option, Some}
+use Rattle.pending_log.specs.Parts.{PendingPart, part_of}
+use Rattle.pending_log.specs.Pending.{IsPendingOf}
+use Rattle.pending_log.specs.declared.turn.Out.{Out}
+use Rattle.pending_log.proofs.PendingLemmas.{out_short, flushed_log, receipt_count}
 use Rattle.pending_log.proofs.pending.Pending.flushed.Goals as goal
 
--- src/pending.rt:222:17
 pub drop_front-requires : goal.drop_front-requires
-drop_front-requires c = ?
+drop_front-requires c =
+    let i = c.self.inside in
+    let p : PendingPart = part_of i.segment i.flushed i.count i.start i.end i.buffer i.out i.turns i.failed in
+    let short = out_short c.requires.some.0 p c.in-Some.out (subst (λ (q : PendingPart). IsPendingOf c.requires.some.0 q) (sym c.self.view_is) c.requires.some.1) (sym c.take.ensures.value ∙ c.in-Some.is) in
+    let long = c.len.ensures.value in
+    omega (arith, short, long)
 
--- src/pending.rt:213:5
 pub returns-clause-log : goal.returns-clause-log
-returns-clause-log c = ?
+returns-clause-log c log are =
+    let i = c.self.inside in
+    let p : PendingPart = part_of i.segment i.flushed i.count i.start i.end i.buffer i.out i.turns i.failed in
+    let is : p.out ≡ Some c.in-Some.out = sym c.take.ensures.value ∙ c.in-Some.is in
+    let told : c.args.self.now.out ≡ Some c.in-Some.out = ap (λ (q : PendingPart). q.out) (sym c.self.view_is) ∙ is in
+    flushed_log log p c.in-Some.out c.args.receipt.now.count c.drop_front.new.self c.take.new.self (subst (λ (q : PendingPart). IsPendingOf log q) (sym c.self.view_is) are) is
+      (receipt_count c.args.self.now.out c.in-Some.out c.args.receipt.now told c.requires.receipt)
+      (c.drop_front.ensures ∙ ap (λ n. drop n i.buffer) c.len.ensures.value) c.take.ensures.after

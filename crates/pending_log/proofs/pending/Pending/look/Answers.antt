@@ -1,20 +1,20 @@
-use Rattle.std.proofs.Common.{rules, ◌≡◌, ◌↔◌, ◌⊎◌, ◌<◌, ◌≤◌, ◌+◌, ◌-◌, ◌*◌, ◌^◌, ◌++◌, ◌∷◌, [], ℕ, List, length, nat_lt, if◌then◌else◌, Some, None, IsTrue, IsSome, IsNone, IfSome, IfOk, OnOk, OnErr, ◌/◌, ◌%◌, Bool, true, false, nat_eq, slice_index_or, slice_set, bit_and, bit_or, Fits, w8, w32, w64, Bor, MutBor}
-use Rattle.record_codec.specs.Drafts.{entry_of, draft_size, IsEncodable}
-use Rattle.record_codec.specs.Layout.{IsRecord}
-use Rattle.log_model.specs.Log.{place_after}
-use Rattle.log_model.specs.Batches.{blank_between as blank_of}
-use Rattle.log_model.specs.Numbered.{Log, IsLawful, with_appended}
-use Rattle.pending_log.specs.Parts.{PendingPart, appended, new_part}
-use Rattle.pending_log.specs.Pending.{IsPendingOf, IsMarkOf, IsGrownFrom, IsNextBatch, IsNextTurn, HasTaken, IsIdle, IsReceiptOf, after_flushed, after_failed}
-use Rattle.pending_log.specs.Rows.{AreRowsOf}
+use Rattle.std.proofs.Common.{◌≡◌, ◌∙◌, ap, sym, subst, List}
+use Rattle.pending_log.specs.Parts.{PendingPart}
+use Rattle.pending_log.specs.declared.turn.Look.TheVariants.{NotYet}
 use Rattle.pending_log.specs.Looks.{Turn, this, AreInOrder, KeepsLast, looked, kept_look}
-use Rattle.pending_log.specs.declared.turn.Look.TheVariants.{Flushed}
+use Rattle.pending_log.proofs.LookLemmas.{unflushed_look}
 use Rattle.pending_log.proofs.pending.Pending.look.Goals as goal
 
--- src/pending.rt:251:5
 pub returns-in-Some-clause-turns : goal.returns-in-Some-clause-turns
-returns-in-Some-clause-turns c = ?
+returns-in-Some-clause-turns c turns =
+    let inside = c.self.inside in
+    subst (λ (p : PendingPart). AreInOrder this p.flushed turns → KeepsLast this turns p.failed → c.look_at.result ≡ looked this p.flushed turns c.args.number c.args.turn) c.self.view_is
+      (unflushed_look this inside.flushed c.args.number c.args.turn turns inside.failed c.look_at.result c.if-number-self.false
+        (c.look_at.ensures ∙ ap (λ kept. kept_look kept c.args.number c.args.turn) (sym c.in-Some.is)))
 
--- src/pending.rt:251:5
 pub returns-in-None-clause-turns : goal.returns-in-None-clause-turns
-returns-in-None-clause-turns c = ?
+returns-in-None-clause-turns c turns =
+    let inside = c.self.inside in
+    subst (λ (p : PendingPart). AreInOrder this p.flushed turns → KeepsLast this turns p.failed → NotYet ≡ looked this p.flushed turns c.args.number c.args.turn) c.self.view_is
+      (unflushed_look this inside.flushed c.args.number c.args.turn turns inside.failed NotYet c.if-number-self.false
+        (ap (λ kept. kept_look kept c.args.number c.args.turn) (sym c.in-None.is)))

@@ -1,52 +1,106 @@
-use Rattle.std.proofs.Common.{rules, ◌≡◌, ◌↔◌, ◌⊎◌, ◌<◌, ◌≤◌, ◌+◌, ◌-◌, ◌*◌, ◌^◌, ◌++◌, ◌∷◌, [], ℕ, List, length, nat_lt, if◌then◌else◌, Some, None, IsTrue, IsSome, IsNone, IfSome, IfOk, OnOk, OnErr, ◌/◌, ◌%◌, Bool, true, false, nat_eq, slice_index_or, slice_set, bit_and, bit_or, Fits, w8, w32, w64, Bor, MutBor}
-use Rattle.record_codec.specs.Drafts.{entry_of, draft_size, IsEncodable}
-use Rattle.record_codec.specs.Layout.{IsRecord}
-use Rattle.log_model.specs.Log.{place_after}
-use Rattle.log_model.specs.Batches.{blank_between as blank_of}
-use Rattle.log_model.specs.Numbered.{Log, IsLawful, with_appended}
-use Rattle.pending_log.specs.Parts.{PendingPart, appended, new_part}
-use Rattle.pending_log.specs.Pending.{IsPendingOf, IsMarkOf, IsGrownFrom, IsNextBatch, IsNextTurn, HasTaken, IsIdle, IsReceiptOf, after_flushed, after_failed}
-use Rattle.pending_log.specs.Rows.{AreRowsOf}
-use Rattle.pending_log.specs.Looks.{Turn, this, AreInOrder, KeepsLast, looked, kept_look}
-use Rattle.pending_log.specs.declared.turn.Look.TheVariants.{Flushed}
+use Rattle.std.proofs.Common.{◌≡◌, ◌∙◌, ap, sym, subst, arith, List, ℕ, length, ◌+◌, ◌-◌, ◌<◌, ◌≤◌}
+use Rattle.log_model.specs.Numbered.{Log, IsLawful}
+use Rattle.pending_log.specs.Parts.{PendingPart, part_of}
+use Rattle.pending_log.specs.declared.turn.Out.{Out}
+use Rattle.pending_log.specs.Pending.{IsPendingOf, IsNextTurn}
+use Rattle.pending_log.proofs.TakeLemmas.{rows_end, pending_short, is_taken, first_ordered, last_low, next_turn}
 use Rattle.pending_log.proofs.pending.Pending.next_turn.Goals as goal
 
--- src/pending.rt:170:13
 pub extent-extent-requires-clause-within : goal.extent-extent-requires-clause-within
-extent-extent-requires-clause-within c = ?
+extent-extent-requires-clause-within c =
+    let end = rows_end c.requires.some.0 c.args.rows.now c.requires.some.3 in
+    let count = c.requires.some.2.count in
+    let pending = subst (λ (q : PendingPart). q.flushed < c.args.self.now.count) (sym c.self.view_is) c.requires.pending in
+    omega (arith, end, count, pending)
 
--- src/pending.rt:170:13
 pub extent-extent-requires-clause-short : goal.extent-extent-requires-clause-short
-extent-extent-requires-clause-short c = ?
+extent-extent-requires-clause-short c =
+    let i = c.self.inside in
+    let p : PendingPart = part_of i.segment i.flushed i.count i.start i.end i.buffer i.out i.turns i.failed in
+    let sum = pending_short c.requires.some.0 p c.args.rows.now (subst (λ (q : PendingPart). IsPendingOf c.requires.some.0 q) (sym c.self.view_is) c.requires.some.2) c.requires.some.3 in
+    let short = c.self.invariant.short in
+    omega (arith, sum, short)
 
--- src/pending.rt:172:13
 pub at-first-requires-clause-within : goal.at-first-requires-clause-within
-at-first-requires-clause-within c = ?
+at-first-requires-clause-within c =
+    let end = rows_end c.requires.some.0 c.args.rows.now c.requires.some.3 in
+    let count = c.requires.some.2.count in
+    let pending = subst (λ (q : PendingPart). q.flushed < c.args.self.now.count) (sym c.self.view_is) c.requires.pending in
+    omega (arith, end, count, pending)
 
--- src/pending.rt:173:28
 pub overflow_add-self-inside : goal.overflow_add-self-inside
-overflow_add-self-inside c = ?
+overflow_add-self-inside c =
+    let i = c.self.inside in
+    let p : PendingPart = part_of i.segment i.flushed i.count i.start i.end i.buffer i.out i.turns i.failed in
+    let are = subst (λ (q : PendingPart). IsPendingOf c.requires.some.0 q) (sym c.self.view_is) c.requires.some.2 in
+    let pending = subst (λ (q : PendingPart). q.flushed < q.count) (sym c.self.view_is) c.requires.pending in
+    let taken = is_taken c.requires.some.0 p c.args.rows.now c.extent-extent.result are c.requires.some.3 pending c.extent-extent.ensures in
+    let within = taken.within in let count = are.count in let kept = are.kept in
+    let few = c.self.invariant.few in let low = c.self.invariant.low in
+    omega (arith, within, count, kept, few, low)
 
--- src/pending.rt:173:13
 pub at-last-requires-clause-within : goal.at-last-requires-clause-within
-at-last-requires-clause-within c = ?
+at-last-requires-clause-within c =
+    let i = c.self.inside in
+    let p : PendingPart = part_of i.segment i.flushed i.count i.start i.end i.buffer i.out i.turns i.failed in
+    let are = subst (λ (q : PendingPart). IsPendingOf c.requires.some.0 q) (sym c.self.view_is) c.requires.some.2 in
+    let pending = subst (λ (q : PendingPart). q.flushed < q.count) (sym c.self.view_is) c.requires.pending in
+    let taken = is_taken c.requires.some.0 p c.args.rows.now c.extent-extent.result are c.requires.some.3 pending c.extent-extent.ensures in
+    let within = taken.within in let some = taken.some in let kept = are.kept in
+    let end = rows_end c.requires.some.0 c.args.rows.now c.requires.some.3 in
+    omega (arith, within, some, kept, end)
 
--- src/pending.rt:174:21
 pub front-requires : goal.front-requires
-front-requires c = ?
+front-requires c =
+    let i = c.self.inside in
+    let p : PendingPart = part_of i.segment i.flushed i.count i.start i.end i.buffer i.out i.turns i.failed in
+    let are = subst (λ (q : PendingPart). IsPendingOf c.requires.some.0 q) (sym c.self.view_is) c.requires.some.2 in
+    let pending = subst (λ (q : PendingPart). q.flushed < q.count) (sym c.self.view_is) c.requires.pending in
+    let taken = is_taken c.requires.some.0 p c.args.rows.now c.extent-extent.result are c.requires.some.3 pending c.extent-extent.ensures in
+    taken.short
 
--- src/pending.rt:179:20
 pub blank_between-requires-clause-ordered : goal.blank_between-requires-clause-ordered
-blank_between-requires-clause-ordered c = ?
+blank_between-requires-clause-ordered c =
+    let i = c.self.inside in
+    let p : PendingPart = part_of i.segment i.flushed i.count i.start i.end i.buffer i.out i.turns i.failed in
+    let are = subst (λ (q : PendingPart). IsPendingOf c.requires.some.0 q) (sym c.self.view_is) c.requires.some.2 in
+    let lawful = subst (λ (q : PendingPart). IsLawful q.segment c.requires.some.0) (sym c.self.view_is) c.requires.some.1 in
+    let ordered = first_ordered c.requires.some.0 p c.args.rows.now c.at-first.result lawful are c.requires.some.3 c.at-first.ensures in
+    ordered.0
 
--- src/pending.rt:179:20
 pub blank_between-requires-clause-near : goal.blank_between-requires-clause-near
-blank_between-requires-clause-near c = ?
+blank_between-requires-clause-near c =
+    let i = c.self.inside in
+    let p : PendingPart = part_of i.segment i.flushed i.count i.start i.end i.buffer i.out i.turns i.failed in
+    let are = subst (λ (q : PendingPart). IsPendingOf c.requires.some.0 q) (sym c.self.view_is) c.requires.some.2 in
+    let lawful = subst (λ (q : PendingPart). IsLawful q.segment c.requires.some.0) (sym c.self.view_is) c.requires.some.1 in
+    let ordered = first_ordered c.requires.some.0 p c.args.rows.now c.at-first.result lawful are c.requires.some.3 c.at-first.ensures in
+    let near = ordered.1 in let segment = c.self.invariant.segment in
+    omega (arith, near, segment)
 
--- src/pending.rt:185:18
 pub overflow_add-result : goal.overflow_add-result
-overflow_add-result c = ?
+overflow_add-result c =
+    let i = c.self.inside in
+    let p : PendingPart = part_of i.segment i.flushed i.count i.start i.end i.buffer i.out i.turns i.failed in
+    let are = subst (λ (q : PendingPart). IsPendingOf c.requires.some.0 q) (sym c.self.view_is) c.requires.some.2 in
+    let lawful = subst (λ (q : PendingPart). IsLawful q.segment c.requires.some.0) (sym c.self.view_is) c.requires.some.1 in
+    let pending = subst (λ (q : PendingPart). q.flushed < q.count) (sym c.self.view_is) c.requires.pending in
+    let taken = is_taken c.requires.some.0 p c.args.rows.now c.extent-extent.result are c.requires.some.3 pending c.extent-extent.ensures in
+    let low = last_low c.requires.some.0 p c.args.rows.now c.extent-extent.result.count c.at-last.result lawful are c.requires.some.3 taken.some c.at-last.ensures in
+    let size = c.from.ensures in
+    omega (arith, low, size)
 
--- src/pending.rt:165:5
 pub returns : goal.returns
-returns c = ?
+returns c log lawful are of =
+    let i = c.self.inside in
+    let p : PendingPart = part_of i.segment i.flushed i.count i.start i.end i.buffer i.out i.turns i.failed in
+    let here = subst (λ (q : PendingPart). IsPendingOf log q) (sym c.self.view_is) are in
+    let pending = subst (λ (q : PendingPart). q.flushed < q.count) (sym c.self.view_is) c.requires.pending in
+    let turn : Out = record {
+      batch = record { from = i.flushed; count = c.extent-extent.result.count; place = c.at-first.result.place; blank = c.blank_between.result; bytes = c.in_ok-bytes.bytes };
+      held = i.count;
+      end = c.at-last.result.place + c.from.result;
+    } in
+    subst (λ (q : PendingPart). IsNextTurn log q turn) c.self.view_is
+      (next_turn log p c.args.rows.now c.extent-extent.result c.at-first.result c.at-last.result c.blank_between.result c.in_ok-bytes.bytes turn.end here of pending c.extent-extent.ensures c.at-first.ensures c.at-last.ensures
+        c.blank_between.ensures c.in_ok-bytes.ensures (ap (λ n. c.at-last.result.place + n) c.from.ensures))

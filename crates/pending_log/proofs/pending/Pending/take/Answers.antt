@@ -1,16 +1,14 @@
-use Rattle.std.proofs.Common.{rules, ◌≡◌, ◌↔◌, ◌⊎◌, ◌<◌, ◌≤◌, ◌+◌, ◌-◌, ◌*◌, ◌^◌, ◌++◌, ◌∷◌, [], ℕ, List, length, nat_lt, if◌then◌else◌, Some, None, IsTrue, IsSome, IsNone, IfSome, IfOk, OnOk, OnErr, ◌/◌, ◌%◌, Bool, true, false, nat_eq, slice_index_or, slice_set, bit_and, bit_or, Fits, w8, w32, w64, Bor, MutBor}
-use Rattle.record_codec.specs.Drafts.{entry_of, draft_size, IsEncodable}
-use Rattle.record_codec.specs.Layout.{IsRecord}
-use Rattle.log_model.specs.Log.{place_after}
-use Rattle.log_model.specs.Batches.{blank_between as blank_of}
-use Rattle.log_model.specs.Numbered.{Log, IsLawful, with_appended}
-use Rattle.pending_log.specs.Parts.{PendingPart, appended, new_part}
-use Rattle.pending_log.specs.Pending.{IsPendingOf, IsMarkOf, IsGrownFrom, IsNextBatch, IsNextTurn, HasTaken, IsIdle, IsReceiptOf, after_flushed, after_failed}
-use Rattle.pending_log.specs.Rows.{AreRowsOf}
-use Rattle.pending_log.specs.Looks.{Turn, this, AreInOrder, KeepsLast, looked, kept_look}
-use Rattle.pending_log.specs.declared.turn.Look.TheVariants.{Flushed}
+use Rattle.std.proofs.Common.{◌≡◌, ◌∙◌, ap, sym, subst, Some}
+use Rattle.pending_log.specs.Parts.{PendingPart, part_of}
+use Rattle.pending_log.specs.Pending.{HasTaken}
+use Rattle.pending_log.proofs.PendingLemmas.{has_taken}
 use Rattle.pending_log.proofs.pending.Pending.take.Goals as goal
 
--- src/pending.rt:191:5
 pub returns-clause-turn : goal.returns-clause-turn
-returns-clause-turn c = ?
+returns-clause-turn c =
+    let i = c.self.inside in
+    let p : PendingPart = part_of i.segment i.flushed i.count i.start i.end i.buffer i.out i.turns i.failed in
+    let next = c.in_ok-out.ensures c.requires.0 c.requires.1 c.requires.2 c.requires.3 in
+    let held = next.held ∙ ap (λ (q : PendingPart). q.count) (sym c.self.view_is) in
+    subst (λ (q : PendingPart). HasTaken q c.in_ok-batch.batch (record p { out = Some (record { batch = c.in_ok-out.out.batch; held = c.in_ok-out.out.held; end = c.in_ok-out.out.end }); turns = c.saturating_add-self-inside.result })) c.self.view_is
+      (has_taken p c.in_ok-batch.batch c.in_ok-out.out c.saturating_add-self-inside.result c.in_ok-batch.ensures held c.saturating_add-self-inside.ensures)
