@@ -1,0 +1,3 @@
+pub mod Subscriptions
+pub mod Tables
+pub mod Answers

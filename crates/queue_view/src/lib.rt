@@ -1,0 +1,11 @@
+//! The tables of the queues: the units of each queue's records, and how many of them consumers see.
+#![tactic(auto)]
+
+mod examine;
+mod pulled;
+mod stored;
+mod tags;
+
+pub use pulled::{FOUND, NONE_TAKEN, NOT_YET, OUTSIDE, Pulled};
+pub use stored::StoredUnit;
+pub use tags::Tags;
