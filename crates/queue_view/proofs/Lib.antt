@@ -1,3 +1,4 @@
 pub mod Lists
 pub mod PullLemmas
 pub mod TagLemmas
+pub mod AnswerLemmas

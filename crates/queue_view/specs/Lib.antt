@@ -1,3 +1,6 @@
+pub mod Answers
+pub mod Bounds
+pub mod Rooms
+pub mod Searches
 pub mod Subscriptions
 pub mod Tables
-pub mod Answers

@@ -36,6 +36,7 @@ pub(crate) fn examine(
 ) -> Result<Examined, AllocError>
     requires ordered { from ≤ seen }
     requires within { seen ≤ length all.now.items }
+    ensures within { IfOk result (λ e. from + e.count ≤ seen) }
     ensures count { IfOk result (λ e. e.count ≡ length (examined this most (tags_take tags.now) [] (drop from (map unit_in (take seen all.now.items))))) }
     ensures units { IfOk result (λ e. e.units.items ≡ filter (tags_take tags.now) (examined this most (tags_take tags.now) [] (drop from (map unit_in (take seen all.now.items))))) }
 {

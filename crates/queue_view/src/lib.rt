@@ -1,9 +1,11 @@
 //! The tables of the queues: the units of each queue's records, and how many of them consumers see.
 #![tactic(auto)]
 
+mod bounds;
 mod examine;
 mod pulled;
 mod stored;
+mod table;
 mod tags;
 
 pub use pulled::{FOUND, NONE_TAKEN, NOT_YET, OUTSIDE, Pulled};

@@ -1,5 +1,7 @@
 //! What a pull answers.
 
+ghost use Rattle.std.specs.Prelude.{◌≡◌, ◌==◌, pos, if◌then◌else◌};
+
 use record_codec::Unit;
 
 /// Nothing is there yet at the asked offset.
@@ -20,4 +22,11 @@ pub struct Pulled {
     pub min: u64,
     pub max: u64,
     pub units: Vec<Unit>,
+}
+
+// The code where so many units were found.
+pub(crate) fn code_of(found: usize) -> i32
+    ensures { result ≡ pos (if found == 0 then 20 else 0) }
+{
+    if found == 0 { NONE_TAKEN } else { FOUND }
 }
