@@ -2,3 +2,4 @@ pub mod Lists
 pub mod PullLemmas
 pub mod TagLemmas
 pub mod AnswerLemmas
+pub mod NumberLemmas

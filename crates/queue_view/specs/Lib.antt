@@ -1,5 +1,6 @@
 pub mod Answers
 pub mod Bounds
+pub mod Numbers
 pub mod Rooms
 pub mod Searches
 pub mod Subscriptions

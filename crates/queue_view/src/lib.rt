@@ -3,6 +3,7 @@
 
 mod bounds;
 mod examine;
+mod numbers;
 mod pulled;
 mod stored;
 mod table;
