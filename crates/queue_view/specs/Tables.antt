@@ -1,5 +1,5 @@
 -- What contracts see of the tables of the queues.
-use Rattle.std.specs.Prelude.{◌≡◌, ℕ, ◌+◌, ◌==◌, ◌&&◌, Bool, List, length, take, map, Option, position}
+use Rattle.std.specs.Prelude.{◌≡◌, ℕ, ◌+◌, ◌==◌, ◌&&◌, Bool, List, [], length, take, map, Option, position}
 use Rattle.std.specs.Str.{bytes_eq}
 use Rattle.record_codec.specs.declared.unit.Unit.{Unit as QueueUnit}
 use Rattle.queue_view.specs.declared.stored.StoredUnit.{StoredUnit}
@@ -32,8 +32,12 @@ added_of t = t.low + length t.units
 
 -- the table is that of this queue of the topic
 abbrev pub is_of : List ℕ → ℕ → Table → Bool
-is_of topic queue t = bytes_eq topic t.topic && (queue == t.queue)
+is_of topic queue t = bytes_eq t.topic topic && (t.queue == queue)
 
 -- the number of the queue's table
 abbrev pub number_of : List Table → List ℕ → ℕ → Option ℕ
 number_of tables topic queue = position (is_of topic queue) tables
+
+-- a queue that had no records, but for `low` that were removed
+abbrev pub empty_table : List ℕ → ℕ → ℕ → ℕ → Table
+empty_table topic queue low spare = record { topic = topic; queue = queue; low = low; units = []; seen = 0; spare = spare }

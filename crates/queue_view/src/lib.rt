@@ -7,8 +7,11 @@ mod numbers;
 mod pulled;
 mod stored;
 mod table;
+mod tables;
 mod tags;
+mod view;
 
 pub use pulled::{FOUND, NONE_TAKEN, NOT_YET, OUTSIDE, Pulled};
 pub use stored::StoredUnit;
 pub use tags::Tags;
+pub use view::QueueView;
