@@ -28,11 +28,11 @@ by_start f false false false true v w x y z = refl
 by_start f false false false false v w x y z = refl
 
 pulled_is : (low : ℕ) (queue : List QueueUnit) (from : ℤ) (most : ℕ) (test : QueueUnit → Bool)
-  → pulled this low queue from most test ≡ answered low (low + length queue) queue most test (start_of from low (low + length queue))
+    → pulled this low queue from most test ≡ answered low (low + length queue) queue most test (start_of from low (low + length queue))
 pulled_is low queue (negsuc from) most test = refl
 pulled_is low queue (pos from) most test =
     by_start (answered low (low + length queue) queue most test) ((low + length queue == 0) && (from == 0)) (nat_lt from low) (from == low + length queue) (nat_lt (low + length queue) from)
-      (AtEnd 0) (Outside low) (AtEnd (low + length queue)) (Outside (low + length queue)) (Within from)
+    (AtEnd 0) (Outside low) (AtEnd (low + length queue)) (Outside (low + length queue)) (Within from)
 
 -- how many units consumers see
 pub seen_length : (t : Table) → t.seen ≤ length t.units → length (seen_units t) ≡ t.seen
@@ -40,7 +40,7 @@ seen_length t within = length-map (take t.seen t.units) unit_in ∙ length-take-
 
 -- a pull is what is said where it begins
 pub pulled_at : (t : Table) (from most : ℤ) (tags : Tags) (low high : ℕ) (start : Start) → t.seen ≤ length t.units → low ≡ t.low → high ≡ max_of t → start ≡ start_of from low high
-  → pulled_of t from most tags ≡ answered t.low (max_of t) (seen_units t) (asked_number 32 most) (tags_take tags) start
+    → pulled_of t from most tags ≡ answered t.low (max_of t) (seen_units t) (asked_number 32 most) (tags_take tags) start
 pulled_at t from most tags low high start within is_low is_high is =
     let long = seen_length t within in
     let test = tags_take tags in
@@ -50,35 +50,35 @@ pulled_at t from most tags low high start within is_low is_high is =
 
 -- where units are examined
 pub answers_within : (t : Table) (from most : ℤ) (tags : Tags) (low high offset n : ℕ) (start : Start) → t.seen ≤ length t.units → low ≡ t.low → high ≡ max_of t → start ≡ start_of from low high
-  → start ≡ Within offset → n ≡ asked_number 32 most → pulled_within t offset n tags ≡ pulled_of t from most tags
+    → start ≡ Within offset → n ≡ asked_number 32 most → pulled_within t offset n tags ≡ pulled_of t from most tags
 answers_within t from most tags low high offset n start within is_low is_high is begins asks =
     ap (λ m. pulled_within t offset m tags) asks
     ∙ sym (pulled_at t from most tags low high start within is_low is_high is ∙ ap (answered t.low (max_of t) (seen_units t) (asked_number 32 most) (tags_take tags)) begins)
 
 -- where nothing is examined
 answers_nothing : (t : Table) (from most : ℤ) (tags : Tags) (low high next code : ℕ) (start : Start) (a : Answer) → t.seen ≤ length t.units → low ≡ t.low → high ≡ max_of t → start ≡ start_of from low high
-  → answered t.low (max_of t) (seen_units t) (asked_number 32 most) (tags_take tags) start ≡ nothing code next t.low (max_of t)
-  → a.code ≡ pos code → a.next ≡ next → a.min ≡ low → a.max ≡ high → a.units.items ≡ [] → Answers (pulled_of t from most tags) a
+    → answered t.low (max_of t) (seen_units t) (asked_number 32 most) (tags_take tags) start ≡ nothing code next t.low (max_of t)
+    → a.code ≡ pos code → a.next ≡ next → a.min ≡ low → a.max ≡ high → a.units.items ≡ [] → Answers (pulled_of t from most tags) a
 answers_nothing t from most tags low high next code start a within is_low is_high is said is_code is_next is_min is_max none =
     subst (λ p. Answers p a) (sym (pulled_at t from most tags low high start within is_low is_high is ∙ said))
-      (record { code = is_code; next = is_next; min = is_min ∙ is_low; max = is_max ∙ is_high; units = none })
+    (record { code = is_code; next = is_next; min = is_min ∙ is_low; max = is_max ∙ is_high; units = none })
 
 -- at the end of the queue
 pub answers_at_end : (t : Table) (from most : ℤ) (tags : Tags) (low high next : ℕ) (start : Start) (a : Answer) → t.seen ≤ length t.units → low ≡ t.low → high ≡ max_of t → start ≡ start_of from low high
-  → start ≡ AtEnd next → a.code ≡ pos 19 → a.next ≡ next → a.min ≡ low → a.max ≡ high → a.units.items ≡ [] → Answers (pulled_of t from most tags) a
+    → start ≡ AtEnd next → a.code ≡ pos 19 → a.next ≡ next → a.min ≡ low → a.max ≡ high → a.units.items ≡ [] → Answers (pulled_of t from most tags) a
 answers_at_end t from most tags low high next start a within is_low is_high is begins =
     answers_nothing t from most tags low high next 19 start a within is_low is_high is (ap (answered t.low (max_of t) (seen_units t) (asked_number 32 most) (tags_take tags)) begins)
 
 -- and outside it
 pub answers_outside : (t : Table) (from most : ℤ) (tags : Tags) (low high next : ℕ) (start : Start) (a : Answer) → t.seen ≤ length t.units → low ≡ t.low → high ≡ max_of t → start ≡ start_of from low high
-  → start ≡ Outside next → a.code ≡ pos 21 → a.next ≡ next → a.min ≡ low → a.max ≡ high → a.units.items ≡ [] → Answers (pulled_of t from most tags) a
+    → start ≡ Outside next → a.code ≡ pos 21 → a.next ≡ next → a.min ≡ low → a.max ≡ high → a.units.items ≡ [] → Answers (pulled_of t from most tags) a
 answers_outside t from most tags low high next start a within is_low is_high is begins =
     answers_nothing t from most tags low high next 21 start a within is_low is_high is (ap (answered t.low (max_of t) (seen_units t) (asked_number 32 most) (tags_take tags)) begins)
 
 -- where units were examined
 pub answers_examined : (t : Table) (tags : Tags) (from most : ℕ) (a : Answer) (count : ℕ) → count ≡ length (examined this most (tags_take tags) [] (drop (from - t.low) (seen_units t)))
-  → a.units.items ≡ filter (tags_take tags) (examined this most (tags_take tags) [] (drop (from - t.low) (seen_units t)))
-  → a.code ≡ pos (if length a.units.items == 0 then 20 else 0) → a.next ≡ from + count → a.min ≡ t.low → a.max ≡ max_of t → Answers (pulled_within t from most tags) a
+    → a.units.items ≡ filter (tags_take tags) (examined this most (tags_take tags) [] (drop (from - t.low) (seen_units t)))
+    → a.code ≡ pos (if length a.units.items == 0 then 20 else 0) → a.next ≡ from + count → a.min ≡ t.low → a.max ≡ max_of t → Answers (pulled_within t from most tags) a
 answers_examined t tags from most a count is_count is_units is_code is_next is_min is_max =
     let test = tags_take tags in
     let seen = examined this most test [] (drop (from - t.low) (seen_units t)) in
@@ -87,5 +87,10 @@ answers_examined t tags from most a count is_count is_units is_code is_next is_m
       next = is_next ∙ ap (λ n. from + n) is_count;
       min = is_min;
       max = is_max;
-      units = is_units
+      units = is_units;
     }
+
+-- pulls of one table with the same numbers are one
+pub same_pull : (t u : Table) (from at most number : ℤ) (tags : Tags) → t ≡ u → from ≡ at → most ≡ number → pulled_of t from most tags ≡ pulled_of u at number tags
+same_pull t u from at most number tags is_table is_from is_most =
+    ap (λ (w : Table). pulled_of w from most tags) is_table ∙ ap (λ z. pulled_of u z most tags) is_from ∙ ap (λ z. pulled_of u at z tags) is_most

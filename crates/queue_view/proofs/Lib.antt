@@ -3,3 +3,4 @@ pub mod PullLemmas
 pub mod TagLemmas
 pub mod AnswerLemmas
 pub mod NumberLemmas
+pub mod NumberedLemmas

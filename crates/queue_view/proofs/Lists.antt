@@ -44,7 +44,7 @@ map_get f (y ∷ xs) (suc i) x at = map_get f xs i x at
 
 -- an item of what is examined: of the first `seen` items from `from` on
 pub examined_at : {A B : Type 0} (f : A → B) (xs : List A) (from seen i : ℕ) (x : A) → from ≤ i → i < seen → slice_get xs i ≡ Some x
-  → slice_get (drop from (map f (take seen xs))) (i - from) ≡ Some (f x)
+    → slice_get (drop from (map f (take seen xs))) (i - from) ≡ Some (f x)
 examined_at f xs from seen i x low high at =
     drop_get (map f (take seen xs)) from (i - from)
     ∙ ap (slice_get (map f (take seen xs))) (let e : from + (i - from) ≡ i = omega (arith, low) in e)

@@ -67,16 +67,16 @@ front_is text front behind is = ap (λ (t : List ℕ). drop (length front) t) is
 
 -- the words of a text are those of the piece before its first bars, and those behind
 pub first_word : (text word behind : List ℕ) (i j : ℕ) → FindsText (124 ∷ 124 ∷ []) text (Some (i, j)) → word ≡ take i text → behind ≡ drop j text → length word ≡ i
-  → words_in text ≡ word_in word ++ words_in behind
+    → words_in text ≡ word_in word ++ words_in behind
 first_word text word behind i j finds is_word is_behind long =
     let here : drop i text ≡ 124 ∷ 124 ∷ behind = finds.1.split ∙ ap (λ (t : List ℕ). 124 ∷ 124 ∷ t) (sym is_behind) in
     let whole : text ≡ word ++ 124 ∷ 124 ∷ behind = sym (take-append-drop i text) ∙ ap (λ (t : List ℕ). t ++ drop i text) (sym is_word) ∙ ap (λ (t : List ℕ). word ++ t) here in
     let none : (front more : List ℕ) → word ++ 124 ∷ [] ≢ front ++ 124 ∷ 124 ∷ more = λ front more is.
-      let again : text ≡ front ++ 124 ∷ 124 ∷ (more ++ 124 ∷ behind) =
-        whole ∙ sym (append_assoc word (124 ∷ []) (124 ∷ behind)) ∙ ap (λ (t : List ℕ). t ++ 124 ∷ behind) is ∙ append_assoc front (124 ∷ 124 ∷ more) (124 ∷ behind) in
-      let lengths : length word + 1 ≡ length front + length (124 ∷ 124 ∷ more) = sym (length-append word (124 ∷ [])) ∙ ap length is ∙ length-append front (124 ∷ 124 ∷ more) in
-      let two : length (124 ∷ 124 ∷ more) ≡ length more + 2 = omega arith in
-      finds.0 (length front) (omega (arith, long, lengths, two)) (more ++ 124 ∷ behind) (front_is text front (124 ∷ 124 ∷ (more ++ 124 ∷ behind)) again) in
+    let again : text ≡ front ++ 124 ∷ 124 ∷ (more ++ 124 ∷ behind) =
+    whole ∙ sym (append_assoc word (124 ∷ []) (124 ∷ behind)) ∙ ap (λ (t : List ℕ). t ++ 124 ∷ behind) is ∙ append_assoc front (124 ∷ 124 ∷ more) (124 ∷ behind) in
+    let lengths : length word + 1 ≡ length front + length (124 ∷ 124 ∷ more) = sym (length-append word (124 ∷ [])) ∙ ap length is ∙ length-append front (124 ∷ 124 ∷ more) in
+    let two : length (124 ∷ 124 ∷ more) ≡ length more + 2 = omega arith in
+    finds.0 (length front) (omega (arith, long, lengths, two)) (more ++ 124 ∷ behind) (front_is text front (124 ∷ 124 ∷ (more ++ 124 ∷ behind)) again) in
     ap words_in whole
     ∙ ap (λ (ps : List (List ℕ)). filter (λ w. nat_lt 0 (length w)) (map trimmed ps)) (between_first word behind none)
     ∙ word_first (nat_lt 0 (length (trimmed word))) (trimmed word) (words_in behind)
@@ -85,13 +85,13 @@ first_word text word behind i j finds is_word is_behind long =
 pub last_word : (text : List ℕ) → FindsText (124 ∷ 124 ∷ []) text None → words_in text ≡ word_in text
 last_word text lacks =
     ap (λ (ps : List (List ℕ)). filter (λ w. nat_lt 0 (length w)) (map trimmed ps))
-      (between_none text (λ front rest is.
-        let lengths : length text ≡ length front + length (124 ∷ 124 ∷ rest) = ap length is ∙ length-append front (124 ∷ 124 ∷ rest) in
-        lacks (length front) (omega (arith, lengths)) rest (front_is text front (124 ∷ 124 ∷ rest) is)))
+    (between_none text (λ front rest is.
+    let lengths : length text ≡ length front + length (124 ∷ 124 ∷ rest) = ap length is ∙ length-append front (124 ∷ 124 ∷ rest) in
+    lacks (length front) (omega (arith, lengths)) rest (front_is text front (124 ∷ 124 ∷ rest) is)))
 
 -- the codes so far, with the words of one more piece
 pub codes_more : (so_far more all : List ℤ) (hash : List ℕ → ℤ) (text word behind : List (List ℕ)) → so_far ++ map hash text ≡ all → text ≡ word ++ behind → more ≡ so_far ++ map hash word
-  → more ++ map hash behind ≡ all
+    → more ++ map hash behind ≡ all
 codes_more so_far more all hash text word behind before is added =
     ap (λ (cs : List ℤ). cs ++ map hash behind) added ∙ append_assoc so_far (map hash word) (map hash behind)
     ∙ ap (λ (cs : List ℤ). so_far ++ cs) (sym (map-append hash word behind) ∙ ap (λ (ws : List (List ℕ)). map hash ws) (sym is)) ∙ before
@@ -102,10 +102,10 @@ any_hash hash tag (word ∷ words) = ap (λ b. int_eq (hash word) tag || b) (any
 
 -- the hashes of the words take what the subscription takes
 pub read_takes : (text : List ℕ) (codes : List ℤ) → takes_all text ≡ false → codes ≡ map java_hash (words_in text)
-  → (λ (unit : QueueUnit). false || list_any (λ code. int_eq code unit.tag) codes) ≡ takes text
+    → (λ (unit : QueueUnit). false || list_any (λ code. int_eq code unit.tag) codes) ≡ takes text
 read_takes text codes all is =
     let each : (unit : QueueUnit) → (false || list_any (λ code. int_eq code unit.tag) codes) ≡ takes text unit = λ unit.
-      ap (λ (cs : List ℤ). list_any (λ code. int_eq code unit.tag) cs) is
-      ∙ any_hash java_hash unit.tag (words_in text)
-      ∙ ap (λ b. b || list_any (λ word. int_eq (java_hash word) unit.tag) (words_in text)) (sym all) in
+    ap (λ (cs : List ℤ). list_any (λ code. int_eq code unit.tag) cs) is
+    ∙ any_hash java_hash unit.tag (words_in text)
+    ∙ ap (λ b. b || list_any (λ word. int_eq (java_hash word) unit.tag) (words_in text)) (sym all) in
     λ i unit. each unit i

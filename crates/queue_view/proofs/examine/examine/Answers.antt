@@ -36,14 +36,14 @@ loop-i-preserved c =
     let on = sym goes ∙ c.if-not-goes_on.false in
     let next : suc (c.loop-i.i - c.args.from) ≡ (c.loop-i.i + 1) - c.args.from = (let low = c.loop-i.auto.i in let e : suc (c.loop-i.i - c.args.from) ≡ (c.loop-i.i + 1) - c.args.from = omega (arith, low) in e) in
     subst (λ m. SoFar c.args.most test queue m c.if-takes.units.items c.if-takes.size) next
-      (elim c.if-takes.branch [
-        | then-takes+in_ok-push w ↦
-            let more = taken_more c.args.most test queue n c.loop-i.units.items c.loop-i.size c.at.result.unit c.loop-i.invariant at on (sym c.takes-takes.ensures ∙ w.if-takes.true) in
-            let low = adds c.args.most test queue n c.loop-i.units.items c.loop-i.size c.at.result.unit.size c.takes-takes.result c.goes_on.result c.len.result c.loop-i.invariant (let fits = w.from.type_inv in omega (arith, fits, w.from.ensures)) w.if-takes.true len c.goes_on.ensures c.if-not-goes_on.false in
-            let size : c.loop-i.size + c.at.result.unit.size ≡ c.if-takes.size = omega (arith, low, w.size-is, w.saturating_add-size.ensures, w.from.ensures) in
-            let units : c.loop-i.units.items ++ c.at.result.unit ∷ [] ≡ c.if-takes.units.items = sym (ap (λ v. v.items) w.units-is ∙ w.in_ok-push.ensures.items) in
-            subst (λ b. SoFar c.args.most test queue (suc n) c.if-takes.units.items b) size (subst (λ (us : List QueueUnit). SoFar c.args.most test queue (suc n) us (c.loop-i.size + c.at.result.unit.size)) units more)
-        | else-takes w ↦
-            let same = passed_over c.args.most test queue n c.loop-i.units.items c.loop-i.size c.at.result.unit c.loop-i.invariant at on (sym c.takes-takes.ensures ∙ w.if-takes.false) in
-            subst (λ b. SoFar c.args.most test queue (suc n) c.if-takes.units.items b) (sym w.size-is) (subst (λ (us : List QueueUnit). SoFar c.args.most test queue (suc n) us c.loop-i.size) (sym (ap (λ v. v.items) w.units-is)) same)
-      ])
+    (elim c.if-takes.branch [
+      | then-takes+in_ok-push w ↦
+          let more = taken_more c.args.most test queue n c.loop-i.units.items c.loop-i.size c.at.result.unit c.loop-i.invariant at on (sym c.takes-takes.ensures ∙ w.if-takes.true) in
+          let low = adds c.args.most test queue n c.loop-i.units.items c.loop-i.size c.at.result.unit.size c.takes-takes.result c.goes_on.result c.len.result c.loop-i.invariant (let fits = w.from.type_inv in omega (arith, fits, w.from.ensures)) w.if-takes.true len c.goes_on.ensures c.if-not-goes_on.false in
+          let size : c.loop-i.size + c.at.result.unit.size ≡ c.if-takes.size = omega (arith, low, w.size-is, w.saturating_add-size.ensures, w.from.ensures) in
+          let units : c.loop-i.units.items ++ c.at.result.unit ∷ [] ≡ c.if-takes.units.items = sym (ap (λ v. v.items) w.units-is ∙ w.in_ok-push.ensures.items) in
+          subst (λ b. SoFar c.args.most test queue (suc n) c.if-takes.units.items b) size (subst (λ (us : List QueueUnit). SoFar c.args.most test queue (suc n) us (c.loop-i.size + c.at.result.unit.size)) units more)
+      | else-takes w ↦
+          let same = passed_over c.args.most test queue n c.loop-i.units.items c.loop-i.size c.at.result.unit c.loop-i.invariant at on (sym c.takes-takes.ensures ∙ w.if-takes.false) in
+          subst (λ b. SoFar c.args.most test queue (suc n) c.if-takes.units.items b) (sym w.size-is) (subst (λ (us : List QueueUnit). SoFar c.args.most test queue (suc n) us c.loop-i.size) (sym (ap (λ v. v.items) w.units-is)) same)
+    ])

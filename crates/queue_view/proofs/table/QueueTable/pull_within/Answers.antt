@@ -17,7 +17,7 @@ returns c =
     let queue = ap (λ n. drop (c.args.from - n) (seen_units c.args.self.now)) low in
     let is = ap (λ (us : List QueueUnit). drop (c.args.from - c.self.inside.low) us) seen ∙ queue in
     answers_examined c.args.self.now c.args.tags.now c.args.from c.args.most _ c.in_ok-examined.examined.count
-      (c.in_ok-examined.ensures.count ∙ ap (λ (us : List QueueUnit). length (examined this c.args.most test [] us)) is)
-      (c.in_ok-examined.ensures.units ∙ ap (λ (us : List QueueUnit). filter test (examined this c.args.most test [] us)) is)
-      (to_z-of_z w32 c.code_of.result (search rules) ∙ c.code_of.ensures ∙ ap (λ n. pos (if n == 0 then 20 else 0)) (c.len.ensures ∙ c.in_ok-examined.examined.units.ok.0))
-      refl low c.max.ensures
+    (c.in_ok-examined.ensures.count ∙ ap (λ (us : List QueueUnit). length (examined this c.args.most test [] us)) is)
+    (c.in_ok-examined.ensures.units ∙ ap (λ (us : List QueueUnit). filter test (examined this c.args.most test [] us)) is)
+    (to_z-of_z w32 c.code_of.result (search rules) ∙ c.code_of.ensures ∙ ap (λ n. pos (if n == 0 then 20 else 0)) (c.len.ensures ∙ c.in_ok-examined.examined.units.ok.0))
+    refl low c.max.ensures

@@ -7,4 +7,4 @@ use Rattle.queue_view.proofs.tags.Tags.read.Goals as goal
 pub returns : goal.returns
 returns c =
     read_takes c.args.text.now c.hash_words.new.codes.items (search rules)
-      (c.in_ok-hash_words.ensures ∙ ap (λ (codes : List _). codes ++ map java_hash (words_in c.args.text.now)) c.new-codes.ensures.items)
+    (c.in_ok-hash_words.ensures ∙ ap (λ (codes : List _). codes ++ map java_hash (words_in c.args.text.now)) c.new-codes.ensures.items)
