@@ -184,7 +184,8 @@ impl<T: Copy + Keyed> Chunks<T> {
     pub fn search(&self, end: usize, bound: u64) -> usize
         requires within { end ≤ length self.now.items }
         requires rising { IsNonDecreasingBy T.key (take end self.now.items) }
-        ensures { result ≡ position_or_len (λ item. nat_le bound (T.key item)) (take end self.now.items) }
+        ensures first { result ≡ position_or_len (λ item. nat_le bound (T.key item)) (take end self.now.items) }
+        ensures most { result ≤ end }
     {
         let mut low = 0;
         let mut high = end;

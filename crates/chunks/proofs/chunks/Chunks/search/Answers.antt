@@ -28,8 +28,8 @@ loop-low-preserved g c =
       past_middle g.T.Keyed.key items c.args.end middle c.args.bound c.at.result c.requires.within c.requires.rising c.at.ensures high,
     )
 
-pub returns : goal.returns
-returns g c =
+pub returns-clause-first : goal.returns-clause-first
+returns-clause-first g c =
     let invariant = c.loop-low.invariant in
     let over = c.loop-low-test.false in
     let same : c.loop-low.high ≡ c.loop-low.low = let low = invariant.0 in omega (arith, over, low) in

@@ -1,0 +1,6 @@
+pub mod Lists
+pub mod PullLemmas
+pub mod TagLemmas
+pub mod AnswerLemmas
+pub mod NumberLemmas
+pub mod NumberedLemmas

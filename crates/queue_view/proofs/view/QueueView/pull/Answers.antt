@@ -1,0 +1,16 @@
+use Rattle.std.proofs.Common.{◌≡◌, ◌∙◌, subst, sym, IfOk, rules, slice_get, Some, List}
+use Rattle.std.proofs.lemmas.Int.{to_z-of_z}
+use Rattle.std.proofs.lemmas.Option.{get_or_from_slice_get}
+use Rattle.std.specs.Int.{w32, w64}
+use Rattle.queue_view.specs.Tables.{Table}
+use Rattle.queue_view.specs.Answers.{Answers}
+use Rattle.queue_view.proofs.AnswerLemmas.{same_pull}
+use Rattle.queue_view.proofs.view.QueueView.pull.Goals as goal
+
+pub returns : goal.returns
+returns c t at =
+    let here = subst (λ (ts : List Table). slice_get ts c.args.table ≡ Some t) (sym c.self.view_is) at in
+    let same = c.index.ensures ∙ get_or_from_slice_get c.self.inside.tables.items c.args.table t c.index.result.now here in
+    subst (λ p. IfOk c.pull.result (λ a. Answers p a))
+    (same_pull c.index.result.now t _ c.args.from _ c.args.most c.args.tags.now same (to_z-of_z w64 c.args.from (search rules)) (to_z-of_z w32 c.args.most (search rules)))
+    c.pull.ensures

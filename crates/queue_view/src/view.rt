@@ -1,0 +1,208 @@
+//! The tables of all queues. A unit is added when its record is appended, and seen by consumers when the record is
+//! dispatched; the number of a table stays the same, so that neither looks a text up.
+
+ghost use Rattle.std.specs.Prelude.{◌≡◌, ◌<◌, ◌≤◌, ◌+◌, ◌-◌, ◌++◌, ◌∷◌, [], ◌^◌, ℕ, length, take, drop, slice_get, slice_set, Some, None, IfOk, OnOk, OnErr};
+ghost use Rattle.std.specs.List.Sorted.{IsNonDecreasingBy};
+ghost use Rattle.queue_view.specs.Tables.{Table, number_of, max_of, added_of, empty_table};
+ghost use Rattle.queue_view.specs.Searches.{first_from, store_in};
+ghost use Rattle.queue_view.specs.Answers.{Answers, pulled_of};
+
+use crate::numbers::{QueueNumbers, number_in, set_number};
+use crate::pulled::Pulled;
+use crate::table::QueueTable;
+use crate::tables::{add_unit, cut_one, make_room, push_within, see_one};
+use crate::tags::Tags;
+use record_codec::Unit;
+use std::alloc::{AllocError, Global};
+use std::collections::HashMap;
+use std::marker::Model;
+
+/// The tables of the queues, each with its number. Contracts see the list of them.
+#[derive(Drop)]
+pub struct QueueView {
+    tables: Vec<QueueTable>,
+    numbers: HashMap<String, QueueNumbers>,
+}
+
+impl Model for QueueView {
+    ghost use Rattle.std.specs.Prelude.{List};
+    ghost use Rattle.queue_view.specs.Tables.{Table};
+
+    ghost Value = { List Table };
+
+    ghost use Rattle.queue_view.specs.Numbers.{AreNumbered};
+
+    ghost view = { λ v. v.tables.items };
+
+    ghost invariant = { λ v. AreNumbered v.tables.items v.numbers };
+}
+
+impl QueueView {
+    /// No tables; takes no memory.
+    pub fn new(alloc: Global) -> QueueView
+        ensures { result ≡ [] }
+    {
+        QueueView {
+            tables: Vec::new(alloc),
+            numbers: HashMap::new(alloc),
+        }
+    }
+
+    /// The number of this queue's table, `None` where it has none.
+    pub fn find(&self, topic: &str, queue: u32) -> Option<u32>
+        ensures { result ≡ number_of self.now topic.now queue }
+    {
+        number_in(&self.numbers, topic, queue)
+    }
+
+    /// Makes room for `additional` units more, at most 1,024, in this queue's table, which is made where there is none; the
+    /// number of the table. At `Err` there may be more room, and nothing else has changed.
+    pub fn reserve(
+        &mut self,
+        alloc: Global,
+        topic: &str,
+        queue: u32,
+        additional: usize,
+    ) -> Result<u32, AllocError>
+        requires { additional ≤ 1024 }
+        ensures number { IfOk result (λ k. number_of self.new topic.now queue ≡ Some k) }
+        ensures there { (k : ℕ) (t : Table) → number_of self.old topic.now queue ≡ Some k → slice_get self.old k ≡ Some t
+            → (s : ℕ) × (t.spare ≤ s) × (OnOk result (additional ≤ s)) × (self.new ≡ slice_set self.old k (record t { spare = s })) }
+        ensures absent { number_of self.old topic.now queue ≡ None → OnOk result ((s : ℕ) × (additional ≤ s) × (self.new ≡ self.old ++ empty_table topic.now queue 0 s ∷ [])) }
+        ensures same { number_of self.old topic.now queue ≡ None → OnErr result (self.new ≡ self.old) }
+    {
+        match self.find(topic, queue) {
+            Some(table) => {
+                make_room(&mut self.tables, alloc, table as usize, additional)?;
+                Ok(table)
+            }
+            None => self.make(alloc, topic, queue, 0, additional),
+        }
+    }
+
+    /// Makes the table of a queue of which `min` units were removed, and none stands.
+    pub fn start(
+        &mut self,
+        alloc: Global,
+        topic: &str,
+        queue: u32,
+        min: u64,
+    ) -> Result<u32, AllocError>
+        requires absent { number_of self.old topic.now queue ≡ None }
+        requires low { min ≤ 2 ^ 62 }
+        ensures number { IfOk result (λ k. number_of self.new topic.now queue ≡ Some k) }
+        ensures started { OnOk result ((s : ℕ) × (self.new ≡ self.old ++ empty_table topic.now queue min s ∷ [])) }
+        ensures same { OnErr result (self.new ≡ self.old) }
+    {
+        self.make(alloc, topic, queue, min, 0)
+    }
+
+    // Makes the table of a queue that has none, with room for so many units.
+    fn make(
+        &mut self,
+        alloc: Global,
+        topic: &str,
+        queue: u32,
+        low: u64,
+        additional: usize,
+    ) -> Result<u32, AllocError>
+        requires absent { number_of self.old topic.now queue ≡ None }
+        requires low { low ≤ 2 ^ 62 }
+        requires few { additional ≤ 1024 }
+        ensures number { IfOk result (λ k. number_of self.new topic.now queue ≡ Some k) }
+        ensures made { OnOk result ((s : ℕ) × (additional ≤ s) × (self.new ≡ self.old ++ empty_table topic.now queue low s ∷ [])) }
+        ensures same { OnErr result (self.new ≡ self.old) }
+    {
+        let Ok(number) = u32::try_from(self.tables.len()) else {
+            return Err(AllocError);
+        };
+        if number == u32::MAX {
+            return Err(AllocError);
+        }
+        let mut table = QueueTable::new(alloc, topic, queue, low)?;
+        table.reserve(alloc, additional)?;
+        self.tables.reserve(1)?;
+        set_number(alloc, &mut self.numbers, topic, queue, number)?;
+        push_within(&mut self.tables, table);
+        Ok(number)
+    }
+
+    /// Adds a unit to a table that has room for it; takes no memory. Consumers don't see it yet.
+    pub fn add(&mut self, table: u32, unit: Unit, store: u64)
+        requires there { table < length self.old }
+        requires room { (t : Table) → slice_get self.old table ≡ Some t → 0 < t.spare }
+        ensures { (t : Table) → slice_get self.old table ≡ Some t
+            → (s : ℕ) × (t.spare ≤ s + 1) × (self.new ≡ slice_set self.old table (record t { units = t.units ++ record { unit = unit; store = store } ∷ []; spare = s })) }
+    {
+        add_unit(&mut self.tables, table as usize, unit, store);
+    }
+
+    /// Consumers see the first unit of a table that they don't see yet; takes no memory.
+    pub fn see(&mut self, table: u32)
+        requires there { table < length self.old }
+        requires some { (t : Table) → slice_get self.old table ≡ Some t → t.seen < length t.units }
+        ensures { (t : Table) → slice_get self.old table ≡ Some t → self.new ≡ slice_set self.old table (record t { seen = t.seen + 1 }) }
+    {
+        see_one(&mut self.tables, table as usize);
+    }
+
+    /// Removes the units of a table below an offset, which consumers see, or which is the maximum; takes no memory.
+    pub fn cut(&mut self, table: u32, min: u64)
+        requires there { table < length self.old }
+        requires low { (t : Table) → slice_get self.old table ≡ Some t → t.low ≤ min }
+        requires high { (t : Table) → slice_get self.old table ≡ Some t → min ≤ max_of t }
+        ensures { (t : Table) → slice_get self.old table ≡ Some t
+            → self.new ≡ slice_set self.old table (record t { low = min; units = drop (min - t.low) t.units; seen = t.seen - (min - t.low) }) }
+    {
+        cut_one(&mut self.tables, table as usize, min);
+    }
+
+    /// The offset of the first unit of a table.
+    pub fn min(&self, table: u32) -> u64
+        requires { table < length self.now }
+        ensures { (t : Table) → slice_get self.now table ≡ Some t → result ≡ t.low }
+    {
+        self.tables[table as usize].min()
+    }
+
+    /// The offset after the last unit that consumers see.
+    pub fn max(&self, table: u32) -> u64
+        requires { table < length self.now }
+        ensures { (t : Table) → slice_get self.now table ≡ Some t → result ≡ max_of t }
+    {
+        self.tables[table as usize].max()
+    }
+
+    /// The offset after the last unit, which is that of the next record.
+    pub fn added(&self, table: u32) -> u64
+        requires { table < length self.now }
+        ensures { (t : Table) → slice_get self.now table ≡ Some t → result ≡ added_of t }
+    {
+        self.tables[table as usize].added()
+    }
+
+    /// The offset of the first unit that consumers see whose record was stored at this time, in milliseconds, or later; else
+    /// the maximum. The store times must not fall.
+    pub fn search(&self, table: u32, time: i64) -> u64
+        requires there { table < length self.now }
+        requires rising { (t : Table) → slice_get self.now table ≡ Some t → IsNonDecreasingBy store_in (take t.seen t.units) }
+        ensures { (t : Table) → slice_get self.now table ≡ Some t → result ≡ first_from time t }
+    {
+        self.tables[table as usize].search(time)
+    }
+
+    /// What consumers are told who pull from this offset on, at most 32 units of those that the subscription takes.
+    pub fn pull(
+        &self,
+        alloc: Global,
+        table: u32,
+        from: i64,
+        most: i32,
+        tags: &Tags,
+    ) -> Result<Pulled, AllocError>
+        requires { table < length self.now }
+        ensures { (t : Table) → slice_get self.now table ≡ Some t → IfOk result (λ a. Answers (pulled_of t from most tags.now) a) }
+    {
+        self.tables[table as usize].pull(alloc, from, most, tags)
+    }
+}
