@@ -43,11 +43,13 @@ abbrev pub failed_once : State
 failed_once = outcome (fresh []) (sends [] ∷ Events.Take ∷ Events.FlushFailed 1 ∷ [])
 
 pub look_says_failed : answer_of failed_once (Events.Look 0 1) ≡ Events.Looked (Events.HasFailed 1)
-unfolding read_props pieces pair_in until decimal_value digits after changed request_changed is_refused drafts_of refusal_of answer_of carried_out_answer
+unfolding read_props pieces pair_in until decimal_value digits after changed request_changed is_refused drafts_of refusal_of
+    answer_of carried_out_answer
 look_says_failed = refl
 
 pub look_by_a_later_asker_says_nothing_yet : answer_of failed_once (Events.Look 0 2) ≡ Events.Looked Events.NotYet
-unfolding read_props pieces pair_in until decimal_value digits after changed request_changed is_refused drafts_of refusal_of answer_of carried_out_answer
+unfolding read_props pieces pair_in until decimal_value digits after changed request_changed is_refused drafts_of refusal_of
+    answer_of carried_out_answer
 look_by_a_later_asker_says_nothing_yet = refl
 
 -- another message was sent, and a turn took both and ended
@@ -55,11 +57,13 @@ abbrev pub flushed_both : State
 flushed_both = outcome failed_once (sends [] ∷ Events.Take ∷ Events.Flushed 2 ∷ [])
 
 pub look_says_flushed : answer_of flushed_both (Events.Look 1 2) ≡ Events.Looked Events.IsFlushed
-unfolding read_props pieces pair_in until decimal_value digits after changed request_changed is_refused drafts_of refusal_of answer_of carried_out_answer
+unfolding read_props pieces pair_in until decimal_value digits after changed request_changed is_refused drafts_of refusal_of
+    answer_of carried_out_answer
 look_says_flushed = refl
 
 pub dispatch_moves_one_by_one : answer_of flushed_both (Events.Dispatch 1) ≡ Events.Moved 1
-unfolding read_props pieces pair_in until decimal_value digits after changed request_changed is_refused drafts_of refusal_of answer_of carried_out_answer
+unfolding read_props pieces pair_in until decimal_value digits after changed request_changed is_refused drafts_of refusal_of
+    answer_of carried_out_answer
 dispatch_moves_one_by_one = refl
 
 -- ---- check-backs
