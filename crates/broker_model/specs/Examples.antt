@@ -270,6 +270,7 @@ pub commit_by_another_group_is_refused : remark_of half_log (verdict_by (codes "
 unfolding read_props pieces pair_in until decimal_value digits refusal_of
 commit_by_another_group_is_refused = refl
 
-pub rollback_after_a_commit_is_refused : remark_of (settled_log half_log) (verdict_by (codes "P") 12 0 0) ≡ Some (codes "settled committed")
+pub rollback_after_a_commit_is_refused :
+    remark_of (settled_log half_log) (verdict_by (codes "P") 12 0 0) ≡ Some (codes "settled committed")
 unfolding read_props pieces pair_in until decimal_value digits refusal_of
 rollback_after_a_commit_is_refused = refl

@@ -1,12 +1,13 @@
 -- Which states there are.
-use Rattle.std.specs.Prelude.{◌≡◌, ℕ, ◌+◌, ◌<◌, ◌≤◌, ◌||◌, take, slice_get, codes, bit_and, true, All, Option, Some, None}
+use Rattle.std.specs.Prelude.{◌≡◌, ℕ, ◌+◌, ◌<◌, ◌≤◌, ◌^◌, ◌||◌, take, slice_get, codes, bit_and, true, false, All, Option, Some, None}
 use Rattle.std.specs.List.{AllPairs}
 use Rattle.record_codec.specs.Entry.{Entry}
-use Rattle.record_codec.specs.Layout.{size}
+use Rattle.record_codec.specs.Layout.{size, IsHost}
 use Rattle.record_codec.specs.Props.{value_of}
-use Rattle.log_model.specs.Admissible.{half_topic, NamesEarlier}
+use Rattle.log_model.specs.Admissible.{half_topic, is_system_topic, NamesEarlier}
 use Rattle.log_model.specs.Kinds.{is_half, is_delayed, is_copy, is_discard}
 use Rattle.log_model.specs.Numbered.{Log, IsLawful, count_of, queue_max}
+use Rattle.broker_model.specs.Tables.{TopicRow}
 use Rattle.broker_model.specs.State.{State, Out, FailedTurn}
 use Rattle.broker_model.specs.Removal.{IsCutAt}
 
@@ -34,8 +35,14 @@ pub record IsSaved (s : State) : Type 0 where
   pub cut : IsCutAt s.setup.segment s.log ahead s.saved.base
   pub dispatched : s.log.base.records + ahead ≤ s.dispatched
 
+-- a topic of clients has 1 to 1,024 queues
+pub record IsTopic (row : TopicRow) : Type 0 where
+  pub some : 0 < row.queues
+  pub few : row.queues ≤ 1024
+  pub plain : is_system_topic row.topic ≡ false
+
 -- The state is one that may come: its log is lawful, its numbers stand in order, what is out is pending, no record was stored
--- later than now, the saved base cuts the log, and failed turns stand in their order.
+-- later than now, the saved base cuts the log, failed turns stand in their order, and its host and its topics can be written.
 pub record IsState (s : State) : Type 0 where
   pub log : IsLawful s.setup.segment s.log
   pub base : s.log.base.records ≤ s.dispatched
@@ -45,6 +52,9 @@ pub record IsState (s : State) : Type 0 where
   pub now : (i : ℕ) (r : Entry) → slice_get s.log.records i ≡ Some r → r.store ≤ s.now
   pub saved : IsSaved s
   pub failed : All (IsFailedTurn s) s.failed
+  pub host : IsHost s.setup.host
+  pub time : s.now < 2 ^ 62
+  pub topics : All IsTopic s.topics
   pub order : AllPairs (λ f g. (f.held ≤ g.held) × (f.turn ≤ g.turn)) s.failed
 
 -- ---- what the laws of runs need of a log

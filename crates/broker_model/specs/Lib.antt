@@ -12,4 +12,5 @@ pub mod Run
 pub mod Sends
 pub mod State
 pub mod Step
+pub mod StepExamples
 pub mod Tables

@@ -151,7 +151,7 @@ Run b moves c = RunWith Anything b moves c
 pub record IsOpening (b : Boot) : Type 0 where
   pub lawful : IsLawful b.now.setup.segment b.now.log
   pub base : b.now.saved.base ≡ b.now.log.base
-  pub opened : b.now ≡ opened b.now.setup b.now.log b.now.saved
+  pub state : b.now ≡ opened b.now.setup b.now.log b.now.saved
   pub before : b.before ≡ []
 
 -- the move is a crash
