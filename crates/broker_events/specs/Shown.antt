@@ -1,0 +1,58 @@
+-- What the owner of the key sees: the end of the flushed records and the batch that is out, and how steps move them.
+use Rattle.std.specs.Prelude.{◌≡◌, ℕ, ◌+◌, ◌^◌, ◌<◌, List, length, Option, Some, None, IfSome}
+use Rattle.log_model.specs.declared.batch.Batch.{Batch}
+use Rattle.log_model.specs.declared.batch.Receipt.{Receipt}
+use Rattle.broker_events.specs.declared.event.Event.{Event}
+use Rattle.broker_events.specs.declared.event.Event.TheVariants.{Request, Take, Flushed, FlushFailed, Look, Dispatch, Leave}
+use Rattle.broker_events.specs.declared.said.Said.{Said}
+use Rattle.broker_events.specs.declared.said.Said.TheVariants as said
+use Rattle.mq_outside.specs.Covers.{piece_start}
+
+-- how many records are flushed, the removed ones counted; the place where they end; and the batch that is out
+pub record Shown : Type 0 where
+  pub flushed : ℕ
+  pub end : ℕ
+  pub out : Option Batch
+
+-- The receipt is of the batch: of its records, which stand in its piece, and where the piece holds bytes they are the batch's.
+pub record IsReceiptOf (batch : Batch) (receipt : Receipt) : Type 0 where
+  pub from : receipt.from ≡ batch.from
+  pub count : receipt.count ≡ batch.count
+  pub place : piece_start receipt.piece ≡ batch.place
+  pub len : receipt.piece.len ≡ length batch.bytes
+  pub held : IfSome receipt.piece.held (λ bytes. bytes ≡ batch.bytes)
+
+-- a batch is out, and is like this
+abbrev pub IsOut : Option Batch → (Batch → Type 0) → Type 0
+IsOut None P = ⊥
+IsOut (Some batch) P = P batch
+
+-- The event may be given: a reading of the clock is below 2^62, and a flush turn ends with the batch that is out.
+abbrev pub Accepts : Shown → Event → Type 0
+Accepts shown (Request link host now request) = now < 2 ^ 62
+Accepts shown Take = Unit {0}
+Accepts shown (Flushed receipt) = IsOut shown.out (λ batch. IsReceiptOf batch receipt)
+Accepts shown (FlushFailed count) = IsOut shown.out (λ batch. Unit {0})
+Accepts shown (Look number turn) = Unit {0}
+Accepts shown (Dispatch most) = Unit {0}
+Accepts shown (Leave link) = Unit {0}
+
+-- the batch that is out after a turn was asked for: what was said, or what was out before
+abbrev pub taken : Shown → Option Said → Shown
+taken shown (Some (said.Batch (Some batch))) = record shown { out = Some batch }
+taken shown _ = shown
+
+-- the batch is flushed
+abbrev pub after_batch : Shown → Option Batch → Shown
+after_batch shown None = shown
+after_batch shown (Some batch) = record { flushed = shown.flushed + batch.count; end = batch.place + length batch.bytes; out = None }
+
+-- what is shown after an event and what was said to it
+abbrev pub moved : Shown → Event → Option Said → Shown
+moved shown (Request link host now request) what = shown
+moved shown Take what = taken shown what
+moved shown (Flushed receipt) what = after_batch shown shown.out
+moved shown (FlushFailed count) what = record shown { out = None }
+moved shown (Look number turn) what = shown
+moved shown (Dispatch most) what = shown
+moved shown (Leave link) what = shown

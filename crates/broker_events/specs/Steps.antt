@@ -1,0 +1,95 @@
+-- Events and answers, as the model has them.
+use Rattle.std.specs.Prelude.{◌≡◌, ℕ, List, [], ◌∷◌, length, map, Option, Some, None, Result, Ok, Err}
+use Rattle.record_codec.specs.Entry.{Entry}
+use Rattle.log_model.specs.Segments.{layouts}
+use Rattle.log_model.specs.declared.batch.Batch.{Batch}
+use Rattle.broker_model.specs.Events as model
+use Rattle.broker_events.specs.declared.event.Event.{Event}
+use Rattle.broker_events.specs.declared.event.Event.TheVariants.{Request, Take, Flushed, FlushFailed, Look, Dispatch, Leave}
+use Rattle.broker_events.specs.declared.said.Said.{Said}
+use Rattle.broker_events.specs.declared.said.Said.TheVariants as said
+use Rattle.broker_events.specs.declared.said.Awaited.{Awaited}
+use Rattle.broker_events.specs.declared.said.Awaited.TheVariants as awaited
+use Rattle.broker_events.specs.Replies.{IsReplyOf}
+
+-- ---- events
+
+-- the event as the model has it
+abbrev pub event_of : Event → model.Event
+event_of (Request link host now request) = model.Asks (record { link = link; host = host; now = now; request = request })
+event_of Take = model.Take
+event_of (Flushed receipt) = model.Flushed receipt.count
+event_of (FlushFailed count) = model.FlushFailed count
+event_of (Look number turn) = model.Look number turn
+event_of (Dispatch most) = model.Dispatch most
+event_of (Leave link) = model.Leave link
+
+-- flush turns are begun and ended by the owner of the key alone
+abbrev pub IsKeyed : Event → Type 0
+IsKeyed (Request link host now request) = ⊥
+IsKeyed Take = Unit {0}
+IsKeyed (Flushed receipt) = Unit {0}
+IsKeyed (FlushFailed count) = Unit {0}
+IsKeyed (Look number turn) = ⊥
+IsKeyed (Dispatch most) = ⊥
+IsKeyed (Leave link) = ⊥
+
+-- the event may run out of memory
+abbrev pub MayTakeMemory : Event → Type 0
+MayTakeMemory (Request link host now request) = Unit {0}
+MayTakeMemory Take = Unit {0}
+MayTakeMemory (Flushed receipt) = ⊥
+MayTakeMemory (FlushFailed count) = ⊥
+MayTakeMemory (Look number turn) = ⊥
+MayTakeMemory (Dispatch most) = ⊥
+MayTakeMemory (Leave link) = ⊥
+
+-- ---- answers
+
+-- what was said, nothing where memory ran out
+abbrev pub said_in : {E : Type 0} → Result Said E → Option Said
+said_in (Ok said) = Some said
+said_in (Err fault) = None
+
+-- where the first of the records stands
+abbrev pub begins_at : List Entry → ℕ → Type 0
+begins_at [] place = ⊥
+begins_at (r ∷ records) place = place ≡ r.offset
+
+-- the batch has the records that the model's turn takes
+pub record IsBatchFor (batch : Batch) (taken : model.Taken) : Type 0 where
+  pub from : batch.from ≡ taken.from
+  pub count : batch.count ≡ length taken.records
+  pub place : begins_at taken.records batch.place
+  pub blank : batch.blank ≡ taken.blank
+  pub bytes : batch.bytes ≡ layouts taken.records
+
+-- a batch for what is taken, or neither
+abbrev pub AreBatchesFor : Option Batch → Option model.Taken → Type 0
+AreBatchesFor None None = Unit {0}
+AreBatchesFor None (Some taken) = ⊥
+AreBatchesFor (Some batch) None = ⊥
+AreBatchesFor (Some batch) (Some taken) = IsBatchFor batch taken
+
+-- what became of a record, as the model has it
+abbrev pub awaited_of : Awaited → model.Awaited
+awaited_of awaited.Flushed = model.IsFlushed
+awaited_of (awaited.Failed count) = model.HasFailed count
+awaited_of awaited.NotYet = model.NotYet
+
+-- what is said is what the model answers
+abbrev pub Says : Said → model.Answer → Type 0
+Says (said.Reply reply) answer = (told : model.Reply) × (answer ≡ model.Replies told) × IsReplyOf reply told
+Says (said.After reply number turn) answer = (told : model.Reply) × (answer ≡ model.After told number turn) × IsReplyOf reply told
+Says (said.Full pending) answer = answer ≡ model.Full pending
+Says (said.Batch batch) answer = (taken : Option model.Taken) × (answer ≡ model.Batch taken) × AreBatchesFor batch taken
+Says said.Done answer = answer ≡ model.Done
+Says (said.Awaited what) answer = answer ≡ model.Looked (awaited_of what)
+Says (said.Moved number) answer = answer ≡ model.Moved number
+
+-- the same, where nothing was said for want of memory
+abbrev pub SaysIn : Option Said → Option model.Answer → Type 0
+SaysIn None None = Unit {0}
+SaysIn None (Some answer) = ⊥
+SaysIn (Some what) None = ⊥
+SaysIn (Some what) (Some answer) = Says what answer

@@ -1,0 +1,6 @@
+//! Who is there: the topics, and how many queues each has.
+#![tactic(auto)]
+
+mod topics;
+
+pub use topics::Topics;
