@@ -5,3 +5,5 @@ pub mod FindLemmas
 pub mod LookLemmas
 pub mod PendingLemmas
 pub mod TakeLemmas
+pub mod RowLemmas
+pub mod RemovalLemmas

@@ -1,5 +1,5 @@
 -- The last failed turn alone tells what all of them do.
-use Rattle.std.proofs.Common.{◌≡◌, refl, ap, sym, ◌∙◌, subst, arith, ℕ, zero, suc, ◌+◌, ◌<◌, ◌≤◌, ◌&&◌, cond, nat_lt, nat_le, All, Bool, true, false, List, [], ◌∷◌, length, filter, Option, Some, None, if◌then◌else◌}
+use Rattle.std.proofs.Common.{◌≡◌, refl, ap, sym, ◌∙◌, subst, arith, ℕ, zero, suc, ◌+◌, ◌<◌, ◌≤◌, ◌&&◌, cond, nat_lt, nat_le, All, Bool, true, false, List, [], ◌∷◌, ◌++◌, length, filter, Option, Some, None, if◌then◌else◌}
 use Rattle.std.proofs.lemmas.Bool.{le-leb, lt-ltb, le-ltb, ltb-true, ltb-false}
 use Rattle.std.proofs.lemmas.List.Elements.{All-head, All-tail}
 use Rattle.std.specs.List.{AllPairs}
@@ -76,3 +76,9 @@ unflushed_look facts flushed number turn turns kept look behind is order keeps =
     let told : (if nat_lt number flushed then Flushed else kept_look kept number turn) ≡ kept_look kept number turn =
         ap (λ b. if b then Flushed else kept_look kept number turn) (le-ltb number flushed behind) in
     is ∙ (sym told ∙ kept_answers facts flushed number turn turns kept order keeps)
+
+-- a turn that fails is the last of those that did
+pub kept_last : {T : Type 0} (facts : T → Turn) (turns : List T) (t : T) → KeepsLast facts (turns ++ t ∷ []) (Some (record { turn = (facts t).turn; held = (facts t).held; count = (facts t).count }))
+kept_last facts [] t = refl
+kept_last facts (u ∷ []) t = refl
+kept_last facts (u ∷ v ∷ turns) t = kept_last facts (v ∷ turns) t

@@ -6,18 +6,17 @@ ghost use Rattle.std.specs.Prelude.{◌≡◌, ◌↔◌, ◌⊎◌, ◌<◌, �
 ghost use Rattle.record_codec.specs.Drafts.{entry_of, draft_size, IsEncodable};
 ghost use Rattle.record_codec.specs.Layout.{IsRecord};
 ghost use Rattle.log_model.specs.Log.{place_after};
-ghost use Rattle.log_model.specs.Batches.{blank_between as blank_of};
-ghost use Rattle.log_model.specs.Numbered.{Log, IsLawful, with_appended};
+ghost use Rattle.log_model.specs.Numbered.{Log, IsLawful, count_of, place_end, with_appended};
 ghost use Rattle.pending_log.specs.Parts.{PendingPart, appended, new_part};
 ghost use Rattle.pending_log.specs.Pending.{IsPendingOf, IsMarkOf, IsGrownFrom, IsNextBatch, IsNextTurn, HasTaken, IsIdle, IsReceiptOf, after_flushed, after_failed};
 ghost use Rattle.pending_log.specs.Rows.{AreRowsOf};
 ghost use Rattle.pending_log.specs.Looks.{Turn, this, AreInOrder, KeepsLast, looked, kept_look};
 ghost use Rattle.pending_log.specs.declared.turn.Look.TheVariants.{Flushed};
 
+use crate::batch::{blank_between, share};
 use crate::buffer::Buffer;
-use crate::extent::Extent;
 use crate::rows::Rows;
-use crate::turn::{FailedTurn, Look, Out};
+use crate::turn::{FailedTurn, Look, Out, look_at};
 use bytes::Bytes;
 use log_model::{Batch, Receipt, next_place};
 use record_codec::{Draft, Place};
@@ -70,7 +69,8 @@ impl Pending {
         requires segment { segment ≤ 2 ^ 30 }
         requires few { 91 * count ≤ end }
         requires low { end ≤ 2 ^ 62 }
-        ensures { result ≡ new_part segment count end }
+        ensures value { result ≡ new_part segment count end }
+        ensures log { (log : Log) → count_of log ≡ count → place_end log ≡ end → IsPendingOf log result }
     {
         Pending {
             segment,
@@ -259,43 +259,5 @@ impl Pending {
             Some(failed) => look_at(failed, number, turn),
             None => Look::NotYet,
         }
-    }
-}
-
-// The blank between the end of the records and the next place, if they don't meet.
-fn blank_between(end: u64, place: u64) -> Option<(u64, u32)>
-    requires ordered { end ≤ place }
-    requires near { place ≤ end + 2 ^ 30 }
-    ensures { result ≡ blank_of end place }
-{
-    if end == place {
-        None
-    } else {
-        Some((end, (place - end) as u32))
-    }
-}
-
-// The same batch; its bytes are shared.
-fn share(batch: &Batch) -> Result<Batch, AllocError>
-    ensures { IfOk result (λ other. other ≡ batch.now) }
-{
-    let bytes = batch.bytes.slice(..)?;
-    Ok(Batch {
-        from: batch.from,
-        count: batch.count,
-        place: batch.place,
-        blank: batch.blank,
-        bytes,
-    })
-}
-
-// What the last failed turn tells of a record that is not flushed.
-fn look_at(failed: FailedTurn, number: u64, turn: u64) -> Look
-    ensures { result ≡ kept_look (Some failed) number turn }
-{
-    if turn < failed.turn && number < failed.held {
-        Look::Failed(failed.count)
-    } else {
-        Look::NotYet
     }
 }

@@ -2,7 +2,10 @@
 //! that never move.
 
 ghost use Rattle.std.specs.Prelude.{◌≡◌, ◌≢◌, ◌<◌, ◌≤◌, ◌+◌, ◌-◌, ◌^◌, ◌++◌, ◌∷◌, [], ℕ, length, drop, slice_get, Some, OnOk, IfSome, IsNone};
-ghost use Rattle.log_model.specs.Numbered.{Log, IsLawful};
+ghost use Rattle.record_codec.specs.Entry.{Entry};
+ghost use Rattle.record_codec.specs.Layout.{size};
+ghost use Rattle.log_model.specs.Bases.{Base};
+ghost use Rattle.log_model.specs.Numbered.{Log, IsLawful, above, with_appended};
 ghost use Rattle.pending_log.specs.declared.rows.Row.{Row as ARow};
 ghost use Rattle.pending_log.specs.Rows.{AreRowsOf};
 ghost use Rattle.pending_log.specs.Extents.{IsExtent, AreShort};
@@ -55,6 +58,7 @@ impl Rows {
         requires { first ≤ 2 ^ 62 }
         ensures first { result.first ≡ first }
         ensures items { result.items ≡ [] }
+        ensures log { (log : Log) → log.base.records ≡ first → log.records ≡ [] → AreRowsOf log result }
     {
         Rows {
             first,
@@ -80,6 +84,7 @@ impl Rows {
         ensures first { self.new.first ≡ self.old.first }
         ensures items { self.new.items ≡ self.old.items ++ row ∷ [] }
         ensures spare { self.old.spare ≤ self.new.spare + 1 }
+        ensures log { (log : Log) (r : Entry) → AreRowsOf log self.old → row.place ≡ r.offset → row.size ≡ size r → AreRowsOf (with_appended log (r ∷ [])) self.new }
     {
         self.rows.push(row);
     }
@@ -131,6 +136,7 @@ impl Rows {
         ensures first { self.new.first ≡ first }
         ensures items { self.new.items ≡ drop (first - self.old.first) self.old.items }
         ensures spare { self.new.spare ≡ self.old.spare }
+        ensures log { (log : Log) (base : Base) → AreRowsOf log self.old → base.records ≡ first → AreRowsOf (above log base) self.new }
     {
         self.rows.cut((first - self.first) as usize);
         self.first = first;

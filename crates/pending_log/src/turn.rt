@@ -1,5 +1,8 @@
 //! What a flush turn is while it is out, and what is kept of one that failed.
 
+ghost use Rattle.std.specs.Prelude.{◌≡◌, Some};
+ghost use Rattle.pending_log.specs.Looks.{kept_look};
+
 use log_model::Batch;
 
 /// A flush turn that is out.
@@ -33,4 +36,15 @@ pub enum Look {
     Failed(u64),
     /// Neither.
     NotYet,
+}
+
+// What the last failed turn tells of a record that is not flushed.
+pub(crate) fn look_at(failed: FailedTurn, number: u64, turn: u64) -> Look
+    ensures { result ≡ kept_look (Some failed) number turn }
+{
+    if turn < failed.turn && number < failed.held {
+        Look::Failed(failed.count)
+    } else {
+        Look::NotYet
+    }
 }
