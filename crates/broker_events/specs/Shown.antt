@@ -1,26 +1,18 @@
 -- What the owner of the key sees: the end of the flushed records and the batch that is out, and how steps move them.
 use Rattle.std.specs.Prelude.{◌≡◌, ℕ, ◌+◌, ◌^◌, ◌<◌, List, length, Option, Some, None, IfSome}
 use Rattle.log_model.specs.declared.batch.Batch.{Batch}
-use Rattle.log_model.specs.declared.batch.Receipt.{Receipt}
+use Rattle.log_model.specs.Batches.{IsReceiptFor}
 use Rattle.broker_events.specs.declared.event.Event.{Event}
 use Rattle.broker_events.specs.declared.event.Event.TheVariants.{Request, Take, Flushed, FlushFailed, Look, Dispatch, Leave}
 use Rattle.broker_events.specs.declared.said.Said.{Said}
 use Rattle.broker_events.specs.declared.said.Said.TheVariants as said
-use Rattle.mq_outside.specs.Covers.{piece_start}
+
 
 -- how many records are flushed, the removed ones counted; the place where they end; and the batch that is out
 pub record Shown : Type 0 where
   pub flushed : ℕ
   pub end : ℕ
   pub out : Option Batch
-
--- The receipt is of the batch: of its records, which stand in its piece, and where the piece holds bytes they are the batch's.
-pub record IsReceiptOf (batch : Batch) (receipt : Receipt) : Type 0 where
-  pub from : receipt.from ≡ batch.from
-  pub count : receipt.count ≡ batch.count
-  pub place : piece_start receipt.piece ≡ batch.place
-  pub len : receipt.piece.len ≡ length batch.bytes
-  pub held : IfSome receipt.piece.held (λ bytes. bytes ≡ batch.bytes)
 
 -- a batch is out, and is like this
 abbrev pub IsOut : Option Batch → (Batch → Type 0) → Type 0
@@ -31,7 +23,7 @@ IsOut (Some batch) P = P batch
 abbrev pub Accepts : Shown → Event → Type 0
 Accepts shown (Request link host now request) = now < 2 ^ 62
 Accepts shown Take = Unit {0}
-Accepts shown (Flushed receipt) = IsOut shown.out (λ batch. IsReceiptOf batch receipt)
+Accepts shown (Flushed receipt) = IsOut shown.out (λ batch. IsReceiptFor batch receipt)
 Accepts shown (FlushFailed count) = IsOut shown.out (λ batch. Unit {0})
 Accepts shown (Look number turn) = Unit {0}
 Accepts shown (Dispatch most) = Unit {0}

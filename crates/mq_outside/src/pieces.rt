@@ -1,6 +1,6 @@
 //! What is asked of frozen pieces with no reader. No answer shows whether a piece holds its bytes.
 
-ghost use Rattle.std.specs.Prelude.{◌≡◌, ◌+◌, ◌≤◌, ◌<◌, ◌^◌, IsTrue, IfOk, length, take, drop};
+ghost use Rattle.std.specs.Prelude.{◌≡◌, ◌+◌, ◌≤◌, ◌<◌, ◌^◌, IsTrue, IfOk, IfSome, length, take, drop};
 ghost use Rattle.mq_outside.specs.Readings.{IsSamePart};
 
 use crate::frozen::Frozen;
@@ -31,6 +31,25 @@ impl Frozen {
             len: self.len,
             held,
         })
+    }
+
+    /// The piece with these bytes in place of what it holds, where it holds bytes: so that a piece is kept without memory by
+    /// whoever has its bytes.
+    pub fn keeping(&self, bytes: Bytes) -> Frozen
+        requires len { length bytes ≡ self.now.len }
+        requires same { IfSome self.now.held (λ held. held ≡ bytes) }
+        ensures { result ≡ self.now }
+    {
+        let held = match &self.held {
+            None => None,
+            Some(_) => Some(bytes),
+        };
+        Frozen {
+            base: self.base,
+            from: self.from,
+            len: self.len,
+            held,
+        }
     }
 
     /// Whether both pieces are the same part of a log file, and a read of this range gives the same from either.

@@ -17,7 +17,8 @@ use Rattle.log_model.specs.Log.{place_after}
 use Rattle.log_model.specs.declared.batch.Batch.{Batch}
 use Rattle.log_model.specs.declared.batch.Receipt.{Receipt}
 use Rattle.pending_log.specs.Parts.{PendingPart, IsBounded, appended, turned}
-use Rattle.pending_log.specs.Pending.{IsPendingOf, IsOutOf, IsReceiptOf, IsReceiptFor, HasTaken, with_flushed, with_failed}
+use Rattle.log_model.specs.Batches.{IsReceiptFor}
+use Rattle.pending_log.specs.Pending.{IsPendingOf, IsOutOf, IsReceiptOf, HasTaken, with_flushed, with_failed}
 use Rattle.pending_log.proofs.Lists.{get_more, drop_more}
 use Rattle.pending_log.proofs.LogLemmas.{place_past}
 

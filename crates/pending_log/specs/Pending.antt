@@ -3,7 +3,7 @@ use Rattle.std.specs.Prelude.{◌≡◌, ◌↔◌, ◌⊎◌, ℕ, ◌+◌, ◌
 use Rattle.log_model.specs.declared.batch.Batch.{Batch}
 use Rattle.log_model.specs.declared.batch.Receipt.{Receipt}
 use Rattle.log_model.specs.Bases.{geometry}
-use Rattle.log_model.specs.Batches.{IsBatchOf}
+use Rattle.log_model.specs.Batches.{IsBatchOf, IsReceiptFor}
 use Rattle.log_model.specs.Numbered.{Log, count_of, place_end, below, records_from}
 use Rattle.log_model.specs.Segments.{layouts}
 use Rattle.pending_log.specs.declared.pending.Mark.{Mark}
@@ -60,14 +60,7 @@ pub record IsGrownFrom (old new : PendingPart) : Type 0 where
 abbrev pub IsIdle : PendingPart → Type 0
 IsIdle p = (p.count ≡ p.flushed) ⊎ IsSome p.out
 
--- the receipt is of the batch that is out: its numbers, where it stands, and its bytes where the piece holds any
-pub record IsReceiptFor (batch : Batch) (receipt : Receipt) : Type 0 where
-  pub from : receipt.from ≡ batch.from
-  pub count : receipt.count ≡ batch.count
-  pub place : receipt.piece.base + receipt.piece.from ≡ batch.place
-  pub size : receipt.piece.len ≡ length batch.bytes
-  pub held : IfSome receipt.piece.held (λ bytes. bytes ≡ batch.bytes)
-
+-- the receipt is of the batch that is out
 abbrev pub IsReceiptOf : Option Out → Receipt → Type 0
 IsReceiptOf None receipt = ⊥
 IsReceiptOf (Some out) receipt = IsReceiptFor out.batch receipt
