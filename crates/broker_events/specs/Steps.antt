@@ -71,6 +71,10 @@ AreBatchesFor None (Some taken) = ⊥
 AreBatchesFor (Some batch) None = ⊥
 AreBatchesFor (Some batch) (Some taken) = IsBatchFor batch taken
 
+-- the model answers that this batch is taken, or none
+abbrev pub IsTakenAs : Option Batch → model.Answer → Type 0
+IsTakenAs batch answer = (taken : Option model.Taken) × (answer ≡ model.Batch taken) × AreBatchesFor batch taken
+
 -- what became of a record, as the model has it
 abbrev pub awaited_of : Awaited → model.Awaited
 awaited_of awaited.Flushed = model.IsFlushed
@@ -82,7 +86,7 @@ abbrev pub Says : Said → model.Answer → Type 0
 Says (said.Reply reply) answer = (told : model.Reply) × (answer ≡ model.Replies told) × IsReplyOf reply told
 Says (said.After reply number turn) answer = (told : model.Reply) × (answer ≡ model.After told number turn) × IsReplyOf reply told
 Says (said.Full pending) answer = answer ≡ model.Full pending
-Says (said.Batch batch) answer = (taken : Option model.Taken) × (answer ≡ model.Batch taken) × AreBatchesFor batch taken
+Says (said.Batch batch) answer = IsTakenAs batch answer
 Says said.Done answer = answer ≡ model.Done
 Says (said.Awaited what) answer = answer ≡ model.Looked (awaited_of what)
 Says (said.Moved number) answer = answer ≡ model.Moved number
