@@ -9,3 +9,4 @@ pub mod Replay
 pub mod PieceLemmas
 pub mod CrashLaws
 pub mod RoomLaws
+pub mod RangeLemmas

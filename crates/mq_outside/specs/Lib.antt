@@ -15,3 +15,4 @@ pub mod MemClock
 pub mod Pieces
 pub mod Readings
 pub mod GivesHeld
+pub mod Covers

@@ -12,6 +12,7 @@ mod folder_files;
 mod folder_keep;
 mod folder_reader;
 mod frozen;
+mod frozen_ranges;
 mod keep;
 #[cfg(test)]
 mod keep_tests;
@@ -39,6 +40,7 @@ pub use folder_disk::FolderDisk;
 pub use folder_keep::FolderKeep;
 pub use folder_reader::FolderReader;
 pub use frozen::Frozen;
+pub use frozen_ranges::FrozenRanges;
 pub use keep::Keep;
 pub use machine_clock::MachineClock;
 pub use mem_clock::MemClock;
