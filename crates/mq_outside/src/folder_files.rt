@@ -5,7 +5,7 @@
 //! |----------------------------|----------------------------------------------------------------|
 //! | `lock`                     | held by the one process that uses the store, for as long       |
 //! | `config/`                  | small texts, which are no files of the disk                    |
-//! | other folders              | the files of the disk, as `commitlog/00000000000000000000`     |
+//! | all else                   | the files of the disk, as `commitlog/00000000000000000000`     |
 //!
 //! A new name stands in its folder only once that folder is synced. So the first sync of a file syncs the folders on the
 //! way to it, unless this process has synced them since a name was last put into them.
@@ -50,6 +50,14 @@ fn path_of(alloc: Global, root: &str, name: &str) -> Result<String, AllocError>
     ensures { IfOk result (λ path. string_bytes path ≡ root.now ++ (codes "/" ++ name.now)) }
 {
     format!(in alloc; "{root}/{name}")
+}
+
+// The name of what stands in a folder of the store folder.
+fn name_in(alloc: Global, folder: &str, name: &str) -> Result<String, AllocError> {
+    if folder.is_empty() {
+        return String::from_str(alloc, name);
+    }
+    format!(in alloc; "{folder}/{name}")
 }
 
 // The folder that a file or folder stands in; the store folder itself is the empty text.
@@ -321,7 +329,7 @@ impl<R: Files<File = File> + AllocGlobal + Clone + Drop> FolderFiles<R> {
         Ok(names)
     }
 
-    // Adds the files and the folders of a folder. The store folder itself has no files of the disk.
+    // Adds the files and the folders of a folder, but for what is no file of the disk: the lock, and the small texts.
     fn list_folder(
         &self,
         alloc: Global,
@@ -333,16 +341,13 @@ impl<R: Files<File = File> + AllocGlobal + Clone + Drop> FolderFiles<R> {
         for entry in fs::read_dir(&self.rt, path.as_str())? {
             let entry = entry?;
             let is_folder = entry.file_type()?.is_dir();
-            let name = entry.file_name();
-            if !folder.is_empty() {
-                let name = format!(in alloc; "{folder}/{name}")?;
-                if is_folder {
-                    folders.push(name)?;
-                } else {
+            let name = name_in(alloc, folder, entry.file_name())?;
+            if !is_folder {
+                if name.as_str() != "lock" {
                     names.push(name)?;
                 }
-            } else if is_folder && name != "config" {
-                folders.push(String::from_str(alloc, name)?)?;
+            } else if name.as_str() != "config" {
+                folders.push(name)?;
             }
         }
         Ok(())
