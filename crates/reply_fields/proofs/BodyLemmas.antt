@@ -49,7 +49,7 @@ rises-most a b first last few some = (some.0, omega (arith, few, some.1))
 
 -- what a first part of the slices asked and then another
 pub asked-more : (a b first mid last : ℕ) → RisesAtMost a first mid → AreAsked a first mid → RisesAtMost b mid last → AreAsked b mid last → AreAsked (a + b) first last
-asked-more zero b first mid last some asked more next any = omega (arith, some.0, next any)
+asked-more zero b first mid last some asked more next any = omega (arith, some.0, next (omega (arith, any)))
 asked-more (suc a) b first mid last some asked more next any = omega (arith, asked (omega arith), more.0)
 
 length-slice : (gives : Giving) (s : Slice) (bytes : List ℕ) → IsSlice gives s bytes → length bytes ≡ slice_len s
