@@ -18,6 +18,14 @@ impl Reader for NothingStored {
 
     ghost reads = { λ reader. reader.reads };
 
+    ghost gives = { λ _ _ _. ⊥ };
+
+    ghost held = { λ _ _ _ given. absurd given };
+
+    ghost parts = { λ _ _ _ _ _ given. absurd given };
+
+    ghost alike = { λ _ _ _ _ _ given. absurd given };
+
     fn read(&mut self, _piece: &Frozen, _at: u64, _out: &mut [u8]) -> Result<(), Failed> {
         self.reads = self.reads.saturating_add(1);
         self.faults = self.faults.saturating_add(1);

@@ -17,6 +17,27 @@ fn are_same(first: &Bytes, next: &Bytes, at: usize, len: usize) -> bool
 }
 
 impl Frozen {
+    /// The place of the log at which the log file begins.
+    pub fn base(&self) -> u64
+        ensures { result ≡ self.now.base }
+    {
+        self.base
+    }
+
+    /// Where the piece begins in the log file.
+    pub fn from(&self) -> u64
+        ensures { result ≡ self.now.from }
+    {
+        self.from
+    }
+
+    /// How many bytes it has.
+    pub fn len(&self) -> u64
+        ensures { result ≡ self.now.len }
+    {
+        self.len
+    }
+
     /// The piece once more. It shares what is held.
     pub fn share(&self) -> Result<Frozen, AllocError>
         ensures { IfOk result (λ piece. piece ≡ self.now) }

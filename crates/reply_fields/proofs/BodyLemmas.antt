@@ -1,5 +1,5 @@
 -- How many bytes slices have, and that what is read of a stretch is its slices' bytes.
-use Rattle.std.proofs.Common.{◌≡◌, ◌∙◌, ℕ, ◌+◌, ◌≤◌, ◌<◌, ◌++◌, List, [], ◌∷◌, length, take, drop, get_or, ap, refl, sym, subst, arith}
+use Rattle.std.proofs.Common.{◌≡◌, ◌∙◌, ℕ, zero, suc, ◌+◌, ◌≤◌, ◌<◌, ◌++◌, List, [], ◌∷◌, length, take, drop, get_or, ap, refl, sym, subst, arith}
 use Rattle.std.specs.Prelude.{if◌then◌else◌}
 use Rattle.std.proofs.Math.Seq.{take-add}
 use Rattle.std.proofs.lemmas.List.{length-take, length-drop, take-append-le, drop-append-le, take_more}
@@ -49,8 +49,8 @@ rises-most a b first last few some = (some.0, omega (arith, few, some.1))
 
 -- what a first part of the slices asked and then another
 pub asked-more : (a b first mid last : ℕ) → RisesAtMost a first mid → AreAsked a first mid → RisesAtMost b mid last → AreAsked b mid last → AreAsked (a + b) first last
-asked-more zero b first mid last some asked more then any = omega (arith, some.0, then any)
-asked-more (suc a) b first mid last some asked more then any = omega (arith, asked (omega arith), more.0)
+asked-more zero b first mid last some asked more next any = omega (arith, some.0, next (omega (arith, any)))
+asked-more (suc a) b first mid last some asked more next any = omega (arith, asked (omega arith), more.0)
 
 length-slice : (gives : Giving) (s : Slice) (bytes : List ℕ) → IsSlice gives s bytes → length bytes ≡ slice_len s
 length-slice gives (Held held) bytes same = ap length same
