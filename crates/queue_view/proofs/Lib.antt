@@ -4,3 +4,4 @@ pub mod TagLemmas
 pub mod AnswerLemmas
 pub mod NumberLemmas
 pub mod NumberedLemmas
+pub mod AddedLemmas

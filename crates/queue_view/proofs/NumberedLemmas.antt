@@ -133,3 +133,24 @@ number_of-push old all t topic queue number is_topic is_queue is_number is absen
     ap (λ (ts : List Table). number_of ts topic queue) is
     ∙ ap (λ (name : List ℕ). number_of (old ++ t ∷ []) name queue) (sym is_topic) ∙ ap (λ n. number_of (old ++ t ∷ []) t.topic n) (sym is_queue)
     ∙ number_of-more old t (absent_of old t topic queue is_topic is_queue absent) ∙ ap (λ n. Some n) (sym is_number)
+
+kept_case : (b c : Bool) (first len k : ℕ) (number : Option ℕ) → number ≡ cond c (Some first) None → number ≡ Some k → cond c number (cond b (Some len) None) ≡ Some k
+kept_case b true first len k number is some = some
+kept_case b false first len k number is some = cc (sym is ∙ some)
+
+none_case : (b c : Bool) (first len : ℕ) (number : Option ℕ) → number ≡ cond c (Some first) None → cond c number (cond b (Some len) None) ≡ None → (number ≡ None) × (b ≡ false)
+none_case b true first len number is none = cc (sym is ∙ none)
+none_case true false first len number is none = cc none
+none_case false false first len number is none = (is, refl)
+
+-- a queue that had a table has it behind one table more
+pub number_of-kept : (old : List Table) (t : Table) (topic : List ℕ) (queue k : ℕ) → number_of old topic queue ≡ Some k → number_of (old ++ t ∷ []) topic queue ≡ Some k
+number_of-kept old t topic queue k some =
+    let p = is_of topic queue in
+    position_push p old t ∙ kept_case (p t) (nat_lt (position_or_len p old) (length old)) (position_or_len p old) (length old) k (number_of old topic queue) refl some
+
+-- and one that has none had none, and the new table is not its
+pub number_of-none : (old : List Table) (t : Table) (topic : List ℕ) (queue : ℕ) → number_of (old ++ t ∷ []) topic queue ≡ None → (number_of old topic queue ≡ None) × (is_of topic queue t ≡ false)
+number_of-none old t topic queue none =
+    let p = is_of topic queue in
+    none_case (p t) (nat_lt (position_or_len p old) (length old)) (position_or_len p old) (length old) (number_of old topic queue) refl (sym (position_push p old t) ∙ none)

@@ -1,5 +1,5 @@
 -- What contracts see of the tables of the queues.
-use Rattle.std.specs.Prelude.{◌≡◌, ℕ, ◌+◌, ◌==◌, ◌&&◌, Bool, List, [], length, take, map, Option, position}
+use Rattle.std.specs.Prelude.{◌≡◌, ℕ, ◌+◌, ◌-◌, ◌==◌, ◌&&◌, ◌++◌, ◌∷◌, Bool, List, [], length, take, drop, map, Option, position}
 use Rattle.std.specs.Str.{bytes_eq}
 use Rattle.record_codec.specs.declared.unit.Unit.{Unit as QueueUnit}
 use Rattle.queue_view.specs.declared.stored.StoredUnit.{StoredUnit}
@@ -41,3 +41,19 @@ number_of tables topic queue = position (is_of topic queue) tables
 -- a queue that had no records, but for `low` that were removed
 abbrev pub empty_table : List ℕ → ℕ → ℕ → ℕ → Table
 empty_table topic queue low spare = record { topic = topic; queue = queue; low = low; units = []; seen = 0; spare = spare }
+
+-- the table with this much room
+abbrev pub with_room : Table → ℕ → Table
+with_room t spare = record t { spare = spare }
+
+-- with one unit more, and then this much room
+abbrev pub with_unit : Table → QueueUnit → ℕ → ℕ → Table
+with_unit t unit store spare = record t { units = t.units ++ record { unit = unit; store = store } ∷ []; spare = spare }
+
+-- with one unit more that consumers see
+abbrev pub with_next_seen : Table → Table
+with_next_seen t = record t { seen = t.seen + 1 }
+
+-- without the units below this offset
+abbrev pub cut_at : Table → ℕ → Table
+cut_at t min = record t { low = min; units = drop (min - t.low) t.units; seen = t.seen - (min - t.low) }

@@ -1,9 +1,9 @@
 //! The table of one queue: the units that stand, each with its store time, and how many of them consumers see. A unit is
 //! added when its record is appended, and seen when the record is dispatched.
 
-ghost use Rattle.std.specs.Prelude.{◌≡◌, ◌<◌, ◌≤◌, ◌+◌, ◌-◌, ◌++◌, ◌∷◌, [], ◌^◌, length, take, drop, IfOk, OnOk};
+ghost use Rattle.std.specs.Prelude.{◌≡◌, ◌<◌, ◌≤◌, ◌+◌, ◌^◌, length, take, IfOk, OnOk};
 ghost use Rattle.std.specs.List.Sorted.{IsNonDecreasingBy};
-ghost use Rattle.queue_view.specs.Tables.{max_of, added_of};
+ghost use Rattle.queue_view.specs.Tables.{max_of, added_of, empty_table, with_room, with_unit, with_next_seen, cut_at};
 ghost use Rattle.queue_view.specs.Searches.{first_from, store_in};
 ghost use Rattle.queue_view.specs.Answers.{Answers, pulled_of, pulled_within};
 
@@ -53,7 +53,7 @@ impl QueueTable {
         low: u64,
     ) -> Result<QueueTable, AllocError>
         requires { low ≤ 2 ^ 62 }
-        ensures { IfOk result (λ t. t ≡ record { topic = topic.now; queue = queue; low = low; units = []; seen = 0; spare = t.spare }) }
+        ensures { IfOk result (λ t. t ≡ empty_table topic.now queue low t.spare) }
     {
         Ok(QueueTable {
             topic: String::from_str(alloc, topic)?,
@@ -67,7 +67,7 @@ impl QueueTable {
     // Makes room for so many units more.
     pub(crate) fn reserve(&mut self, alloc: Global, additional: usize) -> Result<(), AllocError>
         requires { additional ≤ 1024 }
-        ensures same { self.new ≡ record self.old { spare = self.new.spare } }
+        ensures same { self.new ≡ with_room self.old self.new.spare }
         ensures spare { OnOk result (additional ≤ self.new.spare) }
         ensures kept { self.old.spare ≤ self.new.spare }
     {
@@ -80,7 +80,7 @@ impl QueueTable {
     // Adds a unit, for which there is room. Consumers don't see it yet.
     pub(crate) fn add(&mut self, unit: Unit, store: u64)
         requires { 0 < self.old.spare }
-        ensures added { self.new ≡ record self.old { units = self.old.units ++ record { unit = unit; store = store } ∷ []; spare = self.new.spare } }
+        ensures added { self.new ≡ with_unit self.old unit store self.new.spare }
         ensures spare { self.old.spare ≤ self.new.spare + 1 }
     {
         self.units.push(StoredUnit { unit, store });
@@ -89,7 +89,7 @@ impl QueueTable {
     // Consumers see one unit more.
     pub(crate) fn see(&mut self)
         requires { self.old.seen < length self.old.units }
-        ensures { self.new ≡ record self.old { seen = self.old.seen + 1 } }
+        ensures { self.new ≡ with_next_seen self.old }
     {
         self.seen += 1;
     }
@@ -119,7 +119,7 @@ impl QueueTable {
     pub(crate) fn cut(&mut self, min: u64)
         requires low { self.old.low ≤ min }
         requires high { min ≤ max_of self.old }
-        ensures { self.new ≡ record self.old { low = min; units = drop (min - self.old.low) self.old.units; seen = self.old.seen - (min - self.old.low) } }
+        ensures { self.new ≡ cut_at self.old min }
     {
         let count = (min - self.low) as usize;
         self.units.cut(count);

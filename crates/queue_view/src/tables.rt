@@ -1,7 +1,7 @@
 //! One table among the tables of all queues.
 
 ghost use Rattle.std.specs.Prelude.{◌≡◌, ◌<◌, ◌≤◌, ◌+◌, ◌-◌, ◌++◌, ◌∷◌, [], length, drop, slice_get, slice_set, Some, OnOk, vec_len, vec_capacity};
-ghost use Rattle.queue_view.specs.Tables.{Table, max_of};
+ghost use Rattle.queue_view.specs.Tables.{Table, max_of, with_room, with_unit, with_next_seen, cut_at};
 
 use crate::table::QueueTable;
 use record_codec::Unit;
@@ -16,7 +16,8 @@ pub(crate) fn make_room(
 ) -> Result<(), AllocError>
     requires there { k < vec_len tables.old }
     requires few { additional ≤ 1024 }
-    ensures { (t : Table) → slice_get tables.old.items k ≡ Some t → (s : _) × (t.spare ≤ s) × (OnOk result (additional ≤ s)) × (tables.new.items ≡ slice_set tables.old.items k (record t { spare = s })) }
+    ensures { (t : Table) → slice_get tables.old.items k ≡ Some t
+        → (s : _) × (t.spare ≤ s) × (OnOk result (additional ≤ s)) × (tables.new.items ≡ slice_set tables.old.items k (with_room t s)) }
 {
     let table = &mut tables[k];
     table.reserve(alloc, additional)?;
@@ -27,7 +28,8 @@ pub(crate) fn make_room(
 pub(crate) fn add_unit(tables: &mut Vec<QueueTable>, k: usize, unit: Unit, store: u64)
     requires there { k < vec_len tables.old }
     requires room { (t : Table) → slice_get tables.old.items k ≡ Some t → 0 < t.spare }
-    ensures { (t : Table) → slice_get tables.old.items k ≡ Some t → (s : _) × (t.spare ≤ s + 1) × (tables.new.items ≡ slice_set tables.old.items k (record t { units = t.units ++ record { unit = unit; store = store } ∷ []; spare = s })) }
+    ensures { (t : Table) → slice_get tables.old.items k ≡ Some t
+        → (s : _) × (t.spare ≤ s + 1) × (tables.new.items ≡ slice_set tables.old.items k (with_unit t unit store s)) }
 {
     let table = &mut tables[k];
     table.add(unit, store);
@@ -37,7 +39,8 @@ pub(crate) fn add_unit(tables: &mut Vec<QueueTable>, k: usize, unit: Unit, store
 pub(crate) fn see_one(tables: &mut Vec<QueueTable>, k: usize)
     requires there { k < vec_len tables.old }
     requires some { (t : Table) → slice_get tables.old.items k ≡ Some t → t.seen < length t.units }
-    ensures { (t : Table) → slice_get tables.old.items k ≡ Some t → tables.new.items ≡ slice_set tables.old.items k (record t { seen = t.seen + 1 }) }
+    ensures { (t : Table) → slice_get tables.old.items k ≡ Some t
+        → tables.new.items ≡ slice_set tables.old.items k (with_next_seen t) }
 {
     let table = &mut tables[k];
     table.see();
@@ -48,7 +51,8 @@ pub(crate) fn cut_one(tables: &mut Vec<QueueTable>, k: usize, min: u64)
     requires there { k < vec_len tables.old }
     requires low { (t : Table) → slice_get tables.old.items k ≡ Some t → t.low ≤ min }
     requires high { (t : Table) → slice_get tables.old.items k ≡ Some t → min ≤ max_of t }
-    ensures { (t : Table) → slice_get tables.old.items k ≡ Some t → tables.new.items ≡ slice_set tables.old.items k (record t { low = min; units = drop (min - t.low) t.units; seen = t.seen - (min - t.low) }) }
+    ensures { (t : Table) → slice_get tables.old.items k ≡ Some t
+        → tables.new.items ≡ slice_set tables.old.items k (cut_at t min) }
 {
     let table = &mut tables[k];
     table.cut(min);

@@ -1,11 +1,12 @@
 //! The tables of all queues. A unit is added when its record is appended, and seen by consumers when the record is
 //! dispatched; the number of a table stays the same, so that neither looks a text up.
 
-ghost use Rattle.std.specs.Prelude.{◌≡◌, ◌<◌, ◌≤◌, ◌+◌, ◌-◌, ◌++◌, ◌∷◌, [], ◌^◌, ℕ, length, take, drop, slice_get, slice_set, Some, None, IfOk, OnOk, OnErr};
+ghost use Rattle.std.specs.Prelude.{◌≡◌, ◌<◌, ◌≤◌, ◌+◌, ◌++◌, ◌∷◌, [], ◌^◌, ℕ, List, length, take, slice_get, slice_set, Some, None, IfOk, OnOk, OnErr};
 ghost use Rattle.std.specs.List.Sorted.{IsNonDecreasingBy};
-ghost use Rattle.queue_view.specs.Tables.{Table, number_of, max_of, added_of, empty_table};
+ghost use Rattle.queue_view.specs.Tables.{Table, number_of, max_of, added_of, empty_table, with_room, with_unit, with_next_seen, cut_at};
 ghost use Rattle.queue_view.specs.Searches.{first_from, store_in};
-ghost use Rattle.queue_view.specs.Answers.{Answers, pulled_of};
+ghost use Rattle.queue_view.specs.Added.{Added, added_to, queue_in, IsRecordOf, AreTablesOf, with_low};
+ghost use Rattle.queue_view.specs.Answers.{Answers, pulled_of, pulled_among};
 
 use crate::numbers::{QueueNumbers, number_in, set_number};
 use crate::pulled::Pulled;
@@ -40,7 +41,8 @@ impl Model for QueueView {
 impl QueueView {
     /// No tables; takes no memory.
     pub fn new(alloc: Global) -> QueueView
-        ensures { result ≡ [] }
+        ensures empty { result ≡ [] }
+        ensures records { AreTablesOf (λ topic queue. 0) [] 0 result }
     {
         QueueView {
             tables: Vec::new(alloc),
@@ -67,9 +69,10 @@ impl QueueView {
         requires { additional ≤ 1024 }
         ensures number { IfOk result (λ k. number_of self.new topic.now queue ≡ Some k) }
         ensures there { (k : ℕ) (t : Table) → number_of self.old topic.now queue ≡ Some k → slice_get self.old k ≡ Some t
-            → (s : ℕ) × (t.spare ≤ s) × (OnOk result (additional ≤ s)) × (self.new ≡ slice_set self.old k (record t { spare = s })) }
+            → (s : ℕ) × (t.spare ≤ s) × (OnOk result (additional ≤ s)) × (self.new ≡ slice_set self.old k (with_room t s)) }
         ensures absent { number_of self.old topic.now queue ≡ None → OnOk result ((s : ℕ) × (additional ≤ s) × (self.new ≡ self.old ++ empty_table topic.now queue 0 s ∷ [])) }
         ensures same { number_of self.old topic.now queue ≡ None → OnErr result (self.new ≡ self.old) }
+        ensures records { (low : List ℕ → ℕ → ℕ) (added : List Added) (n : ℕ) → AreTablesOf low added n self.old → AreTablesOf low added n self.new }
     {
         match self.find(topic, queue) {
             Some(table) => {
@@ -93,6 +96,8 @@ impl QueueView {
         ensures number { IfOk result (λ k. number_of self.new topic.now queue ≡ Some k) }
         ensures started { OnOk result ((s : ℕ) × (self.new ≡ self.old ++ empty_table topic.now queue min s ∷ [])) }
         ensures same { OnErr result (self.new ≡ self.old) }
+        ensures records { (low : List ℕ → ℕ → ℕ) (added : List Added) (n : ℕ) → AreTablesOf low added n self.old
+            → OnOk result (AreTablesOf (with_low low topic.now queue min) added n self.new) }
     {
         self.make(alloc, topic, queue, min, 0)
     }
@@ -131,8 +136,10 @@ impl QueueView {
     pub fn add(&mut self, table: u32, unit: Unit, store: u64)
         requires there { table < length self.old }
         requires room { (t : Table) → slice_get self.old table ≡ Some t → 0 < t.spare }
-        ensures { (t : Table) → slice_get self.old table ≡ Some t
-            → (s : ℕ) × (t.spare ≤ s + 1) × (self.new ≡ slice_set self.old table (record t { units = t.units ++ record { unit = unit; store = store } ∷ []; spare = s })) }
+        ensures table { (t : Table) → slice_get self.old table ≡ Some t
+            → (s : ℕ) × (t.spare ≤ s + 1) × (self.new ≡ slice_set self.old table (with_unit t unit store s)) }
+        ensures records { (low : List ℕ → ℕ → ℕ) (added : List Added) (n : ℕ) (t : Table) → AreTablesOf low added n self.old → n ≤ length added
+            → slice_get self.old table ≡ Some t → AreTablesOf low (added ++ added_to t unit store ∷ []) n self.new }
     {
         add_unit(&mut self.tables, table as usize, unit, store);
     }
@@ -141,7 +148,9 @@ impl QueueView {
     pub fn see(&mut self, table: u32)
         requires there { table < length self.old }
         requires some { (t : Table) → slice_get self.old table ≡ Some t → t.seen < length t.units }
-        ensures { (t : Table) → slice_get self.old table ≡ Some t → self.new ≡ slice_set self.old table (record t { seen = t.seen + 1 }) }
+        ensures table { (t : Table) → slice_get self.old table ≡ Some t → self.new ≡ slice_set self.old table (with_next_seen t) }
+        ensures records { (low : List ℕ → ℕ → ℕ) (added : List Added) (n : ℕ) (a : Added) (t : Table) → AreTablesOf low added n self.old
+            → slice_get added n ≡ Some a → slice_get self.old table ≡ Some t → IsRecordOf t a → AreTablesOf low added (n + 1) self.new }
     {
         see_one(&mut self.tables, table as usize);
     }
@@ -152,7 +161,7 @@ impl QueueView {
         requires low { (t : Table) → slice_get self.old table ≡ Some t → t.low ≤ min }
         requires high { (t : Table) → slice_get self.old table ≡ Some t → min ≤ max_of t }
         ensures { (t : Table) → slice_get self.old table ≡ Some t
-            → self.new ≡ slice_set self.old table (record t { low = min; units = drop (min - t.low) t.units; seen = t.seen - (min - t.low) }) }
+            → self.new ≡ slice_set self.old table (cut_at t min) }
     {
         cut_one(&mut self.tables, table as usize, min);
     }
@@ -168,7 +177,9 @@ impl QueueView {
     /// The offset after the last unit that consumers see.
     pub fn max(&self, table: u32) -> u64
         requires { table < length self.now }
-        ensures { (t : Table) → slice_get self.now table ≡ Some t → result ≡ max_of t }
+        ensures table { (t : Table) → slice_get self.now table ≡ Some t → result ≡ max_of t }
+        ensures records { (low : List ℕ → ℕ → ℕ) (added : List Added) (n : ℕ) (t : Table) → AreTablesOf low added n self.now
+            → slice_get self.now table ≡ Some t → result ≡ low t.topic t.queue + length (queue_in (take n added) t.topic t.queue) }
     {
         self.tables[table as usize].max()
     }
@@ -201,7 +212,9 @@ impl QueueView {
         tags: &Tags,
     ) -> Result<Pulled, AllocError>
         requires { table < length self.now }
-        ensures { (t : Table) → slice_get self.now table ≡ Some t → IfOk result (λ a. Answers (pulled_of t from most tags.now) a) }
+        ensures table { (t : Table) → slice_get self.now table ≡ Some t → IfOk result (λ a. Answers (pulled_of t from most tags.now) a) }
+        ensures records { (low : List ℕ → ℕ → ℕ) (added : List Added) (n : ℕ) (t : Table) → AreTablesOf low added n self.now → slice_get self.now table ≡ Some t
+            → IfOk result (λ a. Answers (pulled_among low (take n added) t.topic t.queue from most tags.now) a) }
     {
         self.tables[table as usize].pull(alloc, from, most, tags)
     }
