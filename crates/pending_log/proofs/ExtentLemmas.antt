@@ -49,7 +49,7 @@ sum_next xs n row e =
 
 -- one row more
 pub counted : (p : Row → Bool) (xs : List Row) (n : ℕ) (row : Row) (bytes : ℕ) → (n ≤ prefix_len p xs) × (bytes ≡ sum_by (λ r. r.size) (take n xs)) → slice_get xs n ≡ Some row → p row ≡ true
-  → (suc n ≤ prefix_len p xs) × (bytes + row.size ≡ sum_by (λ r. r.size) (take (suc n) xs))
+    → (suc n ≤ prefix_len p xs) × (bytes + row.size ≡ sum_by (λ r. r.size) (take (suc n) xs))
 counted p xs n row bytes so_far e passes = (prefix_more p xs n row so_far.0 e passes, ap (λ m. m + row.size) so_far.1 ∙ sym (sum_next xs n row e))
 
 -- the rows of a batch
@@ -57,14 +57,13 @@ pub rows_in_is : (S : ℕ) (xs : List Row) (row : Row) → slice_get xs 0 ≡ So
 rows_in_is S [] row e = cc e
 rows_in_is S (x ∷ xs) row e = let same : x ≡ row = some_one e in ap (λ (q : Row). take (prefix_len (λ r. r.place / S == q.place / S) (x ∷ xs)) (x ∷ xs)) same
 
-
 pub not_in : (m n : ℕ) → (m ≡ n → ⊥) → (m == n) ≡ false
 not_in m n differ = ⊎_elim (λ (same : (eqb m n ≡ true) × (m ≡ n)). absurd (differ same.1)) (λ (other : (eqb m n ≡ false) × (m ≢ n)). other.0) (eqb_tells m n)
 
 -- so many rows, with so many bytes, are the batch
 pub is_extent : (S : ℕ) (rows : List Row) (from : ℕ) (first : Row) (divisor : ℕ) → divisor ≡ S → (n bytes : ℕ) (extent : Extent) → slice_get (drop from rows) 0 ≡ Some first
-  → prefix_len (λ (r : Row). r.place / S == first.place / divisor) (drop from rows) ≡ n → bytes ≡ sum_by (λ (r : Row). r.size) (take n (drop from rows)) → extent.count ≡ n → extent.bytes ≡ bytes → IsExtent S rows from extent
-is_extent S rows from first divisor same n  bytes extent at long sum count size =
+    → prefix_len (λ (r : Row). r.place / S == first.place / divisor) (drop from rows) ≡ n → bytes ≡ sum_by (λ (r : Row). r.size) (take n (drop from rows)) → extent.count ≡ n → extent.bytes ≡ bytes → IsExtent S rows from extent
+is_extent S rows from first divisor same n bytes extent at long sum count size =
     let xs = drop from rows in
     let test : prefix_len (λ (r : Row). r.place / S == first.place / S) xs ≡ n = ap (λ m. prefix_len (λ (r : Row). r.place / S == first.place / m) xs) (sym same) ∙ long in
     let is : rows_in S xs ≡ take n xs = rows_in_is S xs first at ∙ ap (λ m. take m xs) test in
@@ -117,10 +116,11 @@ batch_is S (row ∷ rows) [] are = absurd are
 batch_is S (row ∷ rows) (r ∷ records) are =
     let n = prefix_len (λ (x : Entry). x.offset / S == r.offset / S) (r ∷ records) in
     let same : prefix_len (λ (x : Row). x.place / S == row.place / S) (row ∷ rows) ≡ n =
-        ap (λ p. prefix_len (λ (x : Row). x.place / S == p / S) (row ∷ rows)) are.0 ∙ same_prefix S (r.offset / S) (row ∷ rows) (r ∷ records) are in
-    let long : length (row ∷ rows) ≡ length (r ∷ records) = alike_long (row ∷ rows) (r ∷ records) are in
-    (ap (λ m. length (take m (row ∷ rows))) same ∙ (length-take n (row ∷ rows) ∙ (ap (λ m. min n m) long ∙ sym (length-take n (r ∷ records)))),
-     ap (λ m. sum_by (λ (x : Row). x.size) (take m (row ∷ rows))) same ∙ same_sum (row ∷ rows) (r ∷ records) n are)
+    ap (λ p. prefix_len (λ (x : Row). x.place / S == p / S) (row ∷ rows)) are.0 ∙ same_prefix S (r.offset / S) (row ∷ rows) (r ∷ records) are in
+    let long : length (row ∷ rows) ≡ length (r ∷ records) = alike_long (row ∷ rows) (r ∷ records) are in (
+      ap (λ m. length (take m (row ∷ rows))) same ∙ (length-take n (row ∷ rows) ∙ (ap (λ m. min n m) long ∙ sym (length-take n (r ∷ records)))),
+      ap (λ m. sum_by (λ (x : Row). x.size) (take m (row ∷ rows))) same ∙ same_sum (row ∷ rows) (r ∷ records) n are,
+    )
 
 -- a batch is a front of the pending records
 pub batch_front : (S : ℕ) (records : List Entry) → same_segment S records ≡ take (length (same_segment S records)) records
@@ -136,5 +136,5 @@ batch_bytes S records bytes n are is =
     let front = batch_front S records in
     let count = length (same_segment S records) in
     let parts : layouts records ≡ layouts (same_segment S records) ++ layouts (drop count records) =
-        ap layouts (sym (take-append-drop count records)) ∙ (flat_map-append layout (take count records) (drop count records) ∙ ap (λ (rs : List Entry). layouts rs ++ layouts (drop count records)) (sym front)) in
+    ap layouts (sym (take-append-drop count records)) ∙ (flat_map-append layout (take count records) (drop count records) ∙ ap (λ (rs : List Entry). layouts rs ++ layouts (drop count records)) (sym front)) in
     ap (λ (bs : List ℕ). take n bs) (are ∙ parts) ∙ (ap (λ m. take m (layouts (same_segment S records) ++ layouts (drop count records))) is ∙ take-append_seam (layouts (same_segment S records)) (layouts (drop count records)))

@@ -55,12 +55,12 @@ absent_at rows bound m n all is rising found at_n other k row at same =
     let passes : bound ≤ found.place = leb-true bound found.place (at_first (λ (x : Row). nat_le bound x.place) rows n found first at_n) in
     let within = get_within rows k row at in
     ⊎_elim (λ (before : nat_le n k ≡ true).
-        let up = order n k row (leb-true n k before) within in
-        let low : get_or rows n row ≡ found = get_or_from_slice_get rows n found row at_n in
-        let high : get_or rows k row ≡ row = get_or_from_slice_get rows k row row at in
-        let ordered : found.place ≤ row.place = subst (λ (z : Row). found.place ≤ z.place) high (subst (λ (z : Row). z.place ≤ (get_or rows k row).place) low up) in
-        other (omega (arith, ordered, passes, same)))
-      (λ (after : nat_le n k ≡ false).
-        let early : k < n = leb-false n k after in
-        before_first (λ (x : Row). nat_le bound x.place) rows k row (omega (arith, early, first)) at (le-leb bound row.place (omega (arith, same))))
-      (cases_Bool (nat_le n k))
+    let up = order n k row (leb-true n k before) within in
+    let low : get_or rows n row ≡ found = get_or_from_slice_get rows n found row at_n in
+    let high : get_or rows k row ≡ row = get_or_from_slice_get rows k row row at in
+    let ordered : found.place ≤ row.place = subst (λ (z : Row). found.place ≤ z.place) high (subst (λ (z : Row). z.place ≤ (get_or rows k row).place) low up) in
+    other (omega (arith, ordered, passes, same)))
+    (λ (after : nat_le n k ≡ false).
+    let early : k < n = leb-false n k after in
+    before_first (λ (x : Row). nat_le bound x.place) rows k row (omega (arith, early, first)) at (le-leb bound row.place (omega (arith, same))))
+    (cases_Bool (nat_le n k))

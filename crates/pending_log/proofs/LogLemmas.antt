@@ -50,13 +50,13 @@ ends_with base records n r at = ap (λ (rs : List Entry). end_of base rs) (take_
 end_step : (S : Geometry) (records : List Entry) → IsWellFormed S records → (n : ℕ) → end_of S.base (take n records) ≤ end_of S.base (take (suc n) records)
 end_step S records well n =
     ⊎_elim (λ (none : slice_get records n ≡ None). let same : end_of S.base (take (suc n) records) ≡ end_of S.base (take n records) = ap (λ (rs : List Entry). end_of S.base rs) (take_past records n none) in omega (arith, same))
-      (λ (some : (r : Entry) × (slice_get records n ≡ Some r)).
-        let r = some.0 in
-        let follows = well.each n r some.1 in
-        let past = place_past S.size (end_of S.base (take n records)) (size r) (let low = well.segment.low in omega (arith, low)) in
-        let end_is = ends_with S.base records n r some.1 in
-        omega (arith, past, end_is, follows.place))
-      (option_cases (slice_get records n))
+    (λ (some : (r : Entry) × (slice_get records n ≡ Some r)).
+    let r = some.0 in
+    let follows = well.each n r some.1 in
+    let past = place_past S.size (end_of S.base (take n records)) (size r) (let low = well.segment.low in omega (arith, low)) in
+    let end_is = ends_with S.base records n r some.1 in
+    omega (arith, past, end_is, follows.place))
+    (option_cases (slice_get records n))
 
 ends_up : (S : Geometry) (records : List Entry) → IsWellFormed S records → (m d : ℕ) → end_of S.base (take m records) ≤ end_of S.base (take (m + d) records)
 ends_up S records well m zero = subst (λ k. end_of S.base (take m records) ≤ end_of S.base (take k records)) (let e : m ≡ m + 0 = omega arith in e) (let e : end_of S.base (take m records) ≤ end_of S.base (take m records) = omega arith in e)
@@ -96,16 +96,16 @@ rows_rise rows each i j d before within =
     let low : get_or rows i d ≡ at_i.0 = get_or_from_slice_get rows i at_i.0 d at_i.1 in
     let high : get_or rows j d ≡ at_j.0 = get_or_from_slice_get rows j at_j.0 d at_j.1 in
     ⊎_elim (λ (earlier : i < j).
-        let up = each i j at_i.0 at_j.0 earlier at_i.1 at_j.1 in
-        subst (λ (z : Row). (get_or rows i d).place ≤ z.place) (sym high) (subst (λ (z : Row). z.place ≤ at_j.0.place) (sym low) up))
-      (λ (same : i ≡ j). subst (λ k. (get_or rows i d).place ≤ (get_or rows k d).place) same (omega arith))
-      (parted i j before)
+    let up = each i j at_i.0 at_j.0 earlier at_i.1 at_j.1 in
+    subst (λ (z : Row). (get_or rows i d).place ≤ z.place) (sym high) (subst (λ (z : Row). z.place ≤ at_j.0.place) (sym low) up))
+    (λ (same : i ≡ j). subst (λ k. (get_or rows i d).place ≤ (get_or rows k d).place) same (omega arith))
+    (parted i j before)
 
 pub rows_in_order : (S : ℕ) (log : Log) (rows : RowTable) (n : ℕ) → IsLawful S log → AreRowsOf log rows → n ≡ length rows.items → IsNonDecreasingBy (λ (row : Row). row.place) (take n rows.items)
 rows_in_order S log rows n well are all =
     subst (λ (xs : List Row). IsNonDecreasingBy (λ (row : Row). row.place) xs) (sym (ap (λ m. take m rows.items) all ∙ take-length rows.items))
-      (rows_rise rows.items (λ i j x y before at_i at_j.
-        let r = record_of rows.items log.records i x are.items at_i in
-        let q = record_of rows.items log.records j y are.items at_j in
-        let up = places_rise (geometry S log.base) log.records well i j r.0 q.0 before r.1 q.1 in
-        omega (arith, up, r.2, q.2)))
+    (rows_rise rows.items (λ i j x y before at_i at_j.
+    let r = record_of rows.items log.records i x are.items at_i in
+    let q = record_of rows.items log.records j y are.items at_j in
+    let up = places_rise (geometry S log.base) log.records well i j r.0 q.0 before r.1 q.1 in
+    omega (arith, up, r.2, q.2)))

@@ -58,7 +58,7 @@ last_tells facts flushed number turn (t ∷ u ∷ turns) kept behind order keeps
     let pair = order.later 0 1 t (omega arith) (omega arith) in
     last_tells facts flushed number turn (u ∷ turns) kept behind (record { from = tail; later = λ i j d before within. order.later (suc i) (suc j) d (omega (arith, before)) (omega (arith, within)) }) keeps
     ∙ sym (skipped facts (λ x. holds_up number turn (facts x)) t u turns
-        (λ holds. later_holds facts flushed number turn t u behind (All-head (λ x. (facts x).from ≤ flushed) u turns tail) pair.0 pair.1 holds))
+    (λ holds. later_holds facts flushed number turn t u behind (All-head (λ x. (facts x).from ≤ flushed) u turns tail) pair.0 pair.1 holds))
 
 -- so the kept turn answers for all of them
 pub kept_answers : {T : Type 0} (facts : T → Turn) (flushed number turn : ℕ) (turns : List T) (kept : Option FailedTurn) → AreInOrder facts flushed turns → KeepsLast facts turns kept
@@ -74,7 +74,7 @@ pub unflushed_look : {T : Type 0} (facts : T → Turn) (flushed number turn : �
     → AreInOrder facts flushed turns → KeepsLast facts turns kept → look ≡ looked facts flushed turns number turn
 unflushed_look facts flushed number turn turns kept look behind is order keeps =
     let told : (if nat_lt number flushed then Flushed else kept_look kept number turn) ≡ kept_look kept number turn =
-        ap (λ b. if b then Flushed else kept_look kept number turn) (le-ltb number flushed behind) in
+    ap (λ b. if b then Flushed else kept_look kept number turn) (le-ltb number flushed behind) in
     is ∙ (sym told ∙ kept_answers facts flushed number turn turns kept order keeps)
 
 -- a turn that fails is the last of those that did

@@ -35,7 +35,7 @@ batch_appended S log f out r is =
       place = λ first at. is.place first (sym (get_more log.records (r ∷ []) f (let some = is.some in let within = is.within in omega (arith, some, within))) ∙ at);
       segment = λ i q low at. is.segment i q low (sym (get_more log.records (r ∷ []) (f + i) (let within = is.within in omega (arith, low, within))) ∙ at);
       bytes = is.bytes ∙ sym (ap (λ (rs : List Entry). layouts (take out.batch.count rs)) (drop-append-le f log.records (r ∷ []) front)
-        ∙ ap layouts (take-append-le out.batch.count (drop f log.records) (r ∷ []) (let within = is.within in let long = length-drop f log.records in omega (arith, within, long))));
+          ∙ ap layouts (take-append-le out.batch.count (drop f log.records) (r ∷ []) (let within = is.within in let long = length-drop f log.records in omega (arith, within, long))));
       blank = is.blank ∙ ap (λ (rs : List Entry). blank_between (end_of log.base rs) out.batch.place) (sym (take-append-le f log.records (r ∷ []) front));
     }
 
@@ -111,9 +111,9 @@ pending_flushed log p out are is =
       start = o.end;
       end = are.end;
       bytes = ap (λ (bs : List ℕ). drop (length out.batch.bytes) bs) parts
-        ∙ (ap (λ m. drop m (layouts (take n (records_from log p.flushed)) ++ layouts (drop n (records_from log p.flushed)))) front
-        ∙ (drop-append_seam (layouts (take n (records_from log p.flushed))) (layouts (drop n (records_from log p.flushed)))
-        ∙ ap layouts (drop_more log.records f n ∙ ap (λ m. drop m log.records) number)));
+          ∙ (ap (λ m. drop m (layouts (take n (records_from log p.flushed)) ++ layouts (drop n (records_from log p.flushed)))) front
+          ∙ (drop-append_seam (layouts (take n (records_from log p.flushed))) (layouts (drop n (records_from log p.flushed)))
+          ∙ ap layouts (drop_more log.records f n ∙ ap (λ m. drop m log.records) number)));
       out = tt;
     }
 
@@ -140,8 +140,8 @@ pub has_taken : (p : PendingPart) (batch : Batch) (out : Out) (turns : ℕ) → 
 has_taken p batch out turns same held next = record {
   end = out.end;
   is = ap (λ (b : Batch). record p { out = Some (record { batch = b; held = out.held; end = out.end }); turns = turns }) (sym same)
-    ∙ (ap (λ (n : ℕ). record p { out = Some (record { batch = batch; held = n; end = out.end }); turns = turns }) held
-    ∙ ap (λ (n : ℕ). record p { out = Some (record { batch = batch; held = p.count; end = out.end }); turns = n }) next);
+      ∙ (ap (λ (n : ℕ). record p { out = Some (record { batch = batch; held = n; end = out.end }); turns = turns }) held
+      ∙ ap (λ (n : ℕ). record p { out = Some (record { batch = batch; held = p.count; end = out.end }); turns = n }) next);
 }
 
 -- ---- the bytes of one record more

@@ -32,5 +32,5 @@ pub rows_cut : (log : Log) (old new : RowTable) (base : Base) → AreRowsOf log 
 rows_cut log old new base are first items = record {
   first = first;
   items = subst (λ (xs : List Row). AreAlike xs (drop (base.records - log.base.records) log.records)) (sym (items ∙ ap (λ n. drop (base.records - n) old.items) are.first))
-    (alike_drop old.items log.records (base.records - log.base.records) are.items);
+      (alike_drop old.items log.records (base.records - log.base.records) are.items);
 }

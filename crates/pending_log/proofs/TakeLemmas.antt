@@ -190,10 +190,10 @@ next_turn log p rows extent first last blank bytes end are of pending is at_firs
       within = within;
       place = λ s at. r.2 ∙ ap (λ (x : Entry). x.offset) (some_one (sym r.1 ∙ at));
       segment = λ i s low at.
-        let count = taken.count in
-        let zero_at : slice_get (records_from log p.flushed) 0 ≡ Some r.0 = drop_get log.records f 0 r.0 (subst (λ k. slice_get log.records k ≡ Some r.0) (let e : f ≡ f + 0 = omega arith in e) r.1) in
-        segment_same p.segment (records_from log p.flushed) i r.0 s (omega (arith, low, count)) zero_at (drop_get log.records f i s at)
-        ∙ ap (λ m. m / p.segment) (sym r.2);
+          let count = taken.count in
+          let zero_at : slice_get (records_from log p.flushed) 0 ≡ Some r.0 = drop_get log.records f 0 r.0 (subst (λ k. slice_get log.records k ≡ Some r.0) (let e : f ≡ f + 0 = omega arith in e) r.1) in
+          segment_same p.segment (records_from log p.flushed) i r.0 s (omega (arith, low, count)) zero_at (drop_get log.records f i s at)
+          ∙ ap (λ m. m / p.segment) (sym r.2);
       bytes = front ∙ taken.front;
       blank = gap ∙ ap (λ m. blank_between m first.place) are.start;
     } in

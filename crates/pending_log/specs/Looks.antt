@@ -24,7 +24,8 @@ last_count facts (t ∷ u ∷ turns) = last_count facts (u ∷ turns)
 
 -- A record below the flushed number is flushed. Else it has failed with the last turn after this one that held it up.
 abbrev pub looked : {T : Type 0} → (T → Turn) → ℕ → List T → ℕ → ℕ → Look
-looked facts flushed turns number turn = if nat_lt number flushed then Flushed else last_count facts (filter (λ t. holds_up number turn (facts t)) turns)
+looked facts flushed turns number turn =
+    if nat_lt number flushed then Flushed else last_count facts (filter (λ t. holds_up number turn (facts t)) turns)
 
 -- the failed turns stand in order: none begins past the flushed number, and a later one has no lower number and holds up no fewer
 pub record AreInOrder {T : Type 0} (facts : T → Turn) (flushed : ℕ) (turns : List T) : Type 0 where

@@ -21,7 +21,15 @@ pub record PendingPart : Type 0 where
 
 abbrev pub part_of : ℕ → ℕ → ℕ → ℕ → ℕ → List ℕ → Option Out → ℕ → Option FailedTurn → PendingPart
 part_of segment flushed count start end bytes out turns failed = record {
-  segment = segment; flushed = flushed; count = count; start = start; end = end; bytes = bytes; out = out; turns = turns; failed = failed;
+  segment = segment;
+  flushed = flushed;
+  count = count;
+  start = start;
+  end = end;
+  bytes = bytes;
+  out = out;
+  turns = turns;
+  failed = failed;
 }
 
 -- nothing is pending behind so many records that end there

@@ -1,5 +1,5 @@
 -- What is pending of a log, and what a flush turn takes of it.
-use Rattle.std.specs.Prelude.{◌≡◌, ◌↔◌, ◌⊎◌, ℕ, ◌+◌, ◌-◌, ◌<◌, ◌≤◌, List, [], ◌∷◌, ◌++◌, length, take, drop, IfSome, IsSome, Option, Some, None}
+use Rattle.std.specs.Prelude.{◌≡◌, ◌⊎◌, ℕ, ◌+◌, ◌-◌, ◌≤◌, List, ◌++◌, length, drop, IfSome, IsSome, Option, Some, None}
 use Rattle.log_model.specs.declared.batch.Batch.{Batch}
 use Rattle.log_model.specs.declared.batch.Receipt.{Receipt}
 use Rattle.log_model.specs.Bases.{geometry}
@@ -68,7 +68,8 @@ IsReceiptOf (Some out) receipt = IsReceiptFor out.batch receipt
 -- with the batch flushed
 abbrev pub with_flushed : PendingPart → Option Out → PendingPart
 with_flushed p None = p
-with_flushed p (Some out) = record p { flushed = p.flushed + out.batch.count; start = out.end; bytes = drop (length out.batch.bytes) p.bytes; out = None }
+with_flushed p (Some out) =
+    record p { flushed = p.flushed + out.batch.count; start = out.end; bytes = drop (length out.batch.bytes) p.bytes; out = None }
 
 abbrev pub after_flushed : PendingPart → PendingPart
 after_flushed p = with_flushed p p.out

@@ -9,7 +9,8 @@ ghost use Rattle.pending_log.specs.Pending.{IsPendingOf};
 
 /// Where flushed records are removed from the front of a log, and not all of them, what is pending stays.
 pub fn removal_leaves_what_is_pending()
-    ensures { (log : Log) (base : Base) (p : PendingPart) → log.base.records ≤ base.records → base.records < p.flushed → IsPendingOf log p → IsPendingOf (above log base) p }
+    ensures { (log : Log) (base : Base) (p : PendingPart) → log.base.records ≤ base.records → base.records < p.flushed
+        → IsPendingOf log p → IsPendingOf (above log base) p }
 {}
 
 /// As many bytes are pending as the sizes of the pending records say.

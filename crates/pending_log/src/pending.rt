@@ -2,13 +2,15 @@
 //! `Pending -> Out [take]`, `Out -> Flushed [flushed]`, `Out -> Pending [failed]`. No call writes or syncs: a batch goes to
 //! the disk between `take` and the call that ends the turn.
 
-ghost use Rattle.std.specs.Prelude.{◌≡◌, ◌↔◌, ◌⊎◌, ◌<◌, ◌≤◌, ◌+◌, ◌-◌, ◌*◌, ◌^◌, ◌++◌, ◌∷◌, [], ℕ, List, length, nat_lt, if◌then◌else◌, Some, None, IsTrue, IsSome, IsNone, IfSome, IfOk, OnOk, OnErr};
+ghost use Rattle.std.specs.Prelude.{◌≡◌, ◌↔◌, ◌<◌, ◌≤◌, ◌+◌, ◌*◌, ◌^◌, ◌∷◌, [], List, length, nat_lt, if◌then◌else◌};
+ghost use Rattle.std.specs.Prelude.{IsSome, IsNone, IfSome, IfOk, OnOk, OnErr};
 ghost use Rattle.record_codec.specs.Drafts.{entry_of, draft_size, IsEncodable};
 ghost use Rattle.record_codec.specs.Layout.{IsRecord};
 ghost use Rattle.log_model.specs.Log.{place_after};
 ghost use Rattle.log_model.specs.Numbered.{Log, IsLawful, count_of, place_end, with_appended};
 ghost use Rattle.pending_log.specs.Parts.{PendingPart, appended, new_part};
-ghost use Rattle.pending_log.specs.Pending.{IsPendingOf, IsMarkOf, IsGrownFrom, IsNextBatch, IsNextTurn, HasTaken, IsIdle, IsReceiptOf, after_flushed, after_failed};
+ghost use Rattle.pending_log.specs.Pending.{IsPendingOf, IsMarkOf, IsGrownFrom, IsNextBatch, IsNextTurn, HasTaken, IsIdle};
+ghost use Rattle.pending_log.specs.Pending.{IsReceiptOf, after_flushed, after_failed};
 ghost use Rattle.pending_log.specs.Rows.{AreRowsOf};
 ghost use Rattle.pending_log.specs.Looks.{Turn, this, AreInOrder, KeepsLast, looked, kept_look};
 ghost use Rattle.pending_log.specs.declared.turn.Look.TheVariants.{Flushed};
@@ -139,7 +141,8 @@ impl Pending {
         requires low { place.now.offset + draft_size draft.now ≤ 2 ^ 62 }
         requires room { length self.old.bytes + draft_size draft.now ≤ 67108864 }
         ensures appended { OnOk result (self.new ≡ appended self.old (entry_of draft.now place.now)) }
-        ensures log { OnOk result ((log : Log) → IsPendingOf log self.old → IsPendingOf (with_appended log (entry_of draft.now place.now ∷ [])) self.new) }
+        ensures log { OnOk result ((log : Log) → IsPendingOf log self.old
+            → IsPendingOf (with_appended log (entry_of draft.now place.now ∷ [])) self.new) }
         ensures a_record { OnOk result (IsRecord (entry_of draft.now place.now)) }
         ensures same { OnErr result (self.new ≡ self.old) }
     {
@@ -165,7 +168,8 @@ impl Pending {
     fn next_turn(&self, alloc: Global, rows: &Rows) -> Result<Out, AllocError>
         requires some { (log : Log) × IsLawful self.now.segment log × IsPendingOf log self.now × AreRowsOf log rows.now }
         requires pending { self.now.flushed < self.now.count }
-        ensures { IfOk result (λ out. (log : Log) → IsLawful self.now.segment log → IsPendingOf log self.now → AreRowsOf log rows.now → IsNextTurn log self.now out) }
+        ensures { IfOk result (λ out. (log : Log) → IsLawful self.now.segment log → IsPendingOf log self.now → AreRowsOf log rows.now
+            → IsNextTurn log self.now out) }
     {
         let extent = rows.extent(self.segment, self.flushed);
         let count = extent.count as u64;
@@ -192,10 +196,12 @@ impl Pending {
         requires { (log : Log) × IsLawful self.old.segment log × IsPendingOf log self.old × AreRowsOf log rows.now }
         ensures idle { IfOk result (λ taken. IsNone taken ↔ IsIdle self.old) }
         ensures none { IfOk result (λ taken. IsNone taken → self.new ≡ self.old) }
-        ensures batch { IfOk result (λ taken. IfSome taken (λ batch. (log : Log) → IsLawful self.old.segment log → IsPendingOf log self.old → AreRowsOf log rows.now
+        ensures batch { IfOk result (λ taken. IfSome taken (λ batch.
+            (log : Log) → IsLawful self.old.segment log → IsPendingOf log self.old → AreRowsOf log rows.now
             → IsNextBatch self.old.segment log self.old.flushed batch)) }
         ensures turn { IfOk result (λ taken. IfSome taken (λ batch. HasTaken self.old batch self.new)) }
-        ensures log { (log : Log) → IsLawful self.old.segment log → IsPendingOf log self.old → AreRowsOf log rows.now → IsPendingOf log self.new }
+        ensures log { (log : Log) → IsLawful self.old.segment log → IsPendingOf log self.old → AreRowsOf log rows.now
+            → IsPendingOf log self.new }
         ensures same { OnErr result (self.new ≡ self.old) }
     {
         if self.out.is_some() || self.flushed == self.count {
@@ -250,7 +256,8 @@ impl Pending {
     /// What has become of the record with this number by the turns after `turn`.
     pub fn look(&self, number: u64, turn: u64) -> Look
         ensures answer { result ≡ (if nat_lt number self.now.flushed then Flushed else kept_look self.now.failed number turn) }
-        ensures turns { (turns : List Turn) → AreInOrder this self.now.flushed turns → KeepsLast this turns self.now.failed → result ≡ looked this self.now.flushed turns number turn }
+        ensures turns { (turns : List Turn) → AreInOrder this self.now.flushed turns → KeepsLast this turns self.now.failed
+            → result ≡ looked this self.now.flushed turns number turn }
     {
         if number < self.flushed {
             return Look::Flushed;

@@ -1,7 +1,8 @@
 //! Where each record of a log is: its place, its size, and the number of its queue's table. 16 bytes a record, in chunks
 //! that never move.
 
-ghost use Rattle.std.specs.Prelude.{◌≡◌, ◌≢◌, ◌<◌, ◌≤◌, ◌+◌, ◌-◌, ◌^◌, ◌++◌, ◌∷◌, [], ℕ, length, drop, slice_get, Some, OnOk, IfSome, IsNone};
+ghost use Rattle.std.specs.Prelude.{◌≡◌, ◌≢◌, ◌<◌, ◌≤◌, ◌+◌, ◌-◌, ◌^◌, ◌++◌, ◌∷◌, [], ℕ, length, drop, slice_get};
+ghost use Rattle.std.specs.Prelude.{Some, OnOk, IfSome, IsNone};
 ghost use Rattle.record_codec.specs.Entry.{Entry};
 ghost use Rattle.record_codec.specs.Layout.{size};
 ghost use Rattle.log_model.specs.Bases.{Base};
@@ -84,7 +85,8 @@ impl Rows {
         ensures first { self.new.first ≡ self.old.first }
         ensures items { self.new.items ≡ self.old.items ++ row ∷ [] }
         ensures spare { self.old.spare ≤ self.new.spare + 1 }
-        ensures log { (log : Log) (r : Entry) → AreRowsOf log self.old → row.place ≡ r.offset → row.size ≡ size r → AreRowsOf (with_appended log (r ∷ [])) self.new }
+        ensures log { (log : Log) (r : Entry) → AreRowsOf log self.old → row.place ≡ r.offset → row.size ≡ size r
+            → AreRowsOf (with_appended log (r ∷ [])) self.new }
     {
         self.rows.push(row);
     }
@@ -116,7 +118,8 @@ impl Rows {
     /// The number of the record that begins at this place, found by one look for each doubling of their number.
     pub fn find(&self, place: u64) -> Option<u64>
         requires { (segment : ℕ) × (log : Log) × IsLawful segment log × AreRowsOf log self.now }
-        ensures found { IfSome result (λ number. (self.now.first ≤ number) × (row : ARow) × (slice_get self.now.items (number - self.now.first) ≡ Some row) × (row.place ≡ place)) }
+        ensures found { IfSome result (λ number. (self.now.first ≤ number)
+            × (row : ARow) × (slice_get self.now.items (number - self.now.first) ≡ Some row) × (row.place ≡ place)) }
         ensures absent { IsNone result → (k : ℕ) (row : ARow) → slice_get self.now.items k ≡ Some row → row.place ≢ place }
     {
         let index = self.rows.search(self.rows.len(), place);

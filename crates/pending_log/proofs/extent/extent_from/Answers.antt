@@ -15,7 +15,7 @@ loop-i-preserved c =
     let n = c.loop-i.i - c.args.from in
     let p : Row → Bool = λ r. r.place / c.args.segment == c.at.result.place / c.from.result in
     let at : slice_get (drop c.args.from rows) n ≡ Some c.at-row.result =
-        drop_get rows c.args.from n c.at-row.result (subst (λ k. slice_get rows k ≡ Some c.at-row.result) (let low = c.loop-i.auto.i in let e : c.loop-i.i ≡ c.args.from + (c.loop-i.i - c.args.from) = omega (arith, low) in e) c.at-row.ensures) in
+    drop_get rows c.args.from n c.at-row.result (subst (λ k. slice_get rows k ≡ Some c.at-row.result) (let low = c.loop-i.auto.i in let e : c.loop-i.i ≡ c.args.from + (c.loop-i.i - c.args.from) = omega (arith, low) in e) c.at-row.ensures) in
     let passes : p c.at-row.result ≡ true = eq-eqb (c.at-row.result.place / c.args.segment) (c.at.result.place / c.from.result) (ap (λ m. c.at-row.result.place / m) (sym c.from-in-loop-i.ensures) ∙ c.if-row-from.false) in
     let next = counted p (drop c.args.from rows) n c.at-row.result c.loop-i.bytes c.loop-i.invariant at passes in
     let P : ℕ → Type 0 = λ m. (m ≤ prefix_len p (drop c.args.from rows)) × (c.loop-i.bytes + c.at-row.result.size ≡ sum_by (λ (r : Row). r.size) (take m (drop c.args.from rows))) in
@@ -27,7 +27,7 @@ returns-then-row-from c =
     let n = c.loop-i.i - c.args.from in
     let p : Row → Bool = λ r. r.place / c.args.segment == c.at.result.place / c.from.result in
     let at : slice_get (drop c.args.from rows) n ≡ Some c.at-row.result =
-        drop_get rows c.args.from n c.at-row.result (subst (λ k. slice_get rows k ≡ Some c.at-row.result) (let low = c.loop-i.auto.i in let e : c.loop-i.i ≡ c.args.from + (c.loop-i.i - c.args.from) = omega (arith, low) in e) c.at-row.ensures) in
+    drop_get rows c.args.from n c.at-row.result (subst (λ k. slice_get rows k ≡ Some c.at-row.result) (let low = c.loop-i.auto.i in let e : c.loop-i.i ≡ c.args.from + (c.loop-i.i - c.args.from) = omega (arith, low) in e) c.at-row.ensures) in
     let fails : p c.at-row.result ≡ false = not_in (c.at-row.result.place / c.args.segment) (c.at.result.place / c.from.result) (λ e. c.if-row-from.true (ap (λ m. c.at-row.result.place / m) c.from-in-loop-i.ensures ∙ e)) in
     let first = drop_get rows c.args.from 0 c.at.result (subst (λ k. slice_get rows k ≡ Some c.at.result) (let e : c.args.from ≡ c.args.from + 0 = omega arith in e) c.at.ensures) in
     is_extent c.args.segment rows c.args.from c.at.result c.from.result c.from.ensures n c.loop-i.bytes _ first (prefix_ends p (drop c.args.from rows) n c.at-row.result c.loop-i.invariant.0 at fails) c.loop-i.invariant.1 refl refl

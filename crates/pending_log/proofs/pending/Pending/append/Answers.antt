@@ -24,9 +24,9 @@ invariant_of-self-2 c =
     let grown = grown_by i.buffer c.append.new.self r c.in_ok-append.ensures.ok in
     let before = c.len-before.ensures in let after = c.len.ensures in
     bounded_appended p r c.append.new.self (c.args.place.now.offset + (c.len.result - c.len-before.result)) c.self.invariant
-      (subst (λ (q : PendingPart). c.args.place.now.offset ≡ place_after q.segment q.end (draft_size c.args.draft.now)) (sym c.self.view_is) c.requires.next) c.requires.low
-      (subst (λ (q : PendingPart). length q.bytes + draft_size c.args.draft.now ≤ 67108864) (sym c.self.view_is) c.requires.room) c.in_ok-append.ensures.ok
-      (omega (arith, grown, before, after))
+    (subst (λ (q : PendingPart). c.args.place.now.offset ≡ place_after q.segment q.end (draft_size c.args.draft.now)) (sym c.self.view_is) c.requires.next) c.requires.low
+    (subst (λ (q : PendingPart). length q.bytes + draft_size c.args.draft.now ≤ 67108864) (sym c.self.view_is) c.requires.room) c.in_ok-append.ensures.ok
+    (omega (arith, grown, before, after))
 
 pub returns-clause-appended : goal.returns-clause-appended
 returns-clause-appended c =

@@ -20,5 +20,5 @@ returns-clause-log c log are =
     let is : p.out ≡ Some c.in-Some.out = sym c.take.ensures.value ∙ c.in-Some.is in
     let told : c.args.self.now.out ≡ Some c.in-Some.out = ap (λ (q : PendingPart). q.out) (sym c.self.view_is) ∙ is in
     flushed_log log p c.in-Some.out c.args.receipt.now.count c.drop_front.new.self c.take.new.self (subst (λ (q : PendingPart). IsPendingOf log q) (sym c.self.view_is) are) is
-      (receipt_count c.args.self.now.out c.in-Some.out c.args.receipt.now told c.requires.receipt)
-      (c.drop_front.ensures ∙ ap (λ n. drop n i.buffer) c.len.ensures.value) c.take.ensures.after
+    (receipt_count c.args.self.now.out c.in-Some.out c.args.receipt.now told c.requires.receipt)
+    (c.drop_front.ensures ∙ ap (λ n. drop n i.buffer) c.len.ensures.value) c.take.ensures.after

@@ -9,12 +9,12 @@ pub returns-in-Some-clause-turns : goal.returns-in-Some-clause-turns
 returns-in-Some-clause-turns c turns =
     let inside = c.self.inside in
     subst (λ (p : PendingPart). AreInOrder this p.flushed turns → KeepsLast this turns p.failed → c.look_at.result ≡ looked this p.flushed turns c.args.number c.args.turn) c.self.view_is
-      (unflushed_look this inside.flushed c.args.number c.args.turn turns inside.failed c.look_at.result c.if-number-self.false
-        (c.look_at.ensures ∙ ap (λ kept. kept_look kept c.args.number c.args.turn) (sym c.in-Some.is)))
+    (unflushed_look this inside.flushed c.args.number c.args.turn turns inside.failed c.look_at.result c.if-number-self.false
+    (c.look_at.ensures ∙ ap (λ kept. kept_look kept c.args.number c.args.turn) (sym c.in-Some.is)))
 
 pub returns-in-None-clause-turns : goal.returns-in-None-clause-turns
 returns-in-None-clause-turns c turns =
     let inside = c.self.inside in
     subst (λ (p : PendingPart). AreInOrder this p.flushed turns → KeepsLast this turns p.failed → NotYet ≡ looked this p.flushed turns c.args.number c.args.turn) c.self.view_is
-      (unflushed_look this inside.flushed c.args.number c.args.turn turns inside.failed NotYet c.if-number-self.false
-        (ap (λ kept. kept_look kept c.args.number c.args.turn) (sym c.in-None.is)))
+    (unflushed_look this inside.flushed c.args.number c.args.turn turns inside.failed NotYet c.if-number-self.false
+    (ap (λ kept. kept_look kept c.args.number c.args.turn) (sym c.in-None.is)))

@@ -102,5 +102,5 @@ returns c log lawful are of =
       end = c.at-last.result.place + c.from.result;
     } in
     subst (λ (q : PendingPart). IsNextTurn log q turn) c.self.view_is
-      (next_turn log p c.args.rows.now c.extent-extent.result c.at-first.result c.at-last.result c.blank_between.result c.in_ok-bytes.bytes turn.end here of pending c.extent-extent.ensures c.at-first.ensures c.at-last.ensures
-        c.blank_between.ensures c.in_ok-bytes.ensures (ap (λ n. c.at-last.result.place + n) c.from.ensures))
+    (next_turn log p c.args.rows.now c.extent-extent.result c.at-first.result c.at-last.result c.blank_between.result c.in_ok-bytes.bytes turn.end here of pending c.extent-extent.ensures c.at-first.ensures c.at-last.ensures
+    c.blank_between.ensures c.in_ok-bytes.ensures (ap (λ n. c.at-last.result.place + n) c.from.ensures))

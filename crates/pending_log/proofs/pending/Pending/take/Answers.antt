@@ -11,4 +11,4 @@ returns-clause-turn c =
     let next = c.in_ok-out.ensures c.requires.0 c.requires.1 c.requires.2 c.requires.3 in
     let held = next.held ∙ ap (λ (q : PendingPart). q.count) (sym c.self.view_is) in
     subst (λ (q : PendingPart). HasTaken q c.in_ok-batch.batch (record p { out = Some (record { batch = c.in_ok-out.out.batch; held = c.in_ok-out.out.held; end = c.in_ok-out.out.end }); turns = c.saturating_add-self-inside.result })) c.self.view_is
-      (has_taken p c.in_ok-batch.batch c.in_ok-out.out c.saturating_add-self-inside.result c.in_ok-batch.ensures held c.saturating_add-self-inside.ensures)
+    (has_taken p c.in_ok-batch.batch c.in_ok-out.out c.saturating_add-self-inside.result c.in_ok-batch.ensures held c.saturating_add-self-inside.ensures)
