@@ -5,3 +5,4 @@ pub mod Replies
 pub mod Rows
 pub mod Widths
 pub mod Delivered
+pub mod Growth
