@@ -6,3 +6,4 @@ pub mod Rows
 pub mod Widths
 pub mod Delivered
 pub mod Growth
+pub mod Due

@@ -1,9 +1,9 @@
 //! What one record more does to a log. No call is made: the clauses speak of the definitions.
 
-ghost use Rattle.std.specs.Prelude.{◌≡◌, ℕ, ◌+◌, ◌++◌, ◌∷◌, [], ◌||◌, ◌&&◌, List, ℤ, length, filter, if◌then◌else◌};
+ghost use Rattle.std.specs.Prelude.{◌≡◌, ℕ, ◌+◌, ◌++◌, ◌∷◌, [], ◌||◌, ◌&&◌, ◌<◌, ◌≤◌, List, ℤ, Some, None, true, false, length, filter, if◌then◌else◌};
 ghost use Rattle.record_codec.specs.Entry.{Entry};
 ghost use Rattle.log_model.specs.Bases.{Geometry};
-ghost use Rattle.log_model.specs.Delays.{progress};
+ghost use Rattle.log_model.specs.Delays.{progress, next_delayed, is_due, due_delayed};
 ghost use Rattle.log_model.specs.Keys.{is_match};
 ghost use Rattle.log_model.specs.Kinds.{is_delivery};
 ghost use Rattle.log_model.specs.Log.{Follows, IsWellFormed};
@@ -51,4 +51,13 @@ pub fn a_record_settles_by_earlier_halves()
 pub fn a_delivery_is_progress()
     ensures { (log : Log) (r : Entry) (level : ℕ)
         → progress (with_appended log (r ∷ [])) level ≡ progress log level + (if is_delivery level r then 1 else 0) }
+{}
+
+/// Of the levels that are due the lowest is delivered, with its next message; none is where none is due.
+pub fn the_lowest_due_level_is_delivered()
+    ensures due { (log : Log) (d now level : ℕ) (r : Entry) → due_delayed log d now ≡ Some (level, r)
+        → (is_due log d now level ≡ true) × (next_delayed log d level ≡ Some r) }
+    ensures lowest { (log : Log) (d now level lower : ℕ) (r : Entry) → due_delayed log d now ≡ Some (level, r)
+        → 1 ≤ lower → lower < level → is_due log d now lower ≡ false }
+    ensures none { (log : Log) (d now level : ℕ) → due_delayed log d now ≡ None → 1 ≤ level → level ≤ 18 → is_due log d now level ≡ false }
 {}

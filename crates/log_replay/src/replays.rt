@@ -1,8 +1,9 @@
 //! A replay is made of a log.
 
-ghost use Rattle.std.specs.Prelude.{◌≡◌, ◌++◌, ◌∷◌, [], ◌≤◌, ◌^◌, All, IfOk, OnOk, length, if◌then◌else◌};
+ghost use Rattle.std.specs.Prelude.{◌≡◌, ℕ, ◌++◌, ◌∷◌, [], ◌≤◌, ◌^◌, All, IfOk, OnOk, length, if◌then◌else◌};
 ghost use Rattle.std.specs.List.{list_any};
 ghost use Rattle.log_model.specs.Queues.{said_by, entries_of, IsStored};
+ghost use Rattle.log_model.specs.Told.{base_of};
 ghost use Rattle.log_replay.specs.Replays.{are_of_one_queue, row_of, queues_in, entries_in, key_entries, IsReplay};
 
 use crate::delays::delays_of;
@@ -91,7 +92,7 @@ fn keys(alloc: Global, log: &[Record]) -> Result<Vec<(u32, u64, u64)>, AllocErro
 /// What the log says, from this base on.
 pub fn replay(alloc: Global, log: &[Record], base: &Base) -> Result<Replay, AllocError>
     requires stored { All IsStored log.now }
-    requires levels { All (λ n. n ≤ 2 ^ 62) base.now.levels }
+    requires levels { (level : ℕ) → (base_of base.now).levels level ≤ 2 ^ 62 }
     requires few { length log.now ≤ 2 ^ 62 }
     ensures { IfOk result (λ replay. IsReplay base.now log.now replay) }
 {
