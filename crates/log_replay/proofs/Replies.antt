@@ -69,3 +69,7 @@ newest_are log topic key hash n from to from' to' most hashed begins ends number
     ∙ ap (λ (z : ℤ). take n (reverse (filter (is_match (hash_of topic key) z to) log))) begins
     ∙ ap (λ (z : ℤ). take n (reverse (filter (is_match (hash_of topic key) from' z) log))) ends
     ∙ ap (λ (k : ℕ). take k (reverse (filter (is_match (hash_of topic key) from' to') log))) number
+
+-- a function of two values that are the same
+pub at_both : {A B C : Type 0} (f : A → B → C) (a a' : A) (b b' : B) → a ≡ a' → b ≡ b' → f a b ≡ f a' b'
+at_both {A = A} {B = B} f a a' b b' first second = ap (λ (x : A). f x b) first ∙ ap (f a') second

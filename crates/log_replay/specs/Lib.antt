@@ -1,3 +1,4 @@
 pub mod Replays
+pub mod Settling
 pub mod Told
 pub mod Words

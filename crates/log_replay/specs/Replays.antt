@@ -21,9 +21,13 @@ abbrev pub first_records : List Entry → List Entry
 first_records [] = []
 first_records (r ∷ log) = r ∷ filter (λ later. not (are_of_one_queue r later)) (first_records log)
 
+-- a record's queue, with the units that the log has of it
+abbrev pub row_of : List Entry → Entry → List ℕ × ℕ × List QueueUnit
+row_of log r = (r.topic, r.queue, units_of log r.topic r.queue)
+
 -- each queue with its units, in the order of their first records
 abbrev pub queues_in : List Entry → List (List ℕ × ℕ × List QueueUnit)
-queues_in log = map (λ r. (r.topic, r.queue, units_of log r.topic r.queue)) (first_records log)
+queues_in log = map (row_of log) (first_records log)
 
 -- the hashes of a record's keys, each with the record's place and store time
 abbrev pub entries_in : Entry → List (ℕ × ℕ × ℕ)

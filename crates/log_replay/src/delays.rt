@@ -1,9 +1,10 @@
 //! Delayed messages: how far each level was delivered.
 
-ghost use Rattle.std.specs.Prelude.{◌≡◌, ℕ, ◌+◌, ◌-◌, ◌≤◌, ◌^◌, All, IfOk, length, slice_index, option_map, count_by};
+ghost use Rattle.std.specs.Prelude.{◌≡◌, ℕ, ◌+◌, ◌-◌, ◌≤◌, ◌^◌, IfOk, length, slice_index, option_map, count_by};
 ghost use Rattle.log_model.specs.Queues.{said_by, entries_of};
 ghost use Rattle.log_model.specs.Kinds.{before_dash as before_dash_of, delay_level as delay_level_of, is_text as is_text_of};
 ghost use Rattle.log_model.specs.Delays.{progress};
+ghost use Rattle.log_model.specs.Told.{base_of};
 ghost use Rattle.log_replay.specs.Told.{log_of};
 
 use crate::halves::digits;
@@ -59,7 +60,7 @@ fn deliveries(log: &[Record], digits: &[u8]) -> u64
 
 /// How many messages of each of the levels 1 to 18 were delivered, those before the base among them.
 pub fn delays_of(alloc: Global, log: &[Record], base: &Base) -> Result<[u64; 18], AllocError>
-    requires levels { All (λ n. n ≤ 2 ^ 62) base.now.levels }
+    requires levels { (level : ℕ) → (base_of base.now).levels level ≤ 2 ^ 62 }
     requires few { length log.now ≤ 2 ^ 62 }
     ensures { IfOk result (λ delays. (level : ℕ) → 1 ≤ level → level ≤ 18 → slice_index delays (level - 1) ≡ progress (log_of base.now log.now) level) }
 {

@@ -1,9 +1,10 @@
 //! A replay is made of a log.
 
-ghost use Rattle.std.specs.Prelude.{◌≡◌, ◌++◌, ◌≤◌, ◌^◌, All, IfOk, OnOk, length};
+ghost use Rattle.std.specs.Prelude.{◌≡◌, ℕ, ◌++◌, ◌∷◌, [], ◌≤◌, ◌^◌, All, IfOk, OnOk, length, if◌then◌else◌};
 ghost use Rattle.std.specs.List.{list_any};
 ghost use Rattle.log_model.specs.Queues.{said_by, entries_of, IsStored};
-ghost use Rattle.log_replay.specs.Replays.{are_of_one_queue, queues_in, entries_in, key_entries, IsReplay};
+ghost use Rattle.log_model.specs.Told.{base_of};
+ghost use Rattle.log_replay.specs.Replays.{are_of_one_queue, row_of, queues_in, entries_in, key_entries, IsReplay};
 
 use crate::delays::delays_of;
 use crate::halves::halves_of;
@@ -26,21 +27,46 @@ fn has_queue(log: &[Record], r: &Record) -> bool
     false
 }
 
+// The record's queue, with the units of that queue.
+fn row(alloc: Global, log: &[Record], r: &Record) -> Result<(Text, u32, Rows<Unit>), AllocError>
+    requires { All IsStored log.now }
+    ensures { IfOk result (λ row. row ≡ row_of (entries_of log.now) (said_by r.now)) }
+{
+    let topic = r.draft.topic.as_str();
+    let units = queue_of(alloc, log, topic, r.draft.queue)?;
+    let topic = Text::of(String::from_str(alloc, topic)?);
+    Ok((topic, r.draft.queue, Rows::of(units)))
+}
+
+// Appends the record's queue, where none of the records before it is of the same.
+fn put_row(
+    alloc: Global,
+    log: &[Record],
+    before: &[Record],
+    r: &Record,
+    rows: &mut Vec<(Text, u32, Rows<Unit>)>,
+) -> Result<(), AllocError>
+    requires { All IsStored log.now }
+    ensures { OnOk result (rows.new.items ≡ (if list_any (λ earlier. are_of_one_queue earlier (said_by r.now)) (entries_of before.now)
+        then rows.old.items else rows.old.items ++ row_of (entries_of log.now) (said_by r.now) ∷ [])) }
+{
+    if has_queue(before, r) {
+        return Ok(());
+    }
+    rows.push(row(alloc, log, r)?)?;
+    Ok(())
+}
+
 // The queues of the log, each where its first record stands.
 fn queues(alloc: Global, log: &[Record]) -> Result<Vec<(Text, u32, Rows<Unit>)>, AllocError>
     requires { All IsStored log.now }
-    ensures { IfOk result (λ queues. queues.items ≡ queues_in (entries_of log.now)) }
+    ensures { IfOk result (λ rows. rows.items ≡ queues_in (entries_of log.now)) }
 {
-    let mut queues = Vec::new(alloc);
+    let mut rows = Vec::new(alloc);
     for (i, record) in log.iter().enumerate() {
-        if !has_queue(&log[..i], record) {
-            let topic = record.draft.topic.as_str();
-            let units = queue_of(alloc, log, topic, record.draft.queue)?;
-            let topic = Text::of(String::from_str(alloc, topic)?);
-            queues.push((topic, record.draft.queue, Rows::of(units)))?;
-        }
+        put_row(alloc, log, &log[..i], record, &mut rows)?;
     }
-    Ok(queues)
+    Ok(rows)
 }
 
 fn put_entries(alloc: Global, r: &Record, entries: &mut Vec<(u32, u64, u64)>) -> Result<(), AllocError>
@@ -66,7 +92,7 @@ fn keys(alloc: Global, log: &[Record]) -> Result<Vec<(u32, u64, u64)>, AllocErro
 /// What the log says, from this base on.
 pub fn replay(alloc: Global, log: &[Record], base: &Base) -> Result<Replay, AllocError>
     requires stored { All IsStored log.now }
-    requires levels { All (λ n. n ≤ 2 ^ 62) base.now.levels }
+    requires levels { (level : ℕ) → (base_of base.now).levels level ≤ 2 ^ 62 }
     requires few { length log.now ≤ 2 ^ 62 }
     ensures { IfOk result (λ replay. IsReplay base.now log.now replay) }
 {
