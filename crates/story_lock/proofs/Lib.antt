@@ -1,3 +1,4 @@
 pub mod Sums
 pub mod Keeps
 pub mod Between
+pub mod Owned

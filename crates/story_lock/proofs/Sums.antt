@@ -81,7 +81,8 @@ once_down f g low high le o e = record {
 pub starts_length : {X : Type 0} (log xs : List X) → StartsWith log xs → length xs ≤ length log
 starts_length log xs s = omega (arith, length-append xs s.0, ap length s.1)
 
-append_three : {X : Type 0} (xs ys zs : List X) → (xs ++ ys) ++ zs ≡ xs ++ (ys ++ zs)
+-- appending is associative
+pub append_three : {X : Type 0} (xs ys zs : List X) → (xs ++ ys) ++ zs ≡ xs ++ (ys ++ zs)
 append_three [] ys zs = refl
 append_three (x ∷ xs) ys zs = ap (λ l. x ∷ l) (append_three xs ys zs)
 

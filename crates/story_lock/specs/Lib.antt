@@ -2,3 +2,4 @@ pub mod Counts
 pub mod Rule
 pub mod Lent
 pub mod Passes
+pub mod Owned
