@@ -1,10 +1,10 @@
 -- Each step keeps the rule.
-use Rattle.std.proofs.Common.{◌≡◌, ◌≢◌, ◌⊎◌, ℕ, zero, suc, ◌+◌, ◌-◌, ◌%◌, ◌^◌, ◌<◌, ◌≤◌, eqb, eq-eqb, ne_eqb, Bool, true, false, List, [], ◌∷◌, ◌++◌, length, set, cond, Option, Some, None, refl, sym, ap, ◌∙◌, subst, inl, inr, ⊎_elim, arith, length-append, append-nil}
-use Rattle.std.specs.Prelude.{slice_get, slice_index, leb, IfSome}
+use Rattle.std.proofs.Common.{◌≡◌, ◌≢◌, ◌⊎◌, ℕ, zero, suc, ◌+◌, ◌%◌, ◌^◌, ◌<◌, ◌≤◌, eqb, Bool, true, List, [], ◌∷◌, ◌++◌, length, set, Option, Some, None, refl, sym, ap, ◌∙◌, subst, inl, inr, ⊎_elim, arith, length-append, append-nil}
+use Rattle.std.specs.Prelude.{slice_get, slice_index, IfSome}
 use mathlib.Core.Logic.{dite}
 use mathlib.Core.Option as maybe
 use mathlib.Core.Option.{some, none, some-injective, some-ne-none}
-use native.Mathlib.Decide.{dec_le, dec_lt, ℕ_discrete}
+use native.Mathlib.Decide.{ℕ_discrete}
 use lib.ListN.{get_elem?}
 use prog.Atomic.{either}
 use Rattle.atomic_table.specs.Table.{State, Me, Act, step, keeps, takes, gives, Valid, stepped, carried_after, Allows, Splits, Joins, opening}
@@ -12,9 +12,9 @@ use Rattle.atomic_table.proofs.Lists.{at_set, at_snoc, set_again, exchanged}
 use Rattle.story_lock.specs.declared.view.View.{View}
 use Rattle.story_lock.specs.declared.view.Stage.{Stage}
 use Rattle.story_lock.specs.declared.view.Stage.TheVariants.{Idle, Waits, Served, Done}
-use Rattle.story_lock.specs.Counts.{times, total, numbers_from, numbers_below, greatest, without, StartsWith, Once, IsDistinct}
-use Rattle.story_lock.specs.Rule.{drawn, has_state, number, IsAt, drawn_by, held_by, HasKey, HasSeat, HasAllSeats, at_stage, served, after, fewer, newcomer, shorter, longer, met, spent, opening_view, Fits, IsPlaced, Kept, Holds, draws, Comes, looks, commits, passes, settles}
-use Rattle.story_lock.proofs.Sums.{one_at, times_here, times_append, total_set, total_snoc, total_at, total_two, total_under, total_less, total_none, once_le, once_in, once_same, once_up, once_down, starts_length, starts_longer, starts_itself, starts_both, get_snoc, times_first, times_empty, times_length, length_once, length_snoc, times_without, length_without, greatest_in, all_zero, numbers_once, by_length}
+use Rattle.story_lock.specs.Counts.{times, total, greatest, StartsWith, Once, IsDistinct}
+use Rattle.story_lock.specs.Rule.{drawn, has_state, number, IsAt, drawn_by, held_by, HasKey, HasSeat, HasAllSeats, at_stage, served, after, fewer, newcomer, met, spent, opening_view, Fits, IsPlaced, Kept, Holds, draws, Comes, looks, commits, passes, settles}
+use Rattle.story_lock.proofs.Sums.{one_at, times_here, times_append, total_set, total_snoc, total_at, total_two, total_less, total_none, once_le, once_in, once_same, once_up, once_down, starts_length, starts_longer, starts_itself, starts_both, get_snoc, times_first, times_empty, length_snoc, times_without, length_without, greatest_in, all_zero, numbers_once, by_length}
 
 -- a pass without the state knows nothing of it
 idle_at : {X : Type 0} (log seen : List X) (n : ℕ) (st : Stage) → has_state st ≡ 0 → IsAt log n seen st

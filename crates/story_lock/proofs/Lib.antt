@@ -2,3 +2,4 @@ pub mod Sums
 pub mod Keeps
 pub mod Between
 pub mod Owned
+pub mod Counting

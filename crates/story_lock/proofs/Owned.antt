@@ -1,10 +1,10 @@
 -- Steps that generic code makes by a pass are the pass's own entries, in order.
-use Rattle.std.proofs.Common.{◌≡◌, ℕ, zero, suc, ◌+◌, ◌≤◌, ◌<◌, List, [], ◌∷◌, ◌++◌, length, get_or, Option, Some, None, refl, sym, ap, ◌∙◌, subst, append-nil, length-append, arith}
+use Rattle.std.proofs.Common.{◌≡◌, ℕ, suc, ◌<◌, List, [], ◌∷◌, ◌++◌, length, get_or, Option, Some, None, refl, sym, ap, ◌∙◌, subst, append-nil, length-append, arith}
 use Rattle.std.specs.Prelude.{slice_get}
 use Rattle.story_lock.specs.declared.chronicle.Chronicle.{Ghosts}
 use Rattle.story_lock.specs.declared.story.Pass.{Pass}
 use Rattle.story_lock.specs.Passes.{seen_by, mine_of, Adds}
-use Rattle.story_lock.specs.Owned.{Makes, paired, HasAt, AscendsFrom, Owns, StepsBy}
+use Rattle.story_lock.specs.Owned.{Makes, paired, AscendsFrom, Owns, StepsBy}
 use Rattle.story_lock.proofs.Sums.{append_three, length_snoc}
 
 -- a list of steps goes on by one

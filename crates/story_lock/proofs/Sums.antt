@@ -1,14 +1,13 @@
 -- How often numbers stand in lists, and sums over views.
-use Rattle.std.proofs.Common.{◌≡◌, ◌≢◌, ◌⊎◌, ℕ, zero, suc, ◌+◌, ◌-◌, ◌<◌, ◌≤◌, max, eqb, eq-eqb, ne_eqb, List, [], ◌∷◌, ◌++◌, length, set, cond, Option, Some, None, refl, sym, ap, ◌∙◌, subst, inl, inr, ⊎_elim, arith, length-append, append-nil}
-use Rattle.std.specs.Prelude.{slice_get, leb, Bool, true, false}
+use Rattle.std.proofs.Common.{◌≡◌, ◌≢◌, ◌⊎◌, ℕ, zero, suc, ◌+◌, ◌<◌, ◌≤◌, max, eqb, eq-eqb, ne_eqb, List, [], ◌∷◌, ◌++◌, length, set, cond, Option, Some, None, refl, sym, ap, ◌∙◌, subst, inl, inr, ⊎_elim, arith, length-append, append-nil}
+use Rattle.std.specs.Prelude.{slice_get, leb, true, false}
 use Rattle.story_lock.specs.Rule.{longer, shorter}
 use mathlib.Core.Logic.{dite}
 use mathlib.Core.Option.{some, some-injective, some-ne-none}
 use Rattle.std.proofs.lemmas.Bool.Decides.{leb_tells}
-use native.Mathlib.Decide.{dec_le, dec_lt, ℕ_discrete}
+use native.Mathlib.Decide.{dec_lt, ℕ_discrete}
 use lib.ListN.{get_elem?}
-use Rattle.atomic_table.proofs.Lists.{at_set}
-use Rattle.story_lock.specs.Counts.{times, total, numbers_from, numbers_below, greatest, without, StartsWith, Once, IsDistinct}
+use Rattle.story_lock.specs.Counts.{times, total, numbers_from, greatest, without, StartsWith, Once}
 
 pub one_at : (n k : ℕ) → ((n ≡ k) × (times k (n ∷ []) ≡ 1)) ⊎ ((n ≢ k) × (times k (n ∷ []) ≡ 0))
 one_at n k = dite (ℕ_discrete n k) (λ e. inl (e, subst (λ b. cond b 1 0 + 0 ≡ 1) (sym (eq-eqb n k e)) refl)) (λ ne. inr (ne, subst (λ b. cond b 1 0 + 0 ≡ 0) (sym (ne_eqb n k ne)) refl))

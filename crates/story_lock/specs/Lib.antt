@@ -3,3 +3,4 @@ pub mod Rule
 pub mod Lent
 pub mod Passes
 pub mod Owned
+pub mod Counting

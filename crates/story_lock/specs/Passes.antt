@@ -1,5 +1,5 @@
 -- What contracts say of a story and its passes: what a pass has seen and made, what it finds at its turn, and what a turn adds.
-use Rattle.std.specs.Prelude.{◌≡◌, ℕ, ◌<◌, ◌≤◌, List, [], ◌∷◌, ◌++◌, length, slice_get, Some, Bool, true, false}
+use Rattle.std.specs.Prelude.{◌≡◌, ℕ, ◌<◌, List, [], ◌∷◌, ◌++◌, length, slice_get, Some, Bool, true, false}
 use Rattle.story_lock.specs.Counts.{times, StartsWith, IsDistinct}
 use Rattle.story_lock.specs.Rule as rule
 use Rattle.story_lock.specs.declared.chronicle.Chronicle.{Ghosts}

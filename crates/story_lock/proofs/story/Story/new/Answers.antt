@@ -1,4 +1,4 @@
-use Rattle.std.proofs.Common.{rules, refl, ap, ◌∙◌}
+use Rattle.std.proofs.Common.{rules}
 use Rattle.story_lock.proofs.Keeps.{open_ok}
 use Rattle.story_lock.proofs.Sums.{length_from}
 use Rattle.story_lock.proofs.story.Story.new.Goals as goal

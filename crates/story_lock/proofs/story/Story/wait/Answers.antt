@@ -1,4 +1,4 @@
-use Rattle.std.proofs.Common.{rules, refl, ap, ◌∙◌}
+use Rattle.std.proofs.Common.{rules, ap, ◌∙◌}
 use Rattle.story_lock.proofs.Keeps.{look_ok}
 use Rattle.story_lock.proofs.story.Story.wait.Goals as goal
 

@@ -1,4 +1,4 @@
-use Rattle.std.proofs.Common.{rules, List, [], ◌∷◌, ◌++◌, length, ap, ◌∙◌}
+use Rattle.std.proofs.Common.{rules, [], ◌∷◌, ◌++◌, length, ap, ◌∙◌}
 use Rattle.story_lock.proofs.Between.{none_between}
 use Rattle.story_lock.proofs.story.Turn.end.Goals as goal
 
