@@ -1,5 +1,7 @@
 pub mod Sums
-pub mod Keeps
+pub mod Tables
+pub mod TurnSteps
+pub mod PassSteps
 pub mod Between
 pub mod Owned
 pub mod Counting

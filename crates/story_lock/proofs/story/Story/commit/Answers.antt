@@ -1,5 +1,5 @@
 use Rattle.std.proofs.Common.{rules}
-use Rattle.story_lock.proofs.Keeps.{commit_ok}
+use Rattle.story_lock.proofs.TurnSteps.{commit_ok}
 use Rattle.story_lock.proofs.story.Story.commit.Goals as goal
 
 pub fetch_add-requires : goal.fetch_add-requires

@@ -1,5 +1,5 @@
 use Rattle.std.proofs.Common.{rules}
-use Rattle.story_lock.proofs.Keeps.{open_ok}
+use Rattle.story_lock.proofs.PassSteps.{open_ok}
 use Rattle.story_lock.proofs.Sums.{length_from}
 use Rattle.story_lock.proofs.story.Story.new.Goals as goal
 

@@ -1,5 +1,5 @@
 use Rattle.std.proofs.Common.{rules}
-use Rattle.story_lock.proofs.Keeps.{pass_ok}
+use Rattle.story_lock.proofs.TurnSteps.{pass_ok}
 use Rattle.story_lock.proofs.story.Story.put_back.Goals as goal
 
 pub fetch_add-requires : goal.fetch_add-requires

@@ -1,5 +1,5 @@
 use Rattle.std.proofs.Common.{rules, ap, ◌∙◌}
-use Rattle.story_lock.proofs.Keeps.{look_ok}
+use Rattle.story_lock.proofs.TurnSteps.{look_ok}
 use Rattle.story_lock.proofs.story.Story.wait.Goals as goal
 
 pub load-requires : goal.load-requires

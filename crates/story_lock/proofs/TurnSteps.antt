@@ -1,4 +1,4 @@
--- Each step keeps the rule.
+-- Each step of a turn keeps the rule: draw, look, commit and pass on.
 use Rattle.std.proofs.Common.{◌≡◌, ◌≢◌, ◌⊎◌, ℕ, zero, suc, ◌+◌, ◌%◌, ◌^◌, ◌<◌, ◌≤◌, eqb, Bool, true, List, [], ◌∷◌, ◌++◌, length, set, Option, Some, None, refl, sym, ap, ◌∙◌, subst, inl, inr, ⊎_elim, arith, length-append, append-nil}
 use Rattle.std.specs.Prelude.{slice_get, slice_index, IfSome}
 use mathlib.Core.Logic.{dite}
@@ -15,13 +15,7 @@ use Rattle.story_lock.specs.declared.view.Stage.TheVariants.{Idle, Waits, Served
 use Rattle.story_lock.specs.Counts.{times, total, greatest, StartsWith, Once, IsDistinct}
 use Rattle.story_lock.specs.Rule.{drawn, has_state, number, IsAt, drawn_by, held_by, HasKey, HasSeat, HasAllSeats, at_stage, served, after, fewer, newcomer, met, spent, opening_view, Fits, IsPlaced, Kept, Holds, draws, Comes, looks, commits, passes, settles}
 use Rattle.story_lock.proofs.Sums.{one_at, times_here, times_append, total_set, total_snoc, total_at, total_two, total_less, total_none, once_le, once_in, once_same, once_up, once_down, starts_length, starts_longer, starts_itself, starts_both, get_snoc, times_first, times_empty, length_snoc, times_without, length_without, greatest_in, all_zero, numbers_once, by_length}
-
--- a pass without the state knows nothing of it
-idle_at : {X : Type 0} (log seen : List X) (n : ℕ) (st : Stage) → has_state st ≡ 0 → IsAt log n seen st
-idle_at log seen n Idle e = tt
-idle_at log seen n (Waits t) e = tt
-idle_at log seen n (Served t) e = absurd (omega arith)
-idle_at log seen n (Done t) e = absurd (omega arith)
+use Rattle.story_lock.proofs.Tables.{idle_at, at_lit, each_set, placed_le, others_idle, same_once, distinct, is_out}
 
 -- who has the state has the number that is served
 holds_served : {X : Type 0} (log seen : List X) (n : ℕ) (st : Stage) → IsAt log n seen st → has_state st ≤ times n (drawn st)
@@ -65,28 +59,6 @@ module _ {S E A : Type 0} (represents : S → List (E × A) → S → Type 0) (k
   abbrev Goes : St → ℕ → ℕ → ℕ → M → (ℕ → M → Type 0) → Type 0
   Goes s i new id me then = (w : V) × (a : Act (Option S)) × Valid s.homes me.1 a × Rule (stepped s i new id me.1 w a) × then (slice_index s.words i) (w, carried_after me.1 a)
 
-  -- a step may be proved at a table written out
-  at_lit : (i id : ℕ) (f : ℕ → ℕ) (me : M) (then : ℕ → M → Type 0) (slots : ℕ)
-      → ((t n : ℕ) (log : L) (home : H) (views : List V) → K log t n home views → get_elem? views id ≡ some me.0 → Goes (lit t n log home views) i (f (slice_index (t ∷ n ∷ length log ∷ []) i)) id me then)
-      → Allows Rule slots id me i f then
-  at_lit i id f me then slots law s r _ at _ = subst (λ (x : List ℕ × List H). Goes record { words = x.0; homes = x.1; views = s.views } i (f (slice_index x.0 i)) id me then) (λ j. (sym r.words j, sym r.homes j)) (law r.ticket r.serving r.log r.home s.views r.kept at)
-
-  each_set : (log : L) (n : ℕ) (views : List V) (id : ℕ) (w : V) → ((j : ℕ) (u : V) → j ≢ id → get_elem? views j ≡ some u → F log n u) → F log n w
-      → (j : ℕ) (u : V) → get_elem? (set views id w) j ≡ some u → F log n u
-  each_set log n views id w others mine j u e = ⊎_elim (λ (x : (j ≡ id) × (w ≡ u)). subst (F log n) x.1 mine) (λ (x : (j ≢ id) × (get_elem? views j ≡ some u)). others j u x.0 x.1) (at_set views id j w u e)
-
-  -- of two passes one at most has the state
-  placed_le : (log : L) (n : ℕ) (home : H) (views : List V) → IsPlaced represents keyed start seats log n home views → total held_by views ≤ 1
-  placed_le log n home views p = ⊎_elim (λ (x : (x : S) × (home ≡ some (Some x)) × represents start log x × (length log ≤ n) × (total held_by views ≡ 0)). omega (arith, x.4)) (λ (x : (home ≡ none) × (total held_by views ≡ 1)). omega (arith, x.1)) p
-
-  others_idle : (views : List V) (id : ℕ) (v : V) → total held_by views ≤ 1 → get_elem? views id ≡ some v → held_by v ≡ 1 → (j : ℕ) (u : V) → j ≢ id → get_elem? views j ≡ some u → held_by u ≡ 0
-  others_idle views id v le at one j u apart there = let h = total_two held_by views id j v u (λ e. apart (sym e)) at there in omega arith
-
-  -- a change of one view that keeps its lists
-  same_once : (f : V → List ℕ) (low high : ℕ) (views : List V) (id : ℕ) (v w : V) → get_elem? views id ≡ some v → f w ≡ f v → Once (λ k. total (λ u. times k (f u)) views) low high → Once (λ k. total (λ u. times k (f u)) (set views id w)) low high
-  same_once f low high views id v w at e o = once_same (λ k. total (λ u. times k (f u)) views) (λ k. total (λ u. times k (f u)) (set views id w)) low high o
-      (λ k. let h = total_set (λ u. times k (f u)) views id v w at in omega (arith, ap (times k) e))
-
   -- draw
   restage : (log : L) (n : ℕ) (v : V) (st : Stage) → F log n v → IsAt log n v.seen st → F log n (at_stage v st)
   restage log n v st f i = record { opened = f.opened; seen = f.seen; shorter_seen = f.shorter_seen; shorter = f.shorter; inside = f.inside; seated = f.seated; key = f.key; stage = i }
@@ -100,14 +72,14 @@ module _ {S E A : Type 0} (represents : S → List (E × A) → S → Type 0) (k
         placed = subst (λ (z : ℕ). ((x : S) × (home ≡ some (Some x)) × represents start log x × (length log ≤ n) × (z ≡ 0)) ⊎ ((home ≡ none) × (z ≡ 1))) (sym held) k.placed;
         queue = once_up (λ j. total (λ u. times j (drawn_by u)) views) (λ j. total (λ u. times j (drawn_by u)) (set views id w)) n t k.order k.queue
             (λ j. let h = total_set (λ u. times j (drawn_by u)) views id v w at in let e : times j (drawn_by v) ≡ 0 = ap (λ st. times j (drawn st)) idle in omega arith);
-        seats_once = same_once (λ u. u.numbers) 0 seats views id v w at refl k.seats_once;
-        mine_once = same_once (λ u. u.mine) 0 (length log) views id v w at refl k.mine_once;
-        each = each_set log n views id w (λ j u _ e. k.each j u e) (restage log n v (Waits t) (k.each id v at) tt);
+        seats_once = same_once represents keyed start seats (λ u. u.numbers) 0 seats views id v w at refl k.seats_once;
+        mine_once = same_once represents keyed start seats (λ u. u.mine) 0 (length log) views id v w at refl k.mine_once;
+        each = each_set represents keyed start seats log n views id w (λ j u _ e. k.each j u e) (restage log n v (Waits t) (k.each id v at) tt);
       }
 
   pub draw_ok : (slots id : ℕ) (me : M) (old new : ℕ) → me.0.stage ≡ Idle → old < 18446744073709551615 → new ≡ old + 1
       → Allows Rule slots id me 0 (λ x. either (eqb x old) new x) (draws (step slots 0 old new none) me)
-  draw_ok slots id me old new idle room is = at_lit 0 id (λ x. either (eqb x old) new x) me (draws (step slots 0 old new none) me) slots (λ t n log home views k at.
+  draw_ok slots id me old new idle room is = at_lit represents keyed start seats 0 id (λ x. either (eqb x old) new x) me (draws (step slots 0 old new none) me) slots (λ t n log home views k at.
       exchanged t old new (λ x. Goes (lit t n log home views) 0 x id me (draws (step slots 0 old new none) me))
       (λ hit. (
         at_stage me.0 (Waits old),
@@ -185,14 +157,11 @@ module _ {S E A : Type 0} (represents : S → List (E × A) → S → Type 0) (k
     fits = k.fits;
     order = k.order;
     placed = inr (refl, let h = total_set held_by views id v w at in let z = none_served t n log home views id v k at waits in let b : held_by v ≡ 0 = ap has_state waits in omega arith);
-    queue = same_once drawn_by n t views id v w at (sym (ap drawn waits)) k.queue;
-    seats_once = same_once (λ u. u.numbers) 0 seats views id v w at refl k.seats_once;
-    mine_once = same_once (λ u. u.mine) 0 (length log) views id v w at refl k.mine_once;
-    each = each_set log n views id w (λ j u _ e. k.each j u e) (served_fits log n v (k.each id v at) le);
+    queue = same_once represents keyed start seats drawn_by n t views id v w at (sym (ap drawn waits)) k.queue;
+    seats_once = same_once represents keyed start seats (λ u. u.numbers) 0 seats views id v w at refl k.seats_once;
+    mine_once = same_once represents keyed start seats (λ u. u.mine) 0 (length log) views id v w at refl k.mine_once;
+    each = each_set represents keyed start seats log n views id w (λ j u _ e. k.each j u e) (served_fits log n v (k.each id v at) le);
   }
-
-  distinct : (t n : ℕ) (log : L) (home : H) (views : List V) (id : ℕ) (v : V) → K log t n home views → get_elem? views id ≡ some v → IsDistinct v.mine
-  distinct t n log home views id v k at i = let a = total_at (λ u. times i u.mine) views id v at in let b = once_le (λ j. total (λ u. times j u.mine) views) 0 (length log) k.mine_once i in omega arith
 
   comes : (t n : ℕ) (log : L) (home : H) (views : List V) (id : ℕ) (me : M) (x : S) → K log t n home views → get_elem? views id ≡ some me.0 → represents start log x
       → Comes represents keyed n me (served me.0 log n, (0, Some x) ∷ me.1)
@@ -202,14 +171,14 @@ module _ {S E A : Type 0} (represents : S → List (E × A) → S → Type 0) (k
     refl,
     f.seen,
     f.inside,
-    distinct t n log home views id me.0 k at,
+    distinct represents keyed start seats t n log home views id me.0 k at,
     if_some (λ a. a ≡ (start, seats)) (λ a. represents a.0 log x × (HasAllSeats a.1 me.0 → (me.0.seen ≡ log) × ((i : ℕ) → i < length log → 0 < times i me.0.mine))) me.0.opened f.opened
         (λ a e. (subst (λ (z : S). represents z log x) (sym (ap (λ y. y.0) e)) st, λ all. whole t n log home views id me.0 k at (subst (λ (z : ℕ). HasAllSeats z me.0) (ap (λ y. y.1) e) all))),
     f.key,
   )
 
   pub look_ok : (slots id : ℕ) (me : M) (mine : ℕ) → me.0.stage ≡ Waits mine → Allows Rule slots id me 1 (λ x. x) (looks represents keyed (step slots 1 0 0 none) me)
-  look_ok slots id me mine waits = at_lit 1 id (λ x. x) me (looks represents keyed (step slots 1 0 0 none) me) slots (λ t n log home views k at.
+  look_ok slots id me mine waits = at_lit represents keyed start seats 1 id (λ x. x) me (looks represents keyed (step slots 1 0 0 none) me) slots (λ t n log home views k at.
       let num : number me.0.stage ≡ mine = ap number waits in
       dite (ℕ_discrete n mine)
       (λ hit. let here : me.0.stage ≡ Waits n = waits ∙ ap Waits (sym hit) in ⊎_elim
@@ -229,10 +198,6 @@ module _ {S E A : Type 0} (represents : S → List (E × A) → S → Type 0) (k
         record { log = log; ticket = t; serving = n; home = home; words = refl; homes = refl; kept = subst (K log t n home) (sym (set_again views id me.0 at)) k },
         ((λ hit. absurd (miss (hit ∙ num))), (λ _. refl)),
       )))
-
-  -- who has the state keeps it from being home
-  is_out : (log : L) (n : ℕ) (home : H) (views : List V) → IsPlaced represents keyed start seats log n home views → 0 < total held_by views → (home ≡ none) × (total held_by views ≡ 1)
-  is_out log n home views p pos = ⊎_elim (λ (x : (x : S) × (home ≡ some (Some x)) × represents start log x × (length log ≤ n) × (total held_by views ≡ 0)). let z = x.4 in absurd (omega arith)) (λ (x : (home ≡ none) × (total held_by views ≡ 1)). x) p
 
   one_key : (t n : ℕ) (log : L) (home : H) (views : List V) (i j : ℕ) (v u : V) → K log t n home views → get_elem? views i ≡ some v → get_elem? views j ≡ some u → j ≢ i → HasKey v → HasKey u → ⊥
   one_key t n log home views i j v u k at there apart a b =
@@ -274,22 +239,22 @@ module _ {S E A : Type 0} (represents : S → List (E × A) → S → Type 0) (k
       let f = k.each id v at in
       let here : (n ≡ n) × (v.seen ≡ log) × (length log ≤ n) = subst (IsAt log n v.seen) is f.stage in
       let one : held_by v ≡ 1 = ap has_state is in
-      let out = is_out log n home views k.placed (let h = total_at held_by views id v at in omega arith) in record {
+      let out = is_out represents keyed start seats log n home views k.placed (let h = total_at held_by views id v at in omega arith) in record {
         fits = k.fits;
         order = k.order;
         placed = inr (out.0, let h = total_set held_by views id v w at in let o = out.1 in omega arith);
-        queue = same_once drawn_by n t views id v w at (sym (ap drawn is)) k.queue;
-        seats_once = same_once (λ u. u.numbers) 0 seats views id v w at refl k.seats_once;
+        queue = same_once represents keyed start seats drawn_by n t views id v w at (sym (ap drawn is)) k.queue;
+        seats_once = same_once represents keyed start seats (λ u. u.numbers) 0 seats views id v w at refl k.seats_once;
         mine_once = subst (Once (λ j. total (λ u. times j u.mine) (set views id w)) 0) (sym (length_snoc log e)) (once_up (λ j. total (λ u. times j u.mine) views) (λ j. total (λ u. times j u.mine) (set views id w)) 0 (length log) (omega arith) k.mine_once
             (λ j. let h = total_set (λ u. times j u.mine) views id v w at in let p = times_append j v.mine (length v.seen ∷ []) in let q : times j (length v.seen ∷ []) ≡ times j (length log ∷ []) = ap (λ (l : L). times j (length l ∷ [])) here.1 in omega arith));
-        each = each_set (log ++ e ∷ []) n views id w
-            (λ j u apart there. grows log e n u (k.each j u there) (others_idle views id v (let o = out.1 in omega arith) at one j u apart there) (λ ky has. one_key t n log home views id j v u k at there apart (key ky) has))
+        each = each_set represents keyed start seats (log ++ e ∷ []) n views id w
+            (λ j u apart there. grows log e n u (k.each j u there) (others_idle represents keyed start seats views id v (let o = out.1 in omega arith) at one j u apart there) (λ ky has. one_key t n log home views id j v u k at there apart (key ky) has))
             (said_fits log e n v f is seat);
       }
 
   pub commit_ok : (slots id : ℕ) (me : M) (mine : ℕ) (e : E × A) (es : L) → me.0.stage ≡ Served mine → HasSeat me.0 → (keyed e.0 e.1 ≡ true → HasKey me.0) → es ≡ e ∷ []
       → Allows Rule slots id me 2 (λ x. (x + 1) % 2 ^ 64) (commits es (step slots 2 1 0 none) me)
-  commit_ok slots id me mine e es is seat key just = at_lit 2 id (λ x. (x + 1) % 2 ^ 64) me (commits es (step slots 2 1 0 none) me) slots (λ t n log home views k at.
+  commit_ok slots id me mine e es is seat key just = at_lit represents keyed start seats 2 id (λ x. (x + 1) % 2 ^ 64) me (commits es (step slots 2 1 0 none) me) slots (λ t n log home views k at.
       let f = k.each id me.0 at in
       let here : (mine ≡ n) × (me.0.seen ≡ log) × (length log ≤ n) = subst (IsAt log n me.0.seen) is f.stage in
       let is' : me.0.stage ≡ Served n = is ∙ ap Served here.0 in
@@ -315,21 +280,21 @@ module _ {S E A : Type 0} (represents : S → List (E × A) → S → Type 0) (k
       → K log t (n + 1) (some (Some x)) (set views id (at_stage v Idle))
   passed_on t n log home views id v x k at is low st le = let w : V = at_stage v Idle in
       let one : held_by v ≡ 1 = ap has_state is in
-      let out = is_out log n home views k.placed (let h = total_at held_by views id v at in omega arith) in record {
+      let out = is_out represents keyed start seats log n home views k.placed (let h = total_at held_by views id v at in omega arith) in record {
         fits = k.fits;
         order = omega arith;
         placed = inl (x, refl, st, le, let h = total_set held_by views id v w at in let o = out.1 in omega arith);
         queue = once_down (λ j. total (λ u. times j (drawn_by u)) views) (λ j. total (λ u. times j (drawn_by u)) (set views id w)) n t low k.queue
             (λ j. let h = total_set (λ u. times j (drawn_by u)) views id v w at in let e : times j (drawn_by v) ≡ times j (n ∷ []) = ap (λ s. times j (drawn s)) is in omega arith);
-        seats_once = same_once (λ u. u.numbers) 0 seats views id v w at refl k.seats_once;
-        mine_once = same_once (λ u. u.mine) 0 (length log) views id v w at refl k.mine_once;
-        each = each_set log (n + 1) views id w (λ j u apart there. passes_by log n u (k.each j u there) (others_idle views id v (let o = out.1 in omega arith) at one j u apart there)) (rests log n v (k.each id v at));
+        seats_once = same_once represents keyed start seats (λ u. u.numbers) 0 seats views id v w at refl k.seats_once;
+        mine_once = same_once represents keyed start seats (λ u. u.mine) 0 (length log) views id v w at refl k.mine_once;
+        each = each_set represents keyed start seats log (n + 1) views id w (λ j u apart there. passes_by log n u (k.each j u there) (others_idle represents keyed start seats views id v (let o = out.1 in omega arith) at one j u apart there)) (rests log n v (k.each id v at));
       }
 
   pub pass_ok : (slots id : ℕ) (me : M) (mine : ℕ) (x : S) → me.1 ≡ (0, Some x) ∷ [] → me.0.stage ≡ Done mine → represents start me.0.seen x
       → Allows Rule slots id me 1 (λ x. (x + 1) % 2 ^ 64) (passes (step slots 1 1 0 none) me)
   pass_ok slots id me mine x held is st = subst (λ (c : List (ℕ × Option S)). Allows Rule slots id (me.0, c) 1 (λ x. (x + 1) % 2 ^ 64) (passes (step slots 1 1 0 none) (me.0, c))) (sym held)
-      (at_lit 1 id (λ x. (x + 1) % 2 ^ 64) (me.0, (0, Some x) ∷ []) (passes (step slots 1 1 0 none) (me.0, (0, Some x) ∷ [])) slots (λ t n log home views k at.
+      (at_lit represents keyed start seats 1 id (λ x. (x + 1) % 2 ^ 64) (me.0, (0, Some x) ∷ []) (passes (step slots 1 1 0 none) (me.0, (0, Some x) ∷ [])) slots (λ t n log home views k at.
       let f = k.each id me.0 at in
       let here : (mine ≡ n) × (me.0.seen ≡ log) × (length log ≤ n + 1) = subst (IsAt log n me.0.seen) is f.stage in
       let is' : me.0.stage ≡ Done n = is ∙ ap Done here.0 in
@@ -351,173 +316,3 @@ module _ {S E A : Type 0} (represents : S → List (E × A) → S → Type 0) (k
         },
         refl,
       )))
-
-  -- split and watch
-  both_total : (f : V → List ℕ) (views : List V) (id : ℕ) (v w u : V) (k : ℕ) → get_elem? views id ≡ some v
-      → total (λ y. times k (f y)) (set views id w ++ u ∷ []) + times k (f v) ≡ (total (λ y. times k (f y)) views + times k (f w)) + times k (f u)
-  both_total f views id v w u k at = let a = total_set (λ y. times k (f y)) views id v w at in let b = total_snoc (λ y. times k (f y)) (set views id w) u in omega arith
-
-  new_fits : (log : L) (n : ℕ) (v : V) (numbers : List ℕ) → F log n v → (HasKey (newcomer v numbers) → ⊥) → F log n (newcomer v numbers)
-  new_fits log n v numbers f nokey = record {
-    opened = f.opened;
-    seen = f.seen;
-    shorter_seen = (log, refl);
-    shorter = omega arith;
-    inside = λ i p. absurd (omega arith);
-    seated = λ p. absurd (omega arith);
-    key = λ has. absurd (nokey has);
-    stage = tt;
-  }
-
-  forked : (t n : ℕ) (log : L) (home : H) (views : List V) (id : ℕ) (v w : V) (numbers : List ℕ) → K log t n home views → get_elem? views id ≡ some v
-      → w.stage ≡ v.stage → w.mine ≡ v.mine → ((i : ℕ) → times i w.numbers + times i numbers ≡ times i v.numbers) → F log n w → (HasKey (newcomer v numbers) → ⊥)
-      → K log t n home (set views id w ++ newcomer v numbers ∷ [])
-  forked t n log home views id v w numbers k at st mine nums fw nokey = let u : V = newcomer v numbers in
-      let held : total held_by (set views id w ++ u ∷ []) ≡ total held_by views = (let a = total_set held_by views id v w at in let b = total_snoc held_by (set views id w) u in omega (arith, ap has_state st)) in record {
-        fits = k.fits;
-        order = k.order;
-        placed = subst (λ (z : ℕ). ((x : S) × (home ≡ some (Some x)) × represents start log x × (length log ≤ n) × (z ≡ 0)) ⊎ ((home ≡ none) × (z ≡ 1))) (sym held) k.placed;
-        queue = once_same (λ i. total (λ y. times i (drawn_by y)) views) (λ i. total (λ y. times i (drawn_by y)) (set views id w ++ u ∷ [])) n t k.queue
-            (λ i. let h = both_total drawn_by views id v w u i at in omega (arith, ap (λ s. times i (drawn s)) st));
-        seats_once = once_same (λ i. total (λ y. times i y.numbers) views) (λ i. total (λ y. times i y.numbers) (set views id w ++ u ∷ [])) 0 seats k.seats_once
-            (λ i. let h = both_total (λ y. y.numbers) views id v w u i at in let s = nums i in omega arith);
-        mine_once = once_same (λ i. total (λ y. times i y.mine) views) (λ i. total (λ y. times i y.mine) (set views id w ++ u ∷ [])) 0 (length log) k.mine_once
-            (λ i. let h = both_total (λ y. y.mine) views id v w u i at in omega (arith, ap (times i) mine));
-        each = λ j y e. ⊎_elim (λ was. each_set log n views id w (λ i z _ e'. k.each i z e') fw j y was) (λ (same : u ≡ y). subst (F log n) same (new_fits log n v numbers (k.each id v at) nokey)) (at_snoc (set views id w) u y j e);
-      }
-
-  split_lit : (id : ℕ) (v left right : V) → ((t n : ℕ) (log : L) (home : H) (views : List V) → K log t n home views → get_elem? views id ≡ some v → K log t n home (set views id left ++ right ∷ []))
-      → Splits Rule id v left right
-  split_lit id v left right law s r at = record { log = r.log; ticket = r.ticket; serving = r.serving; home = r.home; words = r.words; homes = r.homes; kept = law r.ticket r.serving r.log r.home s.views r.kept at }
-
-  fewer_fits : (log : L) (n : ℕ) (v : V) → F log n v → 2 ≤ length v.numbers → F log n (fewer v)
-  fewer_fits log n v f two = let g = greatest_in v.numbers (omega arith) in record {
-    opened = f.opened;
-    seen = f.seen;
-    shorter_seen = f.shorter_seen;
-    shorter = f.shorter;
-    inside = f.inside;
-    seated = λ _. let h = length_without (greatest v.numbers) v.numbers g in omega arith;
-    key = λ has. f.key (let h = times_without 0 (greatest v.numbers) v.numbers g in omega arith);
-    stage = f.stage;
-  }
-
-  pub split_ok : (id : ℕ) (v : V) → 2 ≤ length v.numbers → Splits Rule id v (fewer v) (newcomer v (greatest v.numbers ∷ []))
-  split_ok id v two = split_lit id v (fewer v) (newcomer v (greatest v.numbers ∷ [])) (λ t n log home views k at.
-      let g = greatest_in v.numbers (omega arith) in
-      forked t n log home views id v (fewer v) (greatest v.numbers ∷ []) k at refl refl (λ i. times_without i (greatest v.numbers) v.numbers g) (fewer_fits log n v (k.each id v at) two)
-      (λ key. ⊎_elim
-      (λ (o : (greatest v.numbers ≡ 0) × (times 0 (greatest v.numbers ∷ []) ≡ 1)). let all = all_zero v.numbers o.0 in let le = total_at (λ u. times 0 u.numbers) views id v at in let one = once_le (λ i. total (λ u. times i u.numbers) views) 0 seats k.seats_once 0 in absurd (omega arith))
-      (λ (o : (greatest v.numbers ≢ 0) × (times 0 (greatest v.numbers ∷ []) ≡ 0)). let z = o.1 in absurd (omega arith))
-      (one_at (greatest v.numbers) 0)))
-
-  pub watch_ok : (id : ℕ) (v : V) → Splits Rule id v v (newcomer v [])
-  watch_ok id v = split_lit id v v (newcomer v []) (λ t n log home views k at.
-      forked t n log home views id v v [] k at refl refl (λ i. omega arith) (k.each id v at) (λ key. absurd (omega arith)))
-
-  -- join
-  abbrev met_as : V → V → L → L → V
-  met_as v w seen told = record { opened = v.opened; seen = seen; shorter_seen = told; mine = v.mine ++ w.mine; numbers = v.numbers ++ w.numbers; stage = v.stage }
-
-  met_fits : (log : L) (n : ℕ) (v w : V) (seen told : L) → F log n v → F log n w → v.stage ≡ Idle → StartsWith log seen → StartsWith log told
-      → length told ≤ length seen → length v.seen ≤ length seen → length w.seen ≤ length seen → F log n (met_as v w seen told)
-  met_fits log n v w seen told f g idle s t less a b = record {
-    opened = f.opened;
-    seen = s;
-    shorter_seen = t;
-    shorter = less;
-    inside = λ i p. let h = times_append i v.mine w.mine in dite (ℕ_discrete (times i v.mine) 0)
-        (λ z. let q = g.inside i (omega arith) in omega arith) (λ nz. let q = f.inside i (omega arith) in omega arith);
-    seated = λ p. let h = length-append v.mine w.mine in let l = length-append v.numbers w.numbers in dite (ℕ_discrete (length v.mine) 0)
-        (λ z. let q = g.seated (omega arith) in omega arith) (λ nz. let q = f.seated (omega arith) in omega arith);
-    key = λ has i e here is. let h = times_append 0 v.numbers w.numbers in let l = times_append i v.mine w.mine in dite (ℕ_discrete (times 0 v.numbers) 0)
-        (λ z. let q = g.key (omega arith) i e here is in omega arith) (λ nz. let q = f.key (omega arith) i e here is in omega arith);
-    stage = idle_at log seen n v.stage (ap has_state idle);
-  }
-
-  fits_met : (log : L) (n : ℕ) (v w : V) → F log n v → F log n w → v.stage ≡ Idle → F log n (met v w)
-  fits_met log n v w f g idle = by_length (λ seen told. F log n (met_as v w seen told)) v.seen w.seen
-      (λ le. met_fits log n v w w.seen v.seen f g idle g.seen f.seen le le (omega arith))
-      (λ gt. met_fits log n v w v.seen w.seen f g idle f.seen g.seen (omega arith) (omega arith) (omega arith))
-
-  fits_spent : (log : L) (n : ℕ) → F log n spent
-  fits_spent log n = record {
-    opened = tt;
-    seen = (log, refl);
-    shorter_seen = (log, refl);
-    shorter = omega arith;
-    inside = λ i p. absurd (omega arith);
-    seated = λ p. absurd (omega arith);
-    key = λ has. absurd (omega arith);
-    stage = tt;
-  }
-
-  two_totals : (f : V → ℕ) (views : List V) (id other : ℕ) (v w b : V) → get_elem? views id ≡ some v → get_elem? (set views id b) other ≡ some w
-      → (total f (set (set views id b) other spent) + f w) + f v ≡ (total f views + f b) + f spent
-  two_totals f views id other v w b at there = let x = total_set f views id v b at in let y = total_set f (set views id b) other w spent there in omega arith
-
-  pub join_ok : (id : ℕ) (v : V) (other : ℕ) (w : V) → v.stage ≡ Idle → w.stage ≡ Idle → Joins Rule id v other w (met v w) spent
-  join_ok id v other w idle idle' s r at apart there = let log = r.log in let k = r.kept in let n = r.serving in let views = s.views in let b : V = met v w in
-      let at' : get_elem? views other ≡ some w = ⊎_elim (λ (x : (other ≡ id) × (b ≡ w)). absurd (apart x.0)) (λ (x : (other ≢ id) × (get_elem? views other ≡ some w)). x.1) (at_set views id other b w there) in
-      let vs : List V = set (set views id b) other spent in
-      let held : total held_by vs ≡ total held_by views = (let h = two_totals held_by views id other v w b at there in let z : held_by w ≡ 0 = ap has_state idle' in omega arith) in record {
-        log = log;
-        ticket = r.ticket;
-        serving = n;
-        home = r.home;
-        words = r.words;
-        homes = r.homes;
-        kept = record {
-          fits = k.fits;
-          order = k.order;
-          placed = subst (λ (z : ℕ). ((x : S) × (r.home ≡ some (Some x)) × represents start log x × (length log ≤ n) × (z ≡ 0)) ⊎ ((r.home ≡ none) × (z ≡ 1))) (sym held) k.placed;
-          queue = once_same (λ i. total (λ y. times i (drawn_by y)) views) (λ i. total (λ y. times i (drawn_by y)) vs) n r.ticket k.queue
-              (λ i. let h = two_totals (λ y. times i (drawn_by y)) views id other v w b at there in let z : times i (drawn_by w) ≡ 0 = ap (λ st. times i (drawn st)) idle' in omega arith);
-          seats_once = once_same (λ i. total (λ y. times i y.numbers) views) (λ i. total (λ y. times i y.numbers) vs) 0 seats k.seats_once
-              (λ i. let h = two_totals (λ y. times i y.numbers) views id other v w b at there in let z = times_append i v.numbers w.numbers in omega arith);
-          mine_once = once_same (λ i. total (λ y. times i y.mine) views) (λ i. total (λ y. times i y.mine) vs) 0 (length log) k.mine_once
-              (λ i. let h = two_totals (λ y. times i y.mine) views id other v w b at there in let z = times_append i v.mine w.mine in omega arith);
-          each = each_set log n (set views id b) other spent (λ j u _ e. each_set log n views id b (λ i x _ e'. k.each i x e') (fits_met log n v w (k.each id v at) (k.each other w at') idle) j u e) (fits_spent log n);
-        };
-      }
-
-  pub settle_ok : (slots id : ℕ) (me : M) → Allows Rule slots id me 0 (λ x. x) (settles (step slots 0 0 0 none) me)
-  settle_ok slots id me = at_lit 0 id (λ x. x) me (settles (step slots 0 0 0 none) me) slots (λ t n log home views k at. let f = k.each id me.0 at in (
-    me.0,
-    keeps,
-    tt,
-    record { log = log; ticket = t; serving = n; home = home; words = refl; homes = refl; kept = subst (K log t n home) (sym (set_again views id me.0 at)) k },
-    (refl, starts_both me.0.seen me.0.shorter_seen f.seen.0 f.shorter_seen.0 (sym f.seen.1 ∙ f.shorter_seen.1) f.shorter, distinct t n log home views id me.0 k at),
-  ))
-
-  first_fits : (u : V) (j : ℕ) → get_elem? (opening_view start seats ∷ []) j ≡ some u → F [] 0 u
-  first_fits u zero e = subst (F [] 0) (some-injective (opening_view start seats) u e) record {
-    opened = refl;
-    seen = ([], refl);
-    shorter_seen = ([], refl);
-    shorter = omega arith;
-    inside = λ i p. absurd (omega arith);
-    seated = λ p. absurd (omega arith);
-    key = λ has i x here is. absurd (cc);
-    stage = tt;
-  }
-  first_fits u (suc j) e = absurd (some-ne-none u (sym e))
-
-  pub open_ok : (items : List (Option S)) → items ≡ Some start ∷ [] → represents start [] start → Rule (opening (0 ∷ 0 ∷ 0 ∷ []) items (opening_view start seats))
-  open_ok items is st = subst (λ (l : List (Option S)). Rule (opening (0 ∷ 0 ∷ 0 ∷ []) l (opening_view start seats))) (sym is) record {
-    log = [];
-    ticket = 0;
-    serving = 0;
-    home = some (Some start);
-    words = refl;
-    homes = refl;
-    kept = record {
-      fits = omega arith;
-      order = omega arith;
-      placed = inl (start, refl, st, omega arith, refl);
-      queue = record { inside = λ k a b. absurd (omega arith); before = λ k a. refl; after = λ k a. refl };
-      seats_once = (let o = numbers_once 0 seats in record { inside = λ k a b. let h = o.inside k a (omega arith) in omega arith; before = λ k a. absurd (omega arith); after = λ k a. let h = o.after k (omega arith) in omega arith });
-      mine_once = record { inside = λ k a b. absurd (omega arith); before = λ k a. absurd (omega arith); after = λ k a. refl };
-      each = λ j u e. first_fits u j e;
-    };
-  }
