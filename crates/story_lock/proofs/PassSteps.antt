@@ -1,21 +1,19 @@
 -- Each step on passes keeps the rule: split, watch, join and settle. And the opening meets it.
-use Rattle.std.proofs.Common.{◌≡◌, ◌≢◌, ◌⊎◌, ℕ, zero, suc, ◌+◌, ◌%◌, ◌^◌, ◌<◌, ◌≤◌, eqb, Bool, true, List, [], ◌∷◌, ◌++◌, length, set, Option, Some, None, refl, sym, ap, ◌∙◌, subst, inl, inr, ⊎_elim, arith, length-append, append-nil}
-use Rattle.std.specs.Prelude.{slice_get, slice_index, IfSome}
+use Rattle.std.proofs.Common.{◌≡◌, ◌≢◌, ◌⊎◌, ℕ, zero, suc, ◌+◌, ◌≤◌, Bool, List, [], ◌∷◌, ◌++◌, length, set, Option, Some, refl, sym, ap, ◌∙◌, subst, inl, ⊎_elim, arith, length-append}
+use Rattle.std.specs.Prelude.{slice_index}
 use mathlib.Core.Logic.{dite}
 use mathlib.Core.Option as maybe
 use mathlib.Core.Option.{some, none, some-injective, some-ne-none}
 use native.Mathlib.Decide.{ℕ_discrete}
 use lib.ListN.{get_elem?}
-use prog.Atomic.{either}
-use Rattle.atomic_table.specs.Table.{State, Me, Act, step, keeps, takes, gives, Valid, stepped, carried_after, Allows, Splits, Joins, opening}
-use Rattle.atomic_table.proofs.Lists.{at_set, at_snoc, set_again, exchanged}
+use Rattle.atomic_table.specs.Table.{State, Me, Act, step, keeps, Valid, stepped, carried_after, Allows, Splits, Joins, opening}
+use Rattle.atomic_table.proofs.Lists.{at_set, at_snoc, set_again}
 use Rattle.story_lock.specs.declared.view.View.{View}
-use Rattle.story_lock.specs.declared.view.Stage.{Stage}
-use Rattle.story_lock.specs.declared.view.Stage.TheVariants.{Idle, Waits, Served, Done}
-use Rattle.story_lock.specs.Counts.{times, total, greatest, StartsWith, Once, IsDistinct}
-use Rattle.story_lock.specs.Rule.{drawn, has_state, number, IsAt, drawn_by, held_by, HasKey, HasSeat, HasAllSeats, at_stage, served, after, fewer, newcomer, met, spent, opening_view, Fits, IsPlaced, Kept, Holds, draws, Comes, looks, commits, passes, settles}
-use Rattle.story_lock.proofs.Sums.{one_at, times_here, times_append, total_set, total_snoc, total_at, total_two, total_less, total_none, once_le, once_in, once_same, once_up, once_down, starts_length, starts_longer, starts_itself, starts_both, get_snoc, times_first, times_empty, length_snoc, times_without, length_without, greatest_in, all_zero, numbers_once, by_length}
-use Rattle.story_lock.proofs.Tables.{idle_at, at_lit, each_set, placed_le, others_idle, same_once, distinct, is_out}
+use Rattle.story_lock.specs.declared.view.Stage.TheVariants.{Idle}
+use Rattle.story_lock.specs.Counts.{times, total, greatest, StartsWith}
+use Rattle.story_lock.specs.Rule.{drawn, has_state, drawn_by, held_by, HasKey, fewer, newcomer, met, spent, opening_view, Fits, Kept, Holds, settles}
+use Rattle.story_lock.proofs.Sums.{one_at, times_append, total_set, total_snoc, total_at, once_le, once_same, starts_both, times_without, length_without, greatest_in, all_zero, numbers_once, by_length}
+use Rattle.story_lock.proofs.Tables.{idle_at, at_lit, each_set, distinct}
 
 module _ {S E A : Type 0} (represents : S → List (E × A) → S → Type 0) (keyed : E → A → Bool) (start : S) (seats : ℕ) where
   abbrev V : Type 0
@@ -43,7 +41,7 @@ module _ {S E A : Type 0} (represents : S → List (E × A) → S → Type 0) (k
   F = Fits represents keyed start seats
 
   abbrev lit : ℕ → ℕ → L → H → List V → St
-  lit t n log home views = record { words = t ∷ n ∷ length log ∷ []; homes = home ∷ []; views = views }
+  lit t n log home views = record { words = t ∷ n ∷ []; homes = home ∷ []; views = views }
 
   abbrev Goes : St → ℕ → ℕ → ℕ → M → (ℕ → M → Type 0) → Type 0
   Goes s i new id me then = (w : V) × (a : Act (Option S)) × Valid s.homes me.1 a × Rule (stepped s i new id me.1 w a) × then (slice_index s.words i) (w, carried_after me.1 a)
@@ -72,7 +70,7 @@ module _ {S E A : Type 0} (represents : S → List (E × A) → S → Type 0) (k
       let held : total held_by (set views id w ++ u ∷ []) ≡ total held_by views = (let a = total_set held_by views id v w at in let b = total_snoc held_by (set views id w) u in omega (arith, ap has_state st)) in record {
         fits = k.fits;
         order = k.order;
-        placed = subst (λ (z : ℕ). ((x : S) × (home ≡ some (Some x)) × represents start log x × (length log ≤ n) × (z ≡ 0)) ⊎ ((home ≡ none) × (z ≡ 1))) (sym held) k.placed;
+        placed = subst (λ (z : ℕ). ((x : S) × (home ≡ some (Some x)) × represents start log x × (z ≡ 0)) ⊎ ((home ≡ none) × (z ≡ 1))) (sym held) k.placed;
         queue = once_same (λ i. total (λ y. times i (drawn_by y)) views) (λ i. total (λ y. times i (drawn_by y)) (set views id w ++ u ∷ [])) n t k.queue
             (λ i. let h = both_total drawn_by views id v w u i at in omega (arith, ap (λ s. times i (drawn s)) st));
         seats_once = once_same (λ i. total (λ y. times i y.numbers) views) (λ i. total (λ y. times i y.numbers) (set views id w ++ u ∷ [])) 0 seats k.seats_once
@@ -166,7 +164,7 @@ module _ {S E A : Type 0} (represents : S → List (E × A) → S → Type 0) (k
         kept = record {
           fits = k.fits;
           order = k.order;
-          placed = subst (λ (z : ℕ). ((x : S) × (r.home ≡ some (Some x)) × represents start log x × (length log ≤ n) × (z ≡ 0)) ⊎ ((r.home ≡ none) × (z ≡ 1))) (sym held) k.placed;
+          placed = subst (λ (z : ℕ). ((x : S) × (r.home ≡ some (Some x)) × represents start log x × (z ≡ 0)) ⊎ ((r.home ≡ none) × (z ≡ 1))) (sym held) k.placed;
           queue = once_same (λ i. total (λ y. times i (drawn_by y)) views) (λ i. total (λ y. times i (drawn_by y)) vs) n r.ticket k.queue
               (λ i. let h = two_totals (λ y. times i (drawn_by y)) views id other v w b at there in let z : times i (drawn_by w) ≡ 0 = ap (λ st. times i (drawn st)) idle' in omega arith);
           seats_once = once_same (λ i. total (λ y. times i y.numbers) views) (λ i. total (λ y. times i y.numbers) vs) 0 seats k.seats_once
@@ -199,8 +197,8 @@ module _ {S E A : Type 0} (represents : S → List (E × A) → S → Type 0) (k
   }
   first_fits u (suc j) e = absurd (some-ne-none u (sym e))
 
-  pub open_ok : (items : List (Option S)) → items ≡ Some start ∷ [] → represents start [] start → Rule (opening (0 ∷ 0 ∷ 0 ∷ []) items (opening_view start seats))
-  open_ok items is st = subst (λ (l : List (Option S)). Rule (opening (0 ∷ 0 ∷ 0 ∷ []) l (opening_view start seats))) (sym is) record {
+  pub open_ok : (items : List (Option S)) → items ≡ Some start ∷ [] → represents start [] start → Rule (opening (0 ∷ 0 ∷ []) items (opening_view start seats))
+  open_ok items is st = subst (λ (l : List (Option S)). Rule (opening (0 ∷ 0 ∷ []) l (opening_view start seats))) (sym is) record {
     log = [];
     ticket = 0;
     serving = 0;
@@ -210,7 +208,7 @@ module _ {S E A : Type 0} (represents : S → List (E × A) → S → Type 0) (k
     kept = record {
       fits = omega arith;
       order = omega arith;
-      placed = inl (start, refl, st, omega arith, refl);
+      placed = inl (start, refl, st, refl);
       queue = record { inside = λ k a b. absurd (omega arith); before = λ k a. refl; after = λ k a. refl };
       seats_once = (let o = numbers_once 0 seats in record { inside = λ k a b. let h = o.inside k a (omega arith) in omega arith; before = λ k a. absurd (omega arith); after = λ k a. let h = o.after k (omega arith) in omega arith });
       mine_once = record { inside = λ k a b. absurd (omega arith); before = λ k a. absurd (omega arith); after = λ k a. refl };

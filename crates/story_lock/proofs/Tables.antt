@@ -1,20 +1,17 @@
 -- The rule of a table that is written out, and where one view changes.
-use Rattle.std.proofs.Common.{◌≡◌, ◌≢◌, ◌⊎◌, ℕ, zero, suc, ◌+◌, ◌%◌, ◌^◌, ◌<◌, ◌≤◌, eqb, Bool, true, List, [], ◌∷◌, ◌++◌, length, set, Option, Some, None, refl, sym, ap, ◌∙◌, subst, inl, inr, ⊎_elim, arith, length-append, append-nil}
-use Rattle.std.specs.Prelude.{slice_get, slice_index, IfSome}
-use mathlib.Core.Logic.{dite}
+use Rattle.std.proofs.Common.{◌≡◌, ◌≢◌, ℕ, ◌<◌, ◌≤◌, Bool, List, [], ◌∷◌, length, set, Option, Some, sym, ap, subst, ⊎_elim, arith}
+use Rattle.std.specs.Prelude.{slice_index}
 use mathlib.Core.Option as maybe
 use mathlib.Core.Option.{some, none, some-injective, some-ne-none}
-use native.Mathlib.Decide.{ℕ_discrete}
 use lib.ListN.{get_elem?}
-use prog.Atomic.{either}
-use Rattle.atomic_table.specs.Table.{State, Me, Act, step, keeps, takes, gives, Valid, stepped, carried_after, Allows, Splits, Joins, opening}
-use Rattle.atomic_table.proofs.Lists.{at_set, at_snoc, set_again, exchanged}
+use Rattle.atomic_table.specs.Table.{State, Me, Act, Valid, stepped, carried_after, Allows}
+use Rattle.atomic_table.proofs.Lists.{at_set}
 use Rattle.story_lock.specs.declared.view.View.{View}
 use Rattle.story_lock.specs.declared.view.Stage.{Stage}
 use Rattle.story_lock.specs.declared.view.Stage.TheVariants.{Idle, Waits, Served, Done}
-use Rattle.story_lock.specs.Counts.{times, total, greatest, StartsWith, Once, IsDistinct}
-use Rattle.story_lock.specs.Rule.{drawn, has_state, number, IsAt, drawn_by, held_by, HasKey, HasSeat, HasAllSeats, at_stage, served, after, fewer, newcomer, met, spent, opening_view, Fits, IsPlaced, Kept, Holds, draws, Comes, looks, commits, passes, settles}
-use Rattle.story_lock.proofs.Sums.{one_at, times_here, times_append, total_set, total_snoc, total_at, total_two, total_less, total_none, once_le, once_in, once_same, once_up, once_down, starts_length, starts_longer, starts_itself, starts_both, get_snoc, times_first, times_empty, length_snoc, times_without, length_without, greatest_in, all_zero, numbers_once, by_length}
+use Rattle.story_lock.specs.Counts.{times, total, Once, IsDistinct}
+use Rattle.story_lock.specs.Rule.{has_state, IsAt, held_by, Fits, IsPlaced, Kept, Holds}
+use Rattle.story_lock.proofs.Sums.{total_set, total_at, total_two, once_le, once_same}
 
 -- a pass without the state knows nothing of it
 pub idle_at : {X : Type 0} (log seen : List X) (n : ℕ) (st : Stage) → has_state st ≡ 0 → IsAt log n seen st
@@ -49,14 +46,14 @@ module _ {S E A : Type 0} (represents : S → List (E × A) → S → Type 0) (k
   F = Fits represents keyed start seats
 
   abbrev lit : ℕ → ℕ → L → H → List V → St
-  lit t n log home views = record { words = t ∷ n ∷ length log ∷ []; homes = home ∷ []; views = views }
+  lit t n log home views = record { words = t ∷ n ∷ []; homes = home ∷ []; views = views }
 
   abbrev Goes : St → ℕ → ℕ → ℕ → M → (ℕ → M → Type 0) → Type 0
   Goes s i new id me then = (w : V) × (a : Act (Option S)) × Valid s.homes me.1 a × Rule (stepped s i new id me.1 w a) × then (slice_index s.words i) (w, carried_after me.1 a)
 
   -- a step may be proved at a table written out
   pub at_lit : (i id : ℕ) (f : ℕ → ℕ) (me : M) (then : ℕ → M → Type 0) (slots : ℕ)
-      → ((t n : ℕ) (log : L) (home : H) (views : List V) → K log t n home views → get_elem? views id ≡ some me.0 → Goes (lit t n log home views) i (f (slice_index (t ∷ n ∷ length log ∷ []) i)) id me then)
+      → ((t n : ℕ) (log : L) (home : H) (views : List V) → K log t n home views → get_elem? views id ≡ some me.0 → Goes (lit t n log home views) i (f (slice_index (t ∷ n ∷ []) i)) id me then)
       → Allows Rule slots id me i f then
   at_lit i id f me then slots law s r _ at _ = subst (λ (x : List ℕ × List H). Goes record { words = x.0; homes = x.1; views = s.views } i (f (slice_index x.0 i)) id me then) (λ j. (sym r.words j, sym r.homes j)) (law r.ticket r.serving r.log r.home s.views r.kept at)
 
@@ -65,8 +62,8 @@ module _ {S E A : Type 0} (represents : S → List (E × A) → S → Type 0) (k
   each_set log n views id w others mine j u e = ⊎_elim (λ (x : (j ≡ id) × (w ≡ u)). subst (F log n) x.1 mine) (λ (x : (j ≢ id) × (get_elem? views j ≡ some u)). others j u x.0 x.1) (at_set views id j w u e)
 
   -- of two passes one at most has the state
-  pub placed_le : (log : L) (n : ℕ) (home : H) (views : List V) → IsPlaced represents keyed start seats log n home views → total held_by views ≤ 1
-  placed_le log n home views p = ⊎_elim (λ (x : (x : S) × (home ≡ some (Some x)) × represents start log x × (length log ≤ n) × (total held_by views ≡ 0)). omega (arith, x.4)) (λ (x : (home ≡ none) × (total held_by views ≡ 1)). omega (arith, x.1)) p
+  pub placed_le : (log : L) (home : H) (views : List V) → IsPlaced represents keyed start seats log home views → total held_by views ≤ 1
+  placed_le log home views p = ⊎_elim (λ (x : (x : S) × (home ≡ some (Some x)) × represents start log x × (total held_by views ≡ 0)). omega (arith, x.3)) (λ (x : (home ≡ none) × (total held_by views ≡ 1)). omega (arith, x.1)) p
 
   pub others_idle : (views : List V) (id : ℕ) (v : V) → total held_by views ≤ 1 → get_elem? views id ≡ some v → held_by v ≡ 1 → (j : ℕ) (u : V) → j ≢ id → get_elem? views j ≡ some u → held_by u ≡ 0
   others_idle views id v le at one j u apart there = let h = total_two held_by views id j v u (λ e. apart (sym e)) at there in omega arith
@@ -81,5 +78,5 @@ module _ {S E A : Type 0} (represents : S → List (E × A) → S → Type 0) (k
   distinct t n log home views id v k at i = let a = total_at (λ u. times i u.mine) views id v at in let b = once_le (λ j. total (λ u. times j u.mine) views) 0 (length log) k.mine_once i in omega arith
 
   -- who has the state keeps it from being home
-  pub is_out : (log : L) (n : ℕ) (home : H) (views : List V) → IsPlaced represents keyed start seats log n home views → 0 < total held_by views → (home ≡ none) × (total held_by views ≡ 1)
-  is_out log n home views p pos = ⊎_elim (λ (x : (x : S) × (home ≡ some (Some x)) × represents start log x × (length log ≤ n) × (total held_by views ≡ 0)). let z = x.4 in absurd (omega arith)) (λ (x : (home ≡ none) × (total held_by views ≡ 1)). x) p
+  pub is_out : (log : L) (home : H) (views : List V) → IsPlaced represents keyed start seats log home views → 0 < total held_by views → (home ≡ none) × (total held_by views ≡ 1)
+  is_out log home views p pos = ⊎_elim (λ (x : (x : S) × (home ≡ some (Some x)) × represents start log x × (total held_by views ≡ 0)). let z = x.3 in absurd (omega arith)) (λ (x : (home ≡ none) × (total held_by views ≡ 1)). x) p

@@ -1,5 +1,5 @@
 -- Each step of a turn keeps the rule: draw, look, commit and pass on.
-use Rattle.std.proofs.Common.{◌≡◌, ◌≢◌, ◌⊎◌, ℕ, zero, suc, ◌+◌, ◌%◌, ◌^◌, ◌<◌, ◌≤◌, eqb, Bool, true, List, [], ◌∷◌, ◌++◌, length, set, Option, Some, None, refl, sym, ap, ◌∙◌, subst, inl, inr, ⊎_elim, arith, length-append, append-nil}
+use Rattle.std.proofs.Common.{◌≡◌, ◌≢◌, ◌⊎◌, ℕ, ◌+◌, ◌%◌, ◌^◌, ◌<◌, ◌≤◌, eqb, Bool, true, List, [], ◌∷◌, ◌++◌, length, set, Option, Some, None, refl, sym, ap, ◌∙◌, subst, inl, inr, ⊎_elim, arith, length-append, append-nil}
 use Rattle.std.specs.Prelude.{slice_get, slice_index, IfSome}
 use mathlib.Core.Logic.{dite}
 use mathlib.Core.Option as maybe
@@ -7,15 +7,15 @@ use mathlib.Core.Option.{some, none, some-injective, some-ne-none}
 use native.Mathlib.Decide.{ℕ_discrete}
 use lib.ListN.{get_elem?}
 use prog.Atomic.{either}
-use Rattle.atomic_table.specs.Table.{State, Me, Act, step, keeps, takes, gives, Valid, stepped, carried_after, Allows, Splits, Joins, opening}
-use Rattle.atomic_table.proofs.Lists.{at_set, at_snoc, set_again, exchanged}
+use Rattle.atomic_table.specs.Table.{State, Me, Act, step, keeps, takes, gives, Valid, stepped, carried_after, Allows}
+use Rattle.atomic_table.proofs.Lists.{set_again, exchanged}
 use Rattle.story_lock.specs.declared.view.View.{View}
 use Rattle.story_lock.specs.declared.view.Stage.{Stage}
 use Rattle.story_lock.specs.declared.view.Stage.TheVariants.{Idle, Waits, Served, Done}
-use Rattle.story_lock.specs.Counts.{times, total, greatest, StartsWith, Once, IsDistinct}
-use Rattle.story_lock.specs.Rule.{drawn, has_state, number, IsAt, drawn_by, held_by, HasKey, HasSeat, HasAllSeats, at_stage, served, after, fewer, newcomer, met, spent, opening_view, Fits, IsPlaced, Kept, Holds, draws, Comes, looks, commits, passes, settles}
-use Rattle.story_lock.proofs.Sums.{one_at, times_here, times_append, total_set, total_snoc, total_at, total_two, total_less, total_none, once_le, once_in, once_same, once_up, once_down, starts_length, starts_longer, starts_itself, starts_both, get_snoc, times_first, times_empty, length_snoc, times_without, length_without, greatest_in, all_zero, numbers_once, by_length}
-use Rattle.story_lock.proofs.Tables.{idle_at, at_lit, each_set, placed_le, others_idle, same_once, distinct, is_out}
+use Rattle.story_lock.specs.Counts.{times, total, StartsWith, Once}
+use Rattle.story_lock.specs.Rule.{drawn, has_state, number, IsAt, drawn_by, held_by, HasKey, HasSeat, HasAllSeats, at_stage, served, after, Fits, Kept, Holds, draws, Comes, looks, commits, passes}
+use Rattle.story_lock.proofs.Sums.{one_at, times_here, times_append, total_set, total_at, total_two, total_less, total_none, once_le, once_in, once_up, once_down, starts_length, starts_longer, starts_itself, get_snoc, times_first, times_empty, length_snoc}
+use Rattle.story_lock.proofs.Tables.{idle_at, at_lit, each_set, others_idle, same_once, distinct, is_out}
 
 -- who has the state has the number that is served
 holds_served : {X : Type 0} (log seen : List X) (n : ℕ) (st : Stage) → IsAt log n seen st → has_state st ≤ times n (drawn st)
@@ -54,7 +54,7 @@ module _ {S E A : Type 0} (represents : S → List (E × A) → S → Type 0) (k
   F = Fits represents keyed start seats
 
   abbrev lit : ℕ → ℕ → L → H → List V → St
-  lit t n log home views = record { words = t ∷ n ∷ length log ∷ []; homes = home ∷ []; views = views }
+  lit t n log home views = record { words = t ∷ n ∷ []; homes = home ∷ []; views = views }
 
   abbrev Goes : St → ℕ → ℕ → ℕ → M → (ℕ → M → Type 0) → Type 0
   Goes s i new id me then = (w : V) × (a : Act (Option S)) × Valid s.homes me.1 a × Rule (stepped s i new id me.1 w a) × then (slice_index s.words i) (w, carried_after me.1 a)
@@ -69,7 +69,7 @@ module _ {S E A : Type 0} (represents : S → List (E × A) → S → Type 0) (k
       let held : total held_by (set views id w) ≡ total held_by views = (let h = total_set held_by views id v w at in omega (arith, ap has_state idle)) in record {
         fits = room;
         order = (let o = k.order in omega arith);
-        placed = subst (λ (z : ℕ). ((x : S) × (home ≡ some (Some x)) × represents start log x × (length log ≤ n) × (z ≡ 0)) ⊎ ((home ≡ none) × (z ≡ 1))) (sym held) k.placed;
+        placed = subst (λ (z : ℕ). ((x : S) × (home ≡ some (Some x)) × represents start log x × (z ≡ 0)) ⊎ ((home ≡ none) × (z ≡ 1))) (sym held) k.placed;
         queue = once_up (λ j. total (λ u. times j (drawn_by u)) views) (λ j. total (λ u. times j (drawn_by u)) (set views id w)) n t k.order k.queue
             (λ j. let h = total_set (λ u. times j (drawn_by u)) views id v w at in let e : times j (drawn_by v) ≡ 0 = ap (λ st. times j (drawn st)) idle in omega arith);
         seats_once = same_once represents keyed start seats (λ u. u.numbers) 0 seats views id v w at refl k.seats_once;
@@ -139,8 +139,8 @@ module _ {S E A : Type 0} (represents : S → List (E × A) → S → Type 0) (k
       let a : times n (drawn_by v) ≡ 1 = ap (λ st. times n (drawn st)) waits ∙ times_here n in
       let b : held_by v ≡ 0 = ap has_state waits in omega arith
 
-  served_fits : (log : L) (n : ℕ) (v : V) → F log n v → length log ≤ n → F log n (served v log n)
-  served_fits log n v f le = record {
+  served_fits : (log : L) (n : ℕ) (v : V) → F log n v → F log n (served v log n)
+  served_fits log n v f = record {
     opened = f.opened;
     seen = starts_itself log log refl;
     shorter_seen = f.shorter_seen;
@@ -148,19 +148,19 @@ module _ {S E A : Type 0} (represents : S → List (E × A) → S → Type 0) (k
     inside = λ i p. let a = f.inside i p in let b = starts_length log v.seen f.seen in omega arith;
     seated = f.seated;
     key = f.key;
-    stage = (refl, refl, le);
+    stage = (refl, refl);
   }
 
-  served_on : (t n : ℕ) (log : L) (home : H) (views : List V) (id : ℕ) (v : V) → K log t n home views → get_elem? views id ≡ some v → v.stage ≡ Waits n → length log ≤ n
+  served_on : (t n : ℕ) (log : L) (home : H) (views : List V) (id : ℕ) (v : V) → K log t n home views → get_elem? views id ≡ some v → v.stage ≡ Waits n
       → K log t n none (set views id (served v log n))
-  served_on t n log home views id v k at waits le = let w : V = served v log n in record {
+  served_on t n log home views id v k at waits = let w : V = served v log n in record {
     fits = k.fits;
     order = k.order;
     placed = inr (refl, let h = total_set held_by views id v w at in let z = none_served t n log home views id v k at waits in let b : held_by v ≡ 0 = ap has_state waits in omega arith);
     queue = same_once represents keyed start seats drawn_by n t views id v w at (sym (ap drawn waits)) k.queue;
     seats_once = same_once represents keyed start seats (λ u. u.numbers) 0 seats views id v w at refl k.seats_once;
     mine_once = same_once represents keyed start seats (λ u. u.mine) 0 (length log) views id v w at refl k.mine_once;
-    each = each_set represents keyed start seats log n views id w (λ j u _ e. k.each j u e) (served_fits log n v (k.each id v at) le);
+    each = each_set represents keyed start seats log n views id w (λ j u _ e. k.each j u e) (served_fits log n v (k.each id v at));
   }
 
   comes : (t n : ℕ) (log : L) (home : H) (views : List V) (id : ℕ) (me : M) (x : S) → K log t n home views → get_elem? views id ≡ some me.0 → represents start log x
@@ -182,11 +182,11 @@ module _ {S E A : Type 0} (represents : S → List (E × A) → S → Type 0) (k
       let num : number me.0.stage ≡ mine = ap number waits in
       dite (ℕ_discrete n mine)
       (λ hit. let here : me.0.stage ≡ Waits n = waits ∙ ap Waits (sym hit) in ⊎_elim
-      (λ (p : (x : S) × (home ≡ some (Some x)) × represents start log x × (length log ≤ n) × (total held_by views ≡ 0)). (
+      (λ (p : (x : S) × (home ≡ some (Some x)) × represents start log x × (total held_by views ≡ 0)). (
         served me.0 log n,
         takes 0 (Some p.0),
         ap some p.1,
-        record { log = log; ticket = t; serving = n; home = none; words = refl; homes = refl; kept = served_on t n log home views id me.0 k at here p.3 },
+        record { log = log; ticket = t; serving = n; home = none; words = refl; homes = refl; kept = served_on t n log home views id me.0 k at here },
         ((λ _. subst (λ (z : ℕ). Comes represents keyed z me (served me.0 log n, (0, Some p.0) ∷ me.1)) (hit ∙ sym num) (comes t n log home views id me p.0 k at p.2)), (λ miss. absurd (miss (hit ∙ sym num)))),
       ))
       (λ (p : (home ≡ none) × (total held_by views ≡ 1)). let z = none_served t n log home views id me.0 k at here in let o = p.1 in absurd (omega arith))
@@ -219,7 +219,7 @@ module _ {S E A : Type 0} (represents : S → List (E × A) → S → Type 0) (k
   }
 
   said_fits : (log : L) (e : E × A) (n : ℕ) (v : V) → F log n v → v.stage ≡ Served n → HasSeat v → F (log ++ e ∷ []) n (after v (e ∷ []) n)
-  said_fits log e n v f at seat = let here : (n ≡ n) × (v.seen ≡ log) × (length log ≤ n) = subst (IsAt log n v.seen) at f.stage in
+  said_fits log e n v f at seat = let here : (n ≡ n) × (v.seen ≡ log) = subst (IsAt log n v.seen) at f.stage in
       let same : v.seen ++ e ∷ [] ≡ log ++ e ∷ [] = ap (λ l. l ++ e ∷ []) here.1 in
       let len = length_snoc v.seen e in record {
         opened = f.opened;
@@ -230,16 +230,16 @@ module _ {S E A : Type 0} (represents : S → List (E × A) → S → Type 0) (k
         seated = λ _. seat;
         key = λ has i x there is. let h = times_append i v.mine (length v.seen ∷ []) in ⊎_elim (λ (p : slice_get log i ≡ Some x). let q = f.key has i x p is in omega arith)
             (λ (p : (i ≡ length log) × (e ≡ x)). let q : times i (length v.seen ∷ []) ≡ 1 = subst (λ (z : ℕ). times z (length v.seen ∷ []) ≡ 1) (ap length here.1 ∙ sym p.0) (times_here (length v.seen)) in omega arith) (get_snoc log e x i there);
-        stage = (refl, same, let l = length_snoc log e in let le = here.2 in omega arith);
+        stage = (refl, same);
       }
 
   said_on : (t n : ℕ) (log : L) (e : E × A) (home : H) (views : List V) (id : ℕ) (v : V) → K log t n home views → get_elem? views id ≡ some v → v.stage ≡ Served n → HasSeat v → (keyed e.0 e.1 ≡ true → HasKey v)
       → K (log ++ e ∷ []) t n home (set views id (after v (e ∷ []) n))
   said_on t n log e home views id v k at is seat key = let w : V = after v (e ∷ []) n in
       let f = k.each id v at in
-      let here : (n ≡ n) × (v.seen ≡ log) × (length log ≤ n) = subst (IsAt log n v.seen) is f.stage in
+      let here : (n ≡ n) × (v.seen ≡ log) = subst (IsAt log n v.seen) is f.stage in
       let one : held_by v ≡ 1 = ap has_state is in
-      let out = is_out represents keyed start seats log n home views k.placed (let h = total_at held_by views id v at in omega arith) in record {
+      let out = is_out represents keyed start seats log home views k.placed (let h = total_at held_by views id v at in omega arith) in record {
         fits = k.fits;
         order = k.order;
         placed = inr (out.0, let h = total_set held_by views id v w at in let o = out.1 in omega arith);
@@ -253,19 +253,15 @@ module _ {S E A : Type 0} (represents : S → List (E × A) → S → Type 0) (k
       }
 
   pub commit_ok : (slots id : ℕ) (me : M) (mine : ℕ) (e : E × A) (es : L) → me.0.stage ≡ Served mine → HasSeat me.0 → (keyed e.0 e.1 ≡ true → HasKey me.0) → es ≡ e ∷ []
-      → Allows Rule slots id me 2 (λ x. (x + 1) % 2 ^ 64) (commits es (step slots 2 1 0 none) me)
-  commit_ok slots id me mine e es is seat key just = at_lit represents keyed start seats 2 id (λ x. (x + 1) % 2 ^ 64) me (commits es (step slots 2 1 0 none) me) slots (λ t n log home views k at.
+      → Allows Rule slots id me 1 (λ x. x) (commits es (step slots 1 0 0 none) me)
+  commit_ok slots id me mine e es is seat key just = at_lit represents keyed start seats 1 id (λ x. x) me (commits es (step slots 1 0 0 none) me) slots (λ t n log home views k at.
       let f = k.each id me.0 at in
-      let here : (mine ≡ n) × (me.0.seen ≡ log) × (length log ≤ n) = subst (IsAt log n me.0.seen) is f.stage in
-      let is' : me.0.stage ≡ Served n = is ∙ ap Served here.0 in
-      let q : 0 < total (λ u. times n (drawn_by u)) views = (let h = total_at (λ u. times n (drawn_by u)) views id me.0 at in let p : times n (drawn_by me.0) ≡ 1 = ap (λ st. times n (drawn st)) is' ∙ times_here n in omega arith) in
-      let low = (once_in (λ i. total (λ u. times i (drawn_by u)) views) n t k.queue n q).1 in
-      let room = k.fits in let le = here.2 in
-      let small : (length log + 1) % 18446744073709551616 ≡ length log + 1 = omega arith in (
+      let here : (mine ≡ n) × (me.0.seen ≡ log) = subst (IsAt log n me.0.seen) is f.stage in
+      let is' : me.0.stage ≡ Served n = is ∙ ap Served here.0 in (
         after me.0 (e ∷ []) n,
         keeps,
         tt,
-        record { log = log ++ e ∷ []; ticket = t; serving = n; home = home; words = ap (λ (z : ℕ). t ∷ n ∷ z ∷ []) (small ∙ sym (length_snoc log e)); homes = refl; kept = said_on t n log e home views id me.0 k at is' seat key },
+        record { log = log ++ e ∷ []; ticket = t; serving = n; home = home; words = refl; homes = refl; kept = said_on t n log e home views id me.0 k at is' seat key },
         ap (λ (z : L × ℕ). (after me.0 z.0 z.1, me.1)) (λ i. (sym just i, (sym here.0 ∙ sym (ap number is)) i)),
       ))
 
@@ -276,14 +272,14 @@ module _ {S E A : Type 0} (represents : S → List (E × A) → S → Type 0) (k
   rests : (log : L) (n : ℕ) (v : V) → F log n v → F log (n + 1) (at_stage v Idle)
   rests log n v f = record { opened = f.opened; seen = f.seen; shorter_seen = f.shorter_seen; shorter = f.shorter; inside = f.inside; seated = f.seated; key = f.key; stage = tt }
 
-  passed_on : (t n : ℕ) (log : L) (home : H) (views : List V) (id : ℕ) (v : V) (x : S) → K log t n home views → get_elem? views id ≡ some v → v.stage ≡ Done n → n < t → represents start log x → length log ≤ n + 1
+  passed_on : (t n : ℕ) (log : L) (home : H) (views : List V) (id : ℕ) (v : V) (x : S) → K log t n home views → get_elem? views id ≡ some v → v.stage ≡ Done n → n < t → represents start log x
       → K log t (n + 1) (some (Some x)) (set views id (at_stage v Idle))
-  passed_on t n log home views id v x k at is low st le = let w : V = at_stage v Idle in
+  passed_on t n log home views id v x k at is low st = let w : V = at_stage v Idle in
       let one : held_by v ≡ 1 = ap has_state is in
-      let out = is_out represents keyed start seats log n home views k.placed (let h = total_at held_by views id v at in omega arith) in record {
+      let out = is_out represents keyed start seats log home views k.placed (let h = total_at held_by views id v at in omega arith) in record {
         fits = k.fits;
         order = omega arith;
-        placed = inl (x, refl, st, le, let h = total_set held_by views id v w at in let o = out.1 in omega arith);
+        placed = inl (x, refl, st, let h = total_set held_by views id v w at in let o = out.1 in omega arith);
         queue = once_down (λ j. total (λ u. times j (drawn_by u)) views) (λ j. total (λ u. times j (drawn_by u)) (set views id w)) n t low k.queue
             (λ j. let h = total_set (λ u. times j (drawn_by u)) views id v w at in let e : times j (drawn_by v) ≡ times j (n ∷ []) = ap (λ s. times j (drawn s)) is in omega arith);
         seats_once = same_once represents keyed start seats (λ u. u.numbers) 0 seats views id v w at refl k.seats_once;
@@ -296,7 +292,7 @@ module _ {S E A : Type 0} (represents : S → List (E × A) → S → Type 0) (k
   pass_ok slots id me mine x held is st = subst (λ (c : List (ℕ × Option S)). Allows Rule slots id (me.0, c) 1 (λ x. (x + 1) % 2 ^ 64) (passes (step slots 1 1 0 none) (me.0, c))) (sym held)
       (at_lit represents keyed start seats 1 id (λ x. (x + 1) % 2 ^ 64) (me.0, (0, Some x) ∷ []) (passes (step slots 1 1 0 none) (me.0, (0, Some x) ∷ [])) slots (λ t n log home views k at.
       let f = k.each id me.0 at in
-      let here : (mine ≡ n) × (me.0.seen ≡ log) × (length log ≤ n + 1) = subst (IsAt log n me.0.seen) is f.stage in
+      let here : (mine ≡ n) × (me.0.seen ≡ log) = subst (IsAt log n me.0.seen) is f.stage in
       let is' : me.0.stage ≡ Done n = is ∙ ap Done here.0 in
       let q : 0 < total (λ u. times n (drawn_by u)) views = (let h = total_at (λ u. times n (drawn_by u)) views id me.0 at in let p : times n (drawn_by me.0) ≡ 1 = ap (λ s. times n (drawn s)) is' ∙ times_here n in omega arith) in
       let low = (once_in (λ i. total (λ u. times i (drawn_by u)) views) n t k.queue n q).1 in
@@ -310,9 +306,9 @@ module _ {S E A : Type 0} (represents : S → List (E × A) → S → Type 0) (k
           ticket = t;
           serving = n + 1;
           home = some (Some x);
-          words = ap (λ (z : ℕ). t ∷ z ∷ length log ∷ []) small;
+          words = ap (λ (z : ℕ). t ∷ z ∷ []) small;
           homes = refl;
-          kept = passed_on t n log home views id me.0 x k at is' low (subst (λ (l : L). represents start l x) here.1 st) here.2;
+          kept = passed_on t n log home views id me.0 x k at is' low (subst (λ (l : L). represents start l x) here.1 st);
         },
         refl,
       )))

@@ -1,5 +1,5 @@
 -- The rule of a story's table: one history, which the state represents, and what each view says of it. And what each step does and tells.
-use Rattle.std.specs.Prelude.{◌≡◌, ◌⊎◌, ℕ, ◌+◌, ◌<◌, ◌≤◌, ◌^◌, Bool, true, cond, leb, List, [], ◌∷◌, ◌++◌, length, slice_get, Option, Some, None, IfSome}
+use Rattle.std.specs.Prelude.{◌≡◌, ◌⊎◌, ℕ, ◌<◌, ◌≤◌, ◌^◌, Bool, true, cond, leb, List, [], ◌∷◌, ◌++◌, length, slice_get, Option, Some, None, IfSome}
 use mathlib.Core.Option as maybe
 use lib.ListN.{get_elem?}
 use Rattle.atomic_table.specs.Table.{State, Me, Step}
@@ -33,12 +33,12 @@ shorter xs ys = cond (leb (length xs) (length ys)) xs ys
 abbrev pub longer : {X : Type 0} → List X → List X → List X
 longer xs ys = cond (leb (length xs) (length ys)) ys xs
 
--- a pass whose ticket is served has seen the whole history; there are no more entries than turns
+-- a pass whose ticket is served has seen the whole history
 abbrev pub IsAt : {X : Type 0} → List X → ℕ → List X → Stage → Type 0
 IsAt log serving seen Idle = Unit {0}
 IsAt log serving seen (Waits t) = Unit {0}
-IsAt log serving seen (Served t) = (t ≡ serving) × (seen ≡ log) × (length log ≤ serving)
-IsAt log serving seen (Done t) = (t ≡ serving) × (seen ≡ log) × (length log ≤ serving + 1)
+IsAt log serving seen (Served t) = (t ≡ serving) × (seen ≡ log)
+IsAt log serving seen (Done t) = (t ≡ serving) × (seen ≡ log)
 
 -- the same as a number, 0 where it has none
 abbrev pub number : Stage → ℕ
@@ -117,9 +117,9 @@ module _ {S E A : Type 0} where
       pub stage : IsAt log serving v.seen v.stage
 
     -- the state is home and represents the history, or it is out with one pass
-    abbrev pub IsPlaced : List (E × A) → ℕ → maybe.Option (Option S) → List (View S E A) → Type 0
-    IsPlaced log serving home views =
-        ((x : S) × (home ≡ maybe.some (Some x)) × represents start log x × (length log ≤ serving) × (total held_by views ≡ 0))
+    abbrev pub IsPlaced : List (E × A) → maybe.Option (Option S) → List (View S E A) → Type 0
+    IsPlaced log home views =
+        ((x : S) × (home ≡ maybe.some (Some x)) × represents start log x × (total held_by views ≡ 0))
         ⊎ ((home ≡ maybe.none) × (total held_by views ≡ 1))
 
     -- the history, the next ticket, the ticket that is served, the slot and all views fit one another.
@@ -127,19 +127,19 @@ module _ {S E A : Type 0} where
     pub record Kept (log : List (E × A)) (ticket serving : ℕ) (home : maybe.Option (Option S)) (views : List (View S E A)) : Type 0 where
       pub fits : ticket < 2 ^ 64
       pub order : serving ≤ ticket
-      pub placed : IsPlaced log serving home views
+      pub placed : IsPlaced log home views
       pub queue : Once (λ k. total (λ v. times k (drawn_by v)) views) serving ticket
       pub seats_once : Once (λ k. total (λ v. times k v.numbers) views) 0 seats
       pub mine_once : Once (λ k. total (λ v. times k v.mine) views) 0 (length log)
       pub each : (id : ℕ) (v : View S E A) → get_elem? views id ≡ maybe.some v → Fits log serving v
 
-    -- the same of a table: word 0 is the next ticket, word 1 the ticket that is served, and word 2 the length of the history
+    -- the same of a table: word 0 is the next ticket, and word 1 the ticket that is served
     pub record Holds (s : State (Option S) (View S E A)) : Type 0 where
       pub log : List (E × A)
       pub ticket : ℕ
       pub serving : ℕ
       pub home : maybe.Option (Option S)
-      pub words : s.words ≡ ticket ∷ serving ∷ length log ∷ []
+      pub words : s.words ≡ ticket ∷ serving ∷ []
       pub homes : s.homes ≡ home ∷ []
       pub kept : Kept log ticket serving home s.views
 

@@ -23,7 +23,7 @@ impl<S: Chronicle> Play<Option<S>, View<S, S::Event, S::Said>> for Look {
     ghost then = { looks S.represents S.keyed };
 }
 
-/// A fetch_add on the length of the history: the entry joins it.
+/// A load of the ticket that is served, which is its own: the entry joins the history.
 pub(crate) struct Commit<J> {
     marker: PhantomData<J>,
 }

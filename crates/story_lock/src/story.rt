@@ -21,7 +21,7 @@ pub struct Story<S: Chronicle> {
     pub(crate) board: Board<S, S::Event, S::Said>,
     // Taken before the ticket is drawn, so that the ticket is served at once: a caller sleeps here and nowhere else.
     pub(crate) gate: Mutex<()>,
-    pub(crate) ghost sized: { (board.shared.table_id.words ≡ 3) × (board.shared.table_id.slots ≡ 1) },
+    pub(crate) ghost sized: { (board.shared.table_id.words ≡ 2) × (board.shared.table_id.slots ≡ 1) },
 }
 
 /// What one caller has seen of the history and added to it. It has no bytes. Where one is dropped, nobody has each seat
@@ -73,7 +73,7 @@ impl<S: Chronicle> Story<S> {
             let Some(state) = value else { unreachable!() };
             return Err((state, AllocError));
         }
-        match Table::new(alloc, &[0, 0, 0], slots, &opening) {
+        match Table::new(alloc, &[0, 0], slots, &opening) {
             Ok((board, seat)) => Ok((
                 Story {
                     board,

@@ -110,7 +110,7 @@ impl<S: Chronicle> Story<S> {
     {
         let _ = event;
         let _ = said;
-        self.board.shared.fetch_add::<Commit<J>>(seat, 2, 1);
+        self.board.shared.load::<Commit<J>>(seat, 1);
     }
 
     // The state is home again, and the next ticket is served.

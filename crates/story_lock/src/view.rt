@@ -1,7 +1,7 @@
 //! What a seat at the table knows, and the rule of the table.
 //!
-//! The table has three words and one slot. Word 0 is the next ticket, word 1 the ticket that is served, and word 2 the
-//! length of the history. The slot is where the state lies while nobody has it.
+//! The table has two words and one slot. Word 0 is the next ticket, and word 1 the ticket that is served. The slot is where
+//! the state lies while nobody has it.
 
 use crate::chronicle::Chronicle;
 use atomic_table::{Seat, Table, TableRule};
