@@ -2,8 +2,10 @@
 use Rattle.std.proofs.Common.{◌≡◌, ℕ, suc, ◌<◌, List, [], ◌∷◌, ◌++◌, length, get_or, Option, Some, None, refl, sym, ap, ◌∙◌, subst, append-nil, length-append, arith}
 use Rattle.std.specs.Prelude.{slice_get}
 use Rattle.story_lock.specs.declared.chronicle.Chronicle.{Ghosts}
+use Rattle.story_lock.specs.declared.story.Story.{Story}
 use Rattle.story_lock.specs.declared.story.Pass.{Pass}
-use Rattle.story_lock.specs.Passes.{seen_by, mine_of, Adds}
+use Rattle.story_lock.specs.Counts.{times}
+use Rattle.story_lock.specs.Passes.{seen_by, mine_of, HasSeat, HasKey, IsPassOf, IsSamePass, Adds}
 use Rattle.story_lock.specs.Owned.{Makes, paired, AscendsFrom, Owns, StepsBy}
 use Rattle.story_lock.proofs.Sums.{append_three, length_snoc}
 
@@ -39,6 +41,18 @@ value_or d (Some x) = x
 value_or d None = d
 
 module _ {S E A : Type 0} {chronicle : Ghosts S E A} where
+  -- the same seat numbers: a pass keeps its seat
+  pub same_seat : (old new : Pass S E A chronicle) → IsSamePass old new → HasSeat old → HasSeat new
+  same_seat old new same seat = subst (λ (numbers : List ℕ). 0 < length numbers) (sym same.2) seat
+
+  -- and the key
+  pub same_key : (old new : Pass S E A chronicle) → IsSamePass old new → HasKey old → HasKey new
+  same_key old new same key = subst (λ (numbers : List ℕ). 0 < times 0 numbers) (sym same.2) key
+
+  -- and its story
+  pub same_story : (story : Story S E A) (old new : Pass S E A chronicle) → IsSamePass old new → IsPassOf story old → IsPassOf story new
+  same_story story old new same of = (same.0 ∙ of.0, same.1 ∙ of.1)
+
   -- a turn, and the entries of later turns
   owns_more : (old mid new : Pass S E A chronicle) (entry : E × A) (entries : List (E × A)) → Adds old entry.0 entry.1 mid → Owns mid entries new → Owns old (entry ∷ entries) new
   owns_more old mid new entry entries adds later =
