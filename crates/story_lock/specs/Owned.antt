@@ -41,4 +41,5 @@ module _ {S E A : Type 0} {chronicle : Ghosts S E A} where
   -- an object that has a pass makes one step by one turn
   abbrev pub StepsBy : {C : Type 0} → (C → Option (Pass S E A chronicle)) → C → E → A → C → Type 0
   StepsBy pass_of x event said y =
-      (old : Pass S E A chronicle) × (new : Pass S E A chronicle) × (pass_of x ≡ Some old) × (pass_of y ≡ Some new) × Adds old event said new
+      (old : Pass S E A chronicle) × (new : Pass S E A chronicle) × (pass_of x ≡ Some old) × (pass_of y ≡ Some new)
+      × Adds old event said new

@@ -68,7 +68,8 @@ module _ {S E A : Type 0} {chronicle : Ghosts S E A} where
 
   -- both are of one story, and have the same seat numbers
   abbrev pub IsSamePass : Pass S E A chronicle → Pass S E A chronicle → Type 0
-  IsSamePass old new = (new.seat.table_id ≡ old.seat.table_id) × (new.seat.me.0.opened ≡ old.seat.me.0.opened) × (numbers_of new ≡ numbers_of old)
+  IsSamePass old new =
+      (new.seat.table_id ≡ old.seat.table_id) × (new.seat.me.0.opened ≡ old.seat.me.0.opened) × (numbers_of new ≡ numbers_of old)
 
   -- the turn is of the pass's story, and has its entries and seat numbers
   abbrev pub IsTurnOf : Pass S E A chronicle → Turn S E A → Type 0
@@ -85,7 +86,8 @@ module _ {S E A : Type 0} {chronicle : Ghosts S E A} where
     -- a pass with each seat number has seen it all, and made it all
     pub whole : HasAllSeats story pass → (seen_by pass ≡ history) × ((k : ℕ) → k < length history → 0 < times k (mine_of pass))
     -- a pass with the key has made each keyed entry
-    pub own_keyed : HasKey pass → (k : ℕ) (e : E × A) → slice_get history k ≡ Some e → chronicle.keyed e.0 e.1 ≡ true → 0 < times k (mine_of pass)
+    pub own_keyed :
+        HasKey pass → (k : ℕ) (e : E × A) → slice_get history k ≡ Some e → chronicle.keyed e.0 e.1 ≡ true → 0 < times k (mine_of pass)
 
   -- one entry of its own was added to all that the pass had seen and to what others added meanwhile
   pub record Adds (old : Pass S E A chronicle) (event : E) (said : A) (new : Pass S E A chronicle) : Type 0 where

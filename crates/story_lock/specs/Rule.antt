@@ -1,5 +1,6 @@
 -- The rule of a story's table: one history, which the state represents, and what each view says of it. And what each step does and tells.
-use Rattle.std.specs.Prelude.{◌≡◌, ◌⊎◌, ℕ, ◌<◌, ◌≤◌, ◌^◌, Bool, true, cond, leb, List, [], ◌∷◌, ◌++◌, length, slice_get, Option, Some, None, IfSome}
+use Rattle.std.specs.Prelude.{◌≡◌, ◌⊎◌, ℕ, ◌<◌, ◌≤◌, ◌^◌, Bool, true, cond, leb, Option, Some, None, IfSome}
+use Rattle.std.specs.Prelude.{List, [], ◌∷◌, ◌++◌, length, slice_get}
 use mathlib.Core.Option as maybe
 use lib.ListN.{get_elem?}
 use Rattle.atomic_table.specs.Table.{State, Me, Step}
@@ -74,27 +75,33 @@ module _ {S E A : Type 0} where
 
   -- the view at another stage
   abbrev pub at_stage : View S E A → Stage → View S E A
-  at_stage v stage = record { opened = v.opened; seen = v.seen; shorter_seen = v.shorter_seen; mine = v.mine; numbers = v.numbers; stage = stage }
+  at_stage v stage = record v { stage = stage }
 
   -- its ticket is served, and it has seen the whole history
   abbrev pub served : View S E A → List (E × A) → ℕ → View S E A
-  served v log t = record { opened = v.opened; seen = log; shorter_seen = v.shorter_seen; mine = v.mine; numbers = v.numbers; stage = Served t }
+  served v log t = record v { seen = log; stage = Served t }
 
   -- its entry is made
   abbrev pub after : View S E A → List (E × A) → ℕ → View S E A
-  after v es t = record { opened = v.opened; seen = v.seen ++ es; shorter_seen = v.shorter_seen; mine = v.mine ++ length v.seen ∷ []; numbers = v.numbers; stage = Done t }
+  after v es t = record v { seen = v.seen ++ es; mine = v.mine ++ length v.seen ∷ []; stage = Done t }
 
   -- the view without its greatest seat number
   abbrev pub fewer : View S E A → View S E A
-  fewer v = record { opened = v.opened; seen = v.seen; shorter_seen = v.shorter_seen; mine = v.mine; numbers = without (greatest v.numbers) v.numbers; stage = v.stage }
+  fewer v = record v { numbers = without (greatest v.numbers) v.numbers }
 
   -- a new view that has seen as much, with these seat numbers
   abbrev pub newcomer : View S E A → List ℕ → View S E A
-  newcomer v numbers = record { opened = v.opened; seen = v.seen; shorter_seen = []; mine = []; numbers = numbers; stage = Idle }
+  newcomer v numbers = record v { shorter_seen = []; mine = []; numbers = numbers; stage = Idle }
 
   -- two views as one
   abbrev pub met : View S E A → View S E A → View S E A
-  met v w = record { opened = v.opened; seen = longer v.seen w.seen; shorter_seen = shorter v.seen w.seen; mine = v.mine ++ w.mine; numbers = v.numbers ++ w.numbers; stage = v.stage }
+  met v w =
+      record v {
+        seen = longer v.seen w.seen;
+        shorter_seen = shorter v.seen w.seen;
+        mine = v.mine ++ w.mine;
+        numbers = v.numbers ++ w.numbers;
+      }
 
   -- what is left of the second
   abbrev pub spent : View S E A
@@ -102,7 +109,8 @@ module _ {S E A : Type 0} where
 
   -- the first view
   abbrev pub opening_view : S → ℕ → View S E A
-  opening_view start seats = record { opened = Some (start, seats); seen = []; shorter_seen = []; mine = []; numbers = numbers_below seats; stage = Idle }
+  opening_view start seats =
+      record { opened = Some (start, seats); seen = []; shorter_seen = []; mine = []; numbers = numbers_below seats; stage = Idle }
 
   module _ (represents : S → List (E × A) → S → Type 0) (keyed : E → A → Bool) (start : S) (seats : ℕ) where
     -- what a view says is so, where the history is this one and this ticket is served
@@ -123,7 +131,8 @@ module _ {S E A : Type 0} where
         ⊎ ((home ≡ maybe.none) × (total held_by views ≡ 1))
 
     -- the history, the next ticket, the ticket that is served, the slot and all views fit one another.
-    -- Each ticket from the one served up to the next is drawn by one view, each seat number is in one, and each place of the history is in the `mine` of one
+    -- Each ticket from the one served up to the next is drawn by one view, each seat number is in one, and each place of the
+    -- history is in the `mine` of one
     pub record Kept (log : List (E × A)) (ticket serving : ℕ) (home : maybe.Option (Option S)) (views : List (View S E A)) : Type 0 where
       pub fits : ticket < 2 ^ 64
       pub order : serving ≤ ticket
@@ -152,12 +161,14 @@ module _ {S E A : Type 0} where
   Comes represents keyed t m m' =
       (log : List (E × A)) × (x : S) × (m' ≡ (served m.0 log t, (0, Some x) ∷ m.1)) × StartsWith log m.0.seen
       × ((k : ℕ) → 0 < times k m.0.mine → k < length m.0.seen) × IsDistinct m.0.mine
-      × IfSome m.0.opened (λ a. represents a.0 log x × (HasAllSeats a.1 m.0 → (m.0.seen ≡ log) × ((k : ℕ) → k < length log → 0 < times k m.0.mine)))
+      × IfSome m.0.opened (λ a.
+      represents a.0 log x × (HasAllSeats a.1 m.0 → (m.0.seen ≡ log) × ((k : ℕ) → k < length log → 0 < times k m.0.mine)))
       × (HasKey m.0 → (k : ℕ) (e : E × A) → slice_get log k ≡ Some e → keyed e.0 e.1 ≡ true → 0 < times k m.0.mine)
 
   -- a look serves the pass where its ticket is found, and else changes nothing
   abbrev pub looks : (S → List (E × A) → S → Type 0) → (E → A → Bool) → Step (Option S) → Sat S E A → ℕ → Sat S E A → Type 0
-  looks represents keyed st m r m' = (r ≡ number m.0.stage → Comes represents keyed (number m.0.stage) m m') × (¬ (r ≡ number m.0.stage) → m' ≡ m)
+  looks represents keyed st m r m' =
+      (r ≡ number m.0.stage → Comes represents keyed (number m.0.stage) m m') × (¬ (r ≡ number m.0.stage) → m' ≡ m)
 
   -- a commit adds the entries to what was seen and to the pass's own
   abbrev pub commits : List (E × A) → Step (Option S) → Sat S E A → ℕ → Sat S E A → Type 0

@@ -12,7 +12,8 @@ use crate::story::Turn;
 impl<'a, S: Chronicle> Turn<'a, S> {
     /// The state. When the borrow ends, the turn has what was written through it.
     pub fn state(&mut self) -> &mut S
-        ensures* writes_back { sem 𝓛 (Lends (the_row (record { mir = named 1; lft = [] }) S.row S.Event.row S.Said.row S.Chronicle) S.row self.entry result (with_state self.old)) }
+        ensures* writes_back { sem 𝓛 (Lends (the_row (record { mir = named 1; lft = [] }) S.row S.Event.row S.Said.row S.Chronicle) S.row
+            self.entry result (with_state self.old)) }
         ensures value { result.now ≡ self.old.state }
     {
         &mut self.state

@@ -4,7 +4,8 @@ ghost use Rattle.std.specs.Prelude.{None, ◌≡◌, ◌+◌, ◌<◌, ◌≤◌
 ghost use Rattle.story_lock.specs.declared.view.Stage.TheVariants.{Idle, Waits, Served, Done};
 ghost use Rattle.story_lock.specs.Rule as rule;
 ghost use Rattle.story_lock.specs.Rule.{IsSeatAt, Comes, at_stage, after};
-ghost use Rattle.story_lock.specs.Passes.{start_of, IsPassOf, HasSeat, IsSamePass, IsTurnOf, Finds, Adds, history_of, turn_mine, turn_numbers, TurnHasKey, seen_by, mine_of, numbers_of};
+ghost use Rattle.story_lock.specs.Passes.{start_of, IsPassOf, HasSeat, IsTurnOf, Finds, Adds, seen_by, mine_of, numbers_of};
+ghost use Rattle.story_lock.specs.Passes.{history_of, turn_mine, turn_numbers, TurnHasKey};
 
 use crate::chronicle::Chronicle;
 use crate::steps::{Appended, Commit, Draw, Look, PassOn};
@@ -155,7 +156,8 @@ impl<'a, S: Chronicle> Turn<'a, S> {
         ensures mine { mine_of result ≡ turn_mine self.entry ++ length (history_of self.entry) ∷ [] }
 
         // For the pass that entered, the turn is one entry of its own.
-        ensures adds { (pass : _) (state : S) → Finds self.entry.story.now pass (history_of self.entry) state → IsTurnOf pass self.entry → Adds pass event.now said.now result }
+        ensures adds { (pass : _) (state : S) → Finds self.entry.story.now pass (history_of self.entry) state → IsTurnOf pass self.entry
+            → Adds pass event.now said.now result }
     {
         let Turn {
             story,
