@@ -1,0 +1,6 @@
+pub mod Counts
+pub mod Rule
+pub mod Lent
+pub mod Passes
+pub mod Owned
+pub mod Counting
