@@ -4,7 +4,7 @@
 ghost use Rattle.std.specs.Prelude.{◌≡◌, ◌<◌, ◌≤◌, ◌+◌, ◌++◌, ◌∷◌, [], ◌^◌, ℕ, List, length, take, slice_get, slice_set, Some, None, IfOk, OnOk, OnErr};
 ghost use Rattle.std.specs.List.Sorted.{IsNonDecreasingBy};
 ghost use Rattle.queue_view.specs.Tables.{Table, number_of, max_of, added_of, empty_table, with_room, with_unit, with_next_seen, cut_at};
-ghost use Rattle.queue_view.specs.Searches.{first_from, store_in};
+ghost use Rattle.queue_view.specs.Searches.{first_from, first_among, store_in};
 ghost use Rattle.queue_view.specs.Added.{Added, added_to, queue_in, IsRecordOf, AreTablesOf, with_low};
 ghost use Rattle.queue_view.specs.Answers.{Answers, pulled_of, pulled_among};
 
@@ -166,10 +166,35 @@ impl QueueView {
         cut_one(&mut self.tables, table as usize, min);
     }
 
+    /// How many tables there are.
+    pub fn len(&self) -> usize
+        ensures { result ≡ length self.now }
+    {
+        self.tables.len()
+    }
+
+    /// The topic of a table.
+    pub fn topic(&self, table: u32) -> &str
+        requires { table < length self.now }
+        ensures { (t : Table) → slice_get self.now table ≡ Some t → result.now ≡ t.topic }
+    {
+        self.tables[table as usize].topic()
+    }
+
+    /// The queue of a table.
+    pub fn queue(&self, table: u32) -> u32
+        requires { table < length self.now }
+        ensures { (t : Table) → slice_get self.now table ≡ Some t → result ≡ t.queue }
+    {
+        self.tables[table as usize].queue()
+    }
+
     /// The offset of the first unit of a table.
     pub fn min(&self, table: u32) -> u64
         requires { table < length self.now }
-        ensures { (t : Table) → slice_get self.now table ≡ Some t → result ≡ t.low }
+        ensures table { (t : Table) → slice_get self.now table ≡ Some t → result ≡ t.low }
+        ensures records { (low : List ℕ → ℕ → ℕ) (added : List Added) (n : ℕ) (t : Table) → AreTablesOf low added n self.now
+            → slice_get self.now table ≡ Some t → result ≡ low t.topic t.queue }
     {
         self.tables[table as usize].min()
     }
@@ -187,7 +212,9 @@ impl QueueView {
     /// The offset after the last unit, which is that of the next record.
     pub fn added(&self, table: u32) -> u64
         requires { table < length self.now }
-        ensures { (t : Table) → slice_get self.now table ≡ Some t → result ≡ added_of t }
+        ensures table { (t : Table) → slice_get self.now table ≡ Some t → result ≡ added_of t }
+        ensures records { (low : List ℕ → ℕ → ℕ) (added : List Added) (n : ℕ) (t : Table) → AreTablesOf low added n self.now
+            → slice_get self.now table ≡ Some t → result ≡ low t.topic t.queue + length (queue_in added t.topic t.queue) }
     {
         self.tables[table as usize].added()
     }
@@ -197,7 +224,9 @@ impl QueueView {
     pub fn search(&self, table: u32, time: i64) -> u64
         requires there { table < length self.now }
         requires rising { (t : Table) → slice_get self.now table ≡ Some t → IsNonDecreasingBy store_in (take t.seen t.units) }
-        ensures { (t : Table) → slice_get self.now table ≡ Some t → result ≡ first_from time t }
+        ensures table { (t : Table) → slice_get self.now table ≡ Some t → result ≡ first_from time t }
+        ensures records { (low : List ℕ → ℕ → ℕ) (added : List Added) (n : ℕ) (t : Table) → AreTablesOf low added n self.now
+            → slice_get self.now table ≡ Some t → result ≡ first_among low (take n added) t.topic t.queue time }
     {
         self.tables[table as usize].search(time)
     }
