@@ -1,5 +1,5 @@
 -- The tables of one record more, and of one more that consumers see.
-use Rattle.std.proofs.Common.{◌≡◌, ◌≢◌, ◌⊎◌, ⊎_elim, inl, inr, refl, ap, sym, ◌∙◌, subst, arith, ℕ, zero, suc, ◌+◌, ◌<◌, ◌≤◌, ◌==◌, ◌&&◌, nat_lt, Bool, true, false, cond, List, [], ◌∷◌, ◌++◌, length, map, filter, take, drop, slice_get, slice_set, Option, Some, None, length-append, Result, Ok, Err, OnOk, OnErr, ℤ, pos, int_le}
+use Rattle.std.proofs.Common.{◌≡◌, ◌≢◌, ◌⊎◌, ⊎_elim, inl, inr, refl, ap, sym, ◌∙◌, subst, arith, ℕ, zero, suc, ◌+◌, ◌<◌, ◌≤◌, ◌==◌, ◌&&◌, nat_lt, Bool, true, false, cond, List, [], ◌∷◌, ◌++◌, length, map, filter, take, drop, slice_get, slice_set, Option, Some, None, length-append, Result, Ok, Err, OnOk, OnErr, IfOk, ℤ, pos, int_le}
 use Rattle.std.specs.List.{position_or_len}
 use Rattle.std.specs.Str.{bytes_eq}
 use Rattle.std.proofs.lemmas.Bool.{and_parts, false_from_ne_true}
@@ -271,3 +271,23 @@ search_among low added n tables k t time are at =
     let is = are.each k t at in
     ap (λ m. m + position_or_len (λ stored. int_le time (pos (store_in stored))) (take t.seen t.units)) is.first
     ∙ ap (λ (us : List StoredUnit). low t.topic t.queue + position_or_len (λ stored. int_le time (pos (store_in stored))) us) (seen_is low added n t is)
+
+-- the table that has more room
+pub room_there : (old new : List Table) (k additional : ℕ) → k < length old → ((t : Table) → slice_get old k ≡ Some t → (s : ℕ) × (additional ≤ s) × (new ≡ slice_set old k (with_room t s)))
+  → (t : Table) → slice_get new k ≡ Some t → additional ≤ t.spare
+room_there old new k additional within changed t at =
+    let was = there old k within in
+    let room = changed was.0 was.1 in
+    ⊎_elim (λ (same : (k ≡ k) × (t ≡ with_room was.0 room.0)). subst (λ (u : Table). additional ≤ u.spare) (sym same.1) room.1)
+      (λ (other : (k ≢ k) × (slice_get old k ≡ Some t)). absurd (other.0 refl))
+      (get_set old k k (with_room was.0 room.0) t (subst (λ (ts : List Table). slice_get ts k ≡ Some t) room.2 at))
+
+-- and the table that was made
+pub room_made : {A : Type 0} (result : Result ℕ A) (old new : List Table) (topic : List ℕ) (queue additional : ℕ) → IfOk result (λ k. k ≡ length old)
+  → OnOk result ((s : ℕ) × (additional ≤ s) × (new ≡ old ++ empty_table topic queue 0 s ∷ []))
+  → IfOk result (λ k. (t : Table) → slice_get new k ≡ Some t → additional ≤ t.spare)
+room_made (Err fault) old new topic queue additional last made = tt
+room_made (Ok k) old new topic queue additional last made = λ t at.
+    ⊎_elim (λ (before : slice_get old k ≡ Some t). absurd (let within = get_within old k t before in let none : ⊥ = omega (arith, within, last) in none))
+      (λ (new_one : (k ≡ length old) × (t ≡ empty_table topic queue 0 made.0)). subst (λ (u : Table). additional ≤ u.spare) (sym new_one.1) made.1)
+      (get_push old (empty_table topic queue 0 made.0) t k (subst (λ (ts : List Table). slice_get ts k ≡ Some t) made.2 at))

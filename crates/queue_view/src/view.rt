@@ -68,6 +68,7 @@ impl QueueView {
     ) -> Result<u32, AllocError>
         requires { additional ≤ 1024 }
         ensures number { IfOk result (λ k. number_of self.new topic.now queue ≡ Some k) }
+        ensures room { IfOk result (λ k. (t : Table) → slice_get self.new k ≡ Some t → additional ≤ t.spare) }
         ensures there { (k : ℕ) (t : Table) → number_of self.old topic.now queue ≡ Some k → slice_get self.old k ≡ Some t
             → (s : ℕ) × (t.spare ≤ s) × (OnOk result (additional ≤ s)) × (self.new ≡ slice_set self.old k (with_room t s)) }
         ensures absent { number_of self.old topic.now queue ≡ None → OnOk result ((s : ℕ) × (additional ≤ s) × (self.new ≡ self.old ++ empty_table topic.now queue 0 s ∷ [])) }
@@ -115,6 +116,7 @@ impl QueueView {
         requires low { low ≤ 2 ^ 62 }
         requires few { additional ≤ 1024 }
         ensures number { IfOk result (λ k. number_of self.new topic.now queue ≡ Some k) }
+        ensures last { IfOk result (λ k. k ≡ length self.old) }
         ensures made { OnOk result ((s : ℕ) × (additional ≤ s) × (self.new ≡ self.old ++ empty_table topic.now queue low s ∷ [])) }
         ensures same { OnErr result (self.new ≡ self.old) }
     {
