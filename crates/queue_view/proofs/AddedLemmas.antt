@@ -1,5 +1,5 @@
 -- The tables of one record more, and of one more that consumers see.
-use Rattle.std.proofs.Common.{◌≡◌, ◌≢◌, ◌⊎◌, ⊎_elim, inl, inr, refl, ap, sym, ◌∙◌, subst, arith, ℕ, zero, suc, ◌+◌, ◌<◌, ◌≤◌, ◌==◌, ◌&&◌, nat_lt, Bool, true, false, cond, List, [], ◌∷◌, ◌++◌, length, map, filter, take, drop, slice_get, slice_set, Option, Some, None, length-append, Result, Ok, Err, OnOk, OnErr, ℤ}
+use Rattle.std.proofs.Common.{◌≡◌, ◌≢◌, ◌⊎◌, ⊎_elim, inl, inr, refl, ap, sym, ◌∙◌, subst, arith, ℕ, zero, suc, ◌+◌, ◌<◌, ◌≤◌, ◌==◌, ◌&&◌, nat_lt, Bool, true, false, cond, List, [], ◌∷◌, ◌++◌, length, map, filter, take, drop, slice_get, slice_set, Option, Some, None, length-append, Result, Ok, Err, OnOk, OnErr, IfOk, ℤ, pos, int_le}
 use Rattle.std.specs.List.{position_or_len}
 use Rattle.std.specs.Str.{bytes_eq}
 use Rattle.std.proofs.lemmas.Bool.{and_parts, false_from_ne_true}
@@ -11,6 +11,7 @@ use Rattle.queue_view.specs.declared.stored.StoredUnit.{StoredUnit}
 use Rattle.queue_view.specs.Tables.{Table, is_of, number_of, empty_table, unit_in, seen_units, with_room}
 use Rattle.queue_view.specs.declared.tags.Tags.{Tags}
 use Rattle.queue_view.specs.Subscriptions.{tags_take}
+use Rattle.queue_view.specs.Searches.{first_from, first_among, store_in}
 use Rattle.queue_view.specs.Answers.{this, pulled_of, pulled_among}
 use Rattle.log_model.specs.Keys.{asked_number}
 use Rattle.log_model.specs.Pulls.{pulled}
@@ -262,3 +263,31 @@ among_is low added n tables k t from most tags are at =
     let is = are.each k t at in
     ap (λ m. pulled this m (seen_units t) from (asked_number 32 most) (tags_take tags)) is.first
     ∙ ap (λ (us : List StoredUnit). pulled this (low t.topic t.queue) (map unit_in us) from (asked_number 32 most) (tags_take tags)) (seen_is low added n t is)
+
+-- and a search
+pub search_among : (low : List ℕ → ℕ → ℕ) (added : List Added) (n : ℕ) (tables : List Table) (k : ℕ) (t : Table) (time : ℤ) → AreTablesOf low added n tables → slice_get tables k ≡ Some t
+  → first_from time t ≡ first_among low (take n added) t.topic t.queue time
+search_among low added n tables k t time are at =
+    let is = are.each k t at in
+    ap (λ m. m + position_or_len (λ stored. int_le time (pos (store_in stored))) (take t.seen t.units)) is.first
+    ∙ ap (λ (us : List StoredUnit). low t.topic t.queue + position_or_len (λ stored. int_le time (pos (store_in stored))) us) (seen_is low added n t is)
+
+-- the table that has more room
+pub room_there : (old new : List Table) (k additional : ℕ) → k < length old → ((t : Table) → slice_get old k ≡ Some t → (s : ℕ) × (additional ≤ s) × (new ≡ slice_set old k (with_room t s)))
+  → (t : Table) → slice_get new k ≡ Some t → additional ≤ t.spare
+room_there old new k additional within changed t at =
+    let was = there old k within in
+    let room = changed was.0 was.1 in
+    ⊎_elim (λ (same : (k ≡ k) × (t ≡ with_room was.0 room.0)). subst (λ (u : Table). additional ≤ u.spare) (sym same.1) room.1)
+      (λ (other : (k ≢ k) × (slice_get old k ≡ Some t)). absurd (other.0 refl))
+      (get_set old k k (with_room was.0 room.0) t (subst (λ (ts : List Table). slice_get ts k ≡ Some t) room.2 at))
+
+-- and the table that was made
+pub room_made : {A : Type 0} (result : Result ℕ A) (old new : List Table) (topic : List ℕ) (queue additional : ℕ) → IfOk result (λ k. k ≡ length old)
+  → OnOk result ((s : ℕ) × (additional ≤ s) × (new ≡ old ++ empty_table topic queue 0 s ∷ []))
+  → IfOk result (λ k. (t : Table) → slice_get new k ≡ Some t → additional ≤ t.spare)
+room_made (Err fault) old new topic queue additional last made = tt
+room_made (Ok k) old new topic queue additional last made = λ t at.
+    ⊎_elim (λ (before : slice_get old k ≡ Some t). absurd (let within = get_within old k t before in let none : ⊥ = omega (arith, within, last) in none))
+      (λ (new_one : (k ≡ length old) × (t ≡ empty_table topic queue 0 made.0)). subst (λ (u : Table). additional ≤ u.spare) (sym new_one.1) made.1)
+      (get_push old (empty_table topic queue 0 made.0) t k (subst (λ (ts : List Table). slice_get ts k ≡ Some t) made.2 at))

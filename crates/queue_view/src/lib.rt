@@ -1,6 +1,7 @@
 //! The tables of the queues: the units of each queue's records, and how many of them consumers see.
 #![tactic(auto)]
 
+mod absent;
 mod bounds;
 mod examine;
 mod numbers;
@@ -11,6 +12,7 @@ mod tables;
 mod tags;
 mod view;
 
+pub use absent::pull_absent;
 pub use pulled::{FOUND, NONE_TAKEN, NOT_YET, OUTSIDE, Pulled};
 pub use stored::StoredUnit;
 pub use tags::Tags;

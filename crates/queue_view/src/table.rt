@@ -94,6 +94,20 @@ impl QueueTable {
         self.seen += 1;
     }
 
+    // The topic.
+    pub(crate) fn topic(&self) -> &str
+        ensures { result.now ≡ self.now.topic }
+    {
+        self.topic.as_str()
+    }
+
+    // The number of the queue.
+    pub(crate) fn queue(&self) -> u32
+        ensures { result ≡ self.now.queue }
+    {
+        self.queue
+    }
+
     // The offset of the first unit.
     pub(crate) fn min(&self) -> u64
         ensures { result ≡ self.now.low }

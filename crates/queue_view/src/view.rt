@@ -4,7 +4,7 @@
 ghost use Rattle.std.specs.Prelude.{◌≡◌, ◌<◌, ◌≤◌, ◌+◌, ◌++◌, ◌∷◌, [], ◌^◌, ℕ, List, length, take, slice_get, slice_set, Some, None, IfOk, OnOk, OnErr};
 ghost use Rattle.std.specs.List.Sorted.{IsNonDecreasingBy};
 ghost use Rattle.queue_view.specs.Tables.{Table, number_of, max_of, added_of, empty_table, with_room, with_unit, with_next_seen, cut_at};
-ghost use Rattle.queue_view.specs.Searches.{first_from, store_in};
+ghost use Rattle.queue_view.specs.Searches.{first_from, first_among, store_in};
 ghost use Rattle.queue_view.specs.Added.{Added, added_to, queue_in, IsRecordOf, AreTablesOf, with_low};
 ghost use Rattle.queue_view.specs.Answers.{Answers, pulled_of, pulled_among};
 
@@ -68,6 +68,7 @@ impl QueueView {
     ) -> Result<u32, AllocError>
         requires { additional ≤ 1024 }
         ensures number { IfOk result (λ k. number_of self.new topic.now queue ≡ Some k) }
+        ensures room { IfOk result (λ k. (t : Table) → slice_get self.new k ≡ Some t → additional ≤ t.spare) }
         ensures there { (k : ℕ) (t : Table) → number_of self.old topic.now queue ≡ Some k → slice_get self.old k ≡ Some t
             → (s : ℕ) × (t.spare ≤ s) × (OnOk result (additional ≤ s)) × (self.new ≡ slice_set self.old k (with_room t s)) }
         ensures absent { number_of self.old topic.now queue ≡ None → OnOk result ((s : ℕ) × (additional ≤ s) × (self.new ≡ self.old ++ empty_table topic.now queue 0 s ∷ [])) }
@@ -115,6 +116,7 @@ impl QueueView {
         requires low { low ≤ 2 ^ 62 }
         requires few { additional ≤ 1024 }
         ensures number { IfOk result (λ k. number_of self.new topic.now queue ≡ Some k) }
+        ensures last { IfOk result (λ k. k ≡ length self.old) }
         ensures made { OnOk result ((s : ℕ) × (additional ≤ s) × (self.new ≡ self.old ++ empty_table topic.now queue low s ∷ [])) }
         ensures same { OnErr result (self.new ≡ self.old) }
     {
@@ -166,10 +168,35 @@ impl QueueView {
         cut_one(&mut self.tables, table as usize, min);
     }
 
+    /// How many tables there are.
+    pub fn len(&self) -> usize
+        ensures { result ≡ length self.now }
+    {
+        self.tables.len()
+    }
+
+    /// The topic of a table.
+    pub fn topic(&self, table: u32) -> &str
+        requires { table < length self.now }
+        ensures { (t : Table) → slice_get self.now table ≡ Some t → result.now ≡ t.topic }
+    {
+        self.tables[table as usize].topic()
+    }
+
+    /// The queue of a table.
+    pub fn queue(&self, table: u32) -> u32
+        requires { table < length self.now }
+        ensures { (t : Table) → slice_get self.now table ≡ Some t → result ≡ t.queue }
+    {
+        self.tables[table as usize].queue()
+    }
+
     /// The offset of the first unit of a table.
     pub fn min(&self, table: u32) -> u64
         requires { table < length self.now }
-        ensures { (t : Table) → slice_get self.now table ≡ Some t → result ≡ t.low }
+        ensures table { (t : Table) → slice_get self.now table ≡ Some t → result ≡ t.low }
+        ensures records { (low : List ℕ → ℕ → ℕ) (added : List Added) (n : ℕ) (t : Table) → AreTablesOf low added n self.now
+            → slice_get self.now table ≡ Some t → result ≡ low t.topic t.queue }
     {
         self.tables[table as usize].min()
     }
@@ -187,7 +214,9 @@ impl QueueView {
     /// The offset after the last unit, which is that of the next record.
     pub fn added(&self, table: u32) -> u64
         requires { table < length self.now }
-        ensures { (t : Table) → slice_get self.now table ≡ Some t → result ≡ added_of t }
+        ensures table { (t : Table) → slice_get self.now table ≡ Some t → result ≡ added_of t }
+        ensures records { (low : List ℕ → ℕ → ℕ) (added : List Added) (n : ℕ) (t : Table) → AreTablesOf low added n self.now
+            → slice_get self.now table ≡ Some t → result ≡ low t.topic t.queue + length (queue_in added t.topic t.queue) }
     {
         self.tables[table as usize].added()
     }
@@ -197,7 +226,9 @@ impl QueueView {
     pub fn search(&self, table: u32, time: i64) -> u64
         requires there { table < length self.now }
         requires rising { (t : Table) → slice_get self.now table ≡ Some t → IsNonDecreasingBy store_in (take t.seen t.units) }
-        ensures { (t : Table) → slice_get self.now table ≡ Some t → result ≡ first_from time t }
+        ensures table { (t : Table) → slice_get self.now table ≡ Some t → result ≡ first_from time t }
+        ensures records { (low : List ℕ → ℕ → ℕ) (added : List Added) (n : ℕ) (t : Table) → AreTablesOf low added n self.now
+            → slice_get self.now table ≡ Some t → result ≡ first_among low (take n added) t.topic t.queue time }
     {
         self.tables[table as usize].search(time)
     }
