@@ -2,6 +2,7 @@ pub mod Admissible
 pub mod Bases
 pub mod Batches
 pub mod Delays
+pub mod Drafts
 pub mod Examples
 pub mod Faults
 pub mod Keys
