@@ -56,7 +56,7 @@ fn is_match(
         && view.offset() + u64::from(size) <= LOG_MAX
         && view.queue_offset() == count
         && stored <= view.store()
-        && is_admissible(view)
+        && is_admissible(segment, view)
         && names_earlier(view, halves)
 }
 
@@ -111,7 +111,7 @@ impl LogTail {
         self.segment
     }
 
-    /// Where the last record ends, 0 where there is none.
+    /// Where the last record ends; the base's place where there is none.
     pub fn end(&self) -> u64
         ensures value { result ≡ self.now.end }
         ensures low { result ≤ 2 ^ 62 }
@@ -119,7 +119,7 @@ impl LogTail {
         self.end
     }
 
-    /// How many records the log has.
+    /// How many records the log has, those before its base counted.
     pub fn records(&self) -> u64
         ensures { result ≡ self.now.records }
     {
