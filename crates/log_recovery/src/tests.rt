@@ -28,6 +28,16 @@ const FIRST: &[u8; 108] =
 \x00\x00\x07\xD0\x7F\x00\x00\x01\x00\x00*\x9F\x00\x00\x00\x00\x00\x00\x00\x00\x00\x00\x00\x00\x00\x00\x00\x02\
 hi\x01T\x00\x0ESEAL\x0122FE9094\x02";
 
+/// The same message twice behind a base of two segments: at the places 8,192 and 8,300, with the queue offsets 3 and 4.
+const BEHIND_THE_BASE: &[u8; 216] =
+    b"\x00\x00\x00l\xDA\xA3 \xA7X\x93*\xAC\x00\x00\x00\x00\x00\x00\x00\x00\x00\x00\x00\x00\x00\x00\x00\x03\x00\x00\x00\x00\x00\
+\x00 \x00\x00\x00\x00\x00\x00\x00\x00\x00\x00\x00\x03\xE8\x7F\x00\x00\x01\x00\x00\x00\x00\x00\x00\x00\x00\x00\x00\x07\
+\xD0\x7F\x00\x00\x01\x00\x00*\x9F\x00\x00\x00\x00\x00\x00\x00\x00\x00\x00\x00\x00\x00\x00\x00\x02hi\x01T\x00\x0ESEAL\x01\
+11219C30\x02\x00\x00\x00l\xDA\xA3 \xA7X\x93*\xAC\x00\x00\x00\x00\x00\x00\x00\x00\x00\x00\x00\x00\x00\x00\x00\x04\x00\x00\
+\x00\x00\x00\x00 l\x00\x00\x00\x00\x00\x00\x00\x00\x00\x00\x03\xE8\x7F\x00\x00\x01\x00\x00\x00\x00\x00\x00\x00\x00\x00\
+\x00\x07\xD0\x7F\x00\x00\x01\x00\x00*\x9F\x00\x00\x00\x00\x00\x00\x00\x00\x00\x00\x00\x00\x00\x00\x00\x02hi\x01T\x00\x0E\
+SEAL\x01A29B6A51\x02";
+
 /// Counts the records.
 #[derive(Drop)]
 struct Count {
@@ -195,25 +205,13 @@ fn base_of_two(alloc: Global) -> Result<Base, AllocError>
     })
 }
 
-/// The message twice behind that base: at the places 8192 and 8300, with the queue offsets 3 and 4.
-fn records_behind_the_base() -> [u8; 216] {
-    let mut bytes = two_records();
-    bytes[27] = 3;
-    bytes[34] = 32;
-    bytes[99..107].copy_from_slice(b"11219C30");
-    bytes[135] = 4;
-    bytes[142] = 32;
-    bytes[207..215].copy_from_slice(b"A29B6A51");
-    bytes
-}
-
-/// A disk with these records, and with the files of the removed segments or without them.
-fn disk_behind(alloc: Global, removed: bool, records: &[u8]) -> Result<MemDisk, Fail> {
+/// A disk with the records behind the base, and with the files of the removed segments or without them.
+fn disk_behind(alloc: Global, removed: bool) -> Result<MemDisk, Fail> {
     let mut disk = MemDisk::new(alloc, Vec::new(alloc), ROOM, Vec::new(alloc))?;
     if removed {
         put_files(&mut disk, b"no record", b"no record")?;
     }
-    disk.write_at(LogFile::of(8192).as_str(), 0, records)?;
+    disk.write_at(LogFile::of(8192).as_str(), 0, BEHIND_THE_BASE)?;
     Ok(disk)
 }
 
@@ -232,12 +230,11 @@ fn recovered_behind(
 fn a_log_behind_two_segments_is_recovered_whether_these_are_there_or_not(
     rt: HostRuntime,
 ) -> Result<(), Fail> {
-    let records = records_behind_the_base();
     for removed in [true, false] {
-        let mut disk = disk_behind(rt.alloc(), removed, &records)?;
+        let mut disk = disk_behind(rt.alloc(), removed)?;
         let (answer, count) = recovered_behind(rt.alloc(), &mut disk)?;
         assert!(rt; matches!(answer, Ok(8408)) && count == 2);
-        assert!(rt; holds(&disk, 8192, &records));
+        assert!(rt; holds(&disk, 8192, BEHIND_THE_BASE));
         assert_eq!(rt; disk.bytes(LogFile::of(4096).as_str()).is_some(), removed);
     }
     Ok(())
