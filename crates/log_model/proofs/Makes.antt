@@ -106,8 +106,13 @@ transaction_within : (ps : List (List ℕ × List ℕ))
 transaction_within ps =
     let times = without (codes "TRANSACTION_CHECK_TIMES") ps in
     let offset = without (codes "TRAN_PREPARED_QUEUE_OFFSET") times in
-    omega (arith, length-without (codes "TRANSACTION_CHECK_TIMES") ps, length-without (codes "TRAN_PREPARED_QUEUE_OFFSET") times, length-without (codes "TRAN_MSG") offset,
-    kept_size (codes "TRAN_PREPARED_QUEUE_OFFSET") (codes "TRANSACTION_CHECK_TIMES") ps refl)
+    omega (
+      arith,
+      length-without (codes "TRANSACTION_CHECK_TIMES") ps,
+      length-without (codes "TRAN_PREPARED_QUEUE_OFFSET") times,
+      length-without (codes "TRAN_MSG") offset,
+      kept_size (codes "TRAN_PREPARED_QUEUE_OFFSET") (codes "TRANSACTION_CHECK_TIMES") ps refl,
+    )
 
 -- with the numbers of a renewal
 renewed_within : (n : ℕ) (r : Entry) → n < 100 → r.queue_offset < 2 ^ 62
@@ -118,8 +123,14 @@ renewed_within n r low small =
     let kept : size_in (codes "TRANSACTION_CHECK_TIMES") once ≡ size_in (codes "TRANSACTION_CHECK_TIMES") r.props =
     ap (prop_size (codes "TRANSACTION_CHECK_TIMES"))
     (value_of-other (codes "TRANSACTION_CHECK_TIMES") (codes "TRAN_PREPARED_QUEUE_OFFSET") origin r.props (apart (codes "TRANSACTION_CHECK_TIMES") (codes "TRAN_PREPARED_QUEUE_OFFSET") refl)) in
-    omega (arith, length-with_prop (codes "TRAN_PREPARED_QUEUE_OFFSET") origin r.props, length-with_prop (codes "TRANSACTION_CHECK_TIMES") (digits_of n) once, kept,
-    length-decimal-le 19 r.queue_offset (omega arith) (omega (arith, small)) (omega (arith, small)), length-decimal-le 2 n (omega arith) (omega (arith, low)) (omega (arith, low)))
+    omega (
+      arith,
+      length-with_prop (codes "TRAN_PREPARED_QUEUE_OFFSET") origin r.props,
+      length-with_prop (codes "TRANSACTION_CHECK_TIMES") (digits_of n) once,
+      kept,
+      length-decimal-le 19 r.queue_offset (omega arith) (omega (arith, small)) (omega (arith, small)),
+      length-decimal-le 2 n (omega arith) (omega (arith, low)) (omega (arith, low)),
+    )
 
 -- with what a delivery tells in the place of its delay
 delivered_within : (level number : ℕ) (ps : List (List ℕ × List ℕ)) → level < 100 → number < 2 ^ 62
@@ -127,9 +138,16 @@ delivered_within : (level number : ℕ) (ps : List (List ℕ × List ℕ)) → l
     + size_in (codes "DELAY") ps + size_in (codes "REAL_TOPIC") ps + size_in (codes "REAL_QID") ps ≤ length (written ps) + 34
 delivered_within level number ps low small =
     let real = without_real ps in
-    omega (arith, length-push (codes "DELAY_FROM") (delivery_text level number) (without (codes "DELAY") real), length-without (codes "DELAY") real,
-    real_kept (codes "DELAY") ps refl refl, real_within ps, length-append (digits_of level) (45 ∷ digits_of number),
-    length-decimal-le 2 level (omega arith) (omega (arith, low)) (omega (arith, low)), length-decimal-le 19 number (omega arith) (omega (arith, small)) (omega (arith, small)))
+    omega (
+      arith,
+      length-push (codes "DELAY_FROM") (delivery_text level number) (without (codes "DELAY") real),
+      length-without (codes "DELAY") real,
+      real_kept (codes "DELAY") ps refl refl,
+      real_within ps,
+      length-append (digits_of level) (45 ∷ digits_of number),
+      length-decimal-le 2 level (omega arith) (omega (arith, low)) (omega (arith, low)),
+      length-decimal-le 19 number (omega arith) (omega (arith, small)) (omega (arith, small)),
+    )
 
 -- ---- what is made of a half message
 

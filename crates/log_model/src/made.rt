@@ -68,8 +68,8 @@ fn can_be_made(segment: u32, view: &View<'_>, topic: u64, dropped: u64, added: u
 pub(crate) fn can_be_renewed(segment: u32, view: &View<'_>) -> bool
     ensures { IsTrue result ↔ CanBeRenewed segment view.now }
 {
-    let dropped =
-        prop_len(view, "TRAN_PREPARED_QUEUE_OFFSET") + prop_len(view, "TRANSACTION_CHECK_TIMES");
+    let dropped = prop_len(view, "TRAN_PREPARED_QUEUE_OFFSET")
+        + prop_len(view, "TRANSACTION_CHECK_TIMES");
     can_be_made(segment, view, DISCARD_TOPIC, dropped, RENEWAL)
 }
 
@@ -84,7 +84,8 @@ pub(crate) fn can_be_discarded(segment: u32, view: &View<'_>) -> bool
 pub(crate) fn can_be_delivered(segment: u32, view: &View<'_>) -> bool
     ensures { IsTrue result ↔ CanBeDelivered segment view.now }
 {
-    let dropped =
-        prop_len(view, "DELAY") + prop_len(view, "REAL_TOPIC") + prop_len(view, "REAL_QID");
+    let dropped = prop_len(view, "DELAY")
+        + prop_len(view, "REAL_TOPIC")
+        + prop_len(view, "REAL_QID");
     can_be_made(segment, view, real_topic_len(view), dropped, DELAY_FROM)
 }

@@ -38,14 +38,7 @@ pub struct LogTail {
 }
 
 // The numbers of this record are those that records up to `end` leave for it.
-fn is_match(
-    segment: u32,
-    end: u64,
-    stored: u64,
-    count: u64,
-    halves: u64,
-    view: &View<'_>,
-) -> bool
+fn is_match(segment: u32, end: u64, stored: u64, count: u64, halves: u64, view: &View<'_>) -> bool
     requires size { IsSegmentSize segment }
     requires low { end ≤ 2 ^ 62 }
     ensures { IsTrue result ↔ Matches segment end stored count halves view.now }
@@ -197,14 +190,7 @@ impl LogTail {
     {
         let count = count_of(&self.counts, view.topic(), view.queue());
         let halves = count_of(&self.counts, "RMQ_SYS_TRANS_HALF_TOPIC", 0);
-        is_match(
-            self.segment,
-            self.end,
-            self.stored,
-            count,
-            halves,
-            view,
-        )
+        is_match(self.segment, self.end, self.stored, count, halves, view)
     }
 
     /// Takes a record that follows the log, in segments of any size. At `Err` the tail stands for what it stood for.
