@@ -6,6 +6,7 @@ pub mod Fronts
 pub mod Prefixes
 pub mod StoreLemmas
 pub mod Recovery
+pub mod Standing
 pub mod Longer
 pub mod FirstFits
 pub mod LogFiles
@@ -14,6 +15,9 @@ pub mod Damage
 pub mod OneDamage
 pub mod BatchLemmas
 pub mod Cuts
+pub mod DashLemmas
+pub mod MadeLemmas
+pub mod Makes
 pub mod AdmissibleLemmas
 pub mod OutsideLemmas
 pub mod StoredLemmas

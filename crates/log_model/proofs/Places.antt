@@ -24,12 +24,12 @@ well_formed_take S k log well = record {
 }
 
 -- the size of its segments
-pub site_size : (S : Geometry) → IsGeometry S → IsSegmentSize S.size
-site_size S geometry = record { low = geometry.low; high = geometry.high }
+pub geometry_size : (S : Geometry) → IsGeometry S → IsSegmentSize S.size
+geometry_size S geometry = record { low = geometry.low; high = geometry.high }
 
 -- a log may begin at place 0
-pub whole_site : (n : ℕ) → IsSegmentSize n → IsGeometry (whole n)
-whole_site n segment = record {
+pub whole_geometry : (n : ℕ) → IsSegmentSize n → IsGeometry (whole n)
+whole_geometry n segment = record {
   low = segment.low;
   high = segment.high;
   begins = omega (arith, div-mul-le_self 0 n);

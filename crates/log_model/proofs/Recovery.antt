@@ -11,7 +11,7 @@ use Rattle.record_codec.specs.Blanks.{blank_front}
 use Rattle.log_model.specs.Bases.{Geometry}
 use Rattle.log_model.specs.Log.{fits, Follows, IsWellFormed}
 use Rattle.log_model.specs.Segments.{layouts, Shape, added, opened, used, grown, laid, shape_of, end_in, segment_file, last_name, last_bytes, NoOther, AreSegmentFiles, next_segment}
-use Rattle.log_model.specs.Store.{StartsWith, AreEnded, opened_times, IsNext, IsHonest, Keeps}
+use Rattle.log_model.specs.Store.{StartsWith, StandsAtPlace, AreEnded, opened_times, IsNext, IsHonest, Keeps}
 use Rattle.log_model.proofs.Lists.{get_drop}
 use Rattle.log_model.proofs.Places.{empty_well_formed, placed_log, well_formed_take, place_here, place_next, layouts_push, grown_here, grown_next, shape_of-append}
 use Rattle.log_model.proofs.FileNames.{named_less, next_absent, shape_named, shape_low}
@@ -49,7 +49,7 @@ pub record Reads (S : Geometry) (shape : Shape) (files : Files) : Type 0 where
   pub last : take (used shape) (last_bytes S shape files) ≡ layouts shape.last
 
 -- the file behind whose records a next one was opened: they stand there, and a blank behind them
-closed_reads : (S : Geometry) (shape : Shape) (files : Files) → AreEnded S (shape.last ∷ shape.older) files → Reads S shape files
+pub closed_reads : (S : Geometry) (shape : Shape) (files : Files) → AreEnded S (shape.last ∷ shape.older) files → Reads S shape files
 closed_reads S shape files are =
     let bytes : last_bytes S shape files ≡ are.0.0 = ap bytes_in are.0.1 in
     record {
@@ -289,10 +289,6 @@ keeps_unique S first second files one two = rest_same S files first second [] (r
 
 -- ---- where the records stand
 
--- the record stands where it says: in the file of its segment, at its offset there
-abbrev pub StandsAtPlace : Geometry → Files → Entry → Type 0
-StandsAtPlace S files r = StartsWith (drop (r.offset % S.size) (bytes_of files (segment_file S (r.offset / S.size)))) r
-
 stands_by : (S : Geometry) (shape : Shape) (files : Files) (r : Entry) → used shape < S.size → r.offset ≡ end_in S shape
     → StartsWith (drop (used shape) (last_bytes S shape files)) r → StandsAtPlace S files r
 stands_by S shape files r small place starts =
@@ -301,7 +297,8 @@ stands_by S shape files r small place starts =
     subst (λ (n : ℕ). StartsWith (drop (r.offset % S.size) (bytes_of files (segment_file S n))) r) number
     (subst (λ (n : ℕ). StartsWith (drop n (last_bytes S shape files)) r) offset starts)
 
-comes_stands : (S : Geometry) (done : List Entry) (files : Files) (r : Entry) → IsWellFormed S done → ComesAt S done files r → StandsAtPlace S files r
+-- a record that comes next stands where it says
+pub comes_stands : (S : Geometry) (done : List Entry) (files : Files) (r : Entry) → IsWellFormed S done → ComesAt S done files r → StandsAtPlace S files r
 comes_stands S done files r well comes =
     let shape : Shape = shape_of S done in
     let placed = placed_log S done well in

@@ -1,10 +1,11 @@
 -- Which records a log may have, whatever stands before them, and which half message a record names.
-use Rattle.std.specs.Prelude.{◌≡◌, ℕ, ◌^◌, ◌<◌, ◌==◌, ◌&&◌, ◌||◌, not, nat_lt, bit_and, List, length, slice_index, codes, ℤ, pos, negsuc, Bool, true, false, Option, Some, None, IsSome, IfSome, if◌then◌else◌}
+use Rattle.std.specs.Prelude.{◌≡◌, ℕ, ◌^◌, ◌<◌, ◌≤◌, ◌==◌, ◌&&◌, ◌||◌, not, nat_lt, bit_and, List, length, slice_index, codes, ℤ, pos, negsuc, Bool, true, false, Option, Some, None, IsSome, IfSome, if◌then◌else◌}
 use Rattle.std.specs.Str.{bytes_eq, is_utf8}
 use Rattle.mq_bytes.specs.Decimal.{decimal_value}
 use Rattle.record_codec.specs.Entry.{Entry}
 use Rattle.record_codec.specs.Layout.{is_legal}
-use Rattle.record_codec.specs.Props.{value_of}
+use Rattle.record_codec.specs.Props.{value_of, until}
+use Rattle.log_model.specs.Made.{CanBeRenewed, CanBeDiscarded, CanBeDelivered}
 
 -- ---- the topics that the broker keeps for itself
 
@@ -52,6 +53,14 @@ number_of bytes = if is_utf8 bytes then number_in bytes else None
 abbrev pub IsBelow : ℕ → List ℕ → Type 0
 IsBelow most text = IfSome (number_in text) (λ n. n < most) × IsSome (number_in text)
 
+-- a level from 1 to 18
+abbrev pub IsLevel : List ℕ → Type 0
+IsLevel text = IfSome (number_in text) (λ n. (1 ≤ n) × (n ≤ 18)) × IsSome (number_in text)
+
+-- a level, a dash, and a number
+abbrev pub IsDelayFrom : List ℕ → Type 0
+IsDelayFrom text = IfSome (until 45 text) (λ p. IsLevel p.0 × IsSome (number_in p.1)) × IsSome (until 45 text)
+
 -- ---- one record
 
 -- where the record has this property, its text is like this
@@ -72,16 +81,29 @@ pub record Waits (r : Entry) : Type 0 where
   pub queue : Has (codes "REAL_QID") r (IsBelow 1024)
   pub bits : bit_and r.sysflag 12 ≡ 0
 
--- A record that a log may have, wherever it stands.
-pub record IsAdmissible (r : Entry) : Type 0 where
+-- A half message waits, tells its producer group, and can be renewed; one that is a renewal can be discarded.
+pub record IsHalfMessage (S : ℕ) (r : Entry) : Type 0 where
+  pub waits : Waits r
+  pub group : IsSome (value_of (codes "PGROUP") r.props)
+  pub renewed : CanBeRenewed S r
+  pub discarded : IsSome (value_of (codes "TRAN_PREPARED_QUEUE_OFFSET") r.props) → CanBeDiscarded S r
+
+-- a delayed message waits, and can be delivered
+pub record IsDelayedMessage (S : ℕ) (r : Entry) : Type 0 where
+  pub waits : Waits r
+  pub delivered : CanBeDelivered S r
+
+-- A record that a log in segments of S bytes may have, wherever it stands.
+pub record IsAdmissible (S : ℕ) (r : Entry) : Type 0 where
   pub queue : r.queue < most_queues r.topic
   pub copy : bit_and r.sysflag 12 ≡ 8 → r.prepared < r.offset
-  pub checked : bytes_eq r.topic discard_topic ≡ true → r.prepared < r.offset
-  pub half : bytes_eq r.topic half_topic ≡ true → Waits r × IsSome (value_of (codes "PGROUP") r.props)
-  pub level : bytes_eq r.topic level_topic ≡ true → Waits r
+  pub discard : bytes_eq r.topic discard_topic ≡ true → r.prepared < r.offset
+  pub half : bytes_eq r.topic half_topic ≡ true → IsHalfMessage S r
+  pub level : bytes_eq r.topic level_topic ≡ true → IsDelayedMessage S r
   pub op : bytes_eq r.topic op_topic ≡ true → IsSome (number_of r.body)
   pub renewal : IfHas (codes "TRAN_PREPARED_QUEUE_OFFSET") r (λ text. IsSome (number_in text))
-  pub delivery : value_of (codes "DELAY_FROM") r.props ≡ None
+  pub delivery : IfHas (codes "DELAY_FROM") r IsDelayFrom
+  pub undelivered : is_system_topic r.topic ≡ true → value_of (codes "DELAY_FROM") r.props ≡ None
 
 -- ---- the half message that a record names
 

@@ -1,3 +1,4 @@
+pub mod Made
 pub mod Admissible
 pub mod Bases
 pub mod Batches

@@ -51,7 +51,7 @@ pub record Follows (S : Geometry) (log : List Entry) (r : Entry) : Type 0 where
   pub low : r.offset + size r ≤ 2 ^ 62
   pub queue_offset : r.queue_offset ≡ queue_end S.base log r.topic r.queue
   pub store : (k : ℕ) (earlier : Entry) → slice_get log k ≡ Some earlier → earlier.store ≤ r.store
-  pub shaped : IsAdmissible r
+  pub admissible : IsAdmissible S.size r
   pub names : NamesEarlier (queue_end S.base log half_topic 0) r
 
 -- each record may stand behind those before it

@@ -1,15 +1,15 @@
 -- What recovery keeps of any files, which crash images are honest, and when a disk stores a log.
-use Rattle.std.specs.Prelude.{◌≡◌, ◌≢◌, ◌⊎◌, ℕ, zero, suc, ◌+◌, ◌-◌, ◌*◌, ◌^◌, ◌<◌, ◌≤◌, List, [], ◌∷◌, ◌++◌, length, take, drop, slice_get, Some, None, IsSome, IsTrue}
+use Rattle.std.specs.Prelude.{◌≡◌, ◌≢◌, ◌⊎◌, ℕ, zero, suc, ◌+◌, ◌-◌, ◌*◌, ◌/◌, ◌%◌, ◌^◌, ◌<◌, ◌≤◌, List, [], ◌∷◌, ◌++◌, length, take, drop, slice_get, Some, None, IsSome, IsTrue}
 use Rattle.std.specs.Ordering.{nat_cmp, is_lt}
 use Rattle.std.specs.Cmp.Lexicographic.{slice_cmp}
-use Rattle.mq_outside.specs.Files.{Files}
-use Rattle.mq_outside.specs.Disk.{DiskState, EachImage}
+use Rattle.mq_outside.specs.Files.{Files, bytes_of}
+use Rattle.mq_outside.specs.Disk.{DiskState, IsCrashImage, EachImage}
 use Rattle.record_codec.specs.Entry.{Entry}
 use Rattle.record_codec.specs.Layout.{layout, IsRecord}
 use Rattle.record_codec.specs.Blanks.{blank_front}
 use Rattle.log_model.specs.Bases.{Geometry, first_segment}
 use Rattle.log_model.specs.Log.{Follows, IsWellFormed}
-use Rattle.log_model.specs.Segments.{Shape, layouts, added, opened, used, next_segment, segment_start, end_in, shape_of, segment_file, last_name, last_bytes, AreClosed, IsLogFile, NoOther}
+use Rattle.log_model.specs.Segments.{Shape, layouts, added, opened, used, next_segment, segment_start, end_in, shape_of, segment_file, last_name, last_bytes, AreClosed, IsLogFile, Counts, NoOther}
 
 -- ---- what stands where
 
@@ -18,6 +18,10 @@ pub record StartsWith (bytes : List ℕ) (r : Entry) : Type 0 where
   pub is : IsRecord r
   pub rest : List ℕ
   pub split : bytes ≡ layout r ++ rest
+
+-- the record stands where it says: in the file of its segment, at its offset there
+abbrev pub StandsAtPlace : Geometry → Files → Entry → Type 0
+StandsAtPlace S files r = StartsWith (drop (r.offset % S.size) (bytes_of files (segment_file S (r.offset / S.size)))) r
 
 -- These records and then one blank fill a segment. Of the blank only its size and its magic count.
 pub record EndsInBlank (S : Geometry) (records : List Entry) (bytes : List ℕ) : Type 0 where
@@ -149,6 +153,13 @@ pub record StoresLog (S : Geometry) (log : List Entry) (flushed : ℕ) (disk : D
   pub shape : Shape
   pub reach : ℕ
   pub at : StoresAt S log flushed shape reach disk
+
+-- Files of the log's own segments are as a crash of this disk might leave them. Others, and those of segments before the base,
+-- may be different.
+pub record HasLogFilesOf (S : Geometry) (old : DiskState) (files : Files) : Type 0 where
+  pub before : Files
+  pub image : IsCrashImage old before
+  pub same : (name : List ℕ) → Counts S name → files name ≡ before name
 
 -- ---- what is written
 

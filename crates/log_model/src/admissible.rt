@@ -1,14 +1,13 @@
 //! Which records a log may have, whatever stands before them, and which half message a record names.
 
-ghost use Rattle.std.specs.Prelude.{◌≡◌, ◌<◌, ◌↔◌, IsTrue, IsSome, IfSome, bit_and, codes, true};
+ghost use Rattle.std.specs.Prelude.{◌≡◌, ◌<◌, ◌↔◌, IsTrue, IsSome, IfSome, bit_and, codes, true, None};
 ghost use Rattle.std.specs.Str.{bytes_eq};
 ghost use Rattle.record_codec.specs.Props.{value_of};
-ghost use Rattle.log_model.specs.Admissible.{is_system_topic as is_system, most_queues as most_of, is_bare as bare, number_in as number_of_text, number_of as number_of_bytes, names_half, half_topic, level_topic, op_topic, discard_topic, Waits, IsAdmissible, NamesEarlier, IsPlainTopic, IsBelow, Has, IfHas};
+ghost use Rattle.log_model.specs.Admissible.{is_system_topic as is_system, most_queues as most_of, is_bare as bare, number_in as number_of_text, number_of as number_of_bytes, names_half, half_topic, level_topic, op_topic, discard_topic, Waits, IsHalfMessage, IsDelayedMessage, IsAdmissible, NamesEarlier, IsPlainTopic, IsDelayFrom, IfHas};
 
-use mq_bytes::read_decimal;
+use crate::made::{can_be_delivered, can_be_discarded, can_be_renewed};
+use crate::texts::{has_number, is_below, is_delay_from, number_in, number_of};
 use record_codec::{COMMITTED, TRANSACTION_BITS, View, is_legal_topic};
-
-const LIMIT: u64 = 1 << 62;
 
 /// The topics that the broker keeps for itself: delayed messages, half messages, what settles these, and those given up.
 pub fn is_system_topic(topic: &str) -> bool
@@ -32,51 +31,6 @@ fn most_queues(topic: &str) -> u32
     }
 }
 
-fn is_bare(text: &[u8]) -> bool
-    ensures { result ≡ bare text.now }
-{
-    !text.is_empty() && text[0] != b'-' && (text[0] != b'0' || text.len() == 1)
-}
-
-// The number below 2^62 that the text writes, without a sign or a leading zero.
-fn number_in(text: &str) -> Option<u64>
-    ensures { result ≡ number_of_text text.now }
-{
-    if !is_bare(text.as_bytes()) {
-        return None;
-    }
-    let value = read_decimal(text)?;
-    if value < 0 {
-        return None;
-    }
-    let value = value as u64;
-    if value >= LIMIT {
-        return None;
-    }
-    Some(value)
-}
-
-fn number_of(bytes: &[u8]) -> Option<u64>
-    ensures { result ≡ number_of_bytes bytes.now }
-{
-    match std::str::from_utf8(bytes) {
-        Ok(text) => number_in(text),
-        Err(_) => None,
-    }
-}
-
-fn is_below(text: Option<&str>, most: u64) -> bool
-    ensures { IsTrue result ↔ (IsSome text.entry × IfSome text.entry (λ text. IsBelow most text.now)) }
-{
-    match text {
-        Some(text) => match number_in(text) {
-            Some(number) => number < most,
-            None => false,
-        },
-        None => false,
-    }
-}
-
 fn is_plain_topic(topic: Option<&str>) -> bool
     ensures { IsTrue result ↔ (IsSome topic.entry × IfSome topic.entry (λ topic. IsPlainTopic topic.now)) }
 {
@@ -95,24 +49,52 @@ fn waits(view: &View<'_>) -> bool
         && view.sysflag() & TRANSACTION_BITS == 0
 }
 
+// A half message: it waits, tells its producer group, and what is made of it can be written.
+fn is_half_message(segment: u32, view: &View<'_>) -> bool
+    ensures { IsTrue result ↔ IsHalfMessage segment view.now }
+{
+    waits(view)
+        && view.prop("PGROUP").is_some()
+        && can_be_renewed(segment, view)
+        && (view.prop("TRAN_PREPARED_QUEUE_OFFSET").is_none() || can_be_discarded(segment, view))
+}
+
+// A delayed message: it waits, and what is made of it can be written.
+fn is_delayed_message(segment: u32, view: &View<'_>) -> bool
+    ensures { IsTrue result ↔ IsDelayedMessage segment view.now }
+{
+    waits(view) && can_be_delivered(segment, view)
+}
+
 // Where the record is of a topic that the broker keeps for itself, it is as that topic asks.
-fn is_of_its_topic(view: &View<'_>) -> bool
+fn is_of_its_topic(segment: u32, view: &View<'_>) -> bool
     ensures { IsTrue result ↔ ((bytes_eq view.now.topic discard_topic ≡ true → view.now.prepared < view.now.offset)
-        × (bytes_eq view.now.topic half_topic ≡ true → Waits view.now × IsSome (value_of (codes "PGROUP") view.now.props))
-        × (bytes_eq view.now.topic level_topic ≡ true → Waits view.now)
+        × (bytes_eq view.now.topic half_topic ≡ true → IsHalfMessage segment view.now)
+        × (bytes_eq view.now.topic level_topic ≡ true → IsDelayedMessage segment view.now)
         × (bytes_eq view.now.topic op_topic ≡ true → IsSome (number_of_bytes view.now.body))) }
 {
     let topic = view.topic();
     if topic == "TRANS_CHECK_MAX_TIME_TOPIC" {
         view.prepared() < view.offset()
     } else if topic == "RMQ_SYS_TRANS_HALF_TOPIC" {
-        waits(view) && view.prop("PGROUP").is_some()
+        is_half_message(segment, view)
     } else if topic == "SCHEDULE_TOPIC_XXXX" {
-        waits(view)
+        is_delayed_message(segment, view)
     } else if topic == "RMQ_SYS_TRANS_OP_HALF_TOPIC" {
         number_of(view.body()).is_some()
     } else {
         true
+    }
+}
+
+// A delivery tells its level and its number there, and none of the broker's own topics has one.
+fn is_delivery_marked(view: &View<'_>) -> bool
+    ensures { IsTrue result ↔ (IfHas (codes "DELAY_FROM") view.now IsDelayFrom
+        × (is_system view.now.topic ≡ true → value_of (codes "DELAY_FROM") view.now.props ≡ None)) }
+{
+    match view.prop("DELAY_FROM") {
+        Some(text) => is_delay_from(text) && !is_system_topic(view.topic()),
+        None => true,
     }
 }
 
@@ -123,24 +105,15 @@ fn is_behind_its_half(view: &View<'_>) -> bool
     view.sysflag() & TRANSACTION_BITS != COMMITTED || view.prepared() < view.offset()
 }
 
-fn has_number(text: Option<&str>) -> bool
-    ensures { IsTrue result ↔ IfSome text.entry (λ text. IsSome (number_of_text text.now)) }
-{
-    match text {
-        Some(text) => number_in(text).is_some(),
-        None => true,
-    }
-}
-
-/// Whether a log may have this record, wherever it stands.
-pub fn is_admissible(view: &View<'_>) -> bool
-    ensures { IsTrue result ↔ IsAdmissible view.now }
+/// Whether a log in segments of this size may have this record, wherever it stands.
+pub fn is_admissible(segment: u32, view: &View<'_>) -> bool
+    ensures { IsTrue result ↔ IsAdmissible segment view.now }
 {
     view.queue() < most_queues(view.topic())
         && is_behind_its_half(view)
-        && is_of_its_topic(view)
+        && is_of_its_topic(segment, view)
         && has_number(view.prop("TRAN_PREPARED_QUEUE_OFFSET"))
-        && view.prop("DELAY_FROM").is_none()
+        && is_delivery_marked(view)
 }
 
 fn named_half(view: &View<'_>) -> Option<u64>

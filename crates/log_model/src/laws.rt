@@ -1,16 +1,22 @@
 //! What holds of logs, of their segment files and of recovery. No call is made: the clauses speak of the definitions.
 
-ghost use Rattle.std.specs.Prelude.{◌≡◌, ◌⊎◌, ◌<◌, ◌≤◌, ◌+◌, ◌*◌, ◌/◌, ◌%◌, ◌^◌, ◌++◌, List, [], ◌∷◌, ℕ, suc, Some, IsSome, length, take, drop, slice_get, ℤ, Bool, map};
+ghost use Rattle.std.specs.Prelude.{◌≡◌, ◌⊎◌, ◌<◌, ◌≤◌, ◌+◌, ◌*◌, ◌/◌, ◌%◌, ◌^◌, ◌++◌, List, [], ◌∷◌, ℕ, suc, Some, IsSome, length, take, drop, slice_get, ℤ, Bool, map, None, true};
 ghost use Rattle.mq_outside.specs.Disk.{EachImage, IsCrashImage, IsDurable};
 ghost use Rattle.mq_outside.specs.Files.{Files, HasNoFile, At, Shortened, bytes_of};
 ghost use Rattle.record_codec.specs.Entry.{Entry};
 ghost use Rattle.record_codec.specs.Units.{unit_of};
 ghost use Rattle.record_codec.specs.declared.unit.Unit.{Unit as QueueUnit};
+ghost use Rattle.record_codec.specs.Layout.{IsRecord};
+ghost use Rattle.record_codec.specs.Drafts.{entry_of, draft_fault};
+ghost use Rattle.record_codec.specs.declared.draft.Place.{Place};
+ghost use Rattle.log_model.specs.Admissible.{IsAdmissible};
+ghost use Rattle.log_model.specs.Drafts.{copy_draft, renewal_draft, discard_draft, delivery_draft, op_draft};
+ghost use Rattle.log_model.specs.Kinds.{is_half, is_delayed, origin_text};
 ghost use Rattle.log_model.specs.Bases.{Geometry, first_segment};
 ghost use Rattle.log_model.specs.Log.{place_after, end_of, IsGeometry, IsWellFormed};
 ghost use Rattle.log_model.specs.Pulls.{pulled, pulled_as};
 ghost use Rattle.log_model.specs.Segments.{Shape, shape_of, segment_file, last_name, Counts, AreSegmentFiles};
-ghost use Rattle.log_model.specs.Store.{StartsWith, IsDamagedAt, IsHonest, IsLaid, Keeps, KeepsPrefix, KeepsIfHonest, Stands, StoresLog};
+ghost use Rattle.log_model.specs.Store.{StartsWith, IsDamagedAt, IsHonest, IsLaid, Keeps, KeepsPrefix, KeepsIfHonest, Stands, StoresLog, StandsAtPlace, HasLogFilesOf};
 ghost use Rattle.log_model.specs.Stored.{FlushTurn, HasFirst, KeepsAtLeast, LogStays, StoresFirst, flush_turn, turned_by, turned_in};
 
 use mq_outside::Disk;
@@ -40,7 +46,22 @@ pub fn files_before_the_last_are_full()
     ensures before { (S : Geometry) (log : List Entry) (files : Files) (k : ℕ) → IsWellFormed S log → AreSegmentFiles S log files
         → first_segment S ≤ k → k < end_of S.base log / S.size → length (bytes_of files (segment_file S k)) ≡ S.size }
     ensures behind { (S : Geometry) (log : List Entry) (files : Files) (k : ℕ) → IsWellFormed S log → AreSegmentFiles S log files
-        → first_segment S ≤ k → suc k * S.size < 2 ^ 64 → IsSome (files (segment_file S (suc k))) → length (bytes_of files (segment_file S k)) ≡ S.size }
+        → first_segment S ≤ k → suc k * S.size < 2 ^ 64 → IsSome (files (segment_file S (suc k)))
+        → length (bytes_of files (segment_file S k)) ≡ S.size }
+{}
+
+/// Where a disk stores a log, each flushed record stands where it says, as the disk is read and in each crash image.
+pub fn flushed_records_stand_at_their_places<D: Disk>(disk: &D)
+    ensures read { D.tells → (S : Geometry) (log : List Entry) (flushed k : ℕ) (r : Entry) → StoresLog S log flushed (D.state disk.now)
+        → k < flushed → slice_get log k ≡ Some r → StandsAtPlace S (D.state disk.now).reads r }
+    ensures crash { D.tells → (S : Geometry) (log : List Entry) (flushed k : ℕ) (r : Entry) → StoresLog S log flushed (D.state disk.now)
+        → k < flushed → slice_get log k ≡ Some r → EachImage (λ files. StandsAtPlace S files r) (D.state disk.now) }
+{}
+
+/// What a disk stores depends on the files of the log's own segments alone, and on none before its base.
+pub fn other_files_do_not_matter<D: Disk, E: Disk>(before: &D, after: &E)
+    ensures { D.tells → E.tells → (S : Geometry) (log : List Entry) (flushed : ℕ) → StoresLog S log flushed (D.state before.now)
+        → EachImage (HasLogFilesOf S (D.state before.now)) (E.state after.now) → StoresLog S log flushed (E.state after.now) }
 {}
 
 /// Where a disk stores a log, each crash leaves the files before the one where the flushed records end as they are read.
@@ -62,7 +83,8 @@ pub fn an_empty_disk_stores_the_empty_log<D: Disk>(disk: &D)
 
 /// What a disk is after a crash, which holds one of the images, stores the same log.
 pub fn a_crashed_disk_stores_the_log<D: Disk, E: Disk>(before: &D, after: &E)
-    ensures { D.tells → E.tells → (S : Geometry) (log : List Entry) (flushed : ℕ) (files : Files) → StoresLog S log flushed (D.state before.now)
+    ensures { D.tells → E.tells → (S : Geometry) (log : List Entry) (flushed : ℕ) (files : Files)
+        → StoresLog S log flushed (D.state before.now)
         → IsCrashImage (D.state before.now) files → EachImage (λ image. image ≡ files) (E.state after.now)
         → StoresLog S log flushed (E.state after.now) }
 {}
@@ -96,8 +118,9 @@ pub fn kept_is_well_formed()
 
 /// Each record that recovery keeps stands where it says: in the file of its segment, at its offset there.
 pub fn kept_records_stand_at_their_places()
-    ensures { (S : Geometry) (records : List Entry) (files : Files) (k : ℕ) (r : Entry) → Keeps S records files → slice_get records k ≡ Some r
-        → StartsWith (drop (r.offset % S.size) (bytes_of files (segment_file S (r.offset / S.size)))) r }
+    ensures { (S : Geometry) (records : List Entry) (files : Files) (k : ℕ) (r : Entry) → Keeps S records files
+        → slice_get records k ≡ Some r
+        → StandsAtPlace S files r }
 {}
 
 /// The files that a log is recovered from are honest for it.
@@ -175,4 +198,21 @@ pub fn a_log_whose_files_stay_is_stored<D: Disk>(old: &D, new: &D)
 pub fn units_are_pulled_as_records()
     ensures { (low most : ℕ) (queue : List Entry) (from : ℤ) (test : QueueUnit → Bool)
         → pulled (λ unit. unit) low (map unit_of queue) from most test ≡ pulled_as unit_of (pulled unit_of low queue from most test) }
+{}
+
+/// What the broker makes of a record that a log may have can be written: the committed copy, the renewal and the discarded
+/// copy of a half message, also the one of its renewal, and the delivery of a delayed message; and what names a settled half.
+pub fn what_is_made_of_a_record_can_be_written()
+    ensures copy { (S : ℕ) (r : Entry) (host : List ℕ) → IsRecord r → IsAdmissible S r → is_half r ≡ true
+        → draft_fault S (copy_draft host r) ≡ None }
+    ensures renewal { (S : ℕ) (r : Entry) (host : List ℕ) (n : ℕ) → IsRecord r → IsAdmissible S r → is_half r ≡ true → n < 100
+        → draft_fault S (renewal_draft host n r) ≡ None }
+    ensures discard { (S : ℕ) (r : Entry) (host : List ℕ) → IsRecord r → IsAdmissible S r → is_half r ≡ true → IsSome (origin_text r)
+        → draft_fault S (discard_draft host r) ≡ None }
+    ensures renewed { (S : ℕ) (r : Entry) (host later : List ℕ) (n : ℕ) (at : Place) → IsRecord r → IsAdmissible S r
+        → is_half r ≡ true → n < 100
+        → draft_fault S (discard_draft later (entry_of (renewal_draft host n r) at)) ≡ None }
+    ensures delivery { (S : ℕ) (r : Entry) (host : List ℕ) (level number : ℕ) → IsRecord r → IsAdmissible S r
+        → is_delayed r ≡ true → level < 100 → number < 2 ^ 62 → draft_fault S (delivery_draft host level number r) ≡ None }
+    ensures op { (S now origin : ℕ) (host : List ℕ) → 4096 ≤ S → origin < 2 ^ 62 → draft_fault S (op_draft host now origin) ≡ None }
 {}

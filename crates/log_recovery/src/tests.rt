@@ -1,5 +1,10 @@
 //! Recovery of small logs, whose record bytes were made apart, with the sums of zlib.
 
+ghost use Rattle.std.specs.Prelude.{IfOk};
+ghost use Rattle.log_model.specs.Bases.{geometry};
+ghost use Rattle.log_model.specs.Log.{IsGeometry};
+ghost use Rattle.log_model.specs.Told.{base_of};
+
 use super::*;
 use log_model::Base;
 use mq_bytes::LogFile;
@@ -22,6 +27,16 @@ const FIRST: &[u8; 108] =
 \x00\x00\x00\x00\x00\x00\x00\x00\x00\x00\x00\x00\x00\x00\x00\x00\x00\x00\x03\xE8\x7F\x00\x00\x01\x00\x00\x00\x00\x00\x00\x00\x00\
 \x00\x00\x07\xD0\x7F\x00\x00\x01\x00\x00*\x9F\x00\x00\x00\x00\x00\x00\x00\x00\x00\x00\x00\x00\x00\x00\x00\x02\
 hi\x01T\x00\x0ESEAL\x0122FE9094\x02";
+
+/// The same message twice behind a base of two segments: at the places 8,192 and 8,300, with the queue offsets 3 and 4.
+const BEHIND_THE_BASE: &[u8; 216] =
+    b"\x00\x00\x00l\xDA\xA3 \xA7X\x93*\xAC\x00\x00\x00\x00\x00\x00\x00\x00\x00\x00\x00\x00\x00\x00\x00\x03\x00\x00\x00\x00\x00\
+\x00 \x00\x00\x00\x00\x00\x00\x00\x00\x00\x00\x00\x03\xE8\x7F\x00\x00\x01\x00\x00\x00\x00\x00\x00\x00\x00\x00\x00\x07\
+\xD0\x7F\x00\x00\x01\x00\x00*\x9F\x00\x00\x00\x00\x00\x00\x00\x00\x00\x00\x00\x00\x00\x00\x00\x02hi\x01T\x00\x0ESEAL\x01\
+11219C30\x02\x00\x00\x00l\xDA\xA3 \xA7X\x93*\xAC\x00\x00\x00\x00\x00\x00\x00\x00\x00\x00\x00\x00\x00\x00\x00\x04\x00\x00\
+\x00\x00\x00\x00 l\x00\x00\x00\x00\x00\x00\x00\x00\x00\x00\x03\xE8\x7F\x00\x00\x01\x00\x00\x00\x00\x00\x00\x00\x00\x00\
+\x00\x07\xD0\x7F\x00\x00\x01\x00\x00*\x9F\x00\x00\x00\x00\x00\x00\x00\x00\x00\x00\x00\x00\x00\x00\x00\x02hi\x01T\x00\x0E\
+SEAL\x01A29B6A51\x02";
 
 /// Counts the records.
 #[derive(Drop)]
@@ -176,21 +191,51 @@ fn damage_is_told_with_its_place_and_file(rt: HostRuntime) -> Result<(), Fail> {
     Ok(())
 }
 
-#[test]
-fn a_file_before_the_base_does_not_count(rt: HostRuntime) -> Result<(), Fail> {
-    let mut disk = disk_of(rt.alloc(), FIRST, &[], 0)?;
-    let mut queues = Vec::new(rt.alloc());
-    queues.push((String::from_str(rt.alloc(), "T")?, 0, 2))?;
-    let base = Base {
-        place: 4096,
-        records: 2,
+/// A base behind two segments, which had three records of the queue.
+fn base_of_two(alloc: Global) -> Result<Base, AllocError>
+    ensures { IfOk result (λ base. IsGeometry (geometry 4096 (base_of base))) }
+{
+    let mut queues = Vec::new(alloc);
+    queues.push((String::from_str(alloc, "T")?, 0, 3))?;
+    Ok(Base {
+        place: 8192,
+        records: 3,
         queues,
         levels: [0; 18],
-    };
+    })
+}
+
+/// A disk with the records behind the base, and with the files of the removed segments or without them.
+fn disk_behind(alloc: Global, removed: bool) -> Result<MemDisk, Fail> {
+    let mut disk = MemDisk::new(alloc, Vec::new(alloc), ROOM, Vec::new(alloc))?;
+    if removed {
+        put_files(&mut disk, b"no record", b"no record")?;
+    }
+    disk.write_at(LogFile::of(8192).as_str(), 0, BEHIND_THE_BASE)?;
+    Ok(disk)
+}
+
+/// Where the records behind the base end, and how many there are.
+fn recovered_behind(
+    alloc: Global,
+    disk: &mut MemDisk,
+) -> Result<(Result<u64, RecoverFault>, u64), AllocError> {
+    let base = base_of_two(alloc)?;
     let mut count = Count { records: 0 };
-    let answer = recover(rt.alloc(), &mut disk, SEGMENT, &base, &mut count);
-    assert!(rt; matches!(answer, Ok(4096)));
-    assert_eq!(rt; count.records, 0);
-    assert!(rt; holds(&disk, 0, FIRST));
+    let answer = recover(alloc, disk, SEGMENT, &base, &mut count);
+    Ok((answer, count.records))
+}
+
+#[test]
+fn a_log_behind_two_segments_is_recovered_whether_these_are_there_or_not(
+    rt: HostRuntime,
+) -> Result<(), Fail> {
+    for removed in [true, false] {
+        let mut disk = disk_behind(rt.alloc(), removed)?;
+        let (answer, count) = recovered_behind(rt.alloc(), &mut disk)?;
+        assert!(rt; matches!(answer, Ok(8408)) && count == 2);
+        assert!(rt; holds(&disk, 8192, BEHIND_THE_BASE));
+        assert_eq!(rt; disk.bytes(LogFile::of(4096).as_str()).is_some(), removed);
+    }
     Ok(())
 }

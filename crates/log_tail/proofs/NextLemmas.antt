@@ -20,7 +20,7 @@ matches_follow S log tail r stands is matches = record {
   low = matches.low;
   queue_offset = matches.queue_offset ∙ stands.counts r.topic r.queue;
   store = λ k earlier got. omega (arith, stands.latest k earlier got, matches.store);
-  shaped = matches.shaped;
+  admissible = matches.admissible;
   names = subst (λ (n : ℕ). NamesEarlier n r) (stands.counts half_topic 0) matches.names;
 }
 
@@ -32,6 +32,6 @@ follows_match S log tail r stands follows = record {
   low = follows.low;
   queue_offset = follows.queue_offset ∙ sym (stands.counts r.topic r.queue);
   store = omega (arith, stands.time, last_store_low r.store log follows.store);
-  shaped = follows.shaped;
+  admissible = follows.admissible;
   names = subst (λ (n : ℕ). NamesEarlier n r) (sym (stands.counts half_topic 0)) follows.names;
 }

@@ -13,5 +13,5 @@ pub record Matches (S end time count halves : ℕ) (r : Entry) : Type 0 where
   pub low : r.offset + size r ≤ 2 ^ 62
   pub queue_offset : r.queue_offset ≡ count
   pub store : time ≤ r.store
-  pub shaped : IsAdmissible r
+  pub admissible : IsAdmissible S r
   pub names : NamesEarlier halves r

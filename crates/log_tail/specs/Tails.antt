@@ -18,8 +18,8 @@ store_from now (r ∷ log) = store_from r.store log
 abbrev pub last_store : List Entry → ℕ
 last_store log = store_from 0 log
 
--- The tail stands for the log that begins at this base: it has its end, the number of its records with those before the base, its last store time, which none of its records
--- passes, and the end of each queue.
+-- The tail stands for the log that begins at this base: it has its end, the number of its records with those before the base,
+-- its last store time, which none of its records passes, and the end of each queue.
 pub record StandsFor (base : Base) (tail : LogTail) (log : List Entry) : Type 0 where
   pub end : tail.end ≡ end_of base log
   pub records : tail.records ≡ base.records + length log

@@ -38,14 +38,7 @@ pub struct LogTail {
 }
 
 // The numbers of this record are those that records up to `end` leave for it.
-fn is_match(
-    segment: u32,
-    end: u64,
-    stored: u64,
-    count: u64,
-    halves: u64,
-    view: &View<'_>,
-) -> bool
+fn is_match(segment: u32, end: u64, stored: u64, count: u64, halves: u64, view: &View<'_>) -> bool
     requires size { IsSegmentSize segment }
     requires low { end ≤ 2 ^ 62 }
     ensures { IsTrue result ↔ Matches segment end stored count halves view.now }
@@ -56,7 +49,7 @@ fn is_match(
         && view.offset() + u64::from(size) <= LOG_MAX
         && view.queue_offset() == count
         && stored <= view.store()
-        && is_admissible(view)
+        && is_admissible(segment, view)
         && names_earlier(view, halves)
 }
 
@@ -111,7 +104,7 @@ impl LogTail {
         self.segment
     }
 
-    /// Where the last record ends, 0 where there is none.
+    /// Where the last record ends; the base's place where there is none.
     pub fn end(&self) -> u64
         ensures value { result ≡ self.now.end }
         ensures low { result ≤ 2 ^ 62 }
@@ -119,7 +112,7 @@ impl LogTail {
         self.end
     }
 
-    /// How many records the log has.
+    /// How many records the log has, those before its base counted.
     pub fn records(&self) -> u64
         ensures { result ≡ self.now.records }
     {
@@ -197,14 +190,7 @@ impl LogTail {
     {
         let count = count_of(&self.counts, view.topic(), view.queue());
         let halves = count_of(&self.counts, "RMQ_SYS_TRANS_HALF_TOPIC", 0);
-        is_match(
-            self.segment,
-            self.end,
-            self.stored,
-            count,
-            halves,
-            view,
-        )
+        is_match(self.segment, self.end, self.stored, count, halves, view)
     }
 
     /// Takes a record that follows the log, in segments of any size. At `Err` the tail stands for what it stood for.

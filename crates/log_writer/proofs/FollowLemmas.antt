@@ -15,7 +15,7 @@ use Rattle.log_model.specs.declared.batch.Batch.{Batch}
 use Rattle.log_model.specs.Log.{fits, end_of, place_after, Follows, IsWellFormed}
 use Rattle.log_model.specs.Segments.{layouts}
 use Rattle.log_model.specs.Batches.{blank_between, IsBatchOf}
-use Rattle.log_model.proofs.AdmissibleLemmas.{plain_shaped, plain_names}
+use Rattle.log_model.proofs.AdmissibleLemmas.{plain_admissible, plain_names}
 use Rattle.log_model.proofs.Recovery.{well_formed_push}
 use Rattle.log_tail.specs.Tails.{StandsFor, ComesBehind}
 use Rattle.log_tail.specs.Places.{place_behind, HasRoom}
@@ -45,8 +45,8 @@ next_follows S log draft reading tail stands plain room is = record {
   low = room;
   queue_offset = refl;
   store = λ k earlier got. omega (arith, stands.latest k earlier got, stands.time);
-  shaped = plain_shaped (next_entry S log draft reading) plain.topic plain.queue (λ eight. absurd (plain.copy eight)) plain.delivery plain.renewal;
-  names = plain_names (next_entry S log draft reading) plain.topic _;
+  admissible = plain_admissible S.size (next_entry S log draft reading) plain.topic plain.queue (λ eight. absurd (plain.copy eight)) plain.delivery plain.renewal;
+  names = plain_names S.size (next_entry S log draft reading) plain.topic _;
 }
 
 -- one record behind the log, as a batch

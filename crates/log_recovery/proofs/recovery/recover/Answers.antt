@@ -5,7 +5,7 @@ use Rattle.mq_outside.specs.Disk.{DiskState}
 use Rattle.log_model.specs.Bases.{Geometry, geometry}
 use Rattle.log_model.specs.Told.{base_of}
 use Rattle.log_model.specs.Segments.{segment_file, shape_of, used, next_segment}
-use Rattle.log_model.proofs.Places.{site_size}
+use Rattle.log_model.proofs.Places.{geometry_size}
 use Rattle.log_recovery.proofs.RecoverLemmas.{ends_at, top_named, read_within, settled_here, exact_each}
 use Rattle.log_recovery.proofs.OursLemmas.{rests_stays, rests_outside, settles_outside, read_stays, read_recovered}
 use Rattle.log_recovery.proofs.recovery.recover.Goals as goal
@@ -24,14 +24,14 @@ pub settle-requires-clause-within : goal.settle-requires-clause-within
 settle-requires-clause-within g c = λ tells. read_within (geometry c.args.segment (base_of c.args.base.now)) c.in_ok-log.log.count c.in_ok-log.log.end _ _ _ _ (c.in_ok-log.ensures.read tells) (c.read_log.ensures.only_reads.rests tells).same
 
 pub returns-in_err-settle-clause-flushed : goal.returns-in_err-settle-clause-flushed
-returns-in_err-settle-clause-flushed g c = λ tells. read_stays (geometry c.args.segment (base_of c.args.base.now)) c.in_ok-log.log.count c.in_ok-log.log.end _ _ _ _ _ (site_size _ c.requires.size) c.in_ok-log.ensures.low c.in_ok-log.ensures.count (c.in_ok-log.ensures.read tells)
+returns-in_err-settle-clause-flushed g c = λ tells. read_stays (geometry c.args.segment (base_of c.args.base.now)) c.in_ok-log.log.count c.in_ok-log.log.end _ _ _ _ _ (geometry_size _ c.requires.size) c.in_ok-log.ensures.low c.in_ok-log.ensures.count (c.in_ok-log.ensures.read tells)
     (c.read_log.ensures.only_reads.rests tells) (g.met.D.Disk.reads_is_image c.args.disk.now tells) (c.settle.ensures.settles tells)
 
 pub returns-in_err-settle-clause-outside : goal.returns-in_err-settle-clause-outside
 returns-in_err-settle-clause-outside g c = λ tells. settles_outside (geometry c.args.segment (base_of c.args.base.now)) _ _ _ _ _ _ (c.read_log.ensures.only_reads.rests tells) (c.settle.ensures.settles tells)
 
 pub returns-clause-flushed : goal.returns-clause-flushed
-returns-clause-flushed g c = λ tells. read_stays (geometry c.args.segment (base_of c.args.base.now)) c.in_ok-log.log.count c.in_ok-log.log.end _ _ _ _ _ (site_size _ c.requires.size) c.in_ok-log.ensures.low c.in_ok-log.ensures.count (c.in_ok-log.ensures.read tells)
+returns-clause-flushed g c = λ tells. read_stays (geometry c.args.segment (base_of c.args.base.now)) c.in_ok-log.log.count c.in_ok-log.log.end _ _ _ _ _ (geometry_size _ c.requires.size) c.in_ok-log.ensures.low c.in_ok-log.ensures.count (c.in_ok-log.ensures.read tells)
     (c.read_log.ensures.only_reads.rests tells) (g.met.D.Disk.reads_is_image c.args.disk.now tells) (c.settle.ensures.settles tells)
 
 pub returns-clause-outside : goal.returns-clause-outside
@@ -61,12 +61,12 @@ returns-clause-exact g c = λ tells is_settled records keeps.
     let read = c.in_ok-log.ensures.read tells in
     let at = ends_at S read.records end read.keeps.well_formed read.ends in
     let n : ℕ = max (end / S.size + 1) (count - 1) in
-    let named = top_named S end count (site_size _ c.requires.size) c.in_ok-log.ensures.low c.in_ok-log.ensures.count in
+    let named = top_named S end count (geometry_size _ c.requires.size) c.in_ok-log.ensures.low c.in_ok-log.ensures.count in
     let behind : next_segment S (shape_of S read.records).older < n = omega (arith, at.0) in
     let rests = c.read_log.ensures.only_reads.rests tells in
     let settled = settled_here S end n (next_segment S (shape_of S read.records).older) (used (shape_of S read.records)) old new at (c.in_ok-settle.ensures.settled tells) in
     exact_each S count end n _ _ first old new read rests named (omega arith) behind is_settled settled records keeps
 
 pub returns-clause-ours : goal.returns-clause-ours
-returns-clause-ours g c = λ tells log flushed stores honest. read_recovered (geometry c.args.segment (base_of c.args.base.now)) c.in_ok-log.log.count c.in_ok-log.log.end _ _ _ _ _ (site_size _ c.requires.size) c.in_ok-log.ensures.low c.in_ok-log.ensures.count (c.in_ok-log.ensures.read tells)
+returns-clause-ours g c = λ tells log flushed stores honest. read_recovered (geometry c.args.segment (base_of c.args.base.now)) c.in_ok-log.log.count c.in_ok-log.log.end _ _ _ _ _ (geometry_size _ c.requires.size) c.in_ok-log.ensures.low c.in_ok-log.ensures.count (c.in_ok-log.ensures.read tells)
     (c.read_log.ensures.only_reads.rests tells) (g.met.D.Disk.reads_is_image c.args.disk.now tells) log flushed stores honest (c.in_ok-settle.ensures.settled tells)

@@ -7,7 +7,7 @@ use Rattle.log_model.specs.Store.{IsDamagedAt}
 use Rattle.log_recovery.specs.declared.scan.Log.{Log}
 use Rattle.log_recovery.specs.Names.{NoFurther, IsOdd}
 use Rattle.log_recovery.specs.Scan.{StandsIn}
-use Rattle.log_model.proofs.Places.{site_size}
+use Rattle.log_model.proofs.Places.{geometry_size}
 use Rattle.log_recovery.proofs.ScanLemmas.{odd_damaged, on_damage, passed_on, count_low}
 use Rattle.log_recovery.proofs.scan.read_log.Goals as goal
 
@@ -26,7 +26,7 @@ returns-in_err-read_front-clause-damaged g c = λ tells.
 
 pub overflow_mul-place : goal.overflow_mul-place
 overflow_mul-place g c =
-    let low : c.order_of-order.result.count * c.args.segment < 2 ^ 64 = count_low (geometry c.args.segment (base_of c.args.base.now)) c.order_of-order.result.count (site_size _ c.requires) c.order_of-order.ensures.low in
+    let low : c.order_of-order.result.count * c.args.segment < 2 ^ 64 = count_low (geometry c.args.segment (base_of c.args.base.now)) c.order_of-order.result.count (geometry_size _ c.requires) c.order_of-order.ensures.low in
     omega (arith, low, ap (λ (k : ℕ). c.order_of-order.result.count * k) c.from.ensures)
 
 pub returns-in-Some-clause-damaged : goal.returns-in-Some-clause-damaged

@@ -3,14 +3,14 @@ use Rattle.record_codec.specs.Entry.{Entry}
 use Rattle.log_model.specs.Bases.{Base, geometry}
 use Rattle.log_model.specs.Log.{IsGeometry}
 use Rattle.log_model.specs.Store.{IsDamagedAt, IsHonest, StoresLog}
-use Rattle.log_model.proofs.Places.{whole_site}
+use Rattle.log_model.proofs.Places.{whole_geometry}
 use Rattle.log_recovery.specs.Recovered.{StaysFlushed, OnDamage}
 use Rattle.log_writer.specs.Openings.{GoesOnBehind}
 use Rattle.log_writer.specs.Durable.{Opened}
 use Rattle.log_writer.proofs.writer.LogWriter.open.Goals as goal
 
 pub open_at-requires : goal.open_at-requires
-open_at-requires g c = subst (λ (b : Base). IsGeometry (geometry c.args.segment b)) (sym c.none-base.ensures) (whole_site c.args.segment c.requires)
+open_at-requires g c = subst (λ (b : Base). IsGeometry (geometry c.args.segment b)) (sym c.none-base.ensures) (whole_geometry c.args.segment c.requires)
 
 pub returns-clause-kept : goal.returns-clause-kept
 returns-clause-kept g c = subst (λ (b : Base). g.D.Disk.tells → IfOk c.open_at.result (GoesOnBehind (geometry c.args.segment b) (g.D.Disk.state c.args.disk.now).reads)) c.none-base.ensures c.open_at.ensures.kept

@@ -3,7 +3,7 @@ use Rattle.std.specs.Str.{is_utf8}
 use Rattle.std.proofs.lemmas.Bool.{cond-true, cond-false, false_from_ne_true}
 use Rattle.std.proofs.lemmas.Str.{is_utf8-from_IsUtf8, IsUtf8-from_is_utf8}
 use Rattle.log_model.specs.Admissible.{number_in}
-use Rattle.log_model.proofs.admissible.number_of.Goals as goal
+use Rattle.log_model.proofs.texts.number_of.Goals as goal
 
 pub returns-in-Ok : goal.returns-in-Ok
 returns-in-Ok c = c.number_in.ensures ∙ ap number_in c.in-Ok.ensures.cases.0
