@@ -1,12 +1,12 @@
 -- Calls that change certain files leave the others, and a disk whose log files stay stores what it stored.
-use Rattle.std.proofs.Common.{◌≡◌, ◌≢◌, ◌*◌, ℕ, suc, List, [], ◌∷◌, length, take, Option, Some, refl, sym, ◌∙◌, ap, subst, arith}
+use Rattle.std.proofs.Common.{◌≡◌, ◌≢◌, ◌*◌, ℕ, List, [], ◌∷◌, length, take, Option, refl, sym, ◌∙◌, ap, subst, arith}
 use Rattle.mq_bytes.specs.Names.{log_file}
 use Rattle.mq_outside.specs.Files.{Files, Same, At, bytes_in}
 use Rattle.mq_outside.specs.Disk.{DiskState, Moves}
 use Rattle.mq_outside.proofs.Moments.{at_start, at_end, goes_on, each_step, each_same, weaker, chained}
 use Rattle.record_codec.specs.Entry.{Entry}
 use Rattle.log_model.specs.Bases.{Geometry, whole}
-use Rattle.log_model.specs.Segments.{Shape, used, layouts, last_name, next_segment, segment_file, closed, AreClosed, IsLogFile}
+use Rattle.log_model.specs.Segments.{Shape, used, last_name, next_segment, segment_file, closed, AreClosed, IsLogFile}
 use Rattle.log_model.specs.Store.{Stands, StoresAt, StoresLog}
 use Rattle.log_model.specs.Stored.{AreAsIn, StaysWhere, IsOutside, StaysOutside, LogStays}
 use Rattle.log_model.proofs.FileNames.{is_log_file}

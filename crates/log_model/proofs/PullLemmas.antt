@@ -1,10 +1,10 @@
 -- A pull of units is the pull of their records.
-use Rattle.std.proofs.Common.{◌≡◌, refl, ap, sym, ◌∙◌, ℕ, ◌+◌, ◌-◌, ◌==◌, ◌&&◌, ◌||◌, not, nat_lt, nat_le, Bool, true, false, cond, List, [], ◌∷◌, ◌++◌, length, map, take, drop, filter, count_by, sum_by, ℤ, pos, negsuc, if◌then◌else◌}
+use Rattle.std.proofs.Common.{◌≡◌, refl, ap, sym, ◌∙◌, ℕ, ◌+◌, ◌-◌, ◌==◌, ◌&&◌, ◌||◌, not, nat_lt, nat_le, Bool, true, false, cond, List, [], ◌∷◌, ◌++◌, length, map, drop, filter, count_by, sum_by, ℤ, pos, negsuc, if◌then◌else◌}
 use Rattle.std.specs.List.{drop-map}
 use Rattle.std.proofs.lemmas.List.{map-append, length-map}
 use Rattle.std.proofs.lemmas.List.Sums.{sum_by-cons, length-filter}
 use Rattle.record_codec.specs.declared.unit.Unit.{Unit as QueueUnit}
-use Rattle.log_model.specs.Pulls.{Pulled, pulled_as, goes_on, examined, nothing, after_looking, pulled_from, pulled}
+use Rattle.log_model.specs.Pulls.{Pulled, pulled_as, goes_on, examined, nothing, after_looking, pulled}
 
 -- a unit is its own unit
 abbrev this : QueueUnit → QueueUnit

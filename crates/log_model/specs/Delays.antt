@@ -1,5 +1,5 @@
 -- Delayed messages: how far each level was delivered, and which is due.
-use Rattle.std.specs.Prelude.{◌≡◌, ℕ, ◌+◌, ◌-◌, nat_le, List, [], ◌∷◌, count_by, slice_index, Bool, false, Option, Some, None, if◌then◌else◌}
+use Rattle.std.specs.Prelude.{ℕ, ◌+◌, ◌-◌, nat_le, List, [], ◌∷◌, count_by, Bool, false, Option, Some, None, if◌then◌else◌}
 use Rattle.mq_bytes.specs.Delays.{level_delay}
 use Rattle.record_codec.specs.Entry.{Entry}
 use Rattle.log_model.specs.Admissible.{level_topic}

@@ -1,9 +1,9 @@
 -- A log as its records are numbered: from the base on, the removed ones counted.
-use Rattle.std.specs.Prelude.{◌≡◌, ℕ, ◌+◌, ◌-◌, nat_lt, List, [], ◌∷◌, ◌++◌, length, take, drop, slice_get, Option, Some, None, if◌then◌else◌}
+use Rattle.std.specs.Prelude.{ℕ, ◌+◌, ◌-◌, nat_lt, List, [], ◌∷◌, ◌++◌, length, take, drop, slice_get, Option, None, if◌then◌else◌}
 use Rattle.record_codec.specs.Entry.{Entry}
 use Rattle.record_codec.specs.Drafts.{entry_of, draft_size}
 use Rattle.record_codec.specs.declared.draft.Draft.{Draft}
-use Rattle.log_model.specs.Bases.{Base, Geometry, geometry}
+use Rattle.log_model.specs.Bases.{Base, geometry}
 use Rattle.log_model.specs.Log.{end_of, place_after, IsWellFormed}
 use Rattle.log_model.specs.Queues.{queue_of, queue_end}
 

@@ -1,11 +1,10 @@
 -- What a pull answers.
-use Rattle.std.specs.Prelude.{◌≡◌, ℕ, ◌+◌, ◌-◌, ◌==◌, ◌&&◌, ◌||◌, not, nat_lt, nat_le, min, max, List, [], ◌∷◌, ◌++◌, map, filter, reverse, take, drop, length, count_by, sum_by, codes, ℤ, pos, negsuc, int_lt, Bool, true, false, if◌then◌else◌}
+use Rattle.std.specs.Prelude.{ℕ, ◌+◌, ◌-◌, ◌==◌, ◌&&◌, ◌||◌, not, nat_lt, nat_le, List, [], ◌∷◌, ◌++◌, map, filter, reverse, drop, length, count_by, sum_by, codes, ℤ, pos, negsuc, Bool, if◌then◌else◌}
 use Rattle.std.specs.List.{list_any}
 use Rattle.std.specs.Str.{bytes_eq}
 use Rattle.std.specs.Ordering.{int_eq}
 use Rattle.mq_bytes.specs.Hashes.{java_hash}
 use Rattle.record_codec.specs.Entry.{Entry}
-use Rattle.record_codec.specs.Layout.{size}
 use Rattle.record_codec.specs.LaxProps.{in_front}
 use Rattle.record_codec.specs.Units.{unit_of}
 use Rattle.record_codec.specs.declared.unit.Unit.{Unit as QueueUnit}
