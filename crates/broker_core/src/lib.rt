@@ -1,7 +1,0 @@
-//! What does one event do to the broker, and what does it say? The core holds no list of records: only where each stands, what
-//! is not yet on the disk, and the tables.
-#![tactic(auto)]
-
-mod dispatch;
-mod parts;
-mod turns;
