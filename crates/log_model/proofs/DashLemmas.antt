@@ -1,5 +1,5 @@
 -- What stands before the first byte x of a text, and behind it.
-use Rattle.std.proofs.Common.{◌≡◌, ℕ, suc, ◌+◌, ◌<◌, List, [], ◌∷◌, length, take, drop, Bool, true, false, not, eqb, Option, Some, None, option_map, Bor, MatchOption, refl, sym, ◌∙◌, ap, subst, ⊎_elim, arith}
+use Rattle.std.proofs.Common.{◌≡◌, ℕ, suc, ◌+◌, ◌<◌, List, [], ◌∷◌, length, true, false, eqb, Option, Some, None, option_map, Bor, MatchOption, refl, sym, ◌∙◌, ⊎_elim, arith}
 use Rattle.std.specs.List.{position_or_len, before_first, after_first}
 use Rattle.std.proofs.lemmas.Bool.{cases_Bool}
 use Rattle.record_codec.specs.Props.{until}

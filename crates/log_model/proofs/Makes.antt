@@ -1,5 +1,5 @@
 -- What the broker makes of a record that a log may have can be written.
-use Rattle.std.proofs.Common.{◌≡◌, ◌≢◌, ℕ, ◌+◌, ◌-◌, ◌^◌, ◌<◌, ◌≤◌, ◌++◌, List, [], ◌∷◌, length, codes, Bool, true, false, not, Option, Some, None, IsSome, refl, sym, ◌∙◌, ap, subst, arith, length-append}
+use Rattle.std.proofs.Common.{◌≡◌, ◌≢◌, ℕ, ◌+◌, ◌^◌, ◌<◌, ◌≤◌, ◌++◌, List, [], ◌∷◌, length, codes, true, false, not, Option, Some, None, IsSome, refl, sym, ◌∙◌, ap, arith, length-append}
 use Rattle.std.specs.Prelude.{IfSome, bit_and, bit_or, unwrap_or}
 use Rattle.std.specs.Str.{bytes_eq}
 use Rattle.std.proofs.lemmas.Bool.{and_parts, ltb-true, le-ltb, eqb-true, eq-eqb}
@@ -17,7 +17,7 @@ use Rattle.record_codec.proofs.DraftLemmas.{HasNoFault}
 use Rattle.record_codec.proofs.LastLemmas.{value_of-other, value_of-kept}
 use Rattle.record_codec.proofs.Records.{EntryFacts, said}
 use Rattle.log_model.specs.Made.{text_size, prop_size}
-use Rattle.log_model.specs.Admissible.{half_topic, level_topic, IsAdmissible, IsPlainTopic}
+use Rattle.log_model.specs.Admissible.{half_topic, IsAdmissible, IsPlainTopic}
 use Rattle.log_model.specs.Drafts.{plain_flag, text_in, without_real, without_transaction, copy_draft, op_draft, renewed_props, renewal_draft, discard_draft, delivery_text, delivery_draft}
 use Rattle.log_model.specs.Kinds.{is_half, is_delayed, origin_text}
 use Rattle.log_model.proofs.MadeLemmas.{length-without, length-with_prop, length-push}

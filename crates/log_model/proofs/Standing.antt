@@ -1,13 +1,13 @@
 -- Where a disk stores a log, its flushed records stand at their places; and only the files of the log's own segments matter.
-use Rattle.std.proofs.Common.{◌≡◌, ◌≢◌, ⊎_elim, ℕ, zero, suc, ◌<◌, ◌≤◌, List, [], ◌∷◌, ◌++◌, length, take, slice_get, Some, refl, sym, ◌∙◌, ap, subst, arith, append_assoc}
+use Rattle.std.proofs.Common.{◌≡◌, ⊎_elim, ℕ, zero, suc, ◌<◌, ◌≤◌, List, [], ◌∷◌, ◌++◌, length, take, slice_get, Some, sym, ◌∙◌, ap, subst, arith, append_assoc}
 use Rattle.std.proofs.lemmas.Option.{same_Some}
 use Rattle.mq_outside.specs.Files.{Files, bytes_in}
 use Rattle.mq_outside.specs.Disk.{DiskState, EachImage}
 use Rattle.record_codec.specs.Entry.{Entry}
 use Rattle.log_model.specs.Bases.{Geometry, first_segment}
 use Rattle.log_model.specs.Log.{Follows, IsWellFormed}
-use Rattle.log_model.specs.Segments.{layouts, Shape, opened, used, laid, shape_of, segment_file, last_name, AreClosed, Counts, next_segment}
-use Rattle.log_model.specs.Store.{StandsAtPlace, Stands, IsLaid, StoresAt, StoresLog, HasLogFilesOf}
+use Rattle.log_model.specs.Segments.{Shape, opened, used, laid, shape_of, segment_file, last_name, AreClosed, Counts, next_segment}
+use Rattle.log_model.specs.Store.{StandsAtPlace, Stands, IsLaid, StoresLog, HasLogFilesOf}
 use Rattle.log_model.proofs.Lists.{take_get}
 use Rattle.log_model.proofs.Places.{empty_well_formed, placed_log, well_formed_take, shape_of-append, next_low}
 use Rattle.log_model.proofs.FileNames.{IsNamed, names_apart, named_less, is_log_file}
