@@ -1,5 +1,5 @@
 -- Pieces in the order of the log: what a piece that is added changes, and where a range is found.
-use Rattle.std.proofs.Common.{◌≡◌, ◌⊎◌, ⊎_elim, inl, inr, ◌∙◌, ℕ, ◌+◌, ◌-◌, ◌<◌, ◌≤◌, ◌++◌, List, [], ◌∷◌, length, take, drop, get_or, ap, sym, subst, arith, append_assoc, Option, Some, None}
+use Rattle.std.proofs.Common.{◌≡◌, ◌⊎◌, ⊎_elim, inl, inr, ◌∙◌, ℕ, ◌+◌, ◌-◌, ◌<◌, ◌≤◌, ◌++◌, List, [], ◌∷◌, length, take, drop, get_or, ap, sym, subst, arith, Option, None}
 use Rattle.std.proofs.lemmas.List.{take-append-drop}
 use Rattle.mq_outside.specs.declared.frozen.Frozen.{Frozen}
 use Rattle.mq_outside.specs.Readings.{HasAt}
@@ -25,11 +25,11 @@ pub ordered-added : (old : List Frozen) (piece : Frozen) (new : List Frozen) (hi
 ordered-added old piece new high ordered behind added = ⊎_elim
     (λ (is : new ≡ old ++ piece ∷ []). subst (λ (l : List Frozen). AreOrdered 0 l (piece_end piece)) (sym is) (ordered-push 0 old high piece ordered behind))
     (λ (j : HasJoined old piece new).
-      let was = ordered-last 0 j.rest j.last high (subst (λ (l : List Frozen). AreOrdered 0 l high) j.was ordered) in
-      let start : piece_start j.last ≤ piece_start j.joined = omega (arith, j.are_one.base, j.are_one.from) in
-      let ends : piece_end j.joined ≡ piece_end piece = omega (arith, j.are_one.base, j.are_one.from, j.are_one.len, j.are_one.meets) in
-      subst (λ (l : List Frozen). AreOrdered 0 l (piece_end piece)) (sym j.is)
-      (subst (AreOrdered 0 (j.rest ++ j.joined ∷ [])) ends (ordered-push 0 j.rest (piece_start j.last) j.joined was.1 start)))
+    let was = ordered-last 0 j.rest j.last high (subst (λ (l : List Frozen). AreOrdered 0 l high) j.was ordered) in
+    let start : piece_start j.last ≤ piece_start j.joined = omega (arith, j.are_one.base, j.are_one.from) in
+    let ends : piece_end j.joined ≡ piece_end piece = omega (arith, j.are_one.base, j.are_one.from, j.are_one.len, j.are_one.meets) in
+    subst (λ (l : List Frozen). AreOrdered 0 l (piece_end piece)) (sym j.is)
+    (subst (AreOrdered 0 (j.rest ++ j.joined ∷ [])) ends (ordered-push 0 j.rest (piece_start j.last) j.joined was.1 start)))
     added
 
 -- ---- which ranges there are
@@ -61,9 +61,9 @@ pub has-kept : (old : List Frozen) (piece : Frozen) (new : List Frozen) (place n
 has-kept old piece new place n added has = ⊎_elim
     (λ (is : new ≡ old ++ piece ∷ []). subst (λ (l : List Frozen). HasRange l place n) (sym is) (has-before old (piece ∷ []) place n has))
     (λ (j : HasJoined old piece new). subst (λ (l : List Frozen). HasRange l place n) (sym j.is) (⊎_elim
-      (λ (before : HasRange j.rest place n). has-before j.rest (j.joined ∷ []) place n before)
-      (λ (last : HasRange (j.last ∷ []) place n). has-behind j.rest (j.joined ∷ []) place n (inl (first-joined j.last piece j.joined place n j.are_one (only-one j.last place n last))))
-      (has-either j.rest (j.last ∷ []) place n (subst (λ (l : List Frozen). HasRange l place n) j.was has))))
+    (λ (before : HasRange j.rest place n). has-before j.rest (j.joined ∷ []) place n before)
+    (λ (last : HasRange (j.last ∷ []) place n). has-behind j.rest (j.joined ∷ []) place n (inl (first-joined j.last piece j.joined place n j.are_one (only-one j.last place n last))))
+    (has-either j.rest (j.last ∷ []) place n (subst (λ (l : List Frozen). HasRange l place n) j.was has))))
     added
 
 pub has-added : (old : List Frozen) (piece : Frozen) (new : List Frozen) (place n : ℕ) → IsAdded old piece new → Covers piece place n → HasRange new place n
@@ -94,7 +94,7 @@ pub holds-added : (old : List Frozen) (piece : Frozen) (new : List Frozen) (plac
 holds-added old piece new place bytes added holds here = ⊎_elim
     (λ (is : new ≡ old ++ piece ∷ []). subst (λ (l : List Frozen). HoldsRange l place bytes) (sym is) (holds-append old (piece ∷ []) place bytes holds (here, tt)))
     (λ (j : HasJoined old piece new). subst (λ (l : List Frozen). HoldsRange l place bytes) (sym j.is)
-      (holds-append j.rest (j.joined ∷ []) place bytes (holds-before j.rest (j.last ∷ []) place bytes (subst (λ (l : List Frozen). HoldsRange l place bytes) j.was holds)) (none-holds j.joined place bytes j.are_one.none, tt)))
+    (holds-append j.rest (j.joined ∷ []) place bytes (holds-before j.rest (j.last ∷ []) place bytes (subst (λ (l : List Frozen). HoldsRange l place bytes) j.was holds)) (none-holds j.joined place bytes j.are_one.none, tt)))
     added
 
 -- pieces that end before a range have no part of it

@@ -1,8 +1,7 @@
 -- A reader that gives what a piece holds, where it holds bytes.
 use Rattle.std.proofs.Common.{◌≡◌, ◌∙◌, ℕ, ◌+◌, ◌≤◌, List, length, take, drop, ap, sym, subst, arith, Option, Some, None}
 use Rattle.std.proofs.lemmas.List.{length-take, length-drop, take-take, drop-take, drop-drop}
-use Rattle.mq_outside.specs.declared.frozen.Frozen.{Frozen}
-use Rattle.mq_outside.specs.Readings.{HasAt, HasSame, IsSamePart, Giving, GivesHeld, GivesParts, GivesAlike}
+use Rattle.mq_outside.specs.Readings.{HasAt, HasSame, Giving, GivesHeld, GivesParts, GivesAlike}
 
 -- what such a reader gives
 abbrev pub gives_held : Giving

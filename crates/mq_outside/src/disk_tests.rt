@@ -1,6 +1,7 @@
 //! Disks, their pieces and their readers, in memory and in a folder: each call once, and a second disk over a store.
 
 ghost use Rattle.std.specs.Prelude.{◌≡◌};
+ghost use Rattle.mq_outside.specs.Covers.{piece_start};
 
 use crate::{
     Disk, DiskFault, Failed, FolderDisk, FolderReader, Frozen, FrozenRanges, MemDisk, MemReader,
@@ -66,6 +67,40 @@ fn read_pieces<D: Disk>(alloc: Global, disk: &mut D) -> Result<[u8; 5], Fail> {
     Ok(read?)
 }
 
+// Reads the second of two pieces of three bytes as it is found by its range.
+fn read_found<R: Reader>(
+    alloc: Global,
+    reader: &mut R,
+    first: Frozen,
+    second: Frozen,
+) -> Result<[u8; 3], Fail>
+    requires first { (piece_start first ≡ 0) × (first.len ≡ 3) }
+    requires second { (piece_start second ≡ 3) × (second.len ≡ 3) }
+{
+    let mut ranges = FrozenRanges::new(alloc);
+    ranges.reserve()?;
+    ranges.push(first);
+    ranges.reserve()?;
+    ranges.push(second);
+    let found = ranges.find(3, 3).share()?;
+    let mut out = [0; 3];
+    reader.read(&found, 3 - (found.base() + found.from()), &mut out)?;
+    Ok(out)
+}
+
+// Writes a log file, syncs it, and reads what is found of two pieces of it.
+fn find_pieces<D: Disk>(alloc: Global, disk: &mut D) -> Result<[u8; 3], Fail> {
+    let file = LogFile::of(0);
+    disk.write_at(file.as_str(), 0, b"abcdef")?;
+    disk.sync(file.as_str())?;
+    let first = disk.freeze_stored(alloc, 0, 0, 3)?;
+    let second = disk.freeze_stored(alloc, 0, 3, 6)?;
+    let mut reader = disk.reader(alloc)?;
+    let read = read_found(alloc, &mut reader, first, second);
+    disk.take_back(reader);
+    read
+}
+
 fn may_move_to_another_thread<T: Send>() {}
 
 // Each type is named to a function that asks for `Send`.
@@ -96,10 +131,10 @@ fn a_disk_in_memory_does_what_is_asked_within_its_room(rt: HostRuntime) -> Resul
 }
 
 #[test]
-fn a_piece_of_a_disk_in_memory_is_read(rt: HostRuntime) -> Result<(), Fail> {
-    let mut disk = empty_disk(rt.alloc(), 72, 1, 2)?;
-    let read = read_pieces(rt.alloc(), &mut disk)?;
-    assert!(rt; &read == b"cdebc");
+fn pieces_of_a_disk_in_memory_are_read_and_found(rt: HostRuntime) -> Result<(), Fail> {
+    let mut disk = empty_disk(rt.alloc(), 144, 1, 4)?;
+    assert!(rt; &read_pieces(rt.alloc(), &mut disk)? == b"cdebc");
+    assert!(rt; &find_pieces(rt.alloc(), &mut disk)? == b"def");
     Ok(())
 }
 
@@ -114,8 +149,9 @@ fn serves_one(rt: HostRuntime, root: &str) -> Result<bool, Fail> {
     let mut disk = FolderDisk::new(rt, String::from_str(rt.alloc(), root)?);
     let does_each = does_each_call(rt.alloc(), &mut disk)?;
     let read = read_pieces(rt.alloc(), &mut disk)?;
+    let found = find_pieces(rt.alloc(), &mut disk)?;
     let second = len_of_second(rt, root)?;
-    Ok(does_each && &read == b"cdebc" && second == Err(Failed))
+    Ok(does_each && &read == b"cdebc" && &found == b"def" && second == Err(Failed))
 }
 
 #[test]

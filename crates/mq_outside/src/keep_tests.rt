@@ -75,6 +75,9 @@ fn a_folder_gives_what_was_put_there(rt: HostRuntime) -> Result<(), Fail> {
     let root = format!(in rt.alloc(); "/tmp/mq_outside_keep_{id}")?;
     assert!(rt; put_texts(rt, root.as_str())?);
     let found = find_text(rt, root.as_str())?;
-    assert!(rt; found == (true, Err(DiskFault::Failed)), "the folder is gone");
+    assert!(rt;
+        found == (true, Err(DiskFault::Failed)),
+        "the folder is gone"
+    );
     Ok(())
 }

@@ -140,7 +140,10 @@ fn an_interrupted_call_is_made_again(rt: HostRuntime) {
 fn what_the_system_refuses_fails(rt: HostRuntime) {
     let mut stream = Refusing;
     assert!(rt; read_some(&mut stream, &mut [0; 4]) == Err(Failed));
-    assert!(rt; write_some(&mut stream, b"abcd") == Err(Failed), "nothing was taken");
+    assert!(rt;
+        write_some(&mut stream, b"abcd") == Err(Failed),
+        "nothing was taken"
+    );
     assert!(rt; write_some(&mut stream, b"") == Ok(0));
     let Refusing = stream;
 }

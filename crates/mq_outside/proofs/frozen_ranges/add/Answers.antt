@@ -1,4 +1,4 @@
-use Rattle.std.proofs.Common.{◌≡◌, inr, refl, arith, subst, List}
+use Rattle.std.proofs.Common.{inr, refl, arith, subst, List}
 use Rattle.mq_outside.specs.declared.frozen.Frozen.{Frozen}
 use Rattle.mq_outside.specs.Covers.{AreOrdered}
 use Rattle.mq_outside.proofs.RangeLemmas.{ordered-last}

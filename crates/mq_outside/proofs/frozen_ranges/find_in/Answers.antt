@@ -1,4 +1,4 @@
-use Rattle.std.proofs.Common.{◌≡◌, ◌<◌, arith, subst, length, List, ℕ}
+use Rattle.std.proofs.Common.{◌<◌, arith, subst, length, List}
 use Rattle.mq_outside.specs.declared.frozen.Frozen.{Frozen}
 use Rattle.mq_outside.specs.Covers.{AreOrdered, HoldsRange}
 use Rattle.mq_outside.proofs.RangeLemmas.{split-is, ordered-le, ordered-split, start-within, search-behind, search-before, holds-before, holds-behind}
