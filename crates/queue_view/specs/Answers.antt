@@ -19,7 +19,8 @@ pulled_of t from most tags = pulled this t.low (seen_units t) from (asked_number
 
 -- a pull from an offset of a unit that they see
 abbrev pub pulled_within : Table → ℕ → ℕ → Tags → Pulled QueueUnit
-pulled_within t from most tags = after_looking this from t.low (max_of t) (tags_take tags) (examined this most (tags_take tags) [] (drop (from - t.low) (seen_units t)))
+pulled_within t from most tags =
+    after_looking this from t.low (max_of t) (tags_take tags) (examined this most (tags_take tags) [] (drop (from - t.low) (seen_units t)))
 
 -- a pull of a queue of these records, of which so many were removed before them
 abbrev pub pulled_among : (List ℕ → ℕ → ℕ) → List Added → List ℕ → ℕ → ℤ → ℤ → Tags → Pulled QueueUnit

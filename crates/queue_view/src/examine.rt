@@ -1,6 +1,6 @@
 //! Which units of a queue a pull takes.
 
-ghost use Rattle.std.specs.Prelude.{◌≡◌, ◌<◌, ◌≤◌, ◌^◌, [], List, length, drop, take, map, filter, IfOk, nat_lt, nat_le, not, ◌&&◌, ◌||◌, ◌==◌, ◌+◌};
+ghost use Rattle.std.specs.Prelude.{◌≡◌, ◌≤◌, ◌+◌, ◌==◌, ◌&&◌, ◌||◌, nat_lt, nat_le, not, [], length, drop, take, map, filter, IfOk};
 ghost use Rattle.log_model.specs.Pulls.{examined};
 ghost use Rattle.queue_view.specs.Subscriptions.{tags_take};
 ghost use Rattle.queue_view.specs.Tables.{unit_in};
@@ -37,8 +37,10 @@ pub(crate) fn examine(
     requires ordered { from ≤ seen }
     requires within { seen ≤ length all.now.items }
     ensures within { IfOk result (λ e. from + e.count ≤ seen) }
-    ensures count { IfOk result (λ e. e.count ≡ length (examined this most (tags_take tags.now) [] (drop from (map unit_in (take seen all.now.items))))) }
-    ensures units { IfOk result (λ e. e.units.items ≡ filter (tags_take tags.now) (examined this most (tags_take tags.now) [] (drop from (map unit_in (take seen all.now.items))))) }
+    ensures count { IfOk result (λ e. e.count
+        ≡ length (examined this most (tags_take tags.now) [] (drop from (map unit_in (take seen all.now.items))))) }
+    ensures units { IfOk result (λ e. e.units.items
+        ≡ filter (tags_take tags.now) (examined this most (tags_take tags.now) [] (drop from (map unit_in (take seen all.now.items))))) }
 {
     let mut units = Vec::new(alloc);
     let mut size: u64 = 0;

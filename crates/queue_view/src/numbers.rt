@@ -44,7 +44,8 @@ impl QueueNumbers {
 
     // Keeps this for the queue.
     fn set(&mut self, queue: u32, kept: u32) -> Result<(), AllocError>
-        ensures set { OnOk result ((other : ℕ) → slice_index self.new other ≡ (if queue == other then kept else slice_index self.old other)) }
+        ensures set { OnOk result ((other : ℕ)
+            → slice_index self.new other ≡ (if queue == other then kept else slice_index self.old other)) }
         ensures same { OnErr result ((other : ℕ) → slice_index self.new other ≡ slice_index self.old other) }
     {
         set_at(&mut self.of_queues, queue as usize, kept)
@@ -54,7 +55,8 @@ impl QueueNumbers {
 // Writes what is kept at this place, behind zeros where the list is shorter.
 fn set_at(list: &mut Vec<u32>, at: usize, kept: u32) -> Result<(), AllocError>
     requires { at < 2 ^ 32 }
-    ensures set { OnOk result ((other : ℕ) → slice_index list.new.items other ≡ (if at == other then kept else slice_index list.old.items other)) }
+    ensures set { OnOk result ((other : ℕ)
+        → slice_index list.new.items other ≡ (if at == other then kept else slice_index list.old.items other)) }
     ensures same { OnErr result ((other : ℕ) → slice_index list.new.items other ≡ slice_index list.old.items other) }
 {
     if at < list.len() {
@@ -92,7 +94,8 @@ pub(crate) fn set_number(
     number: u32,
 ) -> Result<(), AllocError>
     requires { number + 1 < 2 ^ 32 }
-    ensures kept { OnOk result ((other : List ℕ) (at : ℕ) → kept_for numbers.new other at ≡ (if bytes_eq topic.now other && (queue == at) then number + 1 else kept_for numbers.old other at)) }
+    ensures kept { OnOk result ((other : List ℕ) (at : ℕ) → kept_for numbers.new other at
+        ≡ (if bytes_eq topic.now other && (queue == at) then number + 1 else kept_for numbers.old other at)) }
     ensures same { OnErr result ((other : List ℕ) (at : ℕ) → kept_for numbers.new other at ≡ kept_for numbers.old other at) }
 {
     if let Some(of_topic) = numbers.get_mut(topic) {

@@ -1,6 +1,6 @@
 //! One table among the tables of all queues.
 
-ghost use Rattle.std.specs.Prelude.{◌≡◌, ◌<◌, ◌≤◌, ◌+◌, ◌-◌, ◌++◌, ◌∷◌, [], length, drop, slice_get, slice_set, Some, OnOk, vec_len, vec_capacity};
+ghost use Rattle.std.specs.Prelude.{◌≡◌, ◌<◌, ◌≤◌, ◌+◌, ◌++◌, ◌∷◌, [], length, slice_get, slice_set, Some, OnOk, vec_len, vec_capacity};
 ghost use Rattle.queue_view.specs.Tables.{Table, max_of, with_room, with_unit, with_next_seen, cut_at};
 
 use crate::table::QueueTable;

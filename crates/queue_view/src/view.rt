@@ -1,7 +1,8 @@
 //! The tables of all queues. A unit is added when its record is appended, and seen by consumers when the record is
 //! dispatched; the number of a table stays the same, so that neither looks a text up.
 
-ghost use Rattle.std.specs.Prelude.{◌≡◌, ◌<◌, ◌≤◌, ◌+◌, ◌++◌, ◌∷◌, [], ◌^◌, ℕ, List, length, take, slice_get, slice_set, Some, None, IfOk, OnOk, OnErr};
+ghost use Rattle.std.specs.Prelude.{◌≡◌, ◌<◌, ◌≤◌, ◌+◌, ◌++◌, ◌∷◌, [], ◌^◌, ℕ, List, length, take, slice_get, slice_set};
+ghost use Rattle.std.specs.Prelude.{Some, None, IfOk, OnOk, OnErr};
 ghost use Rattle.std.specs.List.Sorted.{IsNonDecreasingBy};
 ghost use Rattle.queue_view.specs.Tables.{Table, number_of, max_of, added_of, empty_table, with_room, with_unit, with_next_seen, cut_at};
 ghost use Rattle.queue_view.specs.Searches.{first_from, first_among, store_in};
@@ -71,9 +72,11 @@ impl QueueView {
         ensures room { IfOk result (λ k. (t : Table) → slice_get self.new k ≡ Some t → additional ≤ t.spare) }
         ensures there { (k : ℕ) (t : Table) → number_of self.old topic.now queue ≡ Some k → slice_get self.old k ≡ Some t
             → (s : ℕ) × (t.spare ≤ s) × (OnOk result (additional ≤ s)) × (self.new ≡ slice_set self.old k (with_room t s)) }
-        ensures absent { number_of self.old topic.now queue ≡ None → OnOk result ((s : ℕ) × (additional ≤ s) × (self.new ≡ self.old ++ empty_table topic.now queue 0 s ∷ [])) }
+        ensures absent { number_of self.old topic.now queue ≡ None
+            → OnOk result ((s : ℕ) × (additional ≤ s) × (self.new ≡ self.old ++ empty_table topic.now queue 0 s ∷ [])) }
         ensures same { number_of self.old topic.now queue ≡ None → OnErr result (self.new ≡ self.old) }
-        ensures records { (low : List ℕ → ℕ → ℕ) (added : List Added) (n : ℕ) → AreTablesOf low added n self.old → AreTablesOf low added n self.new }
+        ensures records { (low : List ℕ → ℕ → ℕ) (added : List Added) (n : ℕ)
+            → AreTablesOf low added n self.old → AreTablesOf low added n self.new }
     {
         match self.find(topic, queue) {
             Some(table) => {
@@ -140,8 +143,8 @@ impl QueueView {
         requires room { (t : Table) → slice_get self.old table ≡ Some t → 0 < t.spare }
         ensures table { (t : Table) → slice_get self.old table ≡ Some t
             → (s : ℕ) × (t.spare ≤ s + 1) × (self.new ≡ slice_set self.old table (with_unit t unit store s)) }
-        ensures records { (low : List ℕ → ℕ → ℕ) (added : List Added) (n : ℕ) (t : Table) → AreTablesOf low added n self.old → n ≤ length added
-            → slice_get self.old table ≡ Some t → AreTablesOf low (added ++ added_to t unit store ∷ []) n self.new }
+        ensures records { (low : List ℕ → ℕ → ℕ) (added : List Added) (n : ℕ) (t : Table) → AreTablesOf low added n self.old
+            → n ≤ length added → slice_get self.old table ≡ Some t → AreTablesOf low (added ++ added_to t unit store ∷ []) n self.new }
     {
         add_unit(&mut self.tables, table as usize, unit, store);
     }
@@ -244,8 +247,8 @@ impl QueueView {
     ) -> Result<Pulled, AllocError>
         requires { table < length self.now }
         ensures table { (t : Table) → slice_get self.now table ≡ Some t → IfOk result (λ a. Answers (pulled_of t from most tags.now) a) }
-        ensures records { (low : List ℕ → ℕ → ℕ) (added : List Added) (n : ℕ) (t : Table) → AreTablesOf low added n self.now → slice_get self.now table ≡ Some t
-            → IfOk result (λ a. Answers (pulled_among low (take n added) t.topic t.queue from most tags.now) a) }
+        ensures records { (low : List ℕ → ℕ → ℕ) (added : List Added) (n : ℕ) (t : Table) → AreTablesOf low added n self.now
+            → slice_get self.now table ≡ Some t → IfOk result (λ a. Answers (pulled_among low (take n added) t.topic t.queue from most tags.now) a) }
     {
         self.tables[table as usize].pull(alloc, from, most, tags)
     }

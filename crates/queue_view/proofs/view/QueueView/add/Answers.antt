@@ -18,4 +18,4 @@ returns-clause-records c low added n t are within at =
     let here = subst (λ (ts : List Table). slice_get ts c.args.table ≡ Some t) (sym c.self.view_is) at in
     let changed = c.add_unit.ensures t here in
     with_added low added n c.self.inside.tables.items c.add_unit.new.tables.items c.args.table t (with_unit t c.args.unit c.args.store changed.0) (added_to t c.args.unit c.args.store)
-      before within here refl refl refl refl refl refl refl changed.2
+    before within here refl refl refl refl refl refl refl changed.2

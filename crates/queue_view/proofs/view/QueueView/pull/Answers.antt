@@ -22,5 +22,5 @@ returns-clause-records c low added n t are at =
     let same = c.index.ensures ∙ get_or_from_slice_get c.self.inside.tables.items c.args.table t c.index.result.now here in
     subst (λ p. IfOk c.pull.result (λ a. Answers p a))
     (same_pull c.index.result.now t _ c.args.from _ c.args.most c.args.tags.now same (to_z-of_z w64 c.args.from (search rules)) (to_z-of_z w32 c.args.most (search rules))
-        ∙ among_is low added n c.args.self.now c.args.table t c.args.from c.args.most c.args.tags.now are at)
+    ∙ among_is low added n c.args.self.now c.args.table t c.args.from c.args.most c.args.tags.now are at)
     c.pull.ensures

@@ -31,15 +31,15 @@ pub returns-in_err-make_room-in-Some-clause-records : goal.returns-in_err-make_r
 returns-in_err-make_room-in-Some-clause-records c low added n are =
     let number = ap (λ (ts : List Table). number_of ts c.args.topic.now c.args.queue) c.self.view_is ∙ sym c.find.ensures ∙ c.in-Some.is in
     room_tables low added n c.self.inside.tables.items c.make_room.new.tables.items c.in-Some.table (subst (λ (ts : List Table). AreTablesOf low added n ts) (sym c.self.view_is) are)
-      (number_within c.self.inside.tables.items c.args.topic.now c.args.queue c.in-Some.table number)
-      (λ t at. let changed = c.make_room.ensures t at in (changed.0, changed.3))
+    (number_within c.self.inside.tables.items c.args.topic.now c.args.queue c.in-Some.table number)
+    (λ t at. let changed = c.make_room.ensures t at in (changed.0, changed.3))
 
 pub returns-in_ok-make_room-in-Some-clause-records : goal.returns-in_ok-make_room-in-Some-clause-records
 returns-in_ok-make_room-in-Some-clause-records c low added n are =
     let number = ap (λ (ts : List Table). number_of ts c.args.topic.now c.args.queue) c.self.view_is ∙ sym c.find.ensures ∙ c.in-Some.is in
     room_tables low added n c.self.inside.tables.items c.make_room.new.tables.items c.in-Some.table (subst (λ (ts : List Table). AreTablesOf low added n ts) (sym c.self.view_is) are)
-      (number_within c.self.inside.tables.items c.args.topic.now c.args.queue c.in-Some.table number)
-      (λ t at. let changed = c.make_room.ensures t at in (changed.0, changed.3))
+    (number_within c.self.inside.tables.items c.args.topic.now c.args.queue c.in-Some.table number)
+    (λ t at. let changed = c.make_room.ensures t at in (changed.0, changed.3))
 
 pub returns-in-None-clause-records : goal.returns-in-None-clause-records
 returns-in-None-clause-records c low added n are =
@@ -49,8 +49,8 @@ pub returns-in_ok-make_room-in-Some-clause-room : goal.returns-in_ok-make_room-i
 returns-in_ok-make_room-in-Some-clause-room c =
     let number = ap (λ (ts : List Table). number_of ts c.args.topic.now c.args.queue) c.self.view_is ∙ sym c.find.ensures ∙ c.in-Some.is in
     room_there c.self.inside.tables.items c.make_room.new.tables.items c.in-Some.table c.args.additional
-      (number_within c.self.inside.tables.items c.args.topic.now c.args.queue c.in-Some.table number)
-      (λ t at. let changed = c.in_ok-make_room-in-Some.ensures t at in (changed.0, changed.2, changed.3))
+    (number_within c.self.inside.tables.items c.args.topic.now c.args.queue c.in-Some.table number)
+    (λ t at. let changed = c.in_ok-make_room-in-Some.ensures t at in (changed.0, changed.2, changed.3))
 
 pub returns-in-None-clause-room : goal.returns-in-None-clause-room
 returns-in-None-clause-room c =

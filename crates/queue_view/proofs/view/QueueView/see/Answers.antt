@@ -17,4 +17,4 @@ returns-clause-records c low added n a t are next at of =
     let before = subst (λ (ts : List Table). AreTablesOf low added n ts) (sym c.self.view_is) are in
     let here = subst (λ (ts : List Table). slice_get ts c.args.table ≡ Some t) (sym c.self.view_is) at in
     with_seen low added n c.self.inside.tables.items c.see_one.new.tables.items c.args.table t (with_next_seen t) a
-      before next here of.topic of.queue refl refl refl refl refl (c.see_one.ensures t here)
+    before next here of.topic of.queue refl refl refl refl refl (c.see_one.ensures t here)
