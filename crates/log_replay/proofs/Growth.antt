@@ -161,7 +161,7 @@ module _ (log : List Entry) (r : Entry) (h : ℕ) where
         let d = discards_it log h r in
         state_is (log ++ r ∷ []) h
         ∙ ap (λ (b : Bool). by_tests b (list_any (copies_it (log ++ r ∷ []) h) (log ++ r ∷ [])) (list_any (discards_it (log ++ r ∷ []) h) (log ++ r ∷ [])))
-          (any_more (names_it h) (names_it h) (λ e lawful low. refl))
+        (any_more (names_it h) (names_it h) (λ e lawful low. refl))
         ∙ ap (λ (b : Bool). by_tests (N || n) b (list_any (discards_it (log ++ r ∷ []) h) (log ++ r ∷ []))) (any_more (copies_it (log ++ r ∷ []) h) (copies_it log h) copy_same)
         ∙ ap (λ (b : Bool). by_tests (N || n) (C || c) b) (any_more (discards_it (log ++ r ∷ []) h) (discards_it log h) discard_same)
         ∙ after_is N C D n c d

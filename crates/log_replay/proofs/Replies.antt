@@ -33,7 +33,7 @@ module _ (pairs : List (ℕ × ℕ)) (rs : List Entry) (same : pairs ≡ map pla
       let n = next_one in
       let large : room < size n.0 = omega (arith, more, ap (λ (p : ℕ × ℕ). p.1) n.1) in
       let none : within room (drop i rs) ≡ [] = ap (within room) n.2
-          ∙ cond-false (nat_le (size n.0) room) (n.0 ∷ within (room - size n.0) (drop (i + 1) rs)) [] (lt-leb (size n.0) room large) in
+      ∙ cond-false (nat_le (size n.0) room) (n.0 ∷ within (room - size n.0) (drop (i + 1) rs)) [] (lt-leb (size n.0) room large) in
       sym (ap (λ (l : List Entry). places ++ places_of l) none ∙ append-nil places)
 
   -- the next one goes with those before it
@@ -43,7 +43,7 @@ module _ (pairs : List (ℕ × ℕ)) (rs : List Entry) (same : pairs ≡ map pla
       let n = next_one in
       let low : size n.0 ≤ room = omega (arith, fits, ap (λ (p : ℕ × ℕ). p.1) n.1) in
       let goes : within room (drop i rs) ≡ n.0 ∷ within (room - size n.0) (drop (i + 1) rs) = ap (within room) n.2
-          ∙ cond-true (nat_le (size n.0) room) (n.0 ∷ within (room - size n.0) (drop (i + 1) rs)) [] (le-leb (size n.0) room low) in
+      ∙ cond-true (nat_le (size n.0) room) (n.0 ∷ within (room - size n.0) (drop (i + 1) rs)) [] (le-leb (size n.0) room low) in
       ap (λ (p : ℕ × ℕ). (places ++ p.0 ∷ []) ++ places_of (within (room - p.1) (drop (i + 1) rs))) n.1
       ∙ append_assoc places (n.0.offset ∷ []) (places_of (within (room - size n.0) (drop (i + 1) rs)))
       ∙ ap (λ (l : List Entry). places ++ places_of l) (sym goes)

@@ -29,8 +29,8 @@ module _ (log : List Entry) (h : ℕ) where
   pub state_is : transaction_state log h ≡ by_tests (list_any (names_it h) log) (list_any (copies_it log h) log) (list_any (discards_it log h) log)
   state_is =
       let settled : is_settled log h ≡ (list_any (names_it h) log || list_any (copies_it log h) log || list_any (discards_it log h) log) =
-          list_any-or (λ (r : Entry). names_it h r || copies_it log h r) (discards_it log h) log
-          ∙ ap (λ (b : Bool). b || list_any (discards_it log h) log) (list_any-or (names_it h) (copies_it log h) log) in
+      list_any-or (λ (r : Entry). names_it h r || copies_it log h r) (discards_it log h) log
+      ∙ ap (λ (b : Bool). b || list_any (discards_it log h) log) (list_any-or (names_it h) (copies_it log h) log) in
       ap (λ (b : Bool). cond (not b) Open (cond (list_any (discards_it log h) log) Discarded (cond (list_any (copies_it log h) log) Committed RolledBack))) settled
       ∙ sorted (list_any (names_it h) log) (list_any (copies_it log h) log) (list_any (discards_it log h) log)
 

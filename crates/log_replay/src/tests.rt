@@ -172,15 +172,27 @@ fn state_in(alloc: Global, records: &[&[u8]]) -> Result<Option<OriginState>, Fai
 fn an_origin_is_what_settles_it(rt: HostRuntime) -> Result<(), Fail> {
     let alloc = rt.alloc();
     assert_eq!(rt; state_in(alloc, &[HALF])?, Some(OriginState::Open));
-    assert_eq!(rt; state_in(alloc, &[HALF, COPY, OP])?, Some(OriginState::Committed));
+    assert_eq!(rt;
+        state_in(alloc, &[HALF, COPY, OP])?,
+        Some(OriginState::Committed)
+    );
 
     // Cut between copy and op record.
-    assert_eq!(rt; state_in(alloc, &[HALF, COPY])?, Some(OriginState::Committed));
-    assert_eq!(rt; state_in(alloc, &[HALF, OP])?, Some(OriginState::RolledBack));
+    assert_eq!(rt;
+        state_in(alloc, &[HALF, COPY])?,
+        Some(OriginState::Committed)
+    );
+    assert_eq!(rt;
+        state_in(alloc, &[HALF, OP])?,
+        Some(OriginState::RolledBack)
+    );
 
     // A check leaves it open, and the copy among the discarded ones settles it.
     assert_eq!(rt; state_in(alloc, &[HALF, RENEWAL])?, Some(OriginState::Open));
-    assert_eq!(rt; state_in(alloc, &[HALF, RENEWAL, DISCARD])?, Some(OriginState::Discarded));
+    assert_eq!(rt;
+        state_in(alloc, &[HALF, RENEWAL, DISCARD])?,
+        Some(OriginState::Discarded)
+    );
     Ok(())
 }
 
@@ -200,13 +212,25 @@ fn a_delivery_counts_for_its_level(rt: HostRuntime) -> Result<(), Fail> {
 fn keys_of_one_hash_are_found_together(rt: HostRuntime) -> Result<(), Fail> {
     let alloc = rt.alloc();
     let log = log_with(alloc, &[FIRST, SECOND])?;
-    assert_eq!(rt; query_of(alloc, &log, "T", "Aa", 0, 9000, 32)?.as_slice(), [116, 0].as_slice());
-    assert_eq!(rt; query_of(alloc, &log, "T", "Aa", 0, 9000, 1)?.as_slice(), [116].as_slice());
-    assert_eq!(rt; query_reply(alloc, &log, "T", "Aa", 0, 9000, 32)?.as_slice(), [0, 116].as_slice());
+    assert_eq!(rt;
+        query_of(alloc, &log, "T", "Aa", 0, 9000, 32)?.as_slice(),
+        [116, 0].as_slice()
+    );
+    assert_eq!(rt;
+        query_of(alloc, &log, "T", "Aa", 0, 9000, 1)?.as_slice(),
+        [116].as_slice()
+    );
+    assert_eq!(rt;
+        query_reply(alloc, &log, "T", "Aa", 0, 9000, 32)?.as_slice(),
+        [0, 116].as_slice()
+    );
     assert!(rt; query_of(alloc, &log, "T", "C", 0, 9000, 32)?.is_empty());
     assert!(rt; query_of(alloc, &log, "T", "Aa", 0, 1999, 32)?.is_empty());
     match log.as_slice() {
-        [first, ..] => assert_eq!(rt; index_keys_of(alloc, first)?.as_slice(), [2538191].as_slice()),
+        [first, ..] => assert_eq!(rt;
+            index_keys_of(alloc, first)?.as_slice(),
+            [2538191].as_slice()
+        ),
         [] => return Err(Fail::from("no record")),
     }
     Ok(())
@@ -218,7 +242,10 @@ fn a_family_is_an_origin_and_its_checks(rt: HostRuntime) -> Result<(), Fail> {
     let log = log_with(alloc, &[HALF, RENEWAL, DISCARD])?;
     assert_eq!(rt; family_of(alloc, &log, 0)?.as_slice(), [0, 178].as_slice());
     assert_eq!(rt; copies_of(alloc, &log, 0)?, 0);
-    assert_eq!(rt; bounds_of(&log, &no_base(alloc), "RMQ_SYS_TRANS_HALF_TOPIC", 0), (0, 2));
+    assert_eq!(rt;
+        bounds_of(&log, &no_base(alloc), "RMQ_SYS_TRANS_HALF_TOPIC", 0),
+        (0, 2)
+    );
     let item = item_at(&log, &no_base(alloc), "RMQ_SYS_TRANS_HALF_TOPIC", 0, 1);
     assert!(rt; matches!(item, Some(r) if r.place.offset == 178));
     Ok(())
