@@ -49,7 +49,8 @@ fn put_key(
     key: Option<&str>,
     hashes: &mut Vec<u32>,
 ) -> Result<(), AllocError>
-    ensures { OnOk result (hashes.new.items ≡ hashes.old.items ++ map (hash_of topic.now) (option_to_list (option_map (λ text. text.now) key.entry))) }
+    ensures { OnOk result (hashes.new.items ≡ hashes.old.items
+        ++ map (hash_of topic.now) (option_to_list (option_map (λ text. text.now) key.entry))) }
 {
     match key {
         Some(key) => {
@@ -86,7 +87,8 @@ fn put_all_words(
     text: Option<&str>,
     hashes: &mut Vec<u32>,
 ) -> Result<(), AllocError>
-    ensures { OnOk result (hashes.new.items ≡ hashes.old.items ++ map (hash_of topic.now) (words (option_map (λ text. text.now) text.entry))) }
+    ensures { OnOk result (hashes.new.items ≡ hashes.old.items
+        ++ map (hash_of topic.now) (words (option_map (λ text. text.now) text.entry))) }
 {
     match text {
         Some(text) => put_words(alloc, topic, text, hashes),

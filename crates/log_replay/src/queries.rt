@@ -65,7 +65,8 @@ fn newest(
     most: usize,
 ) -> Result<Vec<(u64, u32)>, AllocError>
     requires { All IsStored log.now }
-    ensures { IfOk result (λ found. found.items ≡ map place_and_size (take most (reverse (filter (is_match_entry hash from to) (entries_of log.now))))) }
+    ensures { IfOk result (λ found. found.items
+        ≡ map place_and_size (take most (reverse (filter (is_match_entry hash from to) (entries_of log.now))))) }
 {
     let mut found = matching(alloc, log, hash, from, to)?;
     found.reverse();
@@ -155,7 +156,8 @@ pub fn query_reply(
     most: i32,
 ) -> Result<Vec<u64>, AllocError>
     requires { All IsStored log.now }
-    ensures { IfOk result (λ places. places.items ≡ map (λ r. r.offset) (query_of_log (entries_of log.now) topic.now key.now from to most)) }
+    ensures { IfOk result (λ places. places.items
+        ≡ map (λ r. r.offset) (query_of_log (entries_of log.now) topic.now key.now from to most)) }
 {
     let hash = hash(alloc, topic, key)?;
     let most = asked(i64::from(most));
