@@ -1,11 +1,11 @@
 -- The places of records, and those that go into a reply together.
-use Rattle.std.proofs.Common.{◌≡◌, ◌∙◌, ℕ, zero, suc, ◌+◌, ◌-◌, ◌<◌, ◌≤◌, List, [], ◌∷◌, ◌++◌, length, get_or, take, drop, map, reverse, cond, refl, sym, ap, arith, append_assoc, append-nil}
+use Rattle.std.proofs.Common.{◌≡◌, ◌∙◌, ℕ, zero, suc, ◌+◌, ◌-◌, ◌<◌, ◌≤◌, List, [], ◌∷◌, ◌++◌, length, get_or, take, drop, map, reverse, refl, sym, ap, arith, append_assoc, append-nil}
 use Rattle.std.specs.Prelude.{nat_le, ℤ, filter}
 use Rattle.std.proofs.lemmas.Bool.{cond-true, cond-false, lt-leb, le-leb}
 use Rattle.std.proofs.lemmas.List.{take-map, reverse-append, map-append}
 use Rattle.record_codec.specs.Entry.{Entry}
 use Rattle.record_codec.specs.Layout.{size}
-use Rattle.log_model.specs.Keys.{hash_of, asked_number, is_match, newest_with_key, within, cut_to}
+use Rattle.log_model.specs.Keys.{hash_of, asked_number, is_match, newest_with_key, within}
 use Rattle.log_replay.specs.Told.{place_and_size}
 
 -- the record of a pair of a place and a size, and what is behind it

@@ -1,5 +1,5 @@
 -- What became of an origin, by three tests of the log.
-use Rattle.std.proofs.Common.{◌≡◌, ◌∙◌, ℕ, ◌&&◌, ◌||◌, Bool, true, false, List, length, map, filter, cond, bytes_eq, refl, sym, ap, subst}
+use Rattle.std.proofs.Common.{◌≡◌, ◌∙◌, ℕ, ◌&&◌, ◌||◌, Bool, true, false, List, length, map, cond, bytes_eq, refl, sym, ap}
 use Rattle.std.specs.Prelude.{not, nat_eq, count_by}
 use Rattle.std.specs.List.{list_any}
 use Rattle.std.proofs.lemmas.List.Elements.{filter_agree}

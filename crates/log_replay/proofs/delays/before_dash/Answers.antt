@@ -1,4 +1,4 @@
-use Rattle.std.proofs.Common.{◌≡◌, ℕ, List, Option, option_map, sym, ap, ◌∙◌, eq-eqb}
+use Rattle.std.proofs.Common.{ℕ, List, Option, option_map, sym, ap, eq-eqb}
 use Rattle.std.proofs.lemmas.Bool.{ne_eqb}
 use Rattle.record_codec.proofs.ScanLemmas.{passes, stops, ended}
 use Rattle.log_replay.proofs.delays.before_dash.Goals as goal

@@ -1,4 +1,4 @@
-use Rattle.std.proofs.Common.{◌≡◌, ◌^◌, ◌≤◌, sym, subst, arith}
+use Rattle.std.proofs.Common.{◌^◌, ◌≤◌, sym, subst, arith}
 use Rattle.log_model.specs.Bases.{Base}
 use Rattle.log_replay.proofs.tests.no_base.Goals as goal
 
