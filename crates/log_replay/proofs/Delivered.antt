@@ -1,6 +1,6 @@
 -- How far a level was delivered, by a count of its digits.
-use Rattle.std.proofs.Common.{◌≡◌, ◌∙◌, ℕ, ◌+◌, ◌-◌, List, get_or, sym, ap, arith}
-use Rattle.std.specs.Prelude.{count_by, slice_index}
+use Rattle.std.proofs.Common.{◌≡◌, ◌∙◌, ℕ, ◌+◌, ◌-◌, List, get_or, ap, arith}
+use Rattle.std.specs.Prelude.{count_by}
 use Rattle.mq_bytes.specs.Decimal.{digits_of}
 use Rattle.record_codec.specs.declared.draft.Record.{Record}
 use Rattle.record_codec.specs.Entry.{Entry}

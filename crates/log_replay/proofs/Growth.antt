@@ -1,5 +1,5 @@
 -- A log, one record on: its queues, keys and origins.
-use Rattle.std.proofs.Common.{◌≡◌, ◌∙◌, ◌⊎◌, inl, inr, ℕ, zero, suc, ◌+◌, ◌<◌, ◌≤◌, ◌&&◌, ◌||◌, Bool, true, false, cond, eqb, List, [], ◌∷◌, ◌++◌, length, map, take, filter, slice_get, Option, Some, None, bytes_eq, refl, sym, ap, subst, arith, append-nil, length-append}
+use Rattle.std.proofs.Common.{◌≡◌, ◌∙◌, ◌⊎◌, inl, inr, ℕ, zero, suc, ◌+◌, ◌<◌, ◌≤◌, ◌&&◌, ◌||◌, Bool, true, false, cond, List, [], ◌∷◌, ◌++◌, length, map, take, filter, slice_get, Some, bytes_eq, refl, sym, ap, arith, length-append}
 use Rattle.std.specs.Prelude.{count_by, nat_eq, bit_and}
 use Rattle.std.specs.List.{list_any}
 use Rattle.std.proofs.lemmas.Bool.{eqb-true, ne_eqb, cases_lt}
@@ -16,7 +16,7 @@ use Rattle.log_model.specs.Bases.{Geometry}
 use Rattle.log_model.specs.Kinds.{is_copy, is_discard}
 use Rattle.log_model.specs.Log.{end_of, Follows, IsWellFormed}
 use Rattle.log_model.specs.Queues.{queue_of, units_of}
-use Rattle.log_model.specs.Transactions.{is_origin, is_renewal, family, is_of_family, names_it, copies_it, discards_it, settles, is_settled, copies, transaction_state, TransactionState}
+use Rattle.log_model.specs.Transactions.{is_origin, is_renewal, is_of_family, names_it, copies_it, discards_it, settles, is_settled, copies, transaction_state, TransactionState}
 use Rattle.log_model.proofs.FirstFits.{place_behind}
 use Rattle.log_model.proofs.Lists.{take_got, get_within}
 use Rattle.log_model.proofs.Places.{end_of-append}
@@ -161,7 +161,7 @@ module _ (log : List Entry) (r : Entry) (h : ℕ) where
         let d = discards_it log h r in
         state_is (log ++ r ∷ []) h
         ∙ ap (λ (b : Bool). by_tests b (list_any (copies_it (log ++ r ∷ []) h) (log ++ r ∷ [])) (list_any (discards_it (log ++ r ∷ []) h) (log ++ r ∷ [])))
-          (any_more (names_it h) (names_it h) (λ e lawful low. refl))
+        (any_more (names_it h) (names_it h) (λ e lawful low. refl))
         ∙ ap (λ (b : Bool). by_tests (N || n) b (list_any (discards_it (log ++ r ∷ []) h) (log ++ r ∷ []))) (any_more (copies_it (log ++ r ∷ []) h) (copies_it log h) copy_same)
         ∙ ap (λ (b : Bool). by_tests (N || n) (C || c) b) (any_more (discards_it (log ++ r ∷ []) h) (discards_it log h) discard_same)
         ∙ after_is N C D n c d

@@ -1,11 +1,11 @@
 -- The places of records, and those that go into a reply together.
-use Rattle.std.proofs.Common.{◌≡◌, ◌∙◌, ℕ, zero, suc, ◌+◌, ◌-◌, ◌<◌, ◌≤◌, List, [], ◌∷◌, ◌++◌, length, get_or, take, drop, map, reverse, cond, refl, sym, ap, arith, append_assoc, append-nil}
+use Rattle.std.proofs.Common.{◌≡◌, ◌∙◌, ℕ, zero, suc, ◌+◌, ◌-◌, ◌<◌, ◌≤◌, List, [], ◌∷◌, ◌++◌, length, get_or, take, drop, map, reverse, refl, sym, ap, arith, append_assoc, append-nil}
 use Rattle.std.specs.Prelude.{nat_le, ℤ, filter}
 use Rattle.std.proofs.lemmas.Bool.{cond-true, cond-false, lt-leb, le-leb}
 use Rattle.std.proofs.lemmas.List.{take-map, reverse-append, map-append}
 use Rattle.record_codec.specs.Entry.{Entry}
 use Rattle.record_codec.specs.Layout.{size}
-use Rattle.log_model.specs.Keys.{hash_of, asked_number, is_match, newest_with_key, within, cut_to}
+use Rattle.log_model.specs.Keys.{hash_of, asked_number, is_match, newest_with_key, within}
 use Rattle.log_replay.specs.Told.{place_and_size}
 
 -- the record of a pair of a place and a size, and what is behind it
@@ -33,7 +33,7 @@ module _ (pairs : List (ℕ × ℕ)) (rs : List Entry) (same : pairs ≡ map pla
       let n = next_one in
       let large : room < size n.0 = omega (arith, more, ap (λ (p : ℕ × ℕ). p.1) n.1) in
       let none : within room (drop i rs) ≡ [] = ap (within room) n.2
-          ∙ cond-false (nat_le (size n.0) room) (n.0 ∷ within (room - size n.0) (drop (i + 1) rs)) [] (lt-leb (size n.0) room large) in
+      ∙ cond-false (nat_le (size n.0) room) (n.0 ∷ within (room - size n.0) (drop (i + 1) rs)) [] (lt-leb (size n.0) room large) in
       sym (ap (λ (l : List Entry). places ++ places_of l) none ∙ append-nil places)
 
   -- the next one goes with those before it
@@ -43,7 +43,7 @@ module _ (pairs : List (ℕ × ℕ)) (rs : List Entry) (same : pairs ≡ map pla
       let n = next_one in
       let low : size n.0 ≤ room = omega (arith, fits, ap (λ (p : ℕ × ℕ). p.1) n.1) in
       let goes : within room (drop i rs) ≡ n.0 ∷ within (room - size n.0) (drop (i + 1) rs) = ap (within room) n.2
-          ∙ cond-true (nat_le (size n.0) room) (n.0 ∷ within (room - size n.0) (drop (i + 1) rs)) [] (le-leb (size n.0) room low) in
+      ∙ cond-true (nat_le (size n.0) room) (n.0 ∷ within (room - size n.0) (drop (i + 1) rs)) [] (le-leb (size n.0) room low) in
       ap (λ (p : ℕ × ℕ). (places ++ p.0 ∷ []) ++ places_of (within (room - p.1) (drop (i + 1) rs))) n.1
       ∙ append_assoc places (n.0.offset ∷ []) (places_of (within (room - size n.0) (drop (i + 1) rs)))
       ∙ ap (λ (l : List Entry). places ++ places_of l) (sym goes)

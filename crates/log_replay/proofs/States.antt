@@ -1,5 +1,5 @@
 -- What became of an origin, by three tests of the log.
-use Rattle.std.proofs.Common.{◌≡◌, ◌∙◌, ℕ, ◌&&◌, ◌||◌, Bool, true, false, List, length, map, filter, cond, bytes_eq, refl, sym, ap, subst}
+use Rattle.std.proofs.Common.{◌≡◌, ◌∙◌, ℕ, ◌&&◌, ◌||◌, Bool, true, false, List, length, map, cond, bytes_eq, refl, sym, ap}
 use Rattle.std.specs.Prelude.{not, nat_eq, count_by}
 use Rattle.std.specs.List.{list_any}
 use Rattle.std.proofs.lemmas.List.Elements.{filter_agree}
@@ -29,8 +29,8 @@ module _ (log : List Entry) (h : ℕ) where
   pub state_is : transaction_state log h ≡ by_tests (list_any (names_it h) log) (list_any (copies_it log h) log) (list_any (discards_it log h) log)
   state_is =
       let settled : is_settled log h ≡ (list_any (names_it h) log || list_any (copies_it log h) log || list_any (discards_it log h) log) =
-          list_any-or (λ (r : Entry). names_it h r || copies_it log h r) (discards_it log h) log
-          ∙ ap (λ (b : Bool). b || list_any (discards_it log h) log) (list_any-or (names_it h) (copies_it log h) log) in
+      list_any-or (λ (r : Entry). names_it h r || copies_it log h r) (discards_it log h) log
+      ∙ ap (λ (b : Bool). b || list_any (discards_it log h) log) (list_any-or (names_it h) (copies_it log h) log) in
       ap (λ (b : Bool). cond (not b) Open (cond (list_any (discards_it log h) log) Discarded (cond (list_any (copies_it log h) log) Committed RolledBack))) settled
       ∙ sorted (list_any (names_it h) log) (list_any (copies_it log h) log) (list_any (discards_it log h) log)
 

@@ -7,4 +7,5 @@ abbrev pub state_after : TransactionState → Bool → Bool → Bool → Transac
 state_after Discarded names copies discards = Discarded
 state_after Committed names copies discards = if discards then Discarded else Committed
 state_after RolledBack names copies discards = if discards then Discarded else (if copies then Committed else RolledBack)
-state_after Open names copies discards = if discards then Discarded else (if copies then Committed else (if names then RolledBack else Open))
+state_after Open names copies discards =
+    if discards then Discarded else (if copies then Committed else (if names then RolledBack else Open))

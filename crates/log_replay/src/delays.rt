@@ -62,7 +62,8 @@ fn deliveries(log: &[Record], digits: &[u8]) -> u64
 pub fn delays_of(alloc: Global, log: &[Record], base: &Base) -> Result<[u64; 18], AllocError>
     requires levels { (level : ℕ) → (base_of base.now).levels level ≤ 2 ^ 62 }
     requires few { length log.now ≤ 2 ^ 62 }
-    ensures { IfOk result (λ delays. (level : ℕ) → 1 ≤ level → level ≤ 18 → slice_index delays (level - 1) ≡ progress (log_of base.now log.now) level) }
+    ensures { IfOk result (λ delays. (level : ℕ) → 1 ≤ level → level ≤ 18
+        → slice_index delays (level - 1) ≡ progress (log_of base.now log.now) level) }
 {
     let mut delays = [0; 18];
     for i in 0..18 {

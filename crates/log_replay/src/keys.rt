@@ -43,8 +43,14 @@ fn str_of(bytes: &[u8]) -> &str
 }
 
 // Appends the hash of the key, where there is one.
-fn put_key(alloc: Global, topic: &str, key: Option<&str>, hashes: &mut Vec<u32>) -> Result<(), AllocError>
-    ensures { OnOk result (hashes.new.items ≡ hashes.old.items ++ map (hash_of topic.now) (option_to_list (option_map (λ text. text.now) key.entry))) }
+fn put_key(
+    alloc: Global,
+    topic: &str,
+    key: Option<&str>,
+    hashes: &mut Vec<u32>,
+) -> Result<(), AllocError>
+    ensures { OnOk result (hashes.new.items ≡ hashes.old.items
+        ++ map (hash_of topic.now) (option_to_list (option_map (λ text. text.now) key.entry))) }
 {
     match key {
         Some(key) => {
@@ -56,7 +62,12 @@ fn put_key(alloc: Global, topic: &str, key: Option<&str>, hashes: &mut Vec<u32>)
 }
 
 // Appends the hash of each word of the text.
-fn put_words(alloc: Global, topic: &str, text: &str, hashes: &mut Vec<u32>) -> Result<(), AllocError>
+fn put_words(
+    alloc: Global,
+    topic: &str,
+    text: &str,
+    hashes: &mut Vec<u32>,
+) -> Result<(), AllocError>
     ensures { OnOk result (hashes.new.items ≡ hashes.old.items ++ map (hash_of topic.now) (words (Some text.now))) }
 {
     let mut rest = text.as_bytes();
@@ -70,8 +81,14 @@ fn put_words(alloc: Global, topic: &str, text: &str, hashes: &mut Vec<u32>) -> R
     Ok(())
 }
 
-fn put_all_words(alloc: Global, topic: &str, text: Option<&str>, hashes: &mut Vec<u32>) -> Result<(), AllocError>
-    ensures { OnOk result (hashes.new.items ≡ hashes.old.items ++ map (hash_of topic.now) (words (option_map (λ text. text.now) text.entry))) }
+fn put_all_words(
+    alloc: Global,
+    topic: &str,
+    text: Option<&str>,
+    hashes: &mut Vec<u32>,
+) -> Result<(), AllocError>
+    ensures { OnOk result (hashes.new.items ≡ hashes.old.items
+        ++ map (hash_of topic.now) (words (option_map (λ text. text.now) text.entry))) }
 {
     match text {
         Some(text) => put_words(alloc, topic, text, hashes),

@@ -19,7 +19,8 @@ pub fn a_record_ends_its_queue()
         → queue_of (log ++ r ∷ []) topic queue ≡ queue_of log topic queue ++ queue_of (r ∷ []) topic queue }
     ensures units { (log : List Entry) (r : Entry) (topic : List ℕ) (queue : ℕ)
         → units_of (log ++ r ∷ []) topic queue ≡ units_of log topic queue ++ units_of (r ∷ []) topic queue }
-    ensures minimum { (log : Log) (r : Entry) (topic : List ℕ) (queue : ℕ) → queue_min (with_appended log (r ∷ [])) topic queue ≡ queue_min log topic queue }
+    ensures minimum { (log : Log) (r : Entry) (topic : List ℕ) (queue : ℕ)
+        → queue_min (with_appended log (r ∷ [])) topic queue ≡ queue_min log topic queue }
     ensures maximum { (log : Log) (r : Entry) (topic : List ℕ) (queue : ℕ)
         → queue_max (with_appended log (r ∷ [])) topic queue ≡ queue_max log topic queue + length (queue_of (r ∷ []) topic queue) }
 {}
@@ -28,7 +29,8 @@ pub fn a_record_ends_its_queue()
 pub fn a_record_adds_its_keys()
     ensures entries { (log : List Entry) (r : Entry) → key_entries (log ++ r ∷ []) ≡ key_entries log ++ entries_in r }
     ensures matches { (log : List Entry) (r : Entry) (hash : ℕ) (from to : ℤ)
-        → filter (is_match hash from to) (log ++ r ∷ []) ≡ filter (is_match hash from to) log ++ (if is_match hash from to r then r ∷ [] else []) }
+        → filter (is_match hash from to) (log ++ r ∷ [])
+        ≡ filter (is_match hash from to) log ++ (if is_match hash from to r then r ∷ [] else []) }
 {}
 
 /// A half message is the last of its family; of an origin it is the origin.
@@ -44,7 +46,8 @@ pub fn a_record_settles_by_earlier_halves()
     ensures settled { (S : Geometry) (log : List Entry) (r : Entry) (h : ℕ) → IsWellFormed S log → Follows S log r
         → is_settled (log ++ r ∷ []) h ≡ (is_settled log h || settles log h r) }
     ensures state { (S : Geometry) (log : List Entry) (r : Entry) (h : ℕ) → IsWellFormed S log → Follows S log r
-        → transaction_state (log ++ r ∷ []) h ≡ state_after (transaction_state log h) (names_it h r) (copies_it log h r) (discards_it log h r) }
+        → transaction_state (log ++ r ∷ []) h
+        ≡ state_after (transaction_state log h) (names_it h r) (copies_it log h r) (discards_it log h r) }
 {}
 
 /// A delivery raises the progress of its level by one.
@@ -59,5 +62,6 @@ pub fn the_lowest_due_level_is_delivered()
         → (is_due log d now level ≡ true) × (next_delayed log d level ≡ Some r) }
     ensures lowest { (log : Log) (d now level lower : ℕ) (r : Entry) → due_delayed log d now ≡ Some (level, r)
         → 1 ≤ lower → lower < level → is_due log d now lower ≡ false }
-    ensures none { (log : Log) (d now level : ℕ) → due_delayed log d now ≡ None → 1 ≤ level → level ≤ 18 → is_due log d now level ≡ false }
+    ensures none { (log : Log) (d now level : ℕ) → due_delayed log d now ≡ None → 1 ≤ level → level ≤ 18
+        → is_due log d now level ≡ false }
 {}

@@ -36,7 +36,13 @@ fn is_match(alloc: Global, r: &Record, hash: u32, from: i128, to: i128) -> Resul
 }
 
 // The places and sizes of these records, in the order of the log.
-fn matching(alloc: Global, log: &[Record], hash: u32, from: i128, to: i128) -> Result<Vec<(u64, u32)>, AllocError>
+fn matching(
+    alloc: Global,
+    log: &[Record],
+    hash: u32,
+    from: i128,
+    to: i128,
+) -> Result<Vec<(u64, u32)>, AllocError>
     requires { All IsStored log.now }
     ensures { IfOk result (λ found. found.items ≡ map place_and_size (filter (is_match_entry hash from to) (entries_of log.now))) }
 {
@@ -59,7 +65,8 @@ fn newest(
     most: usize,
 ) -> Result<Vec<(u64, u32)>, AllocError>
     requires { All IsStored log.now }
-    ensures { IfOk result (λ found. found.items ≡ map place_and_size (take most (reverse (filter (is_match_entry hash from to) (entries_of log.now))))) }
+    ensures { IfOk result (λ found. found.items
+        ≡ map place_and_size (take most (reverse (filter (is_match_entry hash from to) (entries_of log.now))))) }
 {
     let mut found = matching(alloc, log, hash, from, to)?;
     found.reverse();
@@ -100,7 +107,11 @@ pub fn query_of(
 }
 
 // Appends the places of these records, as far as they have room together.
-fn put_within(places: &mut Vec<u64>, mut room: u64, records: &[(u64, u32)]) -> Result<(), AllocError>
+fn put_within(
+    places: &mut Vec<u64>,
+    mut room: u64,
+    records: &[(u64, u32)],
+) -> Result<(), AllocError>
     ensures { (rs : List Entry) → records.now ≡ map place_and_size rs
         → OnOk result (places.new.items ≡ places.old.items ++ map (λ r. r.offset) (within room rs)) }
 {
@@ -124,7 +135,11 @@ fn cut(alloc: Global, records: &[(u64, u32)]) -> Result<Vec<u64>, AllocError>
         [] => Ok(places),
         [(place, size), rest @ ..] => {
             places.push(*place)?;
-            put_within(&mut places, BODY_ROOM.saturating_sub(u64::from(*size)), rest)?;
+            put_within(
+                &mut places,
+                BODY_ROOM.saturating_sub(u64::from(*size)),
+                rest,
+            )?;
             Ok(places)
         }
     }
@@ -141,7 +156,8 @@ pub fn query_reply(
     most: i32,
 ) -> Result<Vec<u64>, AllocError>
     requires { All IsStored log.now }
-    ensures { IfOk result (λ places. places.items ≡ map (λ r. r.offset) (query_of_log (entries_of log.now) topic.now key.now from to most)) }
+    ensures { IfOk result (λ places. places.items
+        ≡ map (λ r. r.offset) (query_of_log (entries_of log.now) topic.now key.now from to most)) }
 {
     let hash = hash(alloc, topic, key)?;
     let most = asked(i64::from(most));

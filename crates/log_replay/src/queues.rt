@@ -72,7 +72,13 @@ fn nth_of<'a>(log: &'a [Record], topic: &str, queue: u32, mut left: u64) -> Opti
 }
 
 /// The record at this offset of the queue, where it still stands.
-pub fn item_at<'a>(log: &'a [Record], base: &Base, topic: &str, queue: u32, offset: u64) -> Option<&'a Record>
+pub fn item_at<'a>(
+    log: &'a [Record],
+    base: &Base,
+    topic: &str,
+    queue: u32,
+    offset: u64,
+) -> Option<&'a Record>
     ensures { option_map (λ r. said_by r.now) result ≡ item_of (log_of base.now log.now) topic.now queue offset }
 {
     let low = removed(base, topic, queue);

@@ -20,7 +20,9 @@ fn has_queue(log: &[Record], r: &Record) -> bool
     ensures { result ≡ list_any (λ earlier. are_of_one_queue earlier (said_by r.now)) (entries_of log.now) }
 {
     for record in log {
-        if record.draft.topic.as_str() == r.draft.topic.as_str() && record.draft.queue == r.draft.queue {
+        if record.draft.topic.as_str() == r.draft.topic.as_str()
+            && record.draft.queue == r.draft.queue
+        {
             return true;
         }
     }
@@ -69,7 +71,11 @@ fn queues(alloc: Global, log: &[Record]) -> Result<Vec<(Text, u32, Rows<Unit>)>,
     Ok(rows)
 }
 
-fn put_entries(alloc: Global, r: &Record, entries: &mut Vec<(u32, u64, u64)>) -> Result<(), AllocError>
+fn put_entries(
+    alloc: Global,
+    r: &Record,
+    entries: &mut Vec<(u32, u64, u64)>,
+) -> Result<(), AllocError>
     ensures { OnOk result (entries.new.items ≡ entries.old.items ++ entries_in (said_by r.now)) }
 {
     let hashes = index_keys_of(alloc, r)?;

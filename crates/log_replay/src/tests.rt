@@ -1,6 +1,6 @@
 //! The worked rows, as lists of records that were made apart, with the sums of zlib.
 
-ghost use Rattle.std.specs.Prelude.{◌≡◌, ℕ, ◌≤◌, ◌^◌, IfOk, All, length};
+ghost use Rattle.std.specs.Prelude.{ℕ, ◌≤◌, ◌^◌, List, IfOk, All, length};
 ghost use Rattle.log_model.specs.Queues.{IsStored};
 ghost use Rattle.log_model.specs.Told.{base_of};
 
@@ -128,7 +128,8 @@ fn log_with(alloc: Global, records: &[&[u8]]) -> Result<Vec<Record>, Fail>
 
 // A base before which nothing was removed.
 fn no_base(alloc: Global) -> Base
-    ensures { (level : ℕ) → (base_of result).levels level ≤ 2 ^ 62 }
+    ensures levels { (level : ℕ) → (base_of result).levels level ≤ 2 ^ 62 }
+    ensures counts { (topic : List ℕ) (queue : ℕ) → (base_of result).queues topic queue ≤ 2 ^ 62 }
 {
     Base::none(alloc)
 }
@@ -159,28 +160,43 @@ fn a_queue_has_the_units_of_its_records(rt: HostRuntime) -> Result<(), Fail> {
     Ok(())
 }
 
-// What became of the origin 0 of the log with these records.
-fn state_in(alloc: Global, records: &[&[u8]]) -> Result<Option<OriginState>, Fail> {
+// What became of the origins of the log with these records.
+fn states_in(alloc: Global, records: &[&[u8]]) -> Result<Vec<(u64, OriginState)>, Fail> {
     let log = log_with(alloc, records)?;
-    match halves_of(alloc, &log)?.as_slice() {
-        [(0, state)] => Ok(Some(*state)),
-        _ => Ok(None),
-    }
+    Ok(halves_of(alloc, &log)?)
 }
 
 #[test]
 fn an_origin_is_what_settles_it(rt: HostRuntime) -> Result<(), Fail> {
     let alloc = rt.alloc();
-    assert_eq!(rt; state_in(alloc, &[HALF])?, Some(OriginState::Open));
-    assert_eq!(rt; state_in(alloc, &[HALF, COPY, OP])?, Some(OriginState::Committed));
+    assert_eq!(rt;
+        states_in(alloc, &[HALF])?.as_slice(),
+        [(0, OriginState::Open)].as_slice()
+    );
+    assert_eq!(rt;
+        states_in(alloc, &[HALF, COPY, OP])?.as_slice(),
+        [(0, OriginState::Committed)].as_slice()
+    );
 
     // Cut between copy and op record.
-    assert_eq!(rt; state_in(alloc, &[HALF, COPY])?, Some(OriginState::Committed));
-    assert_eq!(rt; state_in(alloc, &[HALF, OP])?, Some(OriginState::RolledBack));
+    assert_eq!(rt;
+        states_in(alloc, &[HALF, COPY])?.as_slice(),
+        [(0, OriginState::Committed)].as_slice()
+    );
+    assert_eq!(rt;
+        states_in(alloc, &[HALF, OP])?.as_slice(),
+        [(0, OriginState::RolledBack)].as_slice()
+    );
 
     // A check leaves it open, and the copy among the discarded ones settles it.
-    assert_eq!(rt; state_in(alloc, &[HALF, RENEWAL])?, Some(OriginState::Open));
-    assert_eq!(rt; state_in(alloc, &[HALF, RENEWAL, DISCARD])?, Some(OriginState::Discarded));
+    assert_eq!(rt;
+        states_in(alloc, &[HALF, RENEWAL])?.as_slice(),
+        [(0, OriginState::Open)].as_slice()
+    );
+    assert_eq!(rt;
+        states_in(alloc, &[HALF, RENEWAL, DISCARD])?.as_slice(),
+        [(0, OriginState::Discarded)].as_slice()
+    );
     Ok(())
 }
 
@@ -200,13 +216,25 @@ fn a_delivery_counts_for_its_level(rt: HostRuntime) -> Result<(), Fail> {
 fn keys_of_one_hash_are_found_together(rt: HostRuntime) -> Result<(), Fail> {
     let alloc = rt.alloc();
     let log = log_with(alloc, &[FIRST, SECOND])?;
-    assert_eq!(rt; query_of(alloc, &log, "T", "Aa", 0, 9000, 32)?.as_slice(), [116, 0].as_slice());
-    assert_eq!(rt; query_of(alloc, &log, "T", "Aa", 0, 9000, 1)?.as_slice(), [116].as_slice());
-    assert_eq!(rt; query_reply(alloc, &log, "T", "Aa", 0, 9000, 32)?.as_slice(), [0, 116].as_slice());
+    assert_eq!(rt;
+        query_of(alloc, &log, "T", "Aa", 0, 9000, 32)?.as_slice(),
+        [116, 0].as_slice()
+    );
+    assert_eq!(rt;
+        query_of(alloc, &log, "T", "Aa", 0, 9000, 1)?.as_slice(),
+        [116].as_slice()
+    );
+    assert_eq!(rt;
+        query_reply(alloc, &log, "T", "Aa", 0, 9000, 32)?.as_slice(),
+        [0, 116].as_slice()
+    );
     assert!(rt; query_of(alloc, &log, "T", "C", 0, 9000, 32)?.is_empty());
     assert!(rt; query_of(alloc, &log, "T", "Aa", 0, 1999, 32)?.is_empty());
     match log.as_slice() {
-        [first, ..] => assert_eq!(rt; index_keys_of(alloc, first)?.as_slice(), [2538191].as_slice()),
+        [first, ..] => assert_eq!(rt;
+            index_keys_of(alloc, first)?.as_slice(),
+            [2538191].as_slice()
+        ),
         [] => return Err(Fail::from("no record")),
     }
     Ok(())
@@ -218,7 +246,10 @@ fn a_family_is_an_origin_and_its_checks(rt: HostRuntime) -> Result<(), Fail> {
     let log = log_with(alloc, &[HALF, RENEWAL, DISCARD])?;
     assert_eq!(rt; family_of(alloc, &log, 0)?.as_slice(), [0, 178].as_slice());
     assert_eq!(rt; copies_of(alloc, &log, 0)?, 0);
-    assert_eq!(rt; bounds_of(&log, &no_base(alloc), "RMQ_SYS_TRANS_HALF_TOPIC", 0), (0, 2));
+    assert_eq!(rt;
+        bounds_of(&log, &no_base(alloc), "RMQ_SYS_TRANS_HALF_TOPIC", 0),
+        (0, 2)
+    );
     let item = item_at(&log, &no_base(alloc), "RMQ_SYS_TRANS_HALF_TOPIC", 0, 1);
     assert!(rt; matches!(item, Some(r) if r.place.offset == 178));
     Ok(())

@@ -16,7 +16,7 @@ pub loop-i-preserved : goal.loop-i-preserved
 loop-i-preserved c =
     let log = c.args.log.now in
     let here = progressed c.args.base.now log c.loop-i.i c.deliveries.result c.in_ok-digits.digits.items c.in_ok-digits.ensures
-        (c.deliveries.ensures.value ∙ ap (λ (ds : List ℕ). count_by (λ (r : Entry). is_text ds (delay_level r)) (entries_of log)) c.deref.ensures.value) in
+    (c.deliveries.ensures.value ∙ ap (λ (ds : List ℕ). count_by (λ (r : Entry). is_text ds (delay_level r)) (entries_of log)) c.deref.ensures.value) in
     let lt : c.loop-i.i < length c.loop-i.delays = omega (arith, c.loop-i.invariant.wide, c.loop-i-test.true) in
     record {
       all = below_more _ _

@@ -1,11 +1,10 @@
-use Rattle.std.proofs.Common.{◌≡◌, ◌+◌, ◌≤◌, List, length, take, sym, ap, ◌∙◌, arith}
+use Rattle.std.proofs.Common.{◌≡◌, List, take, ap, ◌∙◌, arith}
 use Rattle.std.proofs.lemmas.List.{take_all}
 use Rattle.std.specs.Prelude.{count_by, ◌&&◌}
 use Rattle.record_codec.specs.declared.draft.Record.{Record}
 use Rattle.record_codec.specs.Entry.{Entry}
 use Rattle.log_model.specs.Kinds.{is_copy}
 use Rattle.log_model.specs.Queues.{entries_of}
-use Rattle.log_model.specs.Transactions.{copies_it}
 use Rattle.log_replay.specs.Told.{is_among}
 use Rattle.log_replay.proofs.States.{copied_is, count_by-agree}
 use Rattle.log_replay.proofs.halves.copies_of.Goals as goal

@@ -1,4 +1,4 @@
-use Rattle.std.proofs.Common.{◌≡◌, ◌&&◌, ℕ, List, Bool, true, false, refl, sym, ap, ◌∙◌, bytes_eq}
+use Rattle.std.proofs.Common.{◌&&◌, ℕ, List, Bool, true, false, refl, sym, ap, ◌∙◌, bytes_eq}
 use Rattle.std.specs.List.{list_any}
 use Rattle.record_codec.specs.Entry.{Entry}
 use Rattle.log_model.specs.Kinds.{is_copy, is_discard, is_op}

@@ -11,7 +11,9 @@ returns c = record {
   records = λ log r topic queue. filter-append (λ (x : Entry). bytes_eq x.topic topic && nat_eq x.queue queue) log (r ∷ []);
   units = units_of-append;
   minimum = λ log r topic queue. refl;
-  maximum = λ log r topic queue. omega (arith,
-      ap (λ (l : List Entry). length l) (filter-append (λ (x : Entry). bytes_eq x.topic topic && nat_eq x.queue queue) log.records (r ∷ [])),
-      length-append (queue_of log.records topic queue) (queue_of (r ∷ []) topic queue));
+  maximum = λ log r topic queue. omega (
+    arith,
+    ap (λ (l : List Entry). length l) (filter-append (λ (x : Entry). bytes_eq x.topic topic && nat_eq x.queue queue) log.records (r ∷ [])),
+    length-append (queue_of log.records topic queue) (queue_of (r ∷ []) topic queue),
+  );
 }

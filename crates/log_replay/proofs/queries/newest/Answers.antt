@@ -14,7 +14,7 @@ returns c =
     let most = c.args.most in
     let matches : ℤ → ℤ → List Entry = λ from to. filter (is_match c.args.hash from to) (entries_of c.args.log.now) in
     let found : c.in_ok-found.found.items ≡ map place_and_size (matches c.args.from c.args.to) =
-        c.in_ok-found.ensures
-        ∙ at_both (λ (a b : ℤ). map place_and_size (matches a b)) _ c.args.from _ c.args.to (to_z-of_z w128 c.args.from c.ranges.from) (to_z-of_z w128 c.args.to c.ranges.to) in
+    c.in_ok-found.ensures
+    ∙ at_both (λ (a b : ℤ). map place_and_size (matches a b)) _ c.args.from _ c.args.to (to_z-of_z w128 c.args.from c.ranges.from) (to_z-of_z w128 c.args.to c.ranges.to) in
     c.truncate.ensures.items ∙ ap (λ (l : List (ℕ × ℕ)). take most l) (c.reverse.ensures.items ∙ ap (λ (l : List (ℕ × ℕ)). reverse l) found)
     ∙ newest_first place_and_size most (matches c.args.from c.args.to)

@@ -2,7 +2,7 @@ use Rattle.std.proofs.Common.{◌++◌, ℕ, List, ap, ◌∙◌}
 use Rattle.std.specs.Prelude.{◌-◌}
 use Rattle.log_replay.proofs.Replies.{reply_ends, reply_goes_on, places_of}
 use Rattle.log_model.specs.Keys.{within}
-use Rattle.std.proofs.Common.{◌+◌, ◌≡◌, ◌<◌, ◌≤◌, [], ◌∷◌, drop, get_or, arith}
+use Rattle.std.proofs.Common.{◌+◌, [], ◌∷◌, drop, get_or, arith}
 use Rattle.log_replay.proofs.queries.put_within.Goals as goal
 
 pub returns-then-from-room : goal.returns-then-from-room

@@ -24,10 +24,10 @@ number y z is fits =
 pub returns : goal.returns
 returns c =
     let are = newest_are (entries_of c.args.log.now) c.args.topic.now c.args.key.now c.in_ok-hash.hash c.asked-most.result _ _ c.args.from c.args.to c.args.most
-        c.in_ok-hash.ensures
-        (bound c.from-2.result c.args.from c.from-2.ensures c.ranges.from)
-        (bound c.from-3.result c.args.to c.from-3.ensures c.ranges.to)
-        (c.asked-most.ensures ∙ ap (asked_number 64) (number c.from.result c.args.most c.from.ensures c.ranges.most)) in
+    c.in_ok-hash.ensures
+    (bound c.from-2.result c.args.from c.from-2.ensures c.ranges.from)
+    (bound c.from-3.result c.args.to c.from-3.ensures c.ranges.to)
+    (c.asked-most.ensures ∙ ap (asked_number 64) (number c.from.result c.args.most c.from.ensures c.ranges.most)) in
     let records = newest_with_key (entries_of c.args.log.now) c.args.topic.now c.args.key.now c.args.from c.args.to c.args.most in
     c.reverse.ensures.items
     ∙ ap (λ (l : List ℕ). reverse l) (c.in_ok-places.ensures records (c.deref.ensures.value ∙ c.in_ok-found.ensures ∙ ap (λ (rs : List Entry). map place_and_size rs) are))

@@ -11,5 +11,5 @@ loop-row-preserved c =
     let same = c.deref-row-items.ensures.value in
     c.count_in-count.ensures
     ∙ count_more c.deref-row-items.result.now i c.row-item.result topic queue c.loop-row.count c.loop-row-test.true c.row-item.is
-        (c.loop-row.invariant ∙ sym (ap (λ rows. counts_in (take i rows) topic queue) same))
+    (c.loop-row.invariant ∙ sym (ap (λ rows. counts_in (take i rows) topic queue) same))
     ∙ ap (λ rows. counts_in (take (i + 1) rows) topic queue) same

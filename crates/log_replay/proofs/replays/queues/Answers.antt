@@ -1,4 +1,4 @@
-use Rattle.std.proofs.Common.{◌≡◌, ◌∙◌, ◌∷◌, [], ◌++◌, ℕ, List, map, take, cond, ap, sym}
+use Rattle.std.proofs.Common.{◌∙◌, ◌∷◌, [], ◌++◌, ℕ, List, map, take, cond, ap, sym}
 use Rattle.std.specs.List.{list_any}
 use Rattle.record_codec.specs.declared.unit.Unit.{Unit as QueueUnit}
 use Rattle.record_codec.specs.Entry.{Entry}
