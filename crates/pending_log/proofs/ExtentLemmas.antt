@@ -1,5 +1,5 @@
 -- The front of a list that passes a test.
-use Rattle.std.proofs.Common.{◌≡◌, refl, ap, sym, ◌∙◌, subst, arith, ℕ, zero, suc, ◌+◌, ◌-◌, ◌/◌, ◌<◌, ◌≤◌, ◌==◌, Bool, true, false, cond, List, [], ◌∷◌, ◌++◌, length, take, drop, take_while, sum_by, slice_get, Option, Some, None, ◌≢◌, ◌⊎◌, ⊎_elim, eqb, min}
+use Rattle.std.proofs.Common.{◌≡◌, refl, ap, sym, ◌∙◌, subst, arith, ℕ, zero, suc, ◌+◌, ◌/◌, ◌≤◌, ◌==◌, Bool, true, false, cond, List, [], ◌∷◌, ◌++◌, length, take, drop, sum_by, slice_get, Some, ◌≢◌, ⊎_elim, eqb, min}
 use Rattle.std.proofs.lemmas.Bool.Decides.{eqb_tells}
 use Rattle.std.proofs.lemmas.List.{length-take, length-append, take-append-drop}
 use Rattle.std.proofs.Math.Seq.{take-append_seam}
@@ -14,7 +14,7 @@ use Rattle.std.proofs.lemmas.List.Sums.{sum_by-cons, sum_by-append}
 use Rattle.pending_log.specs.declared.rows.Row.{Row}
 use Rattle.pending_log.specs.Extents.{rows_in, same_segment, IsExtent}
 use Rattle.pending_log.specs.Rows.{AreAlike}
-use Rattle.pending_log.proofs.Lists.{take_next, get_within, some_one}
+use Rattle.pending_log.proofs.Lists.{take_next, some_one}
 
 -- the test goes on
 pub prefix_more : {A : Type 0} (p : A → Bool) (xs : List A) (n : ℕ) (x : A) → n ≤ prefix_len p xs → slice_get xs n ≡ Some x → p x ≡ true → suc n ≤ prefix_len p xs

@@ -1,10 +1,9 @@
 -- Where the records of a log end, and that their places rise.
-use Rattle.std.proofs.Common.{◌≡◌, ◌≢◌, eqb, ◌⊎◌, ⊎_elim, inl, inr, refl, ap, sym, ◌∙◌, subst, arith, ℕ, zero, suc, ◌+◌, ◌-◌, ◌*◌, ◌/◌, ◌%◌, ◌<◌, ◌≤◌, Bool, true, false, List, [], ◌∷◌, ◌++◌, length, take, drop, get_or, slice_get, slice_index_or, Option, Some, None, if◌then◌else◌}
+use Rattle.std.proofs.Common.{◌≡◌, ◌≢◌, eqb, ◌⊎◌, ⊎_elim, inl, inr, refl, ap, sym, ◌∙◌, subst, arith, ℕ, zero, suc, ◌+◌, ◌-◌, ◌*◌, ◌/◌, ◌%◌, ◌<◌, ◌≤◌, true, false, List, [], ◌∷◌, length, take, get_or, slice_get, Some, None, if◌then◌else◌}
 use Rattle.std.proofs.lemmas.Bool.Decides.{eqb_tells}
 use Rattle.std.proofs.Math.Nat.{lt-div-mul-add, div-mul-le_self}
 use Rattle.std.specs.List.Sorted.{IsNonDecreasingBy}
 use Rattle.std.proofs.lemmas.Option.{get_or_from_slice_get}
-use Rattle.std.proofs.lemmas.List.{take-append-drop}
 use Rattle.std.proofs.Math.Seq.{take-length}
 use Rattle.record_codec.specs.Entry.{Entry}
 use Rattle.record_codec.specs.Layout.{size}
@@ -16,7 +15,7 @@ use Rattle.log_model.proofs.Places.{end_of-append}
 use Rattle.pending_log.specs.declared.rows.Row.{Row}
 use Rattle.pending_log.specs.Rows.{AreAlike, AreRowsOf}
 use Rattle.pending_log.specs.Tables.{RowTable}
-use Rattle.pending_log.proofs.Lists.{get_there, get_within, take_next, some_one}
+use Rattle.pending_log.proofs.Lists.{get_there, take_next, some_one}
 
 next_times : (q S : ℕ) → (q + 1) * S ≡ q * S + S
 next_times q S = grind arith

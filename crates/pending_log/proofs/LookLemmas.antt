@@ -1,8 +1,7 @@
 -- The last failed turn alone tells what all of them do.
-use Rattle.std.proofs.Common.{◌≡◌, refl, ap, sym, ◌∙◌, subst, arith, ℕ, zero, suc, ◌+◌, ◌<◌, ◌≤◌, ◌&&◌, cond, nat_lt, nat_le, All, Bool, true, false, List, [], ◌∷◌, ◌++◌, length, filter, Option, Some, None, if◌then◌else◌}
+use Rattle.std.proofs.Common.{◌≡◌, refl, ap, sym, ◌∙◌, subst, arith, ℕ, suc, ◌≤◌, ◌&&◌, nat_lt, nat_le, Bool, true, false, List, [], ◌∷◌, ◌++◌, filter, Option, Some, if◌then◌else◌}
 use Rattle.std.proofs.lemmas.Bool.{le-leb, lt-ltb, le-ltb, ltb-true, ltb-false}
 use Rattle.std.proofs.lemmas.List.Elements.{All-head, All-tail}
-use Rattle.std.specs.List.{AllPairs}
 use Rattle.pending_log.specs.declared.turn.FailedTurn.{FailedTurn}
 use Rattle.pending_log.specs.declared.turn.Look.{Look}
 use Rattle.pending_log.specs.declared.turn.Look.TheVariants.{Flushed, Failed, NotYet}

@@ -1,14 +1,14 @@
 -- What is pending of a log, when a record is appended and when a turn ends.
-use Rattle.std.proofs.Common.{◌≡◌, refl, ap, sym, ◌∙◌, subst, arith, ℕ, ◌+◌, ◌-◌, ◌*◌, ◌^◌, ◌/◌, ◌<◌, ◌≤◌, List, [], ◌∷◌, ◌++◌, length, take, drop, slice_get, min, Option, Some, None, IfSome}
+use Rattle.std.proofs.Common.{◌≡◌, ap, sym, ◌∙◌, subst, arith, ℕ, ◌+◌, ◌-◌, ◌^◌, ◌≤◌, List, [], ◌∷◌, ◌++◌, length, take, drop, min, Option, Some, None, IfSome}
 use Rattle.std.proofs.lemmas.List.{length-append, take-append-le, drop-append-le, take-append-drop, length-drop}
-use Rattle.std.proofs.Math.Seq.{drop-append_seam, take-append_seam}
+use Rattle.std.proofs.Math.Seq.{drop-append_seam}
 use Rattle.std.proofs.lemmas.Grind.{flat_map-append}
 use Rattle.record_codec.specs.Entry.{Entry}
 use Rattle.record_codec.specs.Layout.{size, layout}
-use Rattle.log_model.specs.Bases.{Base, geometry}
+use Rattle.log_model.specs.Bases.{geometry}
 use Rattle.log_model.specs.Batches.{IsBatchOf, blank_between}
 use Rattle.log_model.specs.Log.{end_of}
-use Rattle.log_model.specs.Numbered.{Log, count_of, place_end, below, records_from, with_appended}
+use Rattle.log_model.specs.Numbered.{Log, records_from, with_appended}
 use Rattle.log_model.specs.Segments.{layouts}
 use Rattle.log_model.proofs.Places.{layouts_push, end_of-append}
 use Rattle.pending_log.specs.declared.turn.Out.{Out}
@@ -16,7 +16,7 @@ use Rattle.record_codec.proofs.LayoutLengths.{length-layout}
 use Rattle.log_model.specs.Log.{place_after}
 use Rattle.log_model.specs.declared.batch.Batch.{Batch}
 use Rattle.log_model.specs.declared.batch.Receipt.{Receipt}
-use Rattle.pending_log.specs.Parts.{PendingPart, IsBounded, appended, turned}
+use Rattle.pending_log.specs.Parts.{PendingPart, IsBounded, appended}
 use Rattle.log_model.specs.Batches.{IsReceiptFor}
 use Rattle.pending_log.specs.Pending.{IsPendingOf, IsOutOf, IsReceiptOf, HasTaken, with_flushed, with_failed}
 use Rattle.pending_log.proofs.Lists.{get_more, drop_more}

@@ -1,5 +1,5 @@
 -- The rows of a log with a record more, and without its front.
-use Rattle.std.proofs.Common.{◌≡◌, refl, ap, sym, ◌∙◌, subst, arith, ℕ, ◌+◌, ◌-◌, List, [], ◌∷◌, ◌++◌, length, drop}
+use Rattle.std.proofs.Common.{◌≡◌, ap, sym, ◌∙◌, subst, ◌-◌, List, [], ◌∷◌, ◌++◌, drop}
 use Rattle.record_codec.specs.Entry.{Entry}
 use Rattle.record_codec.specs.Layout.{size}
 use Rattle.log_model.specs.Bases.{Base}

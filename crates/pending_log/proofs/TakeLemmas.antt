@@ -1,5 +1,5 @@
 -- The turn that comes next: its batch is the front of the pending records that lies in one segment.
-use Rattle.std.proofs.Common.{◌≡◌, refl, ap, sym, ◌∙◌, subst, arith, ℕ, zero, suc, ◌+◌, ◌-◌, ◌*◌, ◌^◌, ◌/◌, ◌<◌, ◌≤◌, ◌==◌, cond, min, Bool, true, false, List, [], ◌∷◌, ◌++◌, length, take, drop, sum_by, slice_get, Option, Some, None}
+use Rattle.std.proofs.Common.{◌≡◌, refl, ap, sym, ◌∙◌, subst, arith, ℕ, zero, suc, ◌+◌, ◌-◌, ◌^◌, ◌/◌, ◌<◌, ◌≤◌, ◌==◌, cond, min, Bool, true, false, List, [], ◌∷◌, ◌++◌, length, take, drop, sum_by, slice_get, Option, Some}
 use Rattle.std.specs.List.{prefix_len}
 use Rattle.std.proofs.lemmas.Bool.{eq-eqb, eqb-true}
 use Rattle.std.proofs.lemmas.List.{length-take, length-drop, length-append, take-append-drop}
@@ -15,14 +15,13 @@ use Rattle.log_model.specs.Numbered.{Log, IsLawful, count_of, below, place_end, 
 use Rattle.log_model.specs.Segments.{layouts}
 use Rattle.pending_log.specs.declared.extent.Extent.{Extent}
 use Rattle.pending_log.specs.declared.rows.Row.{Row}
-use Rattle.pending_log.specs.declared.turn.Out.{Out}
 use Rattle.pending_log.specs.Extents.{same_segment, IsExtent}
-use Rattle.pending_log.specs.Parts.{PendingPart, IsBounded}
-use Rattle.pending_log.specs.Pending.{IsPendingOf, IsOutOf, IsNextBatch, IsNextTurn}
+use Rattle.pending_log.specs.Parts.{PendingPart}
+use Rattle.pending_log.specs.Pending.{IsPendingOf, IsNextTurn}
 use Rattle.pending_log.specs.Rows.{AreAlike, AreRowsOf}
 use Rattle.pending_log.specs.Tables.{RowTable}
 use Rattle.pending_log.proofs.ExtentLemmas.{prefix_more, prefix_within, alike_drop, alike_long, same_sum, batch_is, batch_front, batch_bytes}
-use Rattle.pending_log.proofs.Lists.{get_there, get_within, get_drop, drop_get, some_one}
+use Rattle.pending_log.proofs.Lists.{drop_get, some_one}
 use Rattle.pending_log.proofs.LogLemmas.{place_past, place_near, ends_with, record_of}
 
 -- ---- the front of a list that passes a test

@@ -1,5 +1,5 @@
 -- What has become of a record, by all flush turns that failed.
-use Rattle.std.specs.Prelude.{◌≡◌, ℕ, ◌<◌, ◌≤◌, ◌&&◌, nat_lt, nat_le, List, [], ◌∷◌, filter, All, Bool, if◌then◌else◌, Option, Some, None}
+use Rattle.std.specs.Prelude.{◌≡◌, ℕ, ◌≤◌, ◌&&◌, nat_lt, nat_le, List, [], ◌∷◌, filter, All, Bool, if◌then◌else◌, Option, Some, None}
 use Rattle.std.specs.List.{AllPairs}
 use Rattle.pending_log.specs.declared.turn.FailedTurn.{FailedTurn}
 use Rattle.pending_log.specs.declared.turn.Look.{Look}

@@ -2,7 +2,6 @@
 use Rattle.std.specs.Prelude.{ℕ, ◌+◌, ◌-◌, ◌*◌, ◌^◌, ◌<◌, ◌≤◌, min, List, [], ◌++◌, length, Option, Some, None}
 use Rattle.record_codec.specs.Entry.{Entry}
 use Rattle.record_codec.specs.Layout.{size, layout}
-use Rattle.log_model.specs.declared.batch.Batch.{Batch}
 use Rattle.pending_log.specs.declared.turn.Out.{Out}
 use Rattle.pending_log.specs.declared.turn.FailedTurn.{FailedTurn}
 

@@ -47,7 +47,7 @@ fn append(alloc: Global, pending: &mut Pending, body: usize) -> Result<u64, Fail
 }
 
 #[test]
-fn records_are_placed_to_the_byte_and_undone(rt: HostRuntime) -> Result<(), Fail> {
+fn records_are_placed_to_the_byte(rt: HostRuntime) -> Result<(), Fail> {
     let alloc = rt.alloc();
     let mut pending = Pending::new(alloc, 4096, 0, 0);
     for (body, place, size) in [(3874, 0, 3980), (2, 3980, 4088), (2, 4096, 4196)] {

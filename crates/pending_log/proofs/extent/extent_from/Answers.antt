@@ -1,12 +1,10 @@
-use Rattle.std.proofs.Common.{◌≡◌, ◌∙◌, refl, sym, ap, subst, arith, ℕ, suc, ◌+◌, ◌-◌, ◌/◌, ◌<◌, ◌≤◌, ◌==◌, Bool, true, false, List, length, take, drop, sum_by, slice_get, Some}
+use Rattle.std.proofs.Common.{◌≡◌, ◌∙◌, refl, sym, ap, subst, arith, ℕ, suc, ◌+◌, ◌-◌, ◌/◌, ◌≤◌, ◌==◌, Bool, true, false, take, drop, sum_by, slice_get, Some}
 use Rattle.std.proofs.lemmas.Bool.{eq-eqb}
-use Rattle.std.proofs.lemmas.List.{length-drop, length-take}
+use Rattle.std.proofs.lemmas.List.{length-drop}
 use Rattle.std.specs.List.{prefix_len}
 use Rattle.pending_log.specs.declared.rows.Row.{Row}
-use Rattle.pending_log.specs.declared.extent.Extent.{Extent}
-use Rattle.pending_log.specs.Extents.{IsExtent, rows_in}
 use Rattle.pending_log.proofs.Lists.{drop_get}
-use Rattle.pending_log.proofs.ExtentLemmas.{counted, prefix_ends, prefix_within, rows_in_is, is_extent, not_in}
+use Rattle.pending_log.proofs.ExtentLemmas.{counted, prefix_ends, prefix_within, is_extent, not_in}
 use Rattle.pending_log.proofs.extent.extent_from.Goals as goal
 
 pub loop-i-preserved : goal.loop-i-preserved

@@ -1,4 +1,4 @@
-use Rattle.std.proofs.Common.{◌≡◌, ◌/◌, ◌-◌, ◌≤◌, ◌==◌, sum_by, take, drop, List}
+use Rattle.std.proofs.Common.{◌≡◌, ◌/◌, ◌-◌, ◌≤◌, ◌==◌, sum_by, take, drop}
 use Rattle.std.specs.List.{prefix_len}
 use Rattle.pending_log.specs.declared.rows.Row.{Row}
 use Rattle.pending_log.proofs.extent.extent_from.Given as goal

@@ -1,7 +1,6 @@
-use Rattle.std.proofs.Common.{◌≡◌, ◌∙◌, ap, sym, subst, arith, List, ℕ, length, ◌+◌, ◌-◌, ◌∷◌, [], ◌++◌, ◌≤◌}
+use Rattle.std.proofs.Common.{◌≡◌, ◌∙◌, ap, sym, subst, arith, length, ◌+◌, ◌-◌, ◌∷◌, [], ◌≤◌}
 use Rattle.record_codec.specs.Drafts.{entry_of, draft_size}
 use Rattle.record_codec.specs.Entry.{Entry}
-use Rattle.record_codec.specs.Layout.{size, layout}
 use Rattle.log_model.specs.Log.{place_after}
 use Rattle.log_model.specs.Numbered.{with_appended}
 use Rattle.pending_log.specs.Parts.{PendingPart, part_of, appended}

@@ -1,7 +1,6 @@
-use Rattle.std.proofs.Common.{◌≡◌, ◌∙◌, ap, sym, subst, arith, List, ℕ, length, drop, ◌≤◌, Option, Some}
+use Rattle.std.proofs.Common.{◌≡◌, ◌∙◌, ap, sym, subst, arith, drop, Some}
 use Rattle.pending_log.specs.Parts.{PendingPart, part_of}
 use Rattle.pending_log.specs.Pending.{IsPendingOf}
-use Rattle.pending_log.specs.declared.turn.Out.{Out}
 use Rattle.pending_log.proofs.PendingLemmas.{out_short, flushed_log, receipt_count}
 use Rattle.pending_log.proofs.pending.Pending.flushed.Goals as goal
 

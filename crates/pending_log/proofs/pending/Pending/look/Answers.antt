@@ -1,7 +1,7 @@
-use Rattle.std.proofs.Common.{◌≡◌, ◌∙◌, ap, sym, subst, List}
+use Rattle.std.proofs.Common.{◌≡◌, ◌∙◌, ap, sym, subst}
 use Rattle.pending_log.specs.Parts.{PendingPart}
 use Rattle.pending_log.specs.declared.turn.Look.TheVariants.{NotYet}
-use Rattle.pending_log.specs.Looks.{Turn, this, AreInOrder, KeepsLast, looked, kept_look}
+use Rattle.pending_log.specs.Looks.{this, AreInOrder, KeepsLast, looked, kept_look}
 use Rattle.pending_log.proofs.LookLemmas.{unflushed_look}
 use Rattle.pending_log.proofs.pending.Pending.look.Goals as goal
 

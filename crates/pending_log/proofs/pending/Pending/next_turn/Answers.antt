@@ -1,5 +1,5 @@
-use Rattle.std.proofs.Common.{◌≡◌, ◌∙◌, ap, sym, subst, arith, List, ℕ, length, ◌+◌, ◌-◌, ◌<◌, ◌≤◌}
-use Rattle.log_model.specs.Numbered.{Log, IsLawful}
+use Rattle.std.proofs.Common.{ap, sym, subst, arith, ◌+◌, ◌<◌}
+use Rattle.log_model.specs.Numbered.{IsLawful}
 use Rattle.pending_log.specs.Parts.{PendingPart, part_of}
 use Rattle.pending_log.specs.declared.turn.Out.{Out}
 use Rattle.pending_log.specs.Pending.{IsPendingOf, IsNextTurn}

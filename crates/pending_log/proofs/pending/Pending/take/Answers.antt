@@ -1,4 +1,4 @@
-use Rattle.std.proofs.Common.{◌≡◌, ◌∙◌, ap, sym, subst, Some}
+use Rattle.std.proofs.Common.{◌∙◌, ap, sym, subst, Some}
 use Rattle.pending_log.specs.Parts.{PendingPart, part_of}
 use Rattle.pending_log.specs.Pending.{HasTaken}
 use Rattle.pending_log.proofs.PendingLemmas.{has_taken}

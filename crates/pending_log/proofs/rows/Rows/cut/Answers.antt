@@ -1,4 +1,4 @@
-use Rattle.std.proofs.Common.{◌≡◌, ◌∙◌, ap, sym, subst, drop, ◌-◌}
+use Rattle.std.proofs.Common.{◌∙◌, ap, sym, subst, drop, ◌-◌}
 use Rattle.pending_log.specs.Tables.{RowTable, table_of}
 use Rattle.pending_log.specs.Rows.{AreRowsOf}
 use Rattle.pending_log.proofs.RowLemmas.{rows_cut}

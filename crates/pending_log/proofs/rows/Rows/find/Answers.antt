@@ -1,7 +1,6 @@
-use Rattle.std.proofs.Common.{◌≤◌, ◌≡◌, ◌∙◌, ap, sym, subst, ℕ, length, slice_get, Some, List}
+use Rattle.std.proofs.Common.{◌≤◌, ◌≡◌, sym, subst, slice_get, Some}
 use Rattle.pending_log.specs.Tables.{RowTable, table_of}
 use Rattle.pending_log.specs.Rows.{AreRowsOf}
-use Rattle.pending_log.specs.declared.rows.Row.{Row}
 use Rattle.pending_log.proofs.LogLemmas.{rows_in_order}
 use Rattle.pending_log.proofs.FindLemmas.{absent_behind, absent_at}
 use Rattle.pending_log.proofs.rows.Rows.find.Goals as goal
