@@ -123,7 +123,7 @@ goes it batch file shape well is laid first = ⊎_elim
 pub record Starts (it : Stored) (behind : ℕ) (batch : Batch) (at : Growing) : Type 0 where
   pub shape : Shape
   pub reach : ℕ
-  pub writes : WritesAt it.geometry it.log it.flushed shape reach at.file.base at.file.offset at.disk
+  pub writes : WritesAt it shape reach at.file.base at.file.offset at.disk
   pub goes : Goes it batch at.file shape
   pub short : unless_opened (opens_segment at.file batch) reach ≤ unless_opened (opens_segment at.file batch) at.file.offset + behind
 
@@ -189,21 +189,21 @@ ready_turns it behind at ready more next well is = record { ready = ready_more i
 
 -- after a fault before the blank was synced
 pub ready_first : {it : Stored} {behind : ℕ} {batch : Batch} {old : Growing} (most reach : ℕ) (new : Growing) (start : Starts it behind batch old)
-    → WritesAt it.geometry it.log it.flushed start.shape reach new.file.base new.file.offset new.disk → opens_segment old.file batch ≡ true → IsReady it most new
+    → WritesAt it start.shape reach new.file.base new.file.offset new.disk → opens_segment old.file batch ≡ true → IsReady it most new
 ready_first most reach new start writes due =
     let here = start.goes.due due in
     record { shape = start.shape; reach = reach; writes = writes; laid = inl here.0; short = inr here }
 
 -- after a fault behind it
 pub ready_second : {it : Stored} {behind : ℕ} {batch : Batch} {old : Growing} (most reach : ℕ) (new : Growing) (start : Starts it behind batch old)
-    → WritesAt it.geometry it.log it.flushed (shape_behind (opens_segment old.file batch) start.shape) reach new.file.base new.file.offset new.disk
+    → WritesAt it (shape_behind (opens_segment old.file batch) start.shape) reach new.file.base new.file.offset new.disk
     → reach ≤ new.file.offset + most → IsReady it most new
 ready_second {batch = batch} {old = old} most reach new start writes low =
     record { shape = shape_behind (opens_segment old.file batch) start.shape; reach = reach; writes = writes; laid = start.goes.laid; short = inl low }
 
 -- after Ok
 pub ready_flushed : (it : Stored) (behind : ℕ) (batch : Batch) (reach : ℕ) (new : Growing)
-    → WritesAt it.geometry it.log (it.flushed + batch.count) (shape_of it.geometry (take (it.flushed + batch.count) it.log)) reach new.file.base new.file.offset new.disk
+    → WritesAt (with_flushed batch.count it) (shape_of it.geometry (take (it.flushed + batch.count) it.log)) reach new.file.base new.file.offset new.disk
     → reach ≤ new.file.offset + (behind - length batch.bytes) → IsReady (with_flushed batch.count it) (behind - length batch.bytes) new
 ready_flushed it behind batch reach new writes low =
     record { shape = laid_of (with_flushed batch.count it); reach = reach; writes = writes; laid = inl refl; short = inl low }
