@@ -37,7 +37,7 @@ fn answer_of(alloc: Global, outcome: Outcome) -> Answer
 }
 
 /// Carries out a request at the clock's reading. After a failed flush nothing may be carried out any more.
-#[tactic(auto, using(segment_files::proofs::Outside::outside_start))]
+#[tactic(auto, using(log_model::proofs::OutsideLemmas::outside_start))]
 pub(crate) fn carry_out<D: Disk>(
     alloc: Global,
     writer: &mut LogWriter,

@@ -112,7 +112,7 @@ fn serve_stream<S: Source, K: Sink, D: Disk, C: Clock>(
 }
 
 /// Serves the requests of the source, up to its end or to what ends the reading before.
-#[tactic(auto, using(segment_files::proofs::Outside::outside_start))]
+#[tactic(auto, using(log_model::proofs::OutsideLemmas::outside_start))]
 pub(crate) fn serve_all<S: Source, K: Sink, D: Disk, C: Clock>(
     alloc: Global,
     broker: &mut Broker,

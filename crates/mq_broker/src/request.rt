@@ -84,7 +84,7 @@ fn stop_after(answer: &Answer) -> Result<(), Stop>
 }
 
 // Serves a request: reads the clock, carries it out and answers it.
-#[tactic(auto, using(segment_files::proofs::Outside::outside_start))]
+#[tactic(auto, using(log_model::proofs::OutsideLemmas::outside_start))]
 fn serve_request<K: Sink, D: Disk, C: Clock>(
     alloc: Global,
     broker: &mut Broker,
@@ -122,7 +122,7 @@ fn serve_request<K: Sink, D: Disk, C: Clock>(
 }
 
 /// Serves a frame: a request is carried out and answered, a response is skipped.
-#[tactic(auto, using(segment_files::proofs::Outside::outside_start))]
+#[tactic(auto, using(log_model::proofs::OutsideLemmas::outside_start))]
 pub(crate) fn serve<K: Sink, D: Disk, C: Clock>(
     alloc: Global,
     broker: &mut Broker,
