@@ -116,8 +116,13 @@ cond_most false n = omega arith
 -- by any moment at most all of them
 turned_most : (turns : List FlushTurn) (m : ℕ) → turned_by turns m ≤ turned_in turns
 turned_most [] m = omega arith
-turned_most (turn ∷ turns) m = omega (arith, sum_by-cons (λ (t : FlushTurn). cond (nat_le t.moment m) t.count 0) turn turns, sum_by-cons (λ (t : FlushTurn). t.count) turn turns,
-    turned_most turns m, cond_most (nat_le turn.moment m) turn.count)
+turned_most (turn ∷ turns) m = omega (
+  arith,
+  sum_by-cons (λ (t : FlushTurn). cond (nat_le t.moment m) t.count 0) turn turns,
+  sum_by-cons (λ (t : FlushTurn). t.count) turn turns,
+  turned_most turns m,
+  cond_most (nat_le turn.moment m) turn.count,
+)
 
 -- turns, and one turn more behind them, which keeps what they flushed and has flushed its own records at its end
 pub keeps_turn : (S : Geometry) (log : List Entry) (before count : ℕ) (turns : List FlushTurn) (old mid new : DiskState)

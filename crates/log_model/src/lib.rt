@@ -18,10 +18,10 @@ pub use laws::{
     a_log_whose_files_stay_is_stored, a_place_is_the_first_that_fits,
     an_empty_disk_stores_the_empty_log, crashes_leave_a_prefix, cut_files_are_honest,
     damage_has_one_place, each_log_has_files, files_before_the_last_are_full, files_only_grow,
-    files_recover_to_their_log, files_tell_their_log, images_agree_before_the_last_file,
-    kept_files_are_honest, kept_files_are_undamaged, kept_is_well_formed,
-    kept_records_stand_at_their_places, recovery_is_idempotent, recovery_is_unique,
-    first_records_are_kept, the_last_file_ends_with_the_log, torn_ends_leave_a_prefix,
+    files_recover_to_their_log, files_tell_their_log, first_records_are_kept,
+    images_agree_before_the_last_file, kept_files_are_honest, kept_files_are_undamaged,
+    kept_is_well_formed, kept_records_stand_at_their_places, recovery_is_idempotent,
+    recovery_is_unique, the_last_file_ends_with_the_log, torn_ends_leave_a_prefix,
     what_a_crash_left_stores_the_log, what_is_kept_stays_kept,
 };
 pub use place::next_place;

@@ -1,7 +1,6 @@
 -- What the steps of a turn keep of a log's records.
-use Rattle.std.proofs.Common.{◌≡◌, inl, ⊎_elim, ℕ, ◌+◌, ◌-◌, ◌*◌, ◌/◌, ◌%◌, ◌<◌, ◌≤◌, max, Bool, true, false, nat_le, List, ◌++◌, length, take, drop, Option, Some, None, refl, sym, ◌∙◌, ap, subst, arith, length-append}
+use Rattle.std.proofs.Common.{◌≡◌, inl, ℕ, ◌+◌, ◌-◌, ◌*◌, ◌/◌, ◌%◌, ◌<◌, ◌≤◌, max, List, ◌++◌, length, take, drop, Some, refl, sym, ◌∙◌, ap, subst, arith, length-append}
 use Rattle.std.specs.Prelude.{Result, Ok, Err, OnErr}
-use Rattle.std.proofs.lemmas.Bool.{cases_Bool, leb-true}
 use Rattle.std.proofs.lemmas.List.{length-take}
 use Rattle.std.proofs.lemmas.Nat.{mod-mul-add, div-mul-add}
 use Rattle.std.proofs.lemmas.List.Concat.{flat_map-append}
@@ -12,17 +11,14 @@ use Rattle.mq_outside.proofs.Moments.{at_end, weaker, at_start, goes_on, each_sa
 use Rattle.record_codec.specs.Entry.{Entry}
 use Rattle.record_codec.specs.Layout.{layout}
 use Rattle.log_model.specs.Bases.{Geometry}
-use Rattle.log_model.specs.Log.{IsWellFormed, end_of}
+use Rattle.log_model.specs.Log.{end_of}
 use Rattle.log_model.specs.Segments.{Shape, layouts, blank_of, opened, used, segment_start, end_in, shape_of, last_bytes, AreSegmentFiles, next_segment}
-use Rattle.log_model.specs.Store.{Stands, IsBatch, IsLaid, StoresAt, KeepsIfHonest}
-use Rattle.log_model.specs.declared.batch.Batch.{Batch}
+use Rattle.log_model.specs.Store.{Stands, IsBatch, IsLaid, StoresAt}
 use Rattle.log_model.proofs.Places.{placed_log, well_formed_take}
 use Rattle.log_model.proofs.Steps.{each_torn, each_more, each_has, stands_more, length-blank_of}
 use Rattle.log_model.proofs.StoreLemmas.{laid_room, stores_named, stores_still, stores_batch, stores_opened, stores_exact}
-use Rattle.log_model.proofs.Prefixes.{keeps_prefix}
 use Rattle.log_model.specs.Stored.{HasRecords, stored}
-use Rattle.segment_files.specs.Turn.{IsInside, WritesAt, IsBehind, is_due, shape_behind, unless_opened, Opens, GoesOn, Growing, opens_segment}
-use Rattle.segment_files.specs.declared.last_file.LastFile.{LastFile}
+use Rattle.segment_files.specs.Turn.{IsInside, WritesAt, IsBehind}
 
 -- ---- what holds at each moment
 
