@@ -16,6 +16,9 @@ pub record Stored : Type 0 where
   pub log : List Entry
   pub flushed : ℕ
 
+abbrev pub stored : Geometry → List Entry → ℕ → Stored
+stored S log flushed = record { geometry = S; log = log; flushed = flushed }
+
 -- its flushed records
 abbrev pub flushed_of : Stored → List Entry
 flushed_of it = take it.flushed it.log

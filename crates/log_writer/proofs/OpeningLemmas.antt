@@ -8,6 +8,7 @@ use Rattle.log_model.specs.Log.{end_of}
 use Rattle.log_model.specs.Segments.{used, shape_of}
 use Rattle.log_model.specs.Store.{StoresAt}
 use Rattle.log_model.proofs.Places.{placed_log}
+use Rattle.log_model.specs.Stored.{stored}
 use Rattle.segment_files.specs.Turn.{WritesAt}
 use Rattle.segment_files.proofs.Turns.{writes_from}
 use Rattle.log_tail.specs.Tails.{StandsFor}
@@ -29,7 +30,7 @@ stores_open S log number disk writer all stores size stands base_is offset_is =
     record {
       size = size;
       stands = stands;
-      writes = subst (λ (l : List Entry). WritesAt S log (length log) (shape_of S l) (used (shape_of S log)) writer.file.base writer.file.offset disk) whole writes;
+      writes = subst (λ (l : List Entry). WritesAt (stored S log (length log)) (shape_of S l) (used (shape_of S log)) writer.file.base writer.file.offset disk) whole writes;
     }
 
 pub opened_from : (S : Geometry) (log : List Entry) (flushed number : ℕ) (disk : DiskState) (writer : LogWriter) → flushed ≤ number → number ≤ length log

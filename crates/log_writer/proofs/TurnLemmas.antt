@@ -1,5 +1,5 @@
 -- One turn of the flusher, for a batch behind a log that is all flushed.
-use Rattle.std.proofs.Common.{◌≡◌, ◌⊎◌, inl, ⊎_elim, ◌∙◌, ℕ, ◌+◌, ◌++◌, List, [], ◌∷◌, length, take, refl, ap, sym, subst, arith, length-append}
+use Rattle.std.proofs.Common.{◌≡◌, ◌⊎◌, inl, ⊎_elim, ◌∙◌, ℕ, ◌+◌, ◌*◌, ◌/◌, ◌%◌, ◌++◌, List, [], ◌∷◌, length, take, refl, ap, sym, subst, arith, length-append}
 use Rattle.std.proofs.lemmas.List.{length_push, take_at, take_all}
 use Rattle.std.proofs.lemmas.Option.{slice_get_within}
 use Rattle.mq_outside.specs.Files.{Files}
@@ -9,18 +9,19 @@ use Rattle.record_codec.specs.declared.draft.Draft.{Draft}
 use Rattle.record_codec.specs.declared.draft.Place.{Place}
 use Rattle.log_model.specs.Bases.{Geometry, geometry}
 use Rattle.log_model.specs.declared.batch.Batch.{Batch}
-use Rattle.log_model.specs.Log.{IsWellFormed}
+use Rattle.log_model.specs.Log.{IsWellFormed, end_of}
 use Rattle.log_model.specs.Segments.{Shape, opened, used, shape_of, AreSegmentFiles}
 use Rattle.log_model.specs.Store.{StoresAt, StoresLog, IsAt, KeepsIfHonest}
 use Rattle.log_model.proofs.StoreLemmas.{exact_stores, laid_room}
 use Rattle.log_model.proofs.Longer.{stores_longer}
 use Rattle.log_model.proofs.Prefixes.{keeps_prefix}
-use Rattle.log_model.specs.Stored.{Stored, HasRecords, KeepsAtLeast}
+use Rattle.log_model.specs.Stored.{Stored, HasRecords, KeepsAtLeast, stored, with_flushed}
 use Rattle.log_model.proofs.StoredLemmas.{keeps_records}
-use Rattle.segment_files.specs.Turn.{WritesAt, Growing, growing, CanTurn, IsReady, NextOpens}
+use Rattle.segment_files.specs.Turn.{WritesAt, Growing, growing, CanTurn, IsReady, NextOpens, GoesToEnd, IsPlaced}
+use Rattle.segment_files.specs.declared.last_file.LastFile.{LastFile}
 use Rattle.log_tail.specs.Tails.{StandsFor}
 use Rattle.log_writer.specs.Places.{next_entry, with_next, IsAppended}
-use Rattle.log_writer.specs.Durable.{Stores}
+use Rattle.log_writer.specs.Durable.{Stores, all_flushed}
 use Rattle.log_tail.specs.declared.tail.LogTail.{LogTail}
 use Rattle.log_writer.specs.declared.writer.LogWriter.{LogWriter}
 
@@ -29,11 +30,11 @@ front_is log r = take_at log (r ∷ []) (length log) refl
 
 -- a disk that stores the log stores it with one record more that is not flushed yet
 writes_longer : (S : Geometry) (log : List Entry) (r : Entry) (reach file_base offset : ℕ) (disk : DiskState) → IsWellFormed S (log ++ r ∷ [])
-    → WritesAt S log (length log) (shape_of S log) reach file_base offset disk
-    → WritesAt S (log ++ r ∷ []) (length log) (shape_of S (take (length log) (log ++ r ∷ []))) reach file_base offset disk
+    → WritesAt (stored S log (length log)) (shape_of S log) reach file_base offset disk
+    → WritesAt (stored S (log ++ r ∷ []) (length log)) (shape_of S (take (length log) (log ++ r ∷ []))) reach file_base offset disk
 writes_longer S log r reach file_base offset disk well writes =
     let front = front_is log r in
-    subst (λ (l : List Entry). WritesAt S (log ++ r ∷ []) (length log) (shape_of S l) reach file_base offset disk) (sym front) (record {
+    subst (λ (l : List Entry). WritesAt (stored S (log ++ r ∷ []) (length log)) (shape_of S l) reach file_base offset disk) (sym front) (record {
       stores = stores_longer S log (r ∷ []) (length log) (shape_of S log) reach disk well writes.stores;
       place = writes.place;
       low = writes.low;
@@ -63,6 +64,20 @@ starts S log draft reading tail at batch writer disk stores appended well_formed
       ready = record { shape = shape_of S (take (length log) (log ++ r ∷ [])); reach = used (shape_of S log); writes = writes; laid = inl refl; short = inl (omega (arith, stores.writes.place.end)) };
       next = here.is;
     }
+
+-- the next bytes go behind the record that was sent
+pub goes_behind : (S : Geometry) (log : List Entry) (draft : Draft) (reading count : ℕ) (file : LastFile) → count ≡ 1 → GoesToEnd (with_flushed count (appended_to S log draft reading)) file
+    → GoesToEnd (all_flushed S (with_next S log draft reading)) file
+goes_behind S log draft reading count file one to_end =
+    let number : length log + count ≡ length (with_next S log draft reading) = omega (arith, one, length_push log (next_entry S log draft reading)) in
+    subst (λ (k : ℕ). GoesToEnd (stored S (with_next S log draft reading) k) file) number to_end
+
+-- where a log ends the next bytes go also with a record appended
+pub goes_from : (S : Geometry) (log : List Entry) (draft : Draft) (reading : ℕ) (file : LastFile) → GoesToEnd (all_flushed S log) file → IsPlaced (appended_to S log draft reading) file
+goes_from S log draft reading file to_end =
+    let same : end_of S.base (take (length log) log) ≡ end_of S.base (take (length log) (with_next S log draft reading)) =
+    ap (end_of S.base) (take_all (length log) log (omega arith) ∙ sym (front_is log (next_entry S log draft reading))) in
+    inl (record { base = to_end.base ∙ ap (λ (n : ℕ). n / S.size * S.size) same; offset = to_end.offset ∙ ap (λ (n : ℕ). n % S.size) same })
 
 -- the records at the front of a longer log
 pub has_front : (S : Geometry) (log : List Entry) (r : Entry) {old new : DiskState} → KeepsAtLeast S (take (length log) (log ++ r ∷ [])) (λ m. length log) old new → Throughout old new (HasRecords S log)

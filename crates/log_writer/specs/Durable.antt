@@ -6,7 +6,7 @@ use Rattle.mq_outside.specs.Disk.{DiskState, Throughout}
 use Rattle.record_codec.specs.Entry.{Entry}
 use Rattle.log_model.specs.Bases.{Geometry}
 use Rattle.log_model.specs.Segments.{used, shape_of}
-use Rattle.log_model.specs.Stored.{HasFirst}
+use Rattle.log_model.specs.Stored.{Stored, HasFirst, stored}
 use Rattle.segment_files.specs.Turn.{IsInside, WritesAt}
 use Rattle.log_tail.specs.Tails.{StandsFor}
 use Rattle.log_writer.specs.declared.writer.LogWriter.{LogWriter}
@@ -16,11 +16,15 @@ pub record CanGoOn (tells : Type 0) (writer : LogWriter) (disk : DiskState) : Ty
   pub room : writer.file.offset ≤ writer.tail.end
   pub inside : tells → IsInside writer.file.base writer.file.offset disk
 
+-- a log, all of it flushed
+abbrev pub all_flushed : Geometry → List Entry → Stored
+all_flushed S log = stored S log (length log)
+
 -- The disk stores the log, all of it flushed and nothing behind it, and the writer goes on there.
 pub record Stores (S : Geometry) (log : List Entry) (writer : LogWriter) (disk : DiskState) : Type 0 where
   pub size : writer.tail.segment ≡ S.size
   pub stands : StandsFor S.base writer.tail log
-  pub writes : WritesAt S log (length log) (shape_of S log) (used (shape_of S log)) writer.file.base writer.file.offset disk
+  pub writes : WritesAt (all_flushed S log) (shape_of S log) (used (shape_of S log)) writer.file.base writer.file.offset disk
 
 -- A log that was opened: a prefix of it with all that was flushed is stored, and all of that is flushed now.
 pub record Opened (S : Geometry) (log : List Entry) (flushed : ℕ) (disk : DiskState) (writer : LogWriter) : Type 0 where

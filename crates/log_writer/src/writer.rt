@@ -13,7 +13,8 @@ ghost use Rattle.log_tail.specs.Tails.{StandsFor};
 ghost use Rattle.log_model.specs.Stored.{StaysOutside, HasRecords};
 ghost use Rattle.log_writer.specs.Places.{with_next, IsPlainDraft};
 ghost use Rattle.log_writer.specs.Outcomes.{IsOutcome, OnSent, OnNotFlushed, OnUnwritten, CountsOutcome};
-ghost use Rattle.log_writer.specs.Durable.{CanGoOn, Stores};
+ghost use Rattle.segment_files.specs.Turn.{GoesToEnd};
+ghost use Rattle.log_writer.specs.Durable.{CanGoOn, Stores, all_flushed};
 
 use crate::append::{AppendFault, Appended, append_behind};
 use log_tail::LogTail;
@@ -67,6 +68,11 @@ impl LogWriter {
         // What is told, and what the tail stands for then.
         ensures outcome { (base : Base) (log : List Entry) → StandsFor base self.old.tail log → IsOutcome (geometry self.old.tail.segment base) log draft.now reading self.new.tail result }
         ensures cause { CountsOutcome result (D.faults disk.old) (D.faults disk.new) }
+
+        // Where the next bytes go, whatever the disk tells: behind the record that was sent.
+        ensures places { (base : Base) (log : List Entry) → StandsFor base self.old.tail log → IsWellFormed (geometry self.old.tail.segment base) log
+            → GoesToEnd (all_flushed (geometry self.old.tail.segment base) log) self.old.file
+            → OnSent result (GoesToEnd (all_flushed (geometry self.old.tail.segment base) (with_next (geometry self.old.tail.segment base) log draft.now reading)) self.new.file) }
 
         // At each moment of the call each image has what was flushed before it, and each that is honest for a longer log keeps it.
         ensures any_moment { D.tells → (S : Geometry) (log : List Entry) → Stores S log self.old (D.state disk.old)

@@ -1,7 +1,6 @@
 -- A log that is open for batches: where a batch goes from there, and that it is open again behind the turn.
-use Rattle.std.proofs.Common.{◌≡◌, ◌≢◌, ◌⊎◌, inl, inr, ⊎_elim, ℕ, suc, ◌+◌, ◌-◌, ◌*◌, ◌/◌, ◌%◌, ◌<◌, ◌≤◌, max, Bool, true, false, nat_le, List, ◌++◌, [], ◌∷◌, length, take, drop, slice_get, Option, Some, None, refl, sym, ◌∙◌, ap, subst, arith}
-use Rattle.std.specs.Prelude.{Result, Ok, Err, OnErr, OnOk}
-use Rattle.std.proofs.lemmas.Bool.{cases_Bool, le-leb, lt-leb}
+use Rattle.std.proofs.Common.{◌≡◌, ◌⊎◌, inl, inr, ⊎_elim, ℕ, ◌+◌, ◌-◌, ◌*◌, ◌≤◌, Bool, true, false, List, ◌++◌, [], length, take, slice_get, Option, Some, refl, sym, ◌∙◌, ap, subst, arith}
+use Rattle.std.proofs.lemmas.Bool.{le-leb, lt-leb}
 use Rattle.std.proofs.lemmas.List.{append-nil, take_at, take-append-le}
 use Rattle.mq_bytes.specs.Names.{log_file}
 use Rattle.mq_outside.specs.Files.{bytes_in}
@@ -11,7 +10,7 @@ use Rattle.record_codec.specs.Entry.{Entry}
 use Rattle.log_model.specs.Bases.{Geometry}
 use Rattle.log_model.specs.Batches.{IsBatchOf}
 use Rattle.log_model.specs.Log.{IsWellFormed, end_of}
-use Rattle.log_model.specs.Segments.{Shape, added, opened, used, segment_start, end_in, shape_of, next_segment, AreSegmentFiles}
+use Rattle.log_model.specs.Segments.{Shape, opened, used, segment_start, end_in, shape_of, next_segment}
 use Rattle.log_model.specs.Store.{IsAt, IsBatch, IsLaid, StoresAt}
 use Rattle.log_model.specs.Stored.{Stored, HasFirst, LogStays, flushed_of, with_flushed, with_more}
 use Rattle.log_model.specs.declared.batch.Batch.{Batch}
@@ -20,9 +19,9 @@ use Rattle.log_model.proofs.Lists.{get_within, get_take}
 use Rattle.log_model.proofs.Longer.{stores_longer}
 use Rattle.log_model.proofs.OutsideLemmas.{in_folder, stores_as}
 use Rattle.log_model.proofs.Places.{placed_log, placed_number, placed_offset, well_formed_take}
-use Rattle.segment_files.specs.Turn.{IsInside, WritesAt, GoesOn, Growing, growing, IsReady, CanTurn, IsLaidFor, NextOpens, GoesToEnd, GoesToNext, IsPlaced, IsOpened, MovesOn, PlacesOn, is_due, opens_segment, shape_behind, unless_opened, base_behind, syncs_of}
+use Rattle.segment_files.specs.Turn.{IsInside, WritesAt, GoesOn, Growing, growing, IsReady, CanTurn, IsLaidFor, NextOpens, GoesToEnd, GoesToNext, IsPlaced, IsOpened, is_due, opens_segment, shape_behind, unless_opened, base_behind, syncs_of}
 use Rattle.segment_files.specs.declared.last_file.LastFile.{LastFile}
-use Rattle.segment_files.proofs.Turns.{used_batch, writes_exact}
+use Rattle.segment_files.proofs.Turns.{used_batch}
 
 -- the segments of the flushed records
 abbrev laid_of : Stored → Shape
@@ -123,7 +122,7 @@ goes it batch file shape well is laid first = ⊎_elim
 pub record Starts (it : Stored) (behind : ℕ) (batch : Batch) (at : Growing) : Type 0 where
   pub shape : Shape
   pub reach : ℕ
-  pub writes : WritesAt it.geometry it.log it.flushed shape reach at.file.base at.file.offset at.disk
+  pub writes : WritesAt it shape reach at.file.base at.file.offset at.disk
   pub goes : Goes it batch at.file shape
   pub short : unless_opened (opens_segment at.file batch) reach ≤ unless_opened (opens_segment at.file batch) at.file.offset + behind
 
@@ -189,21 +188,21 @@ ready_turns it behind at ready more next well is = record { ready = ready_more i
 
 -- after a fault before the blank was synced
 pub ready_first : {it : Stored} {behind : ℕ} {batch : Batch} {old : Growing} (most reach : ℕ) (new : Growing) (start : Starts it behind batch old)
-    → WritesAt it.geometry it.log it.flushed start.shape reach new.file.base new.file.offset new.disk → opens_segment old.file batch ≡ true → IsReady it most new
+    → WritesAt it start.shape reach new.file.base new.file.offset new.disk → opens_segment old.file batch ≡ true → IsReady it most new
 ready_first most reach new start writes due =
     let here = start.goes.due due in
     record { shape = start.shape; reach = reach; writes = writes; laid = inl here.0; short = inr here }
 
 -- after a fault behind it
 pub ready_second : {it : Stored} {behind : ℕ} {batch : Batch} {old : Growing} (most reach : ℕ) (new : Growing) (start : Starts it behind batch old)
-    → WritesAt it.geometry it.log it.flushed (shape_behind (opens_segment old.file batch) start.shape) reach new.file.base new.file.offset new.disk
+    → WritesAt it (shape_behind (opens_segment old.file batch) start.shape) reach new.file.base new.file.offset new.disk
     → reach ≤ new.file.offset + most → IsReady it most new
 ready_second {batch = batch} {old = old} most reach new start writes low =
     record { shape = shape_behind (opens_segment old.file batch) start.shape; reach = reach; writes = writes; laid = start.goes.laid; short = inl low }
 
 -- after Ok
 pub ready_flushed : (it : Stored) (behind : ℕ) (batch : Batch) (reach : ℕ) (new : Growing)
-    → WritesAt it.geometry it.log (it.flushed + batch.count) (shape_of it.geometry (take (it.flushed + batch.count) it.log)) reach new.file.base new.file.offset new.disk
+    → WritesAt (with_flushed batch.count it) (shape_of it.geometry (take (it.flushed + batch.count) it.log)) reach new.file.base new.file.offset new.disk
     → reach ≤ new.file.offset + (behind - length batch.bytes) → IsReady (with_flushed batch.count it) (behind - length batch.bytes) new
 ready_flushed it behind batch reach new writes low =
     record { shape = laid_of (with_flushed batch.count it); reach = reach; writes = writes; laid = inl refl; short = inl low }
@@ -308,15 +307,16 @@ places_on it batch old new well is placed =
     let where_to = goes it batch old there.shape well is there.laid there.at.last in
     let due : Bool = opens_segment old batch in
     let behind = behind_at it.geometry due there.shape old.base old.offset batch.place there.at (λ yes. (where_to.goes_on.opens yes).begins) in
-    let rule = where_to.goes_on.records.rule in
-    ((λ base offset. at_end_of (with_flushed batch.count it) new well (record {
-      last = base ∙ behind.last ∙ ap (segment_start it.geometry) (sym rule);
-      end = omega (arith, offset, behind.end, used_batch where_to.goes_on.records);
-    })),
-    (λ moved. ⊎_elim
-    (λ (stays : (new.base ≡ old.base) × (new.offset ≡ old.offset)). placed_of it new there.shape well there.laid (at_by new.base new.offset stays.0 stays.1 there.at))
-    (λ (opened_file : IsOpened batch old new). placed_of it new (shape_behind due there.shape) well where_to.laid (at_by new.base new.offset opened_file.base opened_file.offset behind))
-    moved))
+    let rule = where_to.goes_on.records.rule in (
+      (λ base offset. at_end_of (with_flushed batch.count it) new well (record {
+        last = base ∙ behind.last ∙ ap (segment_start it.geometry) (sym rule);
+        end = omega (arith, offset, behind.end, used_batch where_to.goes_on.records);
+      })),
+      (λ moved. ⊎_elim
+          (λ (stays : (new.base ≡ old.base) × (new.offset ≡ old.offset)). placed_of it new there.shape well there.laid (at_by new.base new.offset stays.0 stays.1 there.at))
+          (λ (opened_file : IsOpened batch old new). placed_of it new (shape_behind due there.shape) well where_to.laid (at_by new.base new.offset opened_file.base opened_file.offset behind))
+          moved),
+    )
 
 -- ---- from a stored log
 

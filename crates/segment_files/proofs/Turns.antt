@@ -1,7 +1,6 @@
 -- What the steps of a turn keep of a log's records.
-use Rattle.std.proofs.Common.{◌≡◌, inl, ⊎_elim, ℕ, ◌+◌, ◌-◌, ◌*◌, ◌/◌, ◌%◌, ◌<◌, ◌≤◌, max, Bool, true, false, nat_le, List, ◌++◌, length, take, drop, Option, Some, None, refl, sym, ◌∙◌, ap, subst, arith, length-append}
+use Rattle.std.proofs.Common.{◌≡◌, inl, ℕ, ◌+◌, ◌-◌, ◌*◌, ◌/◌, ◌%◌, ◌<◌, ◌≤◌, max, List, ◌++◌, length, take, drop, Some, refl, sym, ◌∙◌, ap, subst, arith, length-append}
 use Rattle.std.specs.Prelude.{Result, Ok, Err, OnErr}
-use Rattle.std.proofs.lemmas.Bool.{cases_Bool, leb-true}
 use Rattle.std.proofs.lemmas.List.{length-take}
 use Rattle.std.proofs.lemmas.Nat.{mod-mul-add, div-mul-add}
 use Rattle.std.proofs.lemmas.List.Concat.{flat_map-append}
@@ -12,17 +11,14 @@ use Rattle.mq_outside.proofs.Moments.{at_end, weaker, at_start, goes_on, each_sa
 use Rattle.record_codec.specs.Entry.{Entry}
 use Rattle.record_codec.specs.Layout.{layout}
 use Rattle.log_model.specs.Bases.{Geometry}
-use Rattle.log_model.specs.Log.{IsWellFormed, end_of}
+use Rattle.log_model.specs.Log.{end_of}
 use Rattle.log_model.specs.Segments.{Shape, layouts, blank_of, opened, used, segment_start, end_in, shape_of, last_bytes, AreSegmentFiles, next_segment}
-use Rattle.log_model.specs.Store.{Stands, IsBatch, IsLaid, StoresAt, KeepsIfHonest}
-use Rattle.log_model.specs.declared.batch.Batch.{Batch}
+use Rattle.log_model.specs.Store.{Stands, IsBatch, IsLaid, StoresAt}
 use Rattle.log_model.proofs.Places.{placed_log, well_formed_take}
 use Rattle.log_model.proofs.Steps.{each_torn, each_more, each_has, stands_more, length-blank_of}
 use Rattle.log_model.proofs.StoreLemmas.{laid_room, stores_named, stores_still, stores_batch, stores_opened, stores_exact}
-use Rattle.log_model.proofs.Prefixes.{keeps_prefix}
-use Rattle.log_model.specs.Stored.{HasRecords}
-use Rattle.segment_files.specs.Turn.{IsInside, WritesAt, IsBehind, is_due, shape_behind, unless_opened, Opens, GoesOn, Growing, opens_segment}
-use Rattle.segment_files.specs.declared.last_file.LastFile.{LastFile}
+use Rattle.log_model.specs.Stored.{HasRecords, stored}
+use Rattle.segment_files.specs.Turn.{IsInside, WritesAt, IsBehind}
 
 -- ---- what holds at each moment
 
@@ -37,7 +33,7 @@ same_on so_far moves = goes_on so_far moves (each_same moves (at_end so_far))
 
 -- the disk stores the log as before, with a longer reach
 pub writes_still : {S : Geometry} {log : List Entry} {flushed : ℕ} {shape : Shape} {reach more file_base offset : ℕ} {old new : DiskState}
-    → WritesAt S log flushed shape reach file_base offset old → more ≤ S.size → Throughout old new (Stands S shape more) → WritesAt S log flushed shape more file_base offset new
+    → WritesAt (stored S log flushed) shape reach file_base offset old → more ≤ S.size → Throughout old new (Stands S shape more) → WritesAt (stored S log flushed) shape more file_base offset new
 writes_still {S = S} {log = log} {flushed = flushed} {shape = shape} {reach = reach} {more = more} {old = old} {new = new} writes low so_far = record {
   stores = stores_still S log flushed shape reach more old new writes.stores so_far;
   place = writes.place;
@@ -45,7 +41,7 @@ writes_still {S = S} {log = log} {flushed = flushed} {shape = shape} {reach = re
 }
 
 pub writes_same : {S : Geometry} {log : List Entry} {flushed : ℕ} {shape : Shape} {reach file_base offset : ℕ} {old new : DiskState}
-    → WritesAt S log flushed shape reach file_base offset old → Moves Same old new → WritesAt S log flushed shape reach file_base offset new
+    → WritesAt (stored S log flushed) shape reach file_base offset old → Moves Same old new → WritesAt (stored S log flushed) shape reach file_base offset new
 writes_same writes moves = record {
   stores = record { well_formed = writes.stores.well_formed; within = writes.stores.within; laid = writes.stores.laid; each = each_same moves writes.stores.each };
   place = writes.place;
@@ -55,27 +51,27 @@ writes_same writes moves = record {
 -- ---- a blank
 
 pub end_behind : {S : Geometry} {log : List Entry} {flushed : ℕ} {shape : Shape} {reach file_base offset : ℕ} {disk : DiskState} {name : List ℕ}
-    → WritesAt S log flushed shape reach file_base offset disk → name ≡ log_file file_base → IsBehind S shape name offset
+    → WritesAt (stored S log flushed) shape reach file_base offset disk → name ≡ log_file file_base → IsBehind S shape name offset
 end_behind {S = S} {log = log} {flushed = flushed} {shape = shape} {reach = reach} {disk = disk} writes named =
     let is_named = stores_named S log flushed shape reach disk writes.stores in
     record { some = is_named.some; low = is_named.low; named = named ∙ ap log_file writes.place.last; behind = omega (arith, writes.place.end) }
 
 -- the blank ends where the segment does
 pub blank_fits : {S : Geometry} {log : List Entry} {flushed : ℕ} {shape : Shape} {reach file_base offset size : ℕ} {disk : DiskState}
-    → WritesAt S log flushed shape reach file_base offset disk → size ≡ S.size - used shape → offset + length (blank_of size) ≤ S.size
+    → WritesAt (stored S log flushed) shape reach file_base offset disk → size ≡ S.size - used shape → offset + length (blank_of size) ≤ S.size
 blank_fits {S = S} {log = log} {flushed = flushed} {shape = shape} {size = size} writes fills =
     let room : used shape + 8 ≤ S.size = laid_room S log flushed shape writes.stores.well_formed writes.stores.laid in
     omega (arith, length-blank_of size (omega (arith, fills, room)), writes.place.end, fills, room)
 
 pub each_to_end : {S : Geometry} {log : List Entry} {flushed : ℕ} {shape : Shape} {reach file_base offset : ℕ} {disk : DiskState}
-    → WritesAt S log flushed shape reach file_base offset disk → EachImage (Stands S shape S.size) disk
+    → WritesAt (stored S log flushed) shape reach file_base offset disk → EachImage (Stands S shape S.size) disk
 each_to_end {S = S} {shape = shape} {reach = reach} writes = record { at = λ files image. stands_more S shape reach S.size files writes.low (writes.stores.each.at files image) }
 
 -- behind a blank that was synced the next segment is opened
 pub writes_opened : {S : Geometry} {log : List Entry} {flushed : ℕ} {shape : Shape} {reach file_base offset size next : ℕ} {old mid new : DiskState} {name : List ℕ}
-    → WritesAt S log flushed shape reach file_base offset old → name ≡ log_file file_base → shape ≡ shape_of S (take flushed log) → size ≡ S.size - used shape → next ≡ segment_start S (opened shape)
+    → WritesAt (stored S log flushed) shape reach file_base offset old → name ≡ log_file file_base → shape ≡ shape_of S (take flushed log) → size ≡ S.size - used shape → next ≡ segment_start S (opened shape)
     → IsCrashImage old old.reads → mid.reads name ≡ Some (overwritten offset (blank_of size) (bytes_of old.reads name)) → Moves Same mid new → IsDurable name new
-    → EachImage (Stands S shape S.size) new → WritesAt S log flushed (opened shape) 0 next 0 new
+    → EachImage (Stands S shape S.size) new → WritesAt (stored S log flushed) (opened shape) 0 next 0 new
 writes_opened {S = S} {log = log} {flushed = flushed} {shape = shape} {offset = offset} {size = size} {old = old} {mid = mid} {new = new} {name = name} writes named is fills next read wrote moves durable still =
     let blank : mid.reads name ≡ Some (overwritten offset (blank_of (S.size - used shape)) (bytes_of old.reads name)) =
     subst (λ (n : ℕ). mid.reads name ≡ Some (overwritten offset (blank_of n) (bytes_of old.reads name))) fills wrote in
@@ -98,12 +94,12 @@ used_batch {S = S} {log = log} {flushed = flushed} {count = count} {shape = shap
 
 -- a batch leaves room for a blank
 pub batch_low : {S : Geometry} {log : List Entry} {flushed count : ℕ} {shape : Shape} {batch : List ℕ} {reach file_base offset : ℕ} {disk : DiskState}
-    → WritesAt S log flushed shape reach file_base offset disk → IsBatch S log flushed count shape batch → max reach (offset + length batch) ≤ S.size
+    → WritesAt (stored S log flushed) shape reach file_base offset disk → IsBatch S log flushed count shape batch → max reach (offset + length batch) ≤ S.size
 batch_low {S = S} {log = log} {flushed = flushed} {count = count} {shape = shape} {batch = batch} writes is =
     omega (arith, laid_room S log (flushed + count) (shape_of S (take (flushed + count) log)) writes.stores.well_formed (inl refl), used_batch is, writes.place.end, writes.low)
 
 pub write_stands : {S : Geometry} {log : List Entry} {flushed : ℕ} {shape : Shape} {reach file_base offset n : ℕ} {old new : DiskState} {name : List ℕ} (m : ℕ)
-    → WritesAt S log flushed shape reach file_base offset old → name ≡ log_file file_base → n ≡ m → Moves (At name (Torn offset n)) old new
+    → WritesAt (stored S log flushed) shape reach file_base offset old → name ≡ log_file file_base → n ≡ m → Moves (At name (Torn offset n)) old new
     → Throughout old new (Stands S shape (max reach (offset + m)))
 write_stands {S = S} {log = log} {flushed = flushed} {shape = shape} {reach = reach} {offset = offset} {n = n} {old = old} {new = new} m writes named same moves =
     let is_named = stores_named S log flushed shape reach old writes.stores in
@@ -111,10 +107,10 @@ write_stands {S = S} {log = log} {flushed = flushed} {shape = shape} {reach = re
 
 -- a batch that was written and synced is flushed
 pub writes_batch : {S : Geometry} {log : List Entry} {flushed count : ℕ} {shape : Shape} {reach file_base offset : ℕ} {old mid new : DiskState} {name batch : List ℕ}
-    → WritesAt S log flushed shape reach file_base offset old → IsBatch S log flushed count shape batch → name ≡ log_file file_base
+    → WritesAt (stored S log flushed) shape reach file_base offset old → IsBatch S log flushed count shape batch → name ≡ log_file file_base
     → IsCrashImage old old.reads → mid.reads name ≡ Some (overwritten offset batch (bytes_of old.reads name)) → Moves Same mid new → IsDurable name new
     → EachImage (Stands S shape (max reach (offset + length batch))) new
-    → WritesAt S log (flushed + count) (shape_of S (take (flushed + count) log)) (max reach (offset + length batch)) file_base (offset + length batch) new
+    → WritesAt (stored S log (flushed + count)) (shape_of S (take (flushed + count) log)) (max reach (offset + length batch)) file_base (offset + length batch) new
 writes_batch {S = S} {log = log} {flushed = flushed} {count = count} {shape = shape} {reach = reach} {file_base = file_base} {offset = offset} {new = new} {batch = batch} writes is named read wrote moves durable still =
     let more : ℕ = max reach (offset + length batch) in
     let stores = stores_batch S log flushed count shape more batch new writes.stores.well_formed is (each_has named writes.place read writes.stores.each wrote moves durable still) in
@@ -126,15 +122,15 @@ writes_batch {S = S} {log = log} {flushed = flushed} {count = count} {shape = sh
 
 -- the same by equal numbers
 pub writes_moved : {S : Geometry} {log : List Entry} {flushed : ℕ} {shape : Shape} {reach b o now_b now_o : ℕ} {disk : DiskState}
-    → WritesAt S log flushed shape reach b o disk → now_b ≡ b → now_o ≡ o → WritesAt S log flushed shape reach now_b now_o disk
+    → WritesAt (stored S log flushed) shape reach b o disk → now_b ≡ b → now_o ≡ o → WritesAt (stored S log flushed) shape reach now_b now_o disk
 writes_moved {S = S} {log = log} {flushed = flushed} {shape = shape} {reach = reach} {b = b} {now_o = now_o} {disk = disk} writes same same_offset =
-    subst (λ (k : ℕ). WritesAt S log flushed shape reach k now_o disk) (sym same) (subst (λ (k : ℕ). WritesAt S log flushed shape reach b k disk) (sym same_offset) writes)
+    subst (λ (k : ℕ). WritesAt (stored S log flushed) shape reach k now_o disk) (sym same) (subst (λ (k : ℕ). WritesAt (stored S log flushed) shape reach b k disk) (sym same_offset) writes)
 
 -- ---- where the next bytes go
 
 -- they go on inside the file as it is read
 pub writes_inside : {S : Geometry} {log : List Entry} {flushed : ℕ} {shape : Shape} {reach file_base offset : ℕ} {disk : DiskState}
-    → WritesAt S log flushed shape reach file_base offset disk → IsCrashImage disk disk.reads → IsInside file_base offset disk
+    → WritesAt (stored S log flushed) shape reach file_base offset disk → IsCrashImage disk disk.reads → IsInside file_base offset disk
 writes_inside {S = S} {shape = shape} {file_base = file_base} {offset = offset} {disk = disk} writes read =
     let stands = writes.stores.each.at disk.reads read in
     let long : offset ≤ length (last_bytes S shape disk.reads) = omega (arith, ap length stands.last, length-take (used shape) (last_bytes S shape disk.reads), writes.place.end) in
@@ -142,7 +138,7 @@ writes_inside {S = S} {shape = shape} {file_base = file_base} {offset = offset} 
 
 -- from the end of the records on
 pub writes_from : (S : Geometry) (log : List Entry) (flushed reach end file_base offset : ℕ) (disk : DiskState) → StoresAt S log flushed (shape_of S (take flushed log)) reach disk → reach ≤ S.size
-    → end ≡ end_of S.base (take flushed log) → file_base ≡ end / S.size * S.size → offset ≡ end % S.size → WritesAt S log flushed (shape_of S (take flushed log)) reach file_base offset disk
+    → end ≡ end_of S.base (take flushed log) → file_base ≡ end / S.size * S.size → offset ≡ end % S.size → WritesAt (stored S log flushed) (shape_of S (take flushed log)) reach file_base offset disk
 writes_from S log flushed reach end file_base offset disk stores low ends first behind =
     let front : List Entry = take flushed log in
     let shape : Shape = shape_of S front in
@@ -158,7 +154,7 @@ writes_from S log flushed reach end file_base offset disk stores low ends first 
 
 -- where nothing longer was written, the files are exactly those of the flushed records
 pub writes_exact : {S : Geometry} {log : List Entry} {flushed reach file_base offset : ℕ} {disk : DiskState} → reach ≤ offset
-    → WritesAt S log flushed (shape_of S (take flushed log)) (max reach offset) file_base offset disk → EachImage (AreSegmentFiles S (take flushed log)) disk
+    → WritesAt (stored S log flushed) (shape_of S (take flushed log)) (max reach offset) file_base offset disk → EachImage (AreSegmentFiles S (take flushed log)) disk
 writes_exact {S = S} {log = log} {flushed = flushed} {reach = reach} {offset = offset} {disk = disk} low writes =
     let shape : Shape = shape_of S (take flushed log) in
     let end : max reach offset ≡ used shape = omega (arith, low, writes.place.end) in
@@ -171,6 +167,6 @@ on_err (Err fault) holds = holds
 
 -- up to the offset that the next bytes go to
 pub writes_to : {S : Geometry} {log : List Entry} {flushed : ℕ} {shape : Shape} {end b o : ℕ} {disk : DiskState} (r now : ℕ)
-    → WritesAt S log flushed shape (max r end) b o disk → now ≡ end → WritesAt S log flushed shape (max r now) b o disk
+    → WritesAt (stored S log flushed) shape (max r end) b o disk → now ≡ end → WritesAt (stored S log flushed) shape (max r now) b o disk
 writes_to {S = S} {log = log} {flushed = flushed} {shape = shape} {b = b} {o = o} {disk = disk} r now writes same =
-    subst (λ (k : ℕ). WritesAt S log flushed shape (max r k) b o disk) (sym same) writes
+    subst (λ (k : ℕ). WritesAt (stored S log flushed) shape (max r k) b o disk) (sym same) writes

@@ -23,10 +23,10 @@ IsInside file_base offset disk = offset ≤ length (bytes_of disk.reads (log_fil
 
 -- The disk stores the log with so many of its records flushed, in these segments. The next bytes go behind them, and nothing
 -- was ever written past the reach, nor past the segment's end.
-pub record WritesAt (S : Geometry) (log : List Entry) (flushed : ℕ) (shape : Shape) (reach file_base offset : ℕ) (disk : DiskState) : Type 0 where
-  pub stores : StoresAt S log flushed shape reach disk
-  pub place : IsAt S shape file_base offset
-  pub low : reach ≤ S.size
+pub record WritesAt (it : Stored) (shape : Shape) (reach file_base offset : ℕ) (disk : DiskState) : Type 0 where
+  pub stores : StoresAt it.geometry it.log it.flushed shape reach disk
+  pub place : IsAt it.geometry shape file_base offset
+  pub low : reach ≤ it.geometry.size
 
 -- the first bytes of a blank: its size, its magic, and zeros up to here
 abbrev pub blank_to : ℕ → ℕ → List ℕ
@@ -102,7 +102,7 @@ IsLaidFor it shape = (shape ≡ shape_of it.geometry (flushed_of it)) ⊎ ((shap
 pub record IsReady (it : Stored) (behind : ℕ) (at : Growing) : Type 0 where
   pub shape : Shape
   pub reach : ℕ
-  pub writes : WritesAt it.geometry it.log it.flushed shape reach at.file.base at.file.offset at.disk
+  pub writes : WritesAt it shape reach at.file.base at.file.offset at.disk
   pub laid : IsLaidFor it shape
   pub short : (reach ≤ at.file.offset + behind) ⊎ ((shape ≡ shape_of it.geometry (flushed_of it)) × NextOpens it)
 

@@ -60,13 +60,7 @@ const BEHIND_ZEROS: &[u8; 116] =
 hi\x01T\x00\x0ESEAL\x01B1FC2CE2\x02";
 
 // Whether damage is told, at this place and in this file.
-fn is_damaged<D: Disk>(
-    alloc: Global,
-    disk: &mut D,
-    place: u64,
-    size: u32,
-    file: u64,
-) -> bool {
+fn is_damaged<D: Disk>(alloc: Global, disk: &mut D, place: u64, size: u32, file: u64) -> bool {
     match read_record(disk, alloc, 4096, place, size) {
         Err(LoadFault::Damaged(told, name)) => {
             told == place && name.as_str() == LogFile::of(file).as_str()

@@ -2,10 +2,11 @@ use Rattle.std.proofs.Common.{◌∙◌, arith}
 use Rattle.mq_outside.proofs.Moments.{at_start, weaker}
 use Rattle.log_model.proofs.OutsideLemmas.{outside_start}
 use Rattle.log_model.specs.Stored.{HasRecords}
+use Rattle.log_model.specs.Bases.{geometry}
 use Rattle.segment_files.proofs.Ready.{fault_ready}
 use Rattle.log_writer.specs.Places.{next_entry}
 use Rattle.log_writer.proofs.DurableLemmas.{each_stored}
-use Rattle.log_writer.proofs.TurnLemmas.{keeps_front, appended_to, starts, appended_in, has_front, stores_sent, stores_failed}
+use Rattle.log_writer.proofs.TurnLemmas.{keeps_front, appended_to, goes_behind, goes_from, starts, appended_in, has_front, stores_sent, stores_failed}
 use Rattle.log_writer.proofs.writer.LogWriter.append_and_flush.Goals as goal
 
 pub returns-in-Err-LogEnd-clause-any_moment : goal.returns-in-Err-LogEnd-clause-any_moment
@@ -82,3 +83,11 @@ returns-in_default-clause-outside g c tells = c.write_batch.ensures.outside tell
 
 pub returns-clause-outside : goal.returns-clause-outside
 returns-clause-outside g c tells = c.write_batch.ensures.outside tells
+
+pub returns-clause-places : goal.returns-clause-places
+returns-clause-places g c base log stands well to_end =
+    let S = geometry c.args.self.now.tail.segment base in
+    let done = c.in-Ok.ensures.appended base log stands in
+    let longer = c.in-Ok.ensures.well_formed base log stands well in
+    goes_behind S log c.args.draft.now c.args.reading _ _ done.one
+    (c.in-Ok-write_batch.ensures.places (appended_to S log c.args.draft.now c.args.reading) longer done.is (goes_from S log c.args.draft.now c.args.reading c.args.self.now.file to_end)).ok

@@ -1,5 +1,6 @@
 use Rattle.std.proofs.Common.{◌∙◌, ◌+◌, ◌≤◌, max, ap, sym, subst, ℕ, List, length, take, Some}
 use Rattle.log_model.specs.Segments.{shape_of}
+use Rattle.log_model.specs.Stored.{stored}
 use Rattle.segment_files.specs.Turn.{WritesAt}
 use Rattle.mq_outside.specs.Files.{bytes_of, overwritten}
 use Rattle.mq_outside.proofs.Moments.{at_end}
@@ -43,7 +44,7 @@ returns-clause-flushed g c tells S log flushed count shape reach writes is =
     let named = c.as_str-name.ensures ∙ c.of-file.ensures in
     let synced = c.sync.ensures.moves tells in
     let written = write_stands (length c.args.bytes) writes named (ap length c.deref.ensures) (c.write_at.ensures.moves tells) in
-    subst (λ (n : ℕ). WritesAt S log (flushed + count) (shape_of S (take (flushed + count) log)) (max reach (c.args.self.now.offset + length c.args.bytes)) c.args.self.now.base
+    subst (λ (n : ℕ). WritesAt (stored S log (flushed + count)) (shape_of S (take (flushed + count) log)) (max reach (c.args.self.now.offset + length c.args.bytes)) c.args.self.now.base
     (c.args.self.now.offset + n) (g.D.Disk.state c.freeze.new.self)) (sym c.len.ensures.value)
     (writes_same (writes_batch writes is named (g.met.D.Disk.reads_is_image c.args.disk.now tells)
     (c.in_ok-write_at.ensures.written tells ∙ ap (λ (l : List ℕ). Some (overwritten c.args.self.now.offset l (bytes_of (g.D.Disk.state c.args.disk.now).reads c.as_str-name.result.now))) c.deref.ensures) synced (c.in_ok-sync.ensures.durable tells) (at_end (same_on written synced))) (c.freeze.ensures.moves tells))

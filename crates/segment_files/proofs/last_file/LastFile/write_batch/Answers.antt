@@ -1,4 +1,4 @@
-use Rattle.std.proofs.Common.{arith, rules, inl, inr, ◌∙◌}
+use Rattle.std.proofs.Common.{arith, rules, inr, ◌∙◌}
 use Rattle.mq_outside.proofs.Moments.{chained}
 use Rattle.log_model.proofs.OutsideLemmas.{outside_then}
 use Rattle.log_model.proofs.StoredLemmas.{keeps_flushed}
