@@ -1,0 +1,11 @@
+pub mod Acknowledged
+pub mod Bases
+pub mod Growth
+pub mod Lists
+pub mod OffsetRows
+pub mod Offsets
+pub mod Pulls
+pub mod QueueEnds
+pub mod Replay
+pub mod Runs
+pub mod Steps

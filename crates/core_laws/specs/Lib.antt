@@ -1,0 +1,4 @@
+pub mod Offsets
+pub mod Pulls
+pub mod Replay
+pub mod Sound

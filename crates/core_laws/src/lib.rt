@@ -1,0 +1,6 @@
+//! What holds of every run of the broker, whatever crashes.
+#![tactic(auto)]
+
+mod laws;
+
+pub use laws::{acknowledged_stay, offsets_hold, pulls_are_slices, tables_are_replay};
