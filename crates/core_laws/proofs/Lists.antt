@@ -89,3 +89,8 @@ drop_take {A = A} (suc i) (suc j) [] = take_nil (suc j - suc i)
     take_nil (suc n) = refl
 drop_take {A = A} (suc i) (suc j) (x ∷ xs) = let same : suc j - suc i ≡ j - i = omega arith in
     drop_take i j xs ∙ ap (λ (n : ℕ). take n (drop i xs)) (sym same)
+
+-- behind other ones
+pub get_behind : {A : Type 0} (xs ys : List A) (k : ℕ) (x : A) → slice_get ys k ≡ Some x → (j : ℕ) × (slice_get (xs ++ ys) j ≡ Some x)
+get_behind [] ys k x got = (k, got)
+get_behind (y ∷ xs) ys k x got = let there = get_behind xs ys k x got in (suc there.0, there.1)
