@@ -1,5 +1,6 @@
 pub mod Acknowledged
 pub mod Bases
+pub mod Examples
 pub mod Growth
 pub mod Lists
 pub mod OffsetRows

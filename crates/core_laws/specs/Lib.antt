@@ -1,3 +1,4 @@
+pub mod Examples
 pub mod Offsets
 pub mod Pulls
 pub mod Replay

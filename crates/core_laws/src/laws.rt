@@ -1,6 +1,6 @@
 //! What holds of every run of steps, savings and crashes from an opening. No call is made: the clauses speak of the definitions.
 
-ghost use Rattle.std.specs.Prelude.{◌≡◌, ◌+◌, ◌-◌, ◌<◌, ◌≤◌, ℕ, List, take, drop, Bool, Some, slice_get};
+ghost use Rattle.std.specs.Prelude.{◌≡◌, ◌+◌, ◌-◌, ◌<◌, ◌≤◌, ℕ, List, [], ◌∷◌, take, drop, map, Bool, Some, slice_get};
 ghost use Rattle.record_codec.specs.Entry.{Entry};
 ghost use Rattle.log_model.specs.Numbered.{count_of, records_of};
 ghost use Rattle.request_fields.specs.Requests.{PullSaid};
@@ -11,6 +11,7 @@ ghost use Rattle.broker_model.specs.Events as events;
 ghost use Rattle.broker_model.specs.Answers.{pull_words};
 ghost use Rattle.broker_model.specs.Run.{Boot, Move, Steps, Crashes, Goes, Run, RunWith, IsOpening};
 ghost use Rattle.broker_model.specs.Acknowledged.{IsAcknowledged, StandsAt, StandsOrRemoved};
+ghost use Rattle.core_laws.specs.Examples.{at_opening, at_look, at_dispatch, at_pull, at_saving, at_crash, until_look, until_dispatch, until_saving, setup, hi_record, asked_pull, pull_said, is_one, tables_of};
 ghost use Rattle.core_laws.specs.Offsets.{AllRows, IsAllowed, StoresOnly};
 ghost use Rattle.core_laws.specs.Pulls.{IsSliceOf};
 ghost use Rattle.core_laws.specs.Replay.{Tables, StandsFor, IsReplayOf};
@@ -55,4 +56,19 @@ pub fn offsets_hold()
     ensures { (b c d : Boot) (moves : List Move) (k : ℕ) (setup : Setup) (allowed : OffsetRow → Bool) → IsOpening b
         → AllRows (IsAllowed allowed b.now) b.now.saved.offsets → RunWith (StoresOnly allowed) b moves c → Goes c (Crashes k setup) d
         → AllRows (IsAllowed allowed d.now) d.now.offsets × (d.now.offsets ≡ c.now.saved.offsets) }
+{}
+
+/// The laws speak of something: `hi` is sent to an empty store, acknowledged, dispatched and pulled; the offset 9 is stored as 1, the
+/// end of its queue, and saved; then all crashes, and the record and the offset are kept.
+pub fn a_run_happens()
+    ensures opening { IsOpening at_opening }
+    ensures acknowledged { IsAcknowledged at_opening until_look at_look 0 hi_record }
+    ensures dispatched { Run at_opening until_dispatch at_dispatch }
+    ensures pulled { Goes at_dispatch (Steps (events.Asks asked_pull) (Some (events.Replies pull_said))) at_pull }
+    ensures found { slice_get pull_said.body 0 ≡ Some hi_record }
+    ensures saved { RunWith (StoresOnly is_one) at_opening until_saving at_saving }
+    ensures crash { Goes at_saving (Crashes 1 setup) at_crash }
+    ensures kept { slice_get at_crash.now.log.records 0 ≡ Some hi_record }
+    ensures offset { map (λ row. row.offset) at_crash.now.offsets ≡ 1 ∷ [] }
+    ensures tables { (s : State) → StandsFor (tables_of s) s }
 {}
