@@ -1,5 +1,5 @@
 -- What was acknowledged stays.
-use Rattle.std.proofs.Common.{◌≡◌, ◌⊎◌, inl, inr, refl, sym, ◌∙◌, subst, arith, ◌<◌, ◌≤◌, ℕ, List, [], ◌∷◌, Bool, Option, Some, None, cond}
+use Rattle.std.proofs.Common.{◌≡◌, inl, inr, refl, sym, ◌∙◌, subst, arith, ◌<◌, ◌≤◌, ℕ, List, [], ◌∷◌, Bool, Some, cond}
 use Rattle.std.specs.Prelude.{nat_lt, filter}
 use Rattle.std.proofs.lemmas.Bool.{cases_Bool, ltb-true}
 use Rattle.record_codec.specs.Entry.{Entry}
@@ -24,9 +24,10 @@ not_flushed (f ∷ g ∷ turns) is = not_flushed (g ∷ turns) is
 
 look_flushed : (s : State) (number turn : ℕ) → Events.IsFlushed ≡ looked s number turn → number < s.flushed
 look_flushed s number turn is = elim (cases_Bool (nat_lt number s.flushed)) [
-    inl low ↦ ltb-true number s.flushed low
-    | inr high ↦ absurd (not_flushed (filter (holds_up number turn) s.failed)
-        (sym (subst (λ (b : Bool). Events.IsFlushed ≡ cond b Events.IsFlushed (last_count (filter (holds_up number turn) s.failed))) high is))) ]
+  | inl low ↦ ltb-true number s.flushed low
+  | inr high ↦ absurd (not_flushed (filter (holds_up number turn) s.failed)
+      (sym (subst (λ (b : Bool). Events.IsFlushed ≡ cond b Events.IsFlushed (last_count (filter (holds_up number turn) s.failed))) high is)))
+]
 
 look_answer : (s : State) (number turn : ℕ) → answer_of s (Events.Look number turn) ≡ Events.Looked (looked s number turn)
 unfolding answer_of is_refused drafts_of carried_out_answer

@@ -1,5 +1,5 @@
 -- The run of the examples is one.
-use Rattle.std.proofs.Common.{◌≡◌, ◌⊎◌, inl, inr, refl, ap, sym, ◌∙◌, subst, arith, ℕ, ◌≤◌, ◌+◌, List, [], ◌∷◌, Bool, true, Some, slice_get, map}
+use Rattle.std.proofs.Common.{◌≡◌, inl, refl, arith, ◌+◌, [], ◌∷◌, true, Some, slice_get, map}
 use Rattle.std.specs.Prelude.{codes}
 use Rattle.std.specs.Fmt.{digits}
 use Rattle.log_model.specs.Numbered.{count_of}
@@ -13,12 +13,12 @@ use Rattle.broker_model.specs.Refusals.{refusal_of}
 use Rattle.broker_model.specs.Appended.{appended, is_refused, drafts_of}
 use Rattle.broker_model.specs.Answers.{answer_of, carried_out_answer, request_answer}
 use Rattle.broker_model.specs.Step.{after, changed, request_changed, IsPossible, offset_row}
-use Rattle.broker_model.specs.Run.{Boot, Move, Steps, SavesOffsets, Crashes, Goes, Run, RunWith, IsOpening, CanCrash}
-use Rattle.broker_model.specs.Acknowledged.{AnswersAfter, IsNew, IsAcknowledged, StandsAt}
+use Rattle.broker_model.specs.Run.{Boot, Steps, SavesOffsets, Crashes, Goes, Run, RunWith, IsOpening}
+use Rattle.broker_model.specs.Acknowledged.{IsAcknowledged}
 use Rattle.broker_model.specs.StepExamples.{sends, stores}
-use Rattle.core_laws.specs.Offsets.{AllRows, IsAllowed, StoresOnly}
+use Rattle.core_laws.specs.Offsets.{StoresOnly}
 use Rattle.core_laws.specs.Replay.{StandsFor}
-use Rattle.core_laws.specs.Examples.{setup, at_opening, stepped, answered, at_send, at_take, at_flush, at_look, hi_record, hi_reply, until_look, at_dispatch, a_pull, asked_pull, pull_said, at_pull, until_dispatch, at_store, at_saving, until_saving, is_one, at_crash, tables_of}
+use Rattle.core_laws.specs.Examples.{setup, at_opening, stepped, answered, at_send, at_take, at_flush, at_look, hi_record, hi_reply, until_look, at_dispatch, asked_pull, pull_said, at_pull, until_dispatch, at_store, at_saving, until_saving, is_one, at_crash, tables_of}
 
 -- what may happen happens
 goes : (b : Boot) (e : Events.Event) → IsPossible b.now e → Goes b (answered b e) (stepped b e)
@@ -26,14 +26,14 @@ goes b e possible = ((possible, refl, refl), refl)
 
 pub is_opening : IsOpening at_opening
 is_opening = record {
-    lawful = record {
-      segment = record { low = omega arith; high = omega arith; begins = refl; within = omega arith; some = omega arith; counted = λ topic queue. omega arith };
-      each = λ k r at. absurd (cc);
-    };
-    base = refl;
-    state = refl;
-    before = refl;
-  }
+  lawful = record {
+    segment = record { low = omega arith; high = omega arith; begins = refl; within = omega arith; some = omega arith; counted = λ topic queue. omega arith };
+    each = λ k r at. absurd (cc);
+  };
+  base = refl;
+  state = refl;
+  before = refl;
+}
 
 -- ---- answers and numbers, computed
 
@@ -140,28 +140,28 @@ crashes = (record { no_less = omega (arith, flushed_is_1); no_more = omega (arit
 
 pub hi_is_acknowledged : IsAcknowledged at_opening until_look at_look 0 hi_record
 hi_is_acknowledged = record {
-    event = sends [];
-    reply = hi_reply;
-    last = 0;
-    answers = record {
-      turn = 0;
-      before = [];
-      waiting = answered at_send Events.Take ∷ answered at_take (Events.Flushed 1) ∷ [];
-      later = [];
-      asked = at_opening;
-      heard = at_send;
-      looked = at_flush;
-      answered = at_look;
-      moves_are = refl;
-      first = refl;
-      asks = sends_it;
-      boot = (λ crash. crash, (λ crash. crash, tt));
-      waits = (at_take, takes_it, tt, (at_flush, flushes_it, tt, refl));
-      looks = looks_at_it;
-      rest = refl;
-    };
-    appended = record { low = omega arith; high = omega arith; stands = record { index = 0; number = number_is_0; stands = record_is_sent } };
-  }
+  event = sends [];
+  reply = hi_reply;
+  last = 0;
+  answers = record {
+    turn = 0;
+    before = [];
+    waiting = answered at_send Events.Take ∷ answered at_take (Events.Flushed 1) ∷ [];
+    later = [];
+    asked = at_opening;
+    heard = at_send;
+    looked = at_flush;
+    answered = at_look;
+    moves_are = refl;
+    first = refl;
+    asks = sends_it;
+    boot = (λ crash. crash, (λ crash. crash, tt));
+    waits = (at_take, takes_it, tt, (at_flush, flushes_it, tt, refl));
+    looks = looks_at_it;
+    rest = refl;
+  };
+  appended = record { low = omega arith; high = omega arith; stands = record { index = 0; number = number_is_0; stands = record_is_sent } };
+}
 
 pub run_to_dispatch : Run at_opening until_dispatch at_dispatch
 run_to_dispatch = (at_send, sends_it, tt, (at_take, takes_it, tt, (at_flush, flushes_it, tt, (at_look, looks_at_it, tt, (at_dispatch, dispatches_it, tt, refl)))))

@@ -72,7 +72,7 @@ pub drop_drop_less : {A : Type 0} (i j : ℕ) (xs : List A) → i ≤ j → drop
 drop_drop_less {A = A} zero j xs low = let same : j - 0 ≡ j = omega arith in ap (λ (n : ℕ). drop n xs) (sym same)
 drop_drop_less (suc i) zero xs low = absurd (omega (arith, low))
 drop_drop_less {A = A} (suc i) (suc j) [] low = drop_nil (suc j - suc i)
-    where
+  where
     drop_nil : (n : ℕ) → [] ≡ drop {A = A} n []
     drop_nil zero = refl
     drop_nil (suc n) = refl
@@ -83,7 +83,7 @@ pub drop_take : {A : Type 0} (i j : ℕ) (xs : List A) → drop i (take j xs) �
 drop_take {A = A} zero j xs = let same : j - 0 ≡ j = omega arith in ap (λ (n : ℕ). take n xs) (sym same)
 drop_take {A = A} (suc i) zero xs = let same : 0 - suc i ≡ 0 = omega arith in ap (λ (n : ℕ). take n (drop (suc i) xs)) (sym same)
 drop_take {A = A} (suc i) (suc j) [] = take_nil (suc j - suc i)
-    where
+  where
     take_nil : (n : ℕ) → [] ≡ take {A = A} n []
     take_nil zero = refl
     take_nil (suc n) = refl

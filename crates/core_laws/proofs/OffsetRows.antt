@@ -1,5 +1,5 @@
 -- What a step stores of offsets.
-use Rattle.std.proofs.Common.{◌≡◌, refl, ap, sym, ◌∙◌, subst, arith, ℕ, ◌≤◌, min, max, List, [], ◌∷◌, filter, Bool, true, false, Option, Some, None, cond, if◌then◌else◌}
+use Rattle.std.proofs.Common.{◌≡◌, refl, ap, sym, ◌∙◌, subst, arith, ℕ, max, List, [], ◌∷◌, filter, Bool, true, false, Option, Some, None, cond, if◌then◌else◌}
 use Rattle.std.specs.Prelude.{not}
 use Rattle.request_fields.specs.declared.request.Request.{Request}
 use Rattle.request_fields.specs.declared.request.Request.TheVariants.{Send, Pull, Query, OffsetOf, SetOffset, MakeTopic, Search, MaxOffset, MinOffset, ViewById, Beat, Unregister, EndTransaction, Lock, Unlock}
@@ -19,8 +19,9 @@ rows_weaker P Q (row ∷ rows) h all = (h row all.0, rows_weaker P Q rows h all.
 rows_filter : (P : OffsetRow → Type 0) (test : OffsetRow → Bool) (rows : List OffsetRow) → AllRows P rows → AllRows P (filter test rows)
 rows_filter P test [] all = tt
 rows_filter P test (row ∷ rows) all = elim (test row) as (λ b. AllRows P (cond b (row ∷ filter test rows) (filter test rows))) [
-    true ↦ (all.0, rows_filter P test rows all.1)
-    | false ↦ rows_filter P test rows all.1 ]
+  | true ↦ (all.0, rows_filter P test rows all.1)
+  | false ↦ rows_filter P test rows all.1
+]
 
 stored_rows : (allowed : OffsetRow → Bool) (s : State) (group topic : List ℕ) (queue : ℕ) (offset : Option ℕ) → MayStore allowed s group topic queue offset → AllRows (IsAllowed allowed s) s.offsets
     → AllRows (IsAllowed allowed s) (stored s group topic queue offset).offsets
@@ -69,7 +70,7 @@ with_rows s now (r ∷ records) = (refl, refl)
 request_saved : (s : State) (link now : ℕ) (r : Request) → (request_changed s link now r).saved ≡ s.saved
 unfolding request_changed
 request_saved s link now (Pull p) = stored_saved (pull_offset p)
-    where
+  where
     stored_saved : (o : Option ℕ) → (stored s p.group p.topic p.queue o).saved ≡ s.saved
     stored_saved None = refl
     stored_saved (Some n) = refl
@@ -88,8 +89,9 @@ changed_saved s _ = refl
 after_rows : (allowed : OffsetRow → Bool) (s : State) (e : Events.Event) → EventStores allowed s e → AllRows (IsAllowed allowed s) s.offsets → AllRows (IsAllowed allowed s) (after s e).offsets × ((after s e).saved ≡ s.saved)
 unfolding after
 after_rows allowed s e may all = elim (is_refused s e) as (λ b. AllRows (IsAllowed allowed s) (if b then s else with_records (changed s e) (moment s e) (made_by s e)).offsets × ((if b then s else with_records (changed s e) (moment s e) (made_by s e)).saved ≡ s.saved)) [
-    true ↦ (all, refl)
-    | false ↦ let w = with_rows (changed s e) (moment s e) (made_by s e) in (subst (AllRows (IsAllowed allowed s)) (sym w.0) (changed_rows allowed s e may all), w.1 ∙ changed_saved s e) ]
+  | true ↦ (all, refl)
+  | false ↦ let w = with_rows (changed s e) (moment s e) (made_by s e) in (subst (AllRows (IsAllowed allowed s)) (sym w.0) (changed_rows allowed s e may all), w.1 ∙ changed_saved s e)
+]
 
 pub step_rows : (allowed : OffsetRow → Bool) (s t : State) (e : Events.Event) (said : Option Events.Answer) → Step s e said t → EventStores allowed s e → AllRows (IsAllowed allowed s) s.offsets → AllRows (IsAllowed allowed s) t.offsets × (t.saved ≡ s.saved)
 step_rows allowed s t e None step may all = (subst (λ (x : State). AllRows (IsAllowed allowed s) x.offsets) (sym step.1) all, ap (λ (x : State). x.saved) step.1)

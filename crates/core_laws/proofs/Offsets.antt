@@ -1,6 +1,6 @@
 -- Stored offsets along a run.
-use Rattle.std.proofs.Common.{◌≡◌, ◌⊎◌, inl, inr, refl, ap, sym, ◌∙◌, subst, arith, ℕ, ◌≤◌, min, List, [], ◌∷◌, Bool}
-use Rattle.log_model.specs.Numbered.{Log, queue_max, below, count_of}
+use Rattle.std.proofs.Common.{◌≡◌, inl, inr, refl, ap, sym, ◌∙◌, subst, arith, ℕ, ◌≤◌, min, List, [], ◌∷◌, Bool}
+use Rattle.log_model.specs.Numbered.{Log, queue_max, below}
 use Rattle.broker_model.specs.Tables.{OffsetRow}
 use Rattle.broker_model.specs.State.{State, Saved, Setup, seen}
 use Rattle.broker_model.specs.Run.{Boot, Move, Steps, SavesOffsets, SavesTopics, SavesBase, Crashes, Goes, RunWith, IsAmong, IsOfBoot, IsOpening, crashed, CanCrash, kept_log, with_saved, cut_offsets}
@@ -20,11 +20,12 @@ more_rows allowed s t rows more = rows_weaker (IsAllowed allowed s) (IsAllowed a
 
 with_saved_rows : (allowed : OffsetRow → Bool) (b : Boot) (saved : Saved) → AllRows (IsAllowed allowed b.now) saved.offsets → RowsBoot allowed b → RowsBoot allowed (with_saved b saved)
 with_saved_rows allowed b saved all rows = record {
-    saved = all;
-    boot = λ p there. elim there [
-      inl now ↦ subst (λ (x : State). AllRows (IsAllowed allowed b.now) x.offsets) (sym now) (rows.boot b.now (inl refl))
-      | inr past ↦ elim past [ inl last ↦ rows.boot p (inl last) | inr before ↦ rows.boot p (inr before) ] ];
-  }
+  saved = all;
+  boot = λ p there. elim there [
+    | inl now ↦ subst (λ (x : State). AllRows (IsAllowed allowed b.now) x.offsets) (sym now) (rows.boot b.now (inl refl))
+    | inr past ↦ elim past [ inl last ↦ rows.boot p (inl last) | inr before ↦ rows.boot p (inr before) ]
+  ];
+}
 
 cut_rows : (P : OffsetRow → Type 0) (log : Log) (rows : List OffsetRow) → ((row : OffsetRow) → P row → row.offset ≤ queue_max log row.topic row.queue) → AllRows P rows → cut_offsets log rows ≡ rows
 cut_rows P log [] low all = refl
@@ -44,8 +45,9 @@ goes_rows allowed b (Steps e said) c sound rows goes may =
     record {
       saved = subst (λ (v : Saved). AllRows (IsAllowed allowed c.now) v.offsets) (sym here.1) (more_rows allowed b.now c.now b.now.saved.offsets more rows.saved);
       boot = λ p there. elim there [
-        inl now ↦ subst (λ (x : State). AllRows (IsAllowed allowed c.now) x.offsets) (sym now) (more_rows allowed b.now c.now c.now.offsets more here.0)
-        | inr past ↦ more_rows allowed b.now c.now p.offsets more (elim (subst (λ (l : List State). IsAmong l p) goes.1 past) [ inl last ↦ rows.boot p (inl last) | inr before ↦ rows.boot p (inr before) ]) ];
+        | inl now ↦ subst (λ (x : State). AllRows (IsAllowed allowed c.now) x.offsets) (sym now) (more_rows allowed b.now c.now c.now.offsets more here.0)
+        | inr past ↦ more_rows allowed b.now c.now p.offsets more (elim (subst (λ (l : List State). IsAmong l p) goes.1 past) [ inl last ↦ rows.boot p (inl last) | inr before ↦ rows.boot p (inr before) ])
+      ];
     }
 goes_rows allowed b SavesOffsets c sound rows goes may = subst (RowsBoot allowed) (sym goes.2) (with_saved_rows allowed b _ (rows.boot goes.0 goes.1) rows)
 goes_rows allowed b SavesTopics c sound rows goes may = subst (RowsBoot allowed) (sym goes.2) (with_saved_rows allowed b _ rows.saved rows)
@@ -70,12 +72,17 @@ crash_uncut allowed b k setup c sound rows goes = ap (λ (x : Boot). x.now.offse
 
 pub opening_rows : (allowed : OffsetRow → Bool) (b : Boot) → IsOpening b → AllRows (IsAllowed allowed b.now) b.now.saved.offsets → RowsBoot allowed b
 opening_rows allowed b opening all = record {
-    saved = all;
-    boot = λ p there. elim there [
-      inl now ↦ subst (λ (x : State). AllRows (IsAllowed allowed b.now) x.offsets) (sym now) (subst (AllRows (IsAllowed allowed b.now)) (sym (ap (λ (s : State). s.offsets) opening.state ∙ uncut)) all)
-      | inr past ↦ absurd (subst (λ (l : List State). IsAmong l p) opening.before past) ];
-  }
-    where
+  saved = all;
+  boot = λ p there. elim there [
+    | inl now ↦ subst (λ (x : State). AllRows (IsAllowed allowed b.now) x.offsets) (sym now) (subst (AllRows (IsAllowed allowed b.now)) (sym (ap (λ (s : State). s.offsets) opening.state ∙ uncut)) all)
+    | inr past ↦ absurd (subst (λ (l : List State). IsAmong l p) opening.before past)
+  ];
+}
+  where
     uncut : cut_offsets b.now.log b.now.saved.offsets ≡ b.now.saved.offsets
-    uncut = cut_rows (IsAllowed allowed b.now) b.now.log b.now.saved.offsets (λ row is. omega (arith, is.1,
-      ap (λ (n : ℕ). queue_max (below b.now.log n) row.topic row.queue) (ap (λ (s : State). s.dispatched) opening.state), all_seen b.now.log row.topic row.queue)) all
+    uncut = cut_rows (IsAllowed allowed b.now) b.now.log b.now.saved.offsets (λ row is. omega (
+      arith,
+      is.1,
+      ap (λ (n : ℕ). queue_max (below b.now.log n) row.topic row.queue) (ap (λ (s : State). s.dispatched) opening.state),
+      all_seen b.now.log row.topic row.queue,
+    )) all

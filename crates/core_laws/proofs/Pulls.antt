@@ -2,14 +2,13 @@
 use Rattle.std.proofs.Common.{◌≡◌, refl, ap, sym, ◌∙◌, subst, arith, ℕ, zero, suc, ◌+◌, ◌-◌, ◌<◌, List, [], ◌∷◌, ◌++◌, length, take, drop, filter, slice_get, Bool, true, false, Option, Some, None, cond, if◌then◌else◌, append_assoc}
 use Rattle.std.specs.Prelude.{ℤ, pos, negsuc, nat_lt, ◌&&◌, ◌==◌, ◌||◌, not, is_some, is_none, unwrap_or, codes}
 use Rattle.std.specs.Str.{bytes_eq}
-use Rattle.std.proofs.lemmas.List.{append-nil}
 use Rattle.record_codec.specs.Entry.{Entry}
 use Rattle.record_codec.specs.Units.{unit_of}
 use Rattle.record_codec.specs.Drafts.{first_that_holds}
 use Rattle.record_codec.specs.declared.unit.Unit.{Unit as QueueUnit}
 use Rattle.log_model.specs.Keys.{asked_number}
-use Rattle.log_model.specs.Numbered.{queue_min, records_of, below}
-use Rattle.log_model.specs.Pulls.{Pulled, takes, goes_on, examined, nothing, after_looking, pulled_from, pulled, pull_reply}
+use Rattle.log_model.specs.Numbered.{queue_min, records_of}
+use Rattle.log_model.specs.Pulls.{Pulled, takes, goes_on, examined, nothing, after_looking, pulled_from, pulled}
 use Rattle.request_fields.specs.Requests.{PullSaid}
 use Rattle.request_fields.specs.declared.request.Request.{Request}
 use Rattle.request_fields.specs.declared.request.Request.TheVariants.{Pull}
@@ -29,8 +28,9 @@ examined_front : (most : ℕ) (test : QueueUnit → Bool) (front queue : List En
 examined_front most test front [] = ([], refl)
 examined_front most test front (x ∷ queue) =
     elim (goes_on unit_of most test front x) as (λ b. (rest : List Entry) × (front ++ (x ∷ queue) ≡ (if b then examined unit_of most test (front ++ x ∷ []) queue else front) ++ rest)) [
-      true ↦ let more = examined_front most test (front ++ x ∷ []) queue in (more.0, sym (append_assoc front (x ∷ []) queue) ∙ more.1)
-      | false ↦ (x ∷ queue, refl) ]
+      | true ↦ let more = examined_front most test (front ++ x ∷ []) queue in (more.0, sym (append_assoc front (x ∷ []) queue) ∙ more.1)
+      | false ↦ (x ∷ queue, refl)
+    ]
 
 -- nothing is a piece of any queue
 no_slice : (queue : List Entry) (words : List ℕ) → IsSliceOf queue words []
@@ -65,8 +65,8 @@ from_slice low from most queue words =
     (either_slice queue words (nat_lt from low) (nothing 21 low low (low + length queue)) _ (no_slice queue words)
     (either_slice queue words (from == low + length queue) (nothing 19 (low + length queue) low (low + length queue)) _ (no_slice queue words)
     (either_slice queue words (nat_lt (low + length queue) from) (nothing 21 (low + length queue) low (low + length queue))
-      (after_looking unit_of from low (low + length queue) (takes words) (examined unit_of most (takes words) [] (drop (from - low) queue)))
-      (no_slice queue words) (looked_slice low from most queue words))))
+    (after_looking unit_of from low (low + length queue) (takes words) (examined unit_of most (takes words) [] (drop (from - low) queue)))
+    (no_slice queue words) (looked_slice low from most queue words))))
 
 pulled_slice : (low : ℕ) (queue : List Entry) (from : ℤ) (most : ℕ) (words : List ℕ) → IsSliceOf queue words (pulled unit_of low queue from most (takes words)).taken
 pulled_slice low queue (pos from) most words = from_slice low from most queue words
@@ -97,9 +97,9 @@ refused_pull : (s : State) (p : PullSaid) → HasNoBody (pull_refusal s p)
 refused_pull s p = either_row (first_that_holds ((is_closed_topic p.topic, plain_reply 16 (codes "system topic")) ∷ [])) _
     (one_row (is_closed_topic p.topic) (plain_reply 16 (codes "system topic")) refl)
     (either_row (queue_refusal s p.topic p.queue) (first_that_holds ((not (is_by_tags p.expression), plain_reply 1 (codes "expression")) ∷ []))
-      (two_rows (is_none (queue_count s p.topic)) (not (nat_lt p.queue (unwrap_or (queue_count s p.topic) 0))) (plain_reply 17 (codes "no topic"))
-        (plain_reply 1 (codes "queue")) refl refl)
-      (one_row (not (is_by_tags p.expression)) (plain_reply 1 (codes "expression")) refl))
+    (two_rows (is_none (queue_count s p.topic)) (not (nat_lt p.queue (unwrap_or (queue_count s p.topic) 0))) (plain_reply 17 (codes "no topic"))
+    (plain_reply 1 (codes "queue")) refl refl)
+    (one_row (not (is_by_tags p.expression)) (plain_reply 1 (codes "expression")) refl))
 
 -- the body of a reply
 abbrev body_of : Events.Answer → List Entry
@@ -116,17 +116,18 @@ pull_answered : (s : State) (a : Events.Asked) (p : PullSaid)
 unfolding answer_of is_refused drafts_of carried_out_answer request_answer refusal_of
 pull_answered s a p =
     elim (pull_refusal s p) as (λ o. HasNoBody o → IsSliceOf (records_of (seen s) p.topic p.queue) (pull_words s p)
-        (body_of (or_refused o (if is_some o || false || false then refused_answer s (pull_event a p) else Events.Replies (pulled_reply (pull_of s p)))))) [
-      None ↦ λ empty. pulled_slice (queue_min (seen s) p.topic p.queue) (records_of (seen s) p.topic p.queue) p.from (asked_number 32 p.most) (pull_words s p)
-      | Some reply ↦ λ empty. subst (IsSliceOf (records_of (seen s) p.topic p.queue) (pull_words s p)) (sym empty) (no_slice (records_of (seen s) p.topic p.queue) (pull_words s p)) ]
+    (body_of (or_refused o (if is_some o || false || false then refused_answer s (pull_event a p) else Events.Replies (pulled_reply (pull_of s p)))))) [
+      | None ↦ λ empty. pulled_slice (queue_min (seen s) p.topic p.queue) (records_of (seen s) p.topic p.queue) p.from (asked_number 32 p.most) (pull_words s p)
+      | Some reply ↦ λ empty. subst (IsSliceOf (records_of (seen s) p.topic p.queue) (pull_words s p)) (sym empty) (no_slice (records_of (seen s) p.topic p.queue) (pull_words s p))
+    ]
     (refused_pull s p)
 
 pub step_slice : (s t : State) (a : Events.Asked) (p : PullSaid) (reply : Events.Reply) → a.request ≡ Pull p
     → Step s (Events.Asks a) (Some (Events.Replies reply)) t → IsSliceOf (records_of (seen s) p.topic p.queue) (pull_words s p) reply.body
 step_slice s t a p reply is step =
     subst (λ (answer : Events.Answer). IsSliceOf (records_of (seen s) p.topic p.queue) (pull_words s p) (body_of answer)) (sym step.1)
-      (subst (λ (q : Request). IsSliceOf (records_of (seen s) p.topic p.queue) (pull_words s p) (body_of (answer_of s (Events.Asks (record a { request = q }))))) (sym is)
-        (pull_answered s a p))
+    (subst (λ (q : Request). IsSliceOf (records_of (seen s) p.topic p.queue) (pull_words s p) (body_of (answer_of s (Events.Asks (record a { request = q }))))) (sym is)
+    (pull_answered s a p))
 
 -- ---- where it stands
 

@@ -23,12 +23,17 @@ max_grows p s t q before sound grows =
     let total : length (take grows.gone (p.log.records ++ grows.more)) ≡ grows.gone = length_take grows.gone (p.log.records ++ grows.more) (omega (arith, grows.low, length-append p.log.records grows.more)) in
     let records : s.log.base.records ≡ p.log.base.records + grows.gone = omega (arith, grows.base.records, total) in
     let front : take (p.dispatched - p.log.base.records) (p.log.records ++ grows.more) ≡ take (p.dispatched - p.log.base.records) p.log.records =
-        take_left (p.dispatched - p.log.base.records) p.log.records grows.more (omega (arith, before.dispatched, before.flushed)) in
+    take_left (p.dispatched - p.log.base.records) p.log.records grows.more (omega (arith, before.dispatched, before.flushed)) in
     let split : take (grows.gone + (s.dispatched - s.log.base.records)) (p.log.records ++ grows.more) ≡ take grows.gone (p.log.records ++ grows.more) ++ take (s.dispatched - s.log.base.records) s.log.records =
-        take_plus grows.gone (s.dispatched - s.log.base.records) (p.log.records ++ grows.more) ∙ ap (λ (l : List Entry). take grows.gone (p.log.records ++ grows.more) ++ take (s.dispatched - s.log.base.records) l) (sym grows.log) in
-    omega (arith, grows.base.queues t q, ap (λ (l : List Entry). length (queue_of l t q)) front, ap (λ (l : List Entry). length (queue_of l t q)) split,
+    take_plus grows.gone (s.dispatched - s.log.base.records) (p.log.records ++ grows.more) ∙ ap (λ (l : List Entry). take grows.gone (p.log.records ++ grows.more) ++ take (s.dispatched - s.log.base.records) l) (sym grows.log) in
+    omega (
+      arith,
+      grows.base.queues t q,
+      ap (λ (l : List Entry). length (queue_of l t q)) front,
+      ap (λ (l : List Entry). length (queue_of l t q)) split,
       count_queue (take grows.gone (p.log.records ++ grows.more)) (take (s.dispatched - s.log.base.records) s.log.records) t q,
-      longer (p.dispatched - p.log.base.records) (grows.gone + (s.dispatched - s.log.base.records)) (p.log.records ++ grows.more) t q (omega (arith, records, grows.dispatched, sound.within)))
+      longer (p.dispatched - p.log.base.records) (grows.gone + (s.dispatched - s.log.base.records)) (p.log.records ++ grows.more) t q (omega (arith, records, grows.dispatched, sound.within)),
+    )
 
 -- nor at a crash
 pub max_kept : (s : State) (k : ℕ) (setup : Setup) (t : List ℕ) (q : ℕ) → CanCrash s k setup → IsSound s → queue_max (seen s) t q ≤ queue_max (kept_log s k) t q
@@ -36,12 +41,16 @@ max_kept s k setup t q can sound =
     let ahead = saved_ahead s sound in
     let long : sound.ahead ≤ length s.log.records = omega (arith, sound.within, sound.dispatched, sound.flushed) in
     let split : take (k - s.log.base.records) s.log.records ≡ take sound.ahead s.log.records ++ drop (s.saved.base.records - s.log.base.records) (take (k - s.log.base.records) s.log.records) =
-        ap (λ (m : ℕ). take m s.log.records) (let e : k - s.log.base.records ≡ sound.ahead + ((k - s.log.base.records) - sound.ahead) = omega (arith, can.no_less, sound.within, sound.dispatched) in e)
-        ∙ (take_plus sound.ahead ((k - s.log.base.records) - sound.ahead) s.log.records
-        ∙ ap (λ (l : List Entry). take sound.ahead s.log.records ++ l) (sym (ap (λ (m : ℕ). drop m (take (k - s.log.base.records) s.log.records)) ahead ∙ drop_take sound.ahead (k - s.log.base.records) s.log.records))) in
-    omega (arith, sound.saved.queues t q, ap (λ (l : List Entry). length (queue_of l t q)) split,
+    ap (λ (m : ℕ). take m s.log.records) (let e : k - s.log.base.records ≡ sound.ahead + ((k - s.log.base.records) - sound.ahead) = omega (arith, can.no_less, sound.within, sound.dispatched) in e)
+    ∙ (take_plus sound.ahead ((k - s.log.base.records) - sound.ahead) s.log.records
+    ∙ ap (λ (l : List Entry). take sound.ahead s.log.records ++ l) (sym (ap (λ (m : ℕ). drop m (take (k - s.log.base.records) s.log.records)) ahead ∙ drop_take sound.ahead (k - s.log.base.records) s.log.records))) in
+    omega (
+      arith,
+      sound.saved.queues t q,
+      ap (λ (l : List Entry). length (queue_of l t q)) split,
       count_queue (take sound.ahead s.log.records) (drop (s.saved.base.records - s.log.base.records) (take (k - s.log.base.records) s.log.records)) t q,
-      longer (s.dispatched - s.log.base.records) (k - s.log.base.records) s.log.records t q (omega (arith, can.no_less, sound.dispatched)))
+      longer (s.dispatched - s.log.base.records) (k - s.log.base.records) s.log.records t q (omega (arith, can.no_less, sound.dispatched)),
+    )
 
 -- where all is dispatched, consumers see all
 pub all_seen : (log : Log) (t : List ℕ) (q : ℕ) → queue_max (below log (count_of log)) t q ≡ queue_max log t q

@@ -1,21 +1,19 @@
 -- Savings, crashes and whole runs keep states sound, and keep what was on the disk.
-use Rattle.std.proofs.Common.{◌≡◌, ◌⊎◌, inl, inr, refl, ap, sym, ◌∙◌, subst, arith, ℕ, ◌+◌, ◌-◌, ◌<◌, ◌≤◌, List, [], ◌∷◌, ◌++◌, length, take, drop, slice_get, Option, Some, None, length-append}
+use Rattle.std.proofs.Common.{◌≡◌, inl, inr, refl, ap, sym, ◌∙◌, subst, arith, ℕ, ◌+◌, ◌-◌, ◌≤◌, List, [], ◌∷◌, ◌++◌, length, take, Option, None, length-append}
 use Rattle.std.proofs.lemmas.List.{length-drop, append-nil}
 use Rattle.std.proofs.lemmas.Bool.{cases_lt}
 use Rattle.record_codec.specs.Entry.{Entry}
 use Rattle.log_model.specs.Bases.{Base}
-use Rattle.log_model.specs.Numbered.{Log, count_of}
+use Rattle.log_model.specs.Numbered.{count_of}
 use Rattle.broker_model.specs.State.{State, Setup, Saved, Out}
-use Rattle.broker_model.specs.Events
 use Rattle.broker_model.specs.Lawful.{IfOut}
 use Rattle.broker_model.specs.Removal.{IsBaseAfter, IsRemovable}
 use Rattle.broker_model.specs.Run.{Boot, Move, Steps, SavesOffsets, SavesTopics, SavesBase, Crashes, Goes, RunWith, IsAmong, IsOfBoot, crashed, CanCrash, kept_log, with_saved, IsCrash, IsOneBoot, IsOpening}
-use Rattle.broker_model.specs.Acknowledged.{StandsAt}
 use Rattle.core_laws.specs.Sound.{IsSound, Grows, Keeps, IsSoundBoot}
 use Rattle.core_laws.proofs.Lists.{take_get, get_drop, take_left, length_take}
 use Rattle.core_laws.proofs.Bases.{take_plus, base_none, base_off, base_same}
 use Rattle.core_laws.proofs.Growth.{grows_same, grows_on, grows_keeps, keeps_same, keeps_on}
-use Rattle.core_laws.proofs.Steps.{step_good, saved_ahead}
+use Rattle.core_laws.proofs.Steps.{step_good}
 
 -- ---- crashes and savings
 
@@ -25,13 +23,13 @@ among_grows b p sound (inr there) = sound.earlier p there
 
 pub crash_sound : (s : State) (k : ℕ) (setup : Setup) → CanCrash s k setup → IsSound s → IsSound (crashed s k setup)
 crash_sound s k setup can sound = record {
-    ahead = 0;
-    saved = base_none s.saved.base;
-    within = omega arith;
-    dispatched = omega arith;
-    flushed = omega arith;
-    out = tt;
-  }
+  ahead = 0;
+  saved = base_none s.saved.base;
+  within = omega arith;
+  dispatched = omega arith;
+  flushed = omega arith;
+  out = tt;
+}
 
 pub crash_count : (s : State) (k : ℕ) (setup : Setup) → CanCrash s k setup → IsSound s → count_of (kept_log s k) ≡ k
 crash_count s k setup can sound =
@@ -50,12 +48,18 @@ crash_keeps s k setup can sound =
       flushed = omega (arith, count, can.no_less);
       dispatched = omega (arith, count, sound.dispatched, can.no_less);
       stays = λ n r less stands. elim stands [
-        inl gone ↦ inl (omega (arith, gone, records))
+        | inl gone ↦ inl (omega (arith, gone, records))
         | inr there ↦ elim (cases_lt n s.saved.base.records) [
-          inl removed ↦ inl removed
-          | inr high' ↦ inr (record { index = there.index - (s.saved.base.records - s.log.base.records); number = omega (arith, there.number, records, high'); stands =
-              get_drop (s.saved.base.records - s.log.base.records) there.index (take (k - s.log.base.records) s.log.records) r (omega (arith, there.number, high'))
-                (take_get (k - s.log.base.records) there.index s.log.records r (omega (arith, there.number, less, can.no_less)) there.stands) }) ] ];
+          | inl removed ↦ inl removed
+          | inr high' ↦ inr (record {
+            index = there.index - (s.saved.base.records - s.log.base.records);
+            number = omega (arith, there.number, records, high');
+            stands =
+                get_drop (s.saved.base.records - s.log.base.records) there.index (take (k - s.log.base.records) s.log.records) r (omega (arith, there.number, high'))
+                (take_get (k - s.log.base.records) there.index s.log.records r (omega (arith, there.number, less, can.no_less)) there.stands);
+          })
+        ]
+      ];
     }
 
 -- a base that a state of the boot gave is right for this one
@@ -68,22 +72,24 @@ save_counts p s base sound grows may low =
     let behind : grows.gone ≤ may.count = omega (arith, records, number, low, sound.saved.records) in
     let rest : grows.gone + (may.count - grows.gone) ≡ may.count = omega (arith, behind) in
     let split : take may.count p.log.records ≡ take grows.gone (p.log.records ++ grows.more) ++ take (may.count - grows.gone) s.log.records =
-        sym (take_left may.count p.log.records grows.more may.cut.long) ∙ (ap (λ (n : ℕ). take n (p.log.records ++ grows.more)) (sym rest)
-        ∙ (take_plus grows.gone (may.count - grows.gone) (p.log.records ++ grows.more) ∙ ap (λ (l : List Entry). take grows.gone (p.log.records ++ grows.more) ++ take (may.count - grows.gone) l) (sym grows.log))) in
-    (may.count - grows.gone, base_off p.log.base s.log.base base (take grows.gone (p.log.records ++ grows.more)) (take (may.count - grows.gone) s.log.records) grows.base (base_same p.log.base base _ _ split may.cut.counts),
-      omega (arith, records, behind, may.dispatched, grows.dispatched))
+    sym (take_left may.count p.log.records grows.more may.cut.long) ∙ (ap (λ (n : ℕ). take n (p.log.records ++ grows.more)) (sym rest)
+    ∙ (take_plus grows.gone (may.count - grows.gone) (p.log.records ++ grows.more) ∙ ap (λ (l : List Entry). take grows.gone (p.log.records ++ grows.more) ++ take (may.count - grows.gone) l) (sym grows.log))) in (
+      may.count - grows.gone,
+      base_off p.log.base s.log.base base (take grows.gone (p.log.records ++ grows.more)) (take (may.count - grows.gone) s.log.records) grows.base (base_same p.log.base base _ _ split may.cut.counts),
+      omega (arith, records, behind, may.dispatched, grows.dispatched),
+    )
 
 -- the kept files are no part of the log
 saved_grows : (s : State) (saved : Saved) → Grows s (record s { saved = saved })
 saved_grows s saved = record {
-    more = [];
-    gone = 0;
-    low = omega arith;
-    base = base_none s.log.base;
-    log = sym (append-nil s.log.records);
-    flushed = omega arith;
-    dispatched = omega arith;
-  }
+  more = [];
+  gone = 0;
+  low = omega arith;
+  base = base_none s.log.base;
+  log = sym (append-nil s.log.records);
+  flushed = omega arith;
+  dispatched = omega arith;
+}
 
 -- after a saving the earlier states still grow into the one that saved
 saved_earlier : (b : Boot) (saved : Saved) → IsSoundBoot b → (p : State) → IsAmong (with_saved b saved).before p → Grows p (with_saved b saved).now
@@ -93,18 +99,20 @@ saved_earlier b saved sound p (inr past) = grows_on p b.now (record b.now { save
 -- a saving that leaves the base
 saved_good : (b : Boot) (saved : Saved) → saved.base ≡ b.now.saved.base → IsSoundBoot b → IsSoundBoot (with_saved b saved) × Keeps b.now (with_saved b saved).now
 saved_good b saved is sound =
-    let t = sound.state in
-    (record {
-      state = record {
-        ahead = t.ahead;
-        saved = subst (IsBaseAfter b.now.log.base (take t.ahead b.now.log.records)) (sym is) t.saved;
-        within = t.within;
-        dispatched = t.dispatched;
-        flushed = t.flushed;
-        out = t.out;
-      };
-      earlier = saved_earlier b saved sound;
-    }, grows_keeps (saved_grows b.now saved))
+    let t = sound.state in (
+      record {
+        state = record {
+          ahead = t.ahead;
+          saved = subst (IsBaseAfter b.now.log.base (take t.ahead b.now.log.records)) (sym is) t.saved;
+          within = t.within;
+          dispatched = t.dispatched;
+          flushed = t.flushed;
+          out = t.out;
+        };
+        earlier = saved_earlier b saved sound;
+      },
+      grows_keeps (saved_grows b.now saved),
+    )
 
 -- a saving of a base
 base_good : (b : Boot) (p : State) (base : Base) → IsSoundBoot b → IsOfBoot b p → IsRemovable p base → b.now.saved.base.records ≤ base.records
@@ -112,21 +120,26 @@ base_good : (b : Boot) (p : State) (base : Base) → IsSoundBoot b → IsOfBoot 
 base_good b p base sound of may low =
     let t = sound.state in
     let n = save_counts p b.now base t (among_grows b p sound of) may low in
-    let saved : Saved = record b.now.saved { base = base } in
-    (record {
-      state = record { ahead = n.0; saved = n.1; within = n.2; dispatched = t.dispatched; flushed = t.flushed; out = t.out };
-      earlier = saved_earlier b (record b.now.saved { base = base }) sound;
-    }, grows_keeps (saved_grows b.now (record b.now.saved { base = base })))
+    let saved : Saved = record b.now.saved { base = base } in (
+      record {
+        state = record { ahead = n.0; saved = n.1; within = n.2; dispatched = t.dispatched; flushed = t.flushed; out = t.out };
+        earlier = saved_earlier b (record b.now.saved { base = base }) sound;
+      },
+      grows_keeps (saved_grows b.now (record b.now.saved { base = base })),
+    )
 
 pub goes_good : (b : Boot) (move : Move) (c : Boot) → IsSoundBoot b → Goes b move c → IsSoundBoot c × Keeps b.now c.now
 goes_good b (Steps e said) c sound goes =
-    let good = step_good b.now c.now e said goes.0 sound.state in
-    (record {
-      state = good.0;
-      earlier = λ p there. elim (subst (λ (l : List State). IsAmong l p) goes.1 there) [
-        inl here ↦ subst (λ (x : State). Grows x c.now) (sym here) good.1
-        | inr past ↦ grows_on p b.now c.now (sound.earlier p past) good.1 ];
-    }, grows_keeps good.1)
+    let good = step_good b.now c.now e said goes.0 sound.state in (
+      record {
+        state = good.0;
+        earlier = λ p there. elim (subst (λ (l : List State). IsAmong l p) goes.1 there) [
+          | inl here ↦ subst (λ (x : State). Grows x c.now) (sym here) good.1
+          | inr past ↦ grows_on p b.now c.now (sound.earlier p past) good.1
+        ];
+      },
+      grows_keeps good.1,
+    )
 goes_good b SavesOffsets c sound goes = subst (λ (x : Boot). IsSoundBoot x × Keeps b.now x.now) (sym goes.2) (saved_good b _ refl sound)
 goes_good b SavesTopics c sound goes = subst (λ (x : Boot). IsSoundBoot x × Keeps b.now x.now) (sym goes.2) (saved_good b _ refl sound)
 goes_good b (SavesBase base) c sound goes = subst (λ (x : Boot). IsSoundBoot x × Keeps b.now x.now) (sym goes.4)
@@ -157,7 +170,7 @@ pub boot_grows : (P : Boot → Move → Boot → Type 0) (b : Boot) (moves : Lis
 boot_grows P b [] c sound boot run = subst (λ (x : Boot). Grows b.now x.now) (sym run) (grows_same b.now)
 boot_grows P b (move ∷ moves) c sound boot run =
     grows_on b.now run.0.now c.now (goes_grows b move run.0 sound boot.0 run.1)
-      (boot_grows P run.0 moves c (goes_good b move run.0 sound run.1).0 boot.1 run.3)
+    (boot_grows P run.0 moves c (goes_good b move run.0 sound run.1).0 boot.1 run.3)
 
 -- ---- openings
 

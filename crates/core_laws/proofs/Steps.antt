@@ -1,5 +1,5 @@
 -- Each step leaves a sound state, into which the one before it grows.
-use Rattle.std.proofs.Common.{◌≡◌, refl, ap, sym, ◌∙◌, subst, arith, ℕ, ◌+◌, ◌-◌, ◌<◌, ◌≤◌, max, List, [], ◌∷◌, ◌++◌, length, take, drop, Bool, true, false, Option, Some, None, if◌then◌else◌, take_while, ◌/◌, ◌==◌, length-append}
+use Rattle.std.proofs.Common.{◌≡◌, refl, ap, sym, ◌∙◌, subst, arith, ℕ, ◌+◌, ◌-◌, ◌≤◌, max, List, [], ◌∷◌, length, take, drop, Bool, true, false, Option, Some, None, if◌then◌else◌, take_while, ◌/◌, ◌==◌, length-append}
 use Rattle.std.proofs.lemmas.List.{length-take, length-drop, append-nil}
 use Rattle.std.specs.List.{prefix_len}
 use Rattle.record_codec.specs.Entry.{Entry}
@@ -10,7 +10,7 @@ use Rattle.request_fields.specs.declared.request.Request.TheVariants.{Pull}
 use Rattle.broker_model.specs.State.{State, Out, Saved, same_segment, next_batch, pending}
 use Rattle.broker_model.specs.Events
 use Rattle.broker_model.specs.Appended.{made_by, is_refused, moment}
-use Rattle.broker_model.specs.Answers.{taken, taken_of}
+use Rattle.broker_model.specs.Answers.{taken_of}
 use Rattle.broker_model.specs.Step.{Step, changed, request_changed, after, with_records, stored, pull_offset, out_of, IsPossible, IsOut}
 use Rattle.broker_model.specs.Lawful.{IfOut}
 use Rattle.broker_model.specs.Removal.{IsBaseAfter}
@@ -34,21 +34,24 @@ record Same (s t : State) : Type 0 where
 
 same_good : (s t : State) → Same s t → IsSound s → Good s t
 same_good s t same sound = (
-    record {
-      ahead = sound.ahead;
-      saved = subst (λ (l : Log). IsBaseAfter l.base (take sound.ahead l.records) t.saved.base) (sym same.log) (subst (λ (v : Saved). IsBaseAfter s.log.base (take sound.ahead s.log.records) v.base) (sym same.saved) sound.saved);
-      within = omega (arith, sound.within, same.dispatched, ap (λ (l : Log). l.base.records) same.log);
-      dispatched = omega (arith, sound.dispatched, same.dispatched, same.flushed);
-      flushed = omega (arith, sound.flushed, same.flushed, ap (λ (l : Log). l.base.records + length l.records) same.log);
-      out = subst (λ (o : Option Out). IfOut o (λ x. t.flushed + x.count ≤ count_of t.log)) (sym same.out) (subst (λ (l : Log). IfOut s.out (λ x. t.flushed + x.count ≤ count_of l)) (sym same.log) (subst (λ (n : ℕ). IfOut s.out (λ x. n + x.count ≤ count_of s.log)) (sym same.flushed) sound.out));
-    },
-    record {
-      more = []; gone = 0; low = omega arith;
-      base = subst (λ (l : Log). IsBaseAfter s.log.base [] l.base) (sym same.log) (base_none s.log.base);
-      log = ap (λ (l : Log). l.records) same.log ∙ sym (append-nil s.log.records);
-      flushed = omega (arith, same.flushed);
-      dispatched = omega (arith, same.dispatched);
-    })
+  record {
+    ahead = sound.ahead;
+    saved = subst (λ (l : Log). IsBaseAfter l.base (take sound.ahead l.records) t.saved.base) (sym same.log) (subst (λ (v : Saved). IsBaseAfter s.log.base (take sound.ahead s.log.records) v.base) (sym same.saved) sound.saved);
+    within = omega (arith, sound.within, same.dispatched, ap (λ (l : Log). l.base.records) same.log);
+    dispatched = omega (arith, sound.dispatched, same.dispatched, same.flushed);
+    flushed = omega (arith, sound.flushed, same.flushed, ap (λ (l : Log). l.base.records + length l.records) same.log);
+    out = subst (λ (o : Option Out). IfOut o (λ x. t.flushed + x.count ≤ count_of t.log)) (sym same.out) (subst (λ (l : Log). IfOut s.out (λ x. t.flushed + x.count ≤ count_of l)) (sym same.log) (subst (λ (n : ℕ). IfOut s.out (λ x. n + x.count ≤ count_of s.log)) (sym same.flushed) sound.out));
+  },
+  record {
+    more = [];
+    gone = 0;
+    low = omega arith;
+    base = subst (λ (l : Log). IsBaseAfter s.log.base [] l.base) (sym same.log) (base_none s.log.base);
+    log = ap (λ (l : Log). l.records) same.log ∙ sym (append-nil s.log.records);
+    flushed = omega (arith, same.flushed);
+    dispatched = omega (arith, same.dispatched);
+  },
+)
 
 stored_same : (s : State) (group topic : List ℕ) (queue : ℕ) (offset : Option ℕ) → Same s (stored s group topic queue offset)
 stored_same s group topic queue None = record { log = refl; saved = refl; flushed = refl; dispatched = refl; out = refl }
@@ -62,21 +65,24 @@ request_same s link now _ = record { log = refl; saved = refl; flushed = refl; d
 -- a state with the same log, and other numbers or another batch
 numbers_good : (s t : State) → IsSound s → t.log ≡ s.log → t.saved ≡ s.saved → s.flushed ≤ t.flushed → s.dispatched ≤ t.dispatched → t.dispatched ≤ t.flushed → t.flushed ≤ count_of s.log → IfOut t.out (λ x. t.flushed + x.count ≤ count_of s.log) → Good s t
 numbers_good s t sound log saved flushed dispatched order high out = (
-    record {
-      ahead = sound.ahead;
-      saved = subst (λ (l : Log). IsBaseAfter l.base (take sound.ahead l.records) t.saved.base) (sym log) (subst (λ (v : Saved). IsBaseAfter s.log.base (take sound.ahead s.log.records) v.base) (sym saved) sound.saved);
-      within = omega (arith, sound.within, dispatched, ap (λ (l : Log). l.base.records) log);
-      dispatched = order;
-      flushed = omega (arith, high, ap (λ (l : Log). l.base.records + length l.records) log);
-      out = subst (λ (l : Log). IfOut t.out (λ x. t.flushed + x.count ≤ count_of l)) (sym log) out;
-    },
-    record {
-      more = []; gone = 0; low = omega arith;
-      base = subst (λ (l : Log). IsBaseAfter s.log.base [] l.base) (sym log) (base_none s.log.base);
-      log = ap (λ (l : Log). l.records) log ∙ sym (append-nil s.log.records);
-      flushed = flushed;
-      dispatched = dispatched;
-    })
+  record {
+    ahead = sound.ahead;
+    saved = subst (λ (l : Log). IsBaseAfter l.base (take sound.ahead l.records) t.saved.base) (sym log) (subst (λ (v : Saved). IsBaseAfter s.log.base (take sound.ahead s.log.records) v.base) (sym saved) sound.saved);
+    within = omega (arith, sound.within, dispatched, ap (λ (l : Log). l.base.records) log);
+    dispatched = order;
+    flushed = omega (arith, high, ap (λ (l : Log). l.base.records + length l.records) log);
+    out = subst (λ (l : Log). IfOut t.out (λ x. t.flushed + x.count ≤ count_of l)) (sym log) out;
+  },
+  record {
+    more = [];
+    gone = 0;
+    low = omega arith;
+    base = subst (λ (l : Log). IsBaseAfter s.log.base [] l.base) (sym log) (base_none s.log.base);
+    log = ap (λ (l : Log). l.records) log ∙ sym (append-nil s.log.records);
+    flushed = flushed;
+    dispatched = dispatched;
+  },
+)
 
 while_few : {A : Type 0} (test : A → Bool) (xs : List A) → length (take_while test xs) ≤ length xs
 while_few test xs = let front = length-take (prefix_len test xs) xs in omega (arith, front)
@@ -111,24 +117,26 @@ trim_good s base is sound =
     let total = length_take sound.ahead s.log.records long in
     let number : base.records - s.log.base.records ≡ sound.ahead = omega (arith, ap (λ (b : Base). b.records) is, sound.saved.records, total) in
     let records : base.records ≡ s.log.base.records + sound.ahead = omega (arith, ap (λ (b : Base). b.records) is, sound.saved.records, total) in
-    let left = length-drop (base.records - s.log.base.records) s.log.records in
-    (record {
-      ahead = 0;
-      saved = subst (IsBaseAfter base []) is (base_none base);
-      within = omega (arith, records, sound.within);
-      dispatched = sound.dispatched;
-      flushed = omega (arith, records, number, left, long, sound.flushed);
-      out = trim_out s.out s.flushed _ _ (omega (arith, records, number, left, long)) sound.out;
-    }, record {
-      more = [];
-      gone = base.records - s.log.base.records;
-      low = omega (arith, number, long);
-      base = base_same s.log.base base _ _ (ap (λ (n : ℕ). take n s.log.records) (sym number) ∙ ap (λ (l : List Entry). take (base.records - s.log.base.records) l) (sym (append-nil s.log.records)))
-        (subst (IsBaseAfter s.log.base (take sound.ahead s.log.records)) (sym is) sound.saved);
-      log = ap (λ (l : List Entry). drop (base.records - s.log.base.records) l) (sym (append-nil s.log.records));
-      flushed = omega arith;
-      dispatched = omega arith;
-    })
+    let left = length-drop (base.records - s.log.base.records) s.log.records in (
+      record {
+        ahead = 0;
+        saved = subst (IsBaseAfter base []) is (base_none base);
+        within = omega (arith, records, sound.within);
+        dispatched = sound.dispatched;
+        flushed = omega (arith, records, number, left, long, sound.flushed);
+        out = trim_out s.out s.flushed _ _ (omega (arith, records, number, left, long)) sound.out;
+      },
+      record {
+        more = [];
+        gone = base.records - s.log.base.records;
+        low = omega (arith, number, long);
+        base = base_same s.log.base base _ _ (ap (λ (n : ℕ). take n s.log.records) (sym number) ∙ ap (λ (l : List Entry). take (base.records - s.log.base.records) l) (sym (append-nil s.log.records)))
+            (subst (IsBaseAfter s.log.base (take sound.ahead s.log.records)) (sym is) sound.saved);
+        log = ap (λ (l : List Entry). drop (base.records - s.log.base.records) l) (sym (append-nil s.log.records));
+        flushed = omega arith;
+        dispatched = omega arith;
+      },
+    )
 
 changed_good : (s : State) (e : Events.Event) → IsPossible s e → IsSound s → Good s (changed s e)
 unfolding changed
@@ -148,17 +156,25 @@ with_good : (s : State) (now : ℕ) (records : List Entry) → IsSound s → Goo
 with_good s now [] sound = same_good s _ (record { log = refl; saved = refl; flushed = refl; dispatched = refl; out = refl }) sound
 with_good s now (r ∷ records) sound =
     let more = length-append s.log.records (r ∷ records) in
-    let long : sound.ahead ≤ length s.log.records = omega (arith, sound.within, sound.dispatched, sound.flushed) in
-    (record {
-      ahead = sound.ahead;
-      saved = base_same s.log.base s.saved.base _ _ (sym (take_left sound.ahead s.log.records (r ∷ records) long)) sound.saved;
-      within = sound.within;
-      dispatched = sound.dispatched;
-      flushed = omega (arith, sound.flushed, more);
-      out = out_more s.out s.flushed _ _ (omega (arith, more)) sound.out;
-    }, record {
-      more = r ∷ records; gone = 0; low = omega arith; base = base_none s.log.base; log = refl; flushed = omega arith; dispatched = omega arith;
-    })
+    let long : sound.ahead ≤ length s.log.records = omega (arith, sound.within, sound.dispatched, sound.flushed) in (
+      record {
+        ahead = sound.ahead;
+        saved = base_same s.log.base s.saved.base _ _ (sym (take_left sound.ahead s.log.records (r ∷ records) long)) sound.saved;
+        within = sound.within;
+        dispatched = sound.dispatched;
+        flushed = omega (arith, sound.flushed, more);
+        out = out_more s.out s.flushed _ _ (omega (arith, more)) sound.out;
+      },
+      record {
+        more = r ∷ records;
+        gone = 0;
+        low = omega arith;
+        base = base_none s.log.base;
+        log = refl;
+        flushed = omega arith;
+        dispatched = omega arith;
+      },
+    )
 
 after_good : (s : State) (e : Events.Event) → IsPossible s e → IsSound s → Good s (after s e)
 unfolding after

@@ -1,6 +1,6 @@
 -- A run, so that the laws speak of something: `hi` is sent to an empty store, flushed, looked at, dispatched, pulled, an offset is
 -- stored and saved, and then all crashes.
-use Rattle.std.specs.Prelude.{ℕ, ◌==◌, List, [], ◌∷◌, codes, pos, Bool, true, Some}
+use Rattle.std.specs.Prelude.{◌==◌, List, [], ◌∷◌, codes, pos, Bool, true, Some}
 use Rattle.record_codec.specs.Entry.{Entry}
 use Rattle.log_model.specs.Bases.{no_base}
 use Rattle.log_model.specs.Numbered.{next_record, records_of}
@@ -9,12 +9,12 @@ use Rattle.log_model.specs.Delays.{progress}
 use Rattle.request_fields.specs.Requests.{PullSaid}
 use Rattle.request_fields.specs.declared.request.Request.TheVariants.{Pull}
 use Rattle.broker_model.specs.Tables.{OffsetRow}
-use Rattle.broker_model.specs.State.{State, Setup, Saved, seen}
+use Rattle.broker_model.specs.State.{State, Setup, seen}
 use Rattle.broker_model.specs.Events
 use Rattle.broker_model.specs.Answers.{answer_of, reply_with, send_ext, pull_of, pulled_reply}
 use Rattle.broker_model.specs.Step.{after}
-use Rattle.broker_model.specs.Run.{Boot, Move, Steps, SavesOffsets, Crashes, opened, crashed, with_saved}
-use Rattle.broker_model.specs.Examples.{broker, hi, draft_of_hi, no_log, asks}
+use Rattle.broker_model.specs.Run.{Boot, Move, Steps, SavesOffsets, opened, crashed, with_saved}
+use Rattle.broker_model.specs.Examples.{broker, hi, draft_of_hi, no_log}
 use Rattle.broker_model.specs.StepExamples.{sends, stores}
 use Rattle.core_laws.specs.Replay.{Tables, keyed_by}
 

@@ -1,7 +1,6 @@
 use Rattle.std.proofs.Common.{inl, refl}
 use Rattle.broker_model.specs.Run.{Crashes}
-use Rattle.core_laws.specs.Offsets.{StoresOnly}
-use Rattle.core_laws.proofs.Runs.{opening_sound, run_good}
+use Rattle.core_laws.proofs.Runs.{opening_sound}
 use Rattle.core_laws.proofs.Offsets.{run_rows, goes_rows, crash_uncut, opening_rows}
 use Rattle.core_laws.proofs.laws.offsets_hold.Goals as goal
 

@@ -1,5 +1,4 @@
-use Rattle.std.proofs.Common.{ap, refl}
-use Rattle.broker_model.specs.Run.{Boot}
+use Rattle.std.proofs.Common.{ap}
 use Rattle.broker_model.specs.State.{State}
 use Rattle.core_laws.proofs.Replay.{all_dispatched, after_crash}
 use Rattle.core_laws.proofs.laws.tables_are_replay.Goals as goal
