@@ -2,7 +2,7 @@
 use Rattle.std.proofs.Common.{◌≡◌, inl, refl, arith, ◌+◌, [], ◌∷◌, true, Some, slice_get, map}
 use Rattle.std.specs.Prelude.{codes}
 use Rattle.std.specs.Fmt.{digits}
-use Rattle.log_model.specs.Numbered.{count_of}
+use Rattle.log_model.specs.Numbered.{IsLawful, count_of}
 use Rattle.broker_model.specs.Tables.{OffsetRow}
 use Rattle.mq_bytes.specs.Decimal.{decimal_value}
 use Rattle.record_codec.specs.LaxProps.{read_props, pieces}
@@ -16,24 +16,30 @@ use Rattle.broker_model.specs.Step.{after, changed, request_changed, IsPossible,
 use Rattle.broker_model.specs.Run.{Boot, Steps, SavesOffsets, Crashes, Goes, Run, RunWith, IsOpening}
 use Rattle.broker_model.specs.Acknowledged.{IsAcknowledged}
 use Rattle.broker_model.specs.StepExamples.{sends, stores}
+use Rattle.broker_model.specs.Examples.{no_log}
 use Rattle.core_laws.specs.Offsets.{StoresOnly}
 use Rattle.core_laws.specs.Replay.{StandsFor}
-use Rattle.core_laws.specs.Examples.{setup, at_opening, stepped, answered, at_send, at_take, at_flush, at_look, hi_record, hi_reply, until_look, at_dispatch, asked_pull, pull_said, at_pull, until_dispatch, at_store, at_saving, until_saving, is_one, at_crash, tables_of}
+use Rattle.core_laws.specs.Examples.{setup, at_opening, stepped, answered, at_send, at_take, at_flush, at_look, hi_record, hi_reply, until_look, at_dispatch, asked_pull, pull_said, at_pull, until_dispatch, at_store, at_saving, until_saving, is_one, at_crash, at_cut, tables_of}
 
 -- what may happen happens
 goes : (b : Boot) (e : Events.Event) → IsPossible b.now e → Goes b (answered b e) (stepped b e)
 goes b e possible = ((possible, refl, refl), refl)
 
-pub is_opening : IsOpening at_opening
-is_opening = record {
-  lawful = record {
-    segment = record { low = omega arith; high = omega arith; begins = refl; within = omega arith; some = omega arith; counted = λ topic queue. omega arith };
-    each = λ k r at. absurd (cc);
-  };
-  base = refl;
-  state = refl;
-  before = refl;
+-- no record is a lawful log
+empty_is_lawful : IsLawful 1073741824 no_log
+empty_is_lawful = record {
+  segment = record { low = omega arith; high = omega arith; begins = refl; within = omega arith; some = omega arith; counted = λ topic queue. omega arith };
+  each = λ k r at. absurd (cc);
 }
+
+pub is_opening : IsOpening at_opening
+is_opening = record { lawful = empty_is_lawful; base = refl; state = refl; before = refl }
+
+pub cut_is_opening : IsOpening at_cut
+cut_is_opening = record { lawful = empty_is_lawful; base = refl; state = refl; before = refl }
+
+pub saved_offset_is_cut : map (λ (row : OffsetRow). row.offset) at_cut.now.offsets ≡ 0 ∷ []
+saved_offset_is_cut = refl
 
 -- ---- answers and numbers, computed
 

@@ -10,3 +10,4 @@ pub mod QueueEnds
 pub mod Replay
 pub mod Runs
 pub mod Steps
+pub mod Within

@@ -117,6 +117,17 @@ is_one row = row.offset == 1
 abbrev pub at_crash : Boot
 at_crash = record { now = crashed at_saving.now 1 setup; before = [] }
 
+-- the same store, opened with a saved offset that lies past the end of its queue
+abbrev pub at_cut : Boot
+at_cut = record {
+  now = opened setup no_log (record {
+    offsets = record { group = codes "G"; topic = codes "T"; queue = 0; offset = 9 } ∷ [];
+    topics = [];
+    base = no_base;
+  });
+  before = [];
+}
+
 -- ---- tables
 
 -- what stands for a state

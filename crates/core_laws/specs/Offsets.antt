@@ -41,3 +41,7 @@ StoresOnly allowed b SavesOffsets c = Unit {0}
 StoresOnly allowed b SavesTopics c = Unit {0}
 StoresOnly allowed b (SavesBase base) c = Unit {0}
 StoresOnly allowed b (Crashes k setup) c = Unit {0}
+
+-- the offset is at most the end of its queue, as consumers see it
+abbrev pub IsWithin : State → OffsetRow → Type 0
+IsWithin s row = row.offset ≤ queue_max (seen s) row.topic row.queue

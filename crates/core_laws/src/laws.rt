@@ -11,16 +11,18 @@ ghost use Rattle.broker_model.specs.Events as events;
 ghost use Rattle.broker_model.specs.Answers.{pull_words};
 ghost use Rattle.broker_model.specs.Run.{Boot, Move, Steps, Crashes, Goes, Run, RunWith, IsOpening};
 ghost use Rattle.broker_model.specs.Acknowledged.{IsAcknowledged, StandsAt, StandsOrRemoved};
-ghost use Rattle.core_laws.specs.Examples.{at_opening, at_look, at_dispatch, at_pull, at_saving, at_crash, until_look, until_dispatch, until_saving, setup, hi_record, asked_pull, pull_said, is_one, tables_of};
-ghost use Rattle.core_laws.specs.Offsets.{AllRows, IsAllowed, StoresOnly};
+ghost use Rattle.core_laws.specs.Examples as examples;
+ghost use Rattle.core_laws.specs.Offsets.{AllRows, IsAllowed, IsWithin, StoresOnly};
 ghost use Rattle.core_laws.specs.Pulls.{IsSliceOf};
 ghost use Rattle.core_laws.specs.Replay.{Tables, StandsFor, IsReplayOf};
 
 /// What was acknowledged stays, whatever crashes, until it is removed. A crash keeps the records from the saved base's number up to
 /// a number that is no lower than the flushed one.
 pub fn acknowledged_stay()
-    ensures crash { (b c : Boot) (k : ℕ) (setup : Setup) → Goes b (Crashes k setup) c → (b.now.flushed ≤ k) × (c.now.log.base ≡ b.now.saved.base)
-        × (c.now.log.records ≡ drop (b.now.saved.base.records - b.now.log.base.records) (take (k - b.now.log.base.records) b.now.log.records)) }
+    ensures crash { (b c : Boot) (k : ℕ) (setup : Setup) → Goes b (Crashes k setup) c
+        → (b.now.flushed ≤ k) × (c.now.log.base ≡ b.now.saved.base)
+        × (c.now.log.records ≡ drop (b.now.saved.base.records - b.now.log.base.records)
+            (take (k - b.now.log.base.records) b.now.log.records)) }
     ensures flushed { (b c : Boot) (moves : List Move) (n : ℕ) (r : Entry) → IsOpening b
         → (acknowledged : IsAcknowledged b moves c n r) → n < acknowledged.answers.answered.now.flushed }
     ensures stays { (b c : Boot) (moves : List Move) (n : ℕ) (r : Entry) → IsOpening b → IsAcknowledged b moves c n r
@@ -50,25 +52,28 @@ pub fn pulls_are_slices()
         → slice_get reply.body k ≡ Some r → (n : ℕ) × (n < c.now.dispatched) × StandsAt c.now n r × StandsOrRemoved e.now n r }
 {}
 
-/// Where the saved offsets of the opening lie within their queues, each offset after a crash is one of these, or one that an update
-/// or a commit bit of its group, topic and queue stored, lies within its queue, and wasn't cut.
+/// In every state of a run each offset lies within its queue, whatever was saved. Where the saved offsets of the opening do too, each
+/// offset after a crash is one of these, or one that an update or a commit bit of its group, topic and queue stored, and wasn't cut.
 pub fn offsets_hold()
-    ensures { (b c d : Boot) (moves : List Move) (k : ℕ) (setup : Setup) (allowed : OffsetRow → Bool) → IsOpening b
+    ensures within { (b c : Boot) (moves : List Move) → IsOpening b → Run b moves c → AllRows (IsWithin c.now) c.now.offsets }
+    ensures stored { (b c d : Boot) (moves : List Move) (k : ℕ) (setup : Setup) (allowed : OffsetRow → Bool) → IsOpening b
         → AllRows (IsAllowed allowed b.now) b.now.saved.offsets → RunWith (StoresOnly allowed) b moves c → Goes c (Crashes k setup) d
         → AllRows (IsAllowed allowed d.now) d.now.offsets × (d.now.offsets ≡ c.now.saved.offsets) }
 {}
 
 /// The laws speak of something: `hi` is sent to an empty store, acknowledged, dispatched and pulled; the offset 9 is stored as 1, the
-/// end of its queue, and saved; then all crashes, and the record and the offset are kept.
+/// end of its queue, and saved; then all crashes, and the record and the offset are kept. A saved offset past its queue is cut.
 pub fn a_run_happens()
-    ensures opening { IsOpening at_opening }
-    ensures acknowledged { IsAcknowledged at_opening until_look at_look 0 hi_record }
-    ensures dispatched { Run at_opening until_dispatch at_dispatch }
-    ensures pulled { Goes at_dispatch (Steps (events.Asks asked_pull) (Some (events.Replies pull_said))) at_pull }
-    ensures found { slice_get pull_said.body 0 ≡ Some hi_record }
-    ensures saved { RunWith (StoresOnly is_one) at_opening until_saving at_saving }
-    ensures crash { Goes at_saving (Crashes 1 setup) at_crash }
-    ensures kept { slice_get at_crash.now.log.records 0 ≡ Some hi_record }
-    ensures offset { map (λ row. row.offset) at_crash.now.offsets ≡ 1 ∷ [] }
-    ensures tables { (s : State) → StandsFor (tables_of s) s }
+    ensures opening { IsOpening examples.at_opening }
+    ensures acknowledged { IsAcknowledged examples.at_opening examples.until_look examples.at_look 0 examples.hi_record }
+    ensures dispatched { Run examples.at_opening examples.until_dispatch examples.at_dispatch }
+    ensures pulled { Goes examples.at_dispatch (Steps (events.Asks examples.asked_pull) (Some (events.Replies examples.pull_said)))
+        examples.at_pull }
+    ensures found { slice_get examples.pull_said.body 0 ≡ Some examples.hi_record }
+    ensures saved { RunWith (StoresOnly examples.is_one) examples.at_opening examples.until_saving examples.at_saving }
+    ensures crash { Goes examples.at_saving (Crashes 1 examples.setup) examples.at_crash }
+    ensures kept { slice_get examples.at_crash.now.log.records 0 ≡ Some examples.hi_record }
+    ensures offset { map (λ row. row.offset) examples.at_crash.now.offsets ≡ 1 ∷ [] }
+    ensures cut { IsOpening examples.at_cut × (map (λ row. row.offset) examples.at_cut.now.offsets ≡ 0 ∷ []) }
+    ensures tables { (s : State) → StandsFor (examples.tables_of s) s }
 {}

@@ -1,4 +1,4 @@
-use Rattle.core_laws.proofs.Examples.{is_opening, hi_is_acknowledged, run_to_dispatch, pulls_it, record_is_pulled, run_to_saving, crashes, record_is_kept, offset_is_kept, stands_for}
+use Rattle.core_laws.proofs.Examples.{is_opening, hi_is_acknowledged, run_to_dispatch, pulls_it, record_is_pulled, run_to_saving, crashes, record_is_kept, offset_is_kept, cut_is_opening, saved_offset_is_cut, stands_for}
 use Rattle.core_laws.proofs.laws.a_run_happens.Goals as goal
 
 pub returns-clause-opening : goal.returns-clause-opening
@@ -27,6 +27,9 @@ returns-clause-kept c = record_is_kept
 
 pub returns-clause-offset : goal.returns-clause-offset
 returns-clause-offset c = offset_is_kept
+
+pub returns-clause-cut : goal.returns-clause-cut
+returns-clause-cut c = (cut_is_opening, saved_offset_is_cut)
 
 pub returns-clause-tables : goal.returns-clause-tables
 returns-clause-tables c s = stands_for s
