@@ -1,10 +1,10 @@
 -- In every state of a run each offset lies within its queue, whatever was saved.
-use Rattle.std.proofs.Common.{◌≡◌, refl, ap, sym, subst, arith, ℕ, ◌≤◌, min, List, [], ◌∷◌, Bool, true, Option, Some, None}
-use Rattle.log_model.specs.Numbered.{Log, queue_max, below, count_of}
+use Rattle.std.proofs.Common.{refl, sym, subst, arith, ℕ, List, [], ◌∷◌, Bool, true, Option, Some, None}
+use Rattle.log_model.specs.Numbered.{Log}
 use Rattle.request_fields.specs.declared.request.Request.{Request}
 use Rattle.request_fields.specs.declared.request.Request.TheVariants.{Pull, SetOffset}
 use Rattle.broker_model.specs.Tables.{OffsetRow}
-use Rattle.broker_model.specs.State.{State, Saved, Setup, seen}
+use Rattle.broker_model.specs.State.{State, Saved, Setup}
 use Rattle.broker_model.specs.Events
 use Rattle.broker_model.specs.Step.{Step, pull_offset}
 use Rattle.broker_model.specs.Run.{Boot, Move, Steps, SavesOffsets, SavesTopics, SavesBase, Crashes, Goes, RunWith, IsOpening, opened, cut_offsets, kept_log}
@@ -54,7 +54,7 @@ goes_within b SavesTopics c sound goes all = subst (λ (x : Boot). AllRows (IsWi
 goes_within b (SavesBase base) c sound goes all = subst (λ (x : Boot). AllRows (IsWithin x.now) x.now.offsets) (sym goes.4) all
 goes_within b (Crashes k setup) c sound goes all =
     subst (λ (x : Boot). AllRows (IsWithin x.now) x.now.offsets) (sym goes.1)
-      (opened_within setup (kept_log b.now k) b.now.saved b.now.saved.offsets)
+    (opened_within setup (kept_log b.now k) b.now.saved b.now.saved.offsets)
 
 pub run_within : (P : Boot → Move → Boot → Type 0) (b : Boot) (moves : List Move) (c : Boot) → IsSoundBoot b → AllRows (IsWithin b.now) b.now.offsets
     → RunWith P b moves c → AllRows (IsWithin c.now) c.now.offsets

@@ -22,7 +22,7 @@ pub fn acknowledged_stay()
     ensures crash { (b c : Boot) (k : ℕ) (setup : Setup) → Goes b (Crashes k setup) c
         → (b.now.flushed ≤ k) × (c.now.log.base ≡ b.now.saved.base)
         × (c.now.log.records ≡ drop (b.now.saved.base.records - b.now.log.base.records)
-            (take (k - b.now.log.base.records) b.now.log.records)) }
+        (take (k - b.now.log.base.records) b.now.log.records)) }
     ensures flushed { (b c : Boot) (moves : List Move) (n : ℕ) (r : Entry) → IsOpening b
         → (acknowledged : IsAcknowledged b moves c n r) → n < acknowledged.answers.answered.now.flushed }
     ensures stays { (b c : Boot) (moves : List Move) (n : ℕ) (r : Entry) → IsOpening b → IsAcknowledged b moves c n r
