@@ -1,0 +1,13 @@
+pub mod Acknowledged
+pub mod Bases
+pub mod Examples
+pub mod Growth
+pub mod Lists
+pub mod OffsetRows
+pub mod Offsets
+pub mod Pulls
+pub mod QueueEnds
+pub mod Replay
+pub mod Runs
+pub mod Steps
+pub mod Within

@@ -1,0 +1,79 @@
+//! What holds of every run of steps, savings and crashes from an opening. No call is made: the clauses speak of the definitions.
+
+ghost use Rattle.std.specs.Prelude.{◌≡◌, ◌+◌, ◌-◌, ◌<◌, ◌≤◌, ℕ, List, [], ◌∷◌, take, drop, map, Bool, Some, slice_get};
+ghost use Rattle.record_codec.specs.Entry.{Entry};
+ghost use Rattle.log_model.specs.Numbered.{count_of, records_of};
+ghost use Rattle.request_fields.specs.Requests.{PullSaid};
+ghost use Rattle.request_fields.specs.declared.request.Request.TheVariants.{Pull};
+ghost use Rattle.broker_model.specs.Tables.{OffsetRow};
+ghost use Rattle.broker_model.specs.State.{State, Setup, seen};
+ghost use Rattle.broker_model.specs.Events as events;
+ghost use Rattle.broker_model.specs.Answers.{pull_words};
+ghost use Rattle.broker_model.specs.Run.{Boot, Move, Steps, Crashes, Goes, Run, RunWith, IsOpening};
+ghost use Rattle.broker_model.specs.Acknowledged.{IsAcknowledged, StandsAt, StandsOrRemoved};
+ghost use Rattle.core_laws.specs.Examples as examples;
+ghost use Rattle.core_laws.specs.Offsets.{AllRows, IsAllowed, IsWithin, StoresOnly};
+ghost use Rattle.core_laws.specs.Pulls.{IsSliceOf};
+ghost use Rattle.core_laws.specs.Replay.{Tables, StandsFor, IsReplayOf};
+
+/// What was acknowledged stays, whatever crashes, until it is removed. A crash keeps the records from the saved base's number up to
+/// a number that is no lower than the flushed one.
+pub fn acknowledged_stay()
+    ensures crash { (b c : Boot) (k : ℕ) (setup : Setup) → Goes b (Crashes k setup) c
+        → (b.now.flushed ≤ k) × (c.now.log.base ≡ b.now.saved.base)
+        × (c.now.log.records ≡ drop (b.now.saved.base.records - b.now.log.base.records)
+        (take (k - b.now.log.base.records) b.now.log.records)) }
+    ensures flushed { (b c : Boot) (moves : List Move) (n : ℕ) (r : Entry) → IsOpening b
+        → (acknowledged : IsAcknowledged b moves c n r) → n < acknowledged.answers.answered.now.flushed }
+    ensures stays { (b c : Boot) (moves : List Move) (n : ℕ) (r : Entry) → IsOpening b → IsAcknowledged b moves c n r
+        → (n < c.now.flushed) × (n < count_of c.now.log) × StandsOrRemoved c.now n r }
+{}
+
+/// The tables that stand for a state are the replay of its whole log once all of it is dispatched, as it is after an opening and
+/// after each crash.
+pub fn tables_are_replay()
+    ensures dispatched { (s : State) (tables : Tables) → s.dispatched ≡ count_of s.log → StandsFor tables s → IsReplayOf tables s.log }
+    ensures opened { (b : Boot) (tables : Tables) → IsOpening b → StandsFor tables b.now → IsReplayOf tables b.now.log }
+    ensures crashed { (b c : Boot) (k : ℕ) (setup : Setup) (tables : Tables) → Goes b (Crashes k setup) c → StandsFor tables c.now
+        → IsReplayOf tables c.now.log }
+{}
+
+/// The body of each pull is a piece of its queue among the dispatched records. These are on the disk, they never get fewer in a run,
+/// whatever crashes, and what was pulled stays until it is removed.
+pub fn pulls_are_slices()
+    ensures slice { (b c : Boot) (a : events.Asked) (p : PullSaid) (reply : events.Reply) → a.request ≡ Pull p
+        → Goes b (Steps (events.Asks a) (Some (events.Replies reply))) c
+        → IsSliceOf (records_of (seen b.now) p.topic p.queue) (pull_words b.now p) reply.body }
+    ensures flushed { (b c : Boot) (moves : List Move) → IsOpening b → Run b moves c → c.now.dispatched ≤ c.now.flushed }
+    ensures grows { (b c d : Boot) (moves more : List Move) → IsOpening b → Run b moves c → Run c more d
+        → (c.now.dispatched ≤ d.now.dispatched) × (c.now.flushed ≤ d.now.flushed) }
+    ensures stays { (b c d e : Boot) (moves more : List Move) (a : events.Asked) (p : PullSaid) (reply : events.Reply) (k : ℕ) (r : Entry)
+        → IsOpening b → Run b moves c → a.request ≡ Pull p → Goes c (Steps (events.Asks a) (Some (events.Replies reply))) d → Run d more e
+        → slice_get reply.body k ≡ Some r → (n : ℕ) × (n < c.now.dispatched) × StandsAt c.now n r × StandsOrRemoved e.now n r }
+{}
+
+/// In every state of a run each offset lies within its queue, whatever was saved. Where the saved offsets of the opening do too, each
+/// offset after a crash is one of these, or one that an update or a commit bit of its group, topic and queue stored, and wasn't cut.
+pub fn offsets_hold()
+    ensures within { (b c : Boot) (moves : List Move) → IsOpening b → Run b moves c → AllRows (IsWithin c.now) c.now.offsets }
+    ensures stored { (b c d : Boot) (moves : List Move) (k : ℕ) (setup : Setup) (allowed : OffsetRow → Bool) → IsOpening b
+        → AllRows (IsAllowed allowed b.now) b.now.saved.offsets → RunWith (StoresOnly allowed) b moves c → Goes c (Crashes k setup) d
+        → AllRows (IsAllowed allowed d.now) d.now.offsets × (d.now.offsets ≡ c.now.saved.offsets) }
+{}
+
+/// The laws speak of something: `hi` is sent to an empty store, acknowledged, dispatched and pulled; the offset 9 is stored as 1, the
+/// end of its queue, and saved; then all crashes, and the record and the offset are kept. A saved offset past its queue is cut.
+pub fn a_run_happens()
+    ensures opening { IsOpening examples.at_opening }
+    ensures acknowledged { IsAcknowledged examples.at_opening examples.until_look examples.at_look 0 examples.hi_record }
+    ensures dispatched { Run examples.at_opening examples.until_dispatch examples.at_dispatch }
+    ensures pulled { Goes examples.at_dispatch (Steps (events.Asks examples.asked_pull) (Some (events.Replies examples.pull_said)))
+        examples.at_pull }
+    ensures found { slice_get examples.pull_said.body 0 ≡ Some examples.hi_record }
+    ensures saved { RunWith (StoresOnly examples.is_one) examples.at_opening examples.until_saving examples.at_saving }
+    ensures crash { Goes examples.at_saving (Crashes 1 examples.setup) examples.at_crash }
+    ensures kept { slice_get examples.at_crash.now.log.records 0 ≡ Some examples.hi_record }
+    ensures offset { map (λ row. row.offset) examples.at_crash.now.offsets ≡ 1 ∷ [] }
+    ensures cut { IsOpening examples.at_cut × (map (λ row. row.offset) examples.at_cut.now.offsets ≡ 0 ∷ []) }
+    ensures tables { (s : State) → StandsFor (examples.tables_of s) s }
+{}

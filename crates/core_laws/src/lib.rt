@@ -1,0 +1,8 @@
+//! What holds of every run of the broker, whatever crashes.
+#![tactic(auto)]
+
+mod laws;
+
+pub use laws::{
+    a_run_happens, acknowledged_stay, offsets_hold, pulls_are_slices, tables_are_replay,
+};
