@@ -7,7 +7,6 @@ use Rattle.broker_events.specs.declared.event.Event.TheVariants.{Request, Take, 
 use Rattle.broker_events.specs.declared.said.Said.{Said}
 use Rattle.broker_events.specs.declared.said.Said.TheVariants as said
 
-
 -- how many records are flushed, the removed ones counted; the place where they end; and the batch that is out
 pub record Shown : Type 0 where
   pub flushed : ℕ

@@ -27,7 +27,9 @@ pub enum Said {
     },
     /// The pending bytes and the request's records would pass 67,108,864, and nothing changed. The first pending record has
     /// this number: ask again once it is on the disk.
-    Full { pending: u64 },
+    Full {
+        pending: u64,
+    },
     /// The batch of the flush turn that begins, or none where nothing is pending or a turn is out already.
     Batch(Option<Batch>),
     /// It is done.

@@ -48,7 +48,11 @@ fn a_failed_turn_tells_the_count_of_faults_and_the_next_one_writes_at_the_same_p
     };
     assert_eq!(rt; (receipt.from, receipt.count), (0, 1));
     assert_eq!(rt;
-        (receipt.piece.base(), receipt.piece.from(), receipt.piece.len()),
+        (
+            receipt.piece.base(),
+            receipt.piece.from(),
+            receipt.piece.len()
+        ),
         (0, 0, 5)
     );
     Ok(())
