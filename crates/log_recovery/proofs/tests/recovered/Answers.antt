@@ -5,4 +5,4 @@ use Rattle.log_model.proofs.Places.{whole_geometry}
 use Rattle.log_recovery.proofs.tests.recovered.Goals as goal
 
 pub recover-answer-requires : goal.recover-answer-requires
-recover-answer-requires c = subst (λ (b : Base). IsGeometry (geometry 4096 b)) (sym c.none.ensures) (whole_geometry 4096 (record { low = omega arith; high = omega arith }))
+recover-answer-requires c = record { size = subst (λ (b : Base). IsGeometry (geometry 4096 b)) (sym c.none.ensures) (whole_geometry 4096 (record { low = omega arith; high = omega arith })) }
