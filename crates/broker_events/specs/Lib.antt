@@ -1,3 +1,4 @@
+pub mod Makes
 pub mod Replies
 pub mod Shown
 pub mod Steps

@@ -1,5 +1,5 @@
 -- What the owner of the key sees: the end of the flushed records and the batch that is out, and how steps move them.
-use Rattle.std.specs.Prelude.{◌≡◌, ℕ, ◌+◌, ◌^◌, ◌<◌, List, length, Option, Some, None, IfSome}
+use Rattle.std.specs.Prelude.{ℕ, ◌+◌, ◌^◌, ◌<◌, length, Option, Some, None}
 use Rattle.log_model.specs.declared.batch.Batch.{Batch}
 use Rattle.log_model.specs.Batches.{IsReceiptFor}
 use Rattle.broker_events.specs.declared.event.Event.{Event}

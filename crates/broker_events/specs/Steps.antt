@@ -1,5 +1,5 @@
 -- Events and answers, as the model has them.
-use Rattle.std.specs.Prelude.{◌≡◌, ℕ, List, [], ◌∷◌, length, map, Option, Some, None, Result, Ok, Err}
+use Rattle.std.specs.Prelude.{◌≡◌, ℕ, List, [], ◌∷◌, length, Option, Some, None, Result, Ok, Err}
 use Rattle.record_codec.specs.Entry.{Entry}
 use Rattle.log_model.specs.Segments.{layouts}
 use Rattle.log_model.specs.declared.batch.Batch.{Batch}
@@ -45,6 +45,26 @@ MayTakeMemory (Dispatch most) = ⊥
 MayTakeMemory (Leave link) = ⊥
 
 -- ---- answers
+
+-- this may be said to a request
+abbrev pub IsOfRequest : Said → Type 0
+IsOfRequest (said.Reply reply) = Unit {0}
+IsOfRequest (said.After reply number turn) = Unit {0}
+IsOfRequest (said.Full pending) = Unit {0}
+IsOfRequest (said.Batch batch) = ⊥
+IsOfRequest said.Done = ⊥
+IsOfRequest (said.Awaited what) = ⊥
+IsOfRequest (said.Moved number) = ⊥
+
+-- this may be said to the event: each event has its own answers
+abbrev pub IsAnswerTo : Event → Said → Type 0
+IsAnswerTo (Request link host now request) what = IsOfRequest what
+IsAnswerTo Take what = (batch : Option Batch) × (what ≡ said.Batch batch)
+IsAnswerTo (Flushed receipt) what = what ≡ said.Done
+IsAnswerTo (FlushFailed count) what = what ≡ said.Done
+IsAnswerTo (Look number turn) what = (awaited : Awaited) × (what ≡ said.Awaited awaited)
+IsAnswerTo (Dispatch most) what = (number : ℕ) × (what ≡ said.Moved number)
+IsAnswerTo (Leave link) what = what ≡ said.Done
 
 -- what was said, nothing where memory ran out
 abbrev pub said_in : {E : Type 0} → Result Said E → Option Said

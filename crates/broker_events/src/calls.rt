@@ -1,10 +1,10 @@
 //! Who makes events happen: a broker alone, or a caller of many on a shared one. Code that is generic over `Calls` says which
 //! steps it made, and is proved once for both.
 
-ghost use Rattle.std.specs.Prelude.{◌≡◌, OnErr, Option};
+ghost use Rattle.std.specs.Prelude.{◌≡◌, IfOk, OnErr, Option};
 ghost use Rattle.broker_events.specs.declared.event.Event.{Event as AnEvent};
 ghost use Rattle.broker_events.specs.declared.said.Said.{Said as ASaid};
-ghost use Rattle.broker_events.specs.Steps.{IsKeyed, MayTakeMemory, said_in};
+ghost use Rattle.broker_events.specs.Steps.{IsAnswerTo, IsKeyed, MayTakeMemory, said_in};
 ghost use Rattle.broker_events.specs.Shown.{Shown, Accepts, moved};
 
 use crate::event::Event;
@@ -27,6 +27,7 @@ pub trait Calls {
         requires key { IsKeyed event.now → has_key self.old }
         requires accepted { Accepts (shown self.old) event.now }
         ensures makes { makes self.old event.now (said_in result) self.new }
+        ensures answer { IfOk result (IsAnswerTo event.now) }
         ensures memory { OnErr result (MayTakeMemory event.now) };
 
     // No step takes the key away.

@@ -19,7 +19,8 @@ use Rattle.log_model.proofs.Lists.{get_within, get_take}
 use Rattle.log_model.proofs.Longer.{stores_longer}
 use Rattle.log_model.proofs.OutsideLemmas.{in_folder, stores_as}
 use Rattle.log_model.proofs.Places.{placed_log, placed_number, placed_offset, well_formed_take}
-use Rattle.segment_files.specs.Turn.{IsInside, WritesAt, GoesOn, Growing, growing, IsReady, CanTurn, IsLaidFor, NextOpens, GoesToEnd, GoesToNext, IsPlaced, IsOpened, is_due, opens_segment, shape_behind, unless_opened, base_behind, syncs_of}
+use Rattle.log_model.proofs.StoreLemmas.{laid_room}
+use Rattle.segment_files.specs.Turn.{IsInside, WritesAt, GoesOn, Growing, growing, IsReady, CanTurn, IsLaidFor, NextOpens, GoesToEnd, GoesToNext, IsPlaced, GoesToPlace, IsOpened, is_due, opens_segment, shape_behind, unless_opened, base_behind, syncs_of}
 use Rattle.segment_files.specs.declared.last_file.LastFile.{LastFile}
 use Rattle.segment_files.proofs.Turns.{used_batch}
 
@@ -39,6 +40,7 @@ pub record Goes (it : Stored) (batch : Batch) (file : LastFile) (shape : Shape) 
   pub laid : IsLaidFor it (shape_behind (opens_segment file batch) shape)
   pub due : opens_segment file batch ≡ true → (shape ≡ laid_of it) × NextOpens it
   pub opens : shape ≡ laid_of it → NextOpens it → opens_segment file batch ≡ true
+  pub place : batch.place ≡ end_in it.geometry (shape_behind (opens_segment file batch) shape)
 
 -- where the batch lies in the last segment, its first record opens none
 here_opens : (it : Stored) (batch : Batch) → IsWellFormed it.geometry it.log → IsBatchOf it.geometry it.log it.flushed batch → GoesHere it.geometry it.log it.flushed batch → NextOpens it → ⊥
@@ -70,6 +72,7 @@ goes_here it batch file shape well is laid here =
       laid = subst (λ (d : Bool). IsLaidFor it (shape_behind d shape)) (sym stays) (inl same);
       due = λ due. let full : false ≡ true = sym stays ∙ due in absurd (cc);
       opens = λ at_end opens. absurd (here_opens it batch well is here opens);
+      place = here.place ∙ ap (end_in it.geometry) (sym same) ∙ ap (λ (d : Bool). end_in it.geometry (shape_behind d shape)) (sym stays);
     }
 
 goes_next : (it : Stored) (batch : Batch) (file : LastFile) (shape : Shape) → IsWellFormed it.geometry it.log → IsBatchOf it.geometry it.log it.flushed batch → IsLaidFor it shape
@@ -78,6 +81,7 @@ goes_next it batch file shape well is laid first next =
     let placed = placed_log it.geometry (flushed_of it) (well_formed_take it.geometry it.flushed it.log well) in
     let opens : NextOpens it = next_opens it batch well is next in
     let end : ℕ = end_in it.geometry (laid_of it) in
+    let begins : batch.place ≡ end_in it.geometry (opened (laid_of it)) = omega (arith, next.place) in
     ⊎_elim
     (λ (same : shape ≡ laid_of it).
     let due : opens_segment file batch ≡ true = ap (is_due file.base) next.blank ∙ le-leb file.base end (omega (arith, first, ap (segment_start it.geometry) same)) in
@@ -94,6 +98,7 @@ goes_next it batch file shape well is laid first next =
       laid = subst (λ (d : Bool). IsLaidFor it (shape_behind d shape)) (sym due) (inr (ap opened same, opens));
       due = λ _. (same, opens);
       opens = λ at_end opening. due;
+      place = begins ∙ ap (λ (s : Shape). end_in it.geometry (opened s)) (sym same) ∙ ap (λ (d : Bool). end_in it.geometry (shape_behind d shape)) (sym due);
     })
     (λ (opened_there : (shape ≡ opened (laid_of it)) × NextOpens it).
     let stays : opens_segment file batch ≡ false = ap (is_due file.base) next.blank
@@ -107,6 +112,7 @@ goes_next it batch file shape well is laid first next =
       laid = subst (λ (d : Bool). IsLaidFor it (shape_behind d shape)) (sym stays) laid;
       due = λ due. let full : false ≡ true = sym stays ∙ due in absurd (cc);
       opens = λ at_end opening. absurd (opened_apart (laid_of it) (sym at_end ∙ opened_there.0));
+      place = begins ∙ ap (end_in it.geometry) (sym opened_there.0) ∙ ap (λ (d : Bool). end_in it.geometry (shape_behind d shape)) (sym stays);
     })
     laid
 
@@ -318,6 +324,28 @@ places_on it batch old new well is placed =
           moved),
     )
 
+-- segments with a new one behind them, or without, hold these records
+laid_records : (it : Stored) (shape : Shape) → IsLaidFor it shape → IsLaid it.geometry (flushed_of it) shape
+laid_records it shape laid = ⊎_elim
+    (λ (same : shape ≡ laid_of it). inl same)
+    (λ (next : (shape ≡ opened (laid_of it)) × NextOpens it). inr next.0)
+    laid
+
+-- a batch of the log is written from its place on
+pub goes_to_place : (it : Stored) (batch : Batch) (file : LastFile) → IsWellFormed it.geometry it.log → IsBatchOf it.geometry it.log it.flushed batch → IsPlaced it file → GoesToPlace file batch
+goes_to_place it batch file well is placed =
+    let there = lies it file well placed in
+    let where_to = goes it batch file there.shape well is there.laid there.at.last in
+    let due : Bool = opens_segment file batch in
+    let behind = behind_at it.geometry due there.shape file.base file.offset batch.place there.at (λ yes. (where_to.goes_on.opens yes).begins) in
+    let low : used there.shape + 8 ≤ it.geometry.size = laid_room it.geometry it.log it.flushed there.shape well (laid_records it there.shape there.laid) in
+    let room : used (shape_of it.geometry (take (it.flushed + batch.count) it.log)) + 8 ≤ it.geometry.size =
+    laid_room it.geometry it.log (it.flushed + batch.count) (shape_of it.geometry (take (it.flushed + batch.count) it.log)) well (inl refl) in
+    record {
+      place = omega (arith, behind.last, behind.end, where_to.place);
+      room = omega (arith, used_batch where_to.goes_on.records, room, low, there.at.end, well.segment.high);
+    }
+
 -- ---- from a stored log
 
 pub stored_ready : (it : Stored) (reach : ℕ) (file : LastFile) (disk : DiskState) → GoesToEnd it file → reach ≤ it.geometry.size → StoresAt it.geometry it.log it.flushed (laid_of it) reach disk
@@ -332,13 +360,6 @@ stored_ready it reach file disk to_end low stores = record {
 
 pub ready_placed : (it : Stored) (behind : ℕ) (file : LastFile) (disk : DiskState) → IsReady it behind (growing file disk) → IsPlaced it file
 ready_placed it behind file disk ready = placed_of it file ready.shape ready.writes.stores.well_formed ready.laid ready.writes.place
-
--- segments with a new one behind them, or without, hold these records
-laid_records : (it : Stored) (shape : Shape) → IsLaidFor it shape → IsLaid it.geometry (flushed_of it) shape
-laid_records it shape laid = ⊎_elim
-    (λ (same : shape ≡ laid_of it). inl same)
-    (λ (next : (shape ≡ opened (laid_of it)) × NextOpens it). inr next.0)
-    laid
 
 pub ready_first_records : (it : Stored) (behind : ℕ) (file : LastFile) (disk : DiskState) → IsReady it behind (growing file disk) → EachImage (HasFirst it.geometry it.log it.flushed) disk
 ready_first_records it behind file disk ready = record {

@@ -1,5 +1,5 @@
 -- What a flush turn starts from, what it is given, and what it leaves.
-use Rattle.std.specs.Prelude.{◌≡◌, ◌≢◌, ◌⊎◌, ℕ, ◌+◌, ◌-◌, ◌*◌, ◌/◌, ◌%◌, ◌^◌, ◌<◌, ◌≤◌, ◌++◌, max, replicate, nat_le, List, take, length, slice_get, Option, Some, None, Bool, true, false, Result, IfOk, OnOk, OnErr, if◌then◌else◌}
+use Rattle.std.specs.Prelude.{◌≡◌, ◌≢◌, ◌⊎◌, ℕ, ◌+◌, ◌-◌, ◌*◌, ◌/◌, ◌%◌, ◌^◌, ◌<◌, ◌≤◌, ◌++◌, max, replicate, nat_le, List, take, length, slice_get, Option, Some, None, Bool, true, false, Result, IfOk, IfSome, OnOk, OnErr, if◌then◌else◌}
 use Rattle.mq_bytes.specs.Names.{log_file}
 use Rattle.mq_outside.specs.Files.{bytes_of}
 use Rattle.mq_outside.specs.Disk.{DiskState, EachImage}
@@ -151,6 +151,12 @@ pub record IsReceipt (tells : Type 0) (batch : Batch) (file : LastFile) (receipt
   pub ends : receipt.piece.from + length batch.bytes ≡ file.offset
   pub long : receipt.piece.len ≡ length batch.bytes
   pub held : tells → receipt.piece.held ≡ Some batch.bytes
+  pub no_others : IfSome receipt.piece.held (λ held. held ≡ batch.bytes)
+
+-- a turn writes the batch from its place on: behind the blank into a new file if one is due, or on in the last file
+pub record GoesToPlace (file : LastFile) (batch : Batch) : Type 0 where
+  pub place : base_behind (opens_segment file batch) batch.place file.base + unless_opened (opens_segment file batch) file.offset ≡ batch.place
+  pub room : file.offset + length batch.bytes < 2 ^ 63
 
 -- the file and the offset behind the blank, if one is due
 pub record IsOpened (batch : Batch) (old new : LastFile) : Type 0 where

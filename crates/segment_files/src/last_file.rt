@@ -4,7 +4,7 @@
 //! blank comes first, and it is synced before the new file is made: else a crash could leave a new file behind a segment
 //! that has no end. After a fault the same batch is written again at the same place. A blank that was synced stays.
 
-ghost use Rattle.std.specs.Prelude.{◌≡◌, true, false, ◌+◌, ◌-◌, ◌*◌, ◌/◌, ◌%◌, ◌<◌, ◌≤◌, ◌^◌, max, List, ℕ, length, take, drop, Some, OnOk, OnErr, IfOk};
+ghost use Rattle.std.specs.Prelude.{◌≡◌, true, false, ◌+◌, ◌-◌, ◌*◌, ◌/◌, ◌%◌, ◌<◌, ◌≤◌, ◌^◌, max, List, ℕ, length, take, drop, Some, OnOk, OnErr, IfOk, IfSome};
 ghost use Rattle.mq_outside.specs.Counts.{Counted, CountsFailure};
 ghost use Rattle.mq_outside.specs.Disk.{Throughout};
 ghost use Rattle.record_codec.specs.Entry.{Entry};
@@ -96,6 +96,7 @@ impl LastFile {
         ensures base { self.new.base ≡ self.old.base }
         ensures range { IfOk result (λ piece. (piece.base ≡ self.old.base) × (piece.from ≡ self.old.offset) × (piece.len ≡ length bytes)) }
         ensures held { D.tells → IfOk result (λ piece. piece.held ≡ Some bytes) }
+        ensures no_others { IfOk result (λ piece. IfSome piece.held (λ held. held ≡ bytes)) }
         ensures cause { CountsFailure result (D.faults disk.old) (D.faults disk.new) }
         ensures synced { OnOk result (Counted 1 (D.syncs disk.old) (D.syncs disk.new)) }
         ensures syncs { D.syncs disk.new ≤ D.syncs disk.old + 1 }

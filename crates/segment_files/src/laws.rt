@@ -3,13 +3,15 @@
 ghost use Rattle.std.specs.Prelude.{◌≡◌, ◌-◌, ◌≤◌, ◌++◌, ℕ, List};
 ghost use Rattle.mq_outside.specs.Disk.{EachImage};
 ghost use Rattle.record_codec.specs.Entry.{Entry};
+ghost use Rattle.log_model.specs.Batches.{IsBatchOf};
 ghost use Rattle.log_model.specs.Log.{IsWellFormed};
 ghost use Rattle.log_model.specs.Segments.{shape_of};
 ghost use Rattle.log_model.specs.Store.{StoresAt};
 ghost use Rattle.log_model.specs.Stored.{Stored, HasFirst, LogStays, flushed_of, with_more};
-ghost use Rattle.segment_files.specs.Turn.{GoesToEnd, IsInside, IsPlaced, IsReady, growing};
+ghost use Rattle.segment_files.specs.Turn.{GoesToEnd, GoesToPlace, IsInside, IsPlaced, IsReady, growing};
 
 use crate::last_file::LastFile;
+use log_model::Batch;
 use mq_outside::Disk;
 
 /// A log that was recovered, or made, is open for batches where it ends, and the next bytes go inside its file.
@@ -36,4 +38,10 @@ pub fn a_ready_log_stays_ready<D: Disk>(file: &LastFile, old: &D, new: &D)
         → IsReady it behind (growing file.now (D.state old.now)) → IsReady it behind (growing file.now (D.state new.now)) }
     ensures inside { LogStays (D.state old.now) (D.state new.now) → IsInside file.now.base file.now.offset (D.state old.now)
         → IsInside file.now.base file.now.offset (D.state new.now) }
+{}
+
+/// A batch that comes next in a log is written from its place on, where the next bytes go to the end of its flushed records.
+pub fn a_batch_goes_to_its_place(file: &LastFile, batch: &Batch)
+    ensures { (it : Stored) → IsWellFormed it.geometry it.log → IsBatchOf it.geometry it.log it.flushed batch.now → IsPlaced it file.now
+        → GoesToPlace file.now batch.now }
 {}

@@ -1,35 +1,13 @@
 -- Steps that generic code makes by a pass are the pass's own entries, in order.
-use Rattle.std.proofs.Common.{◌≡◌, ℕ, suc, ◌<◌, List, [], ◌∷◌, ◌++◌, length, get_or, Option, Some, None, refl, sym, ap, ◌∙◌, subst, append-nil, length-append, arith}
+use Rattle.std.proofs.Common.{◌≡◌, ℕ, suc, ◌<◌, List, [], ◌∷◌, ◌++◌, length, Option, Some, None, refl, sym, ap, ◌∙◌, subst, append-nil, length-append, arith}
 use Rattle.std.specs.Prelude.{slice_get}
 use Rattle.story_lock.specs.declared.chronicle.Chronicle.{Ghosts}
 use Rattle.story_lock.specs.declared.story.Story.{Story}
 use Rattle.story_lock.specs.declared.story.Pass.{Pass}
 use Rattle.story_lock.specs.Counts.{times}
 use Rattle.story_lock.specs.Passes.{seen_by, mine_of, HasSeat, HasKey, IsPassOf, IsSamePass, Adds}
-use Rattle.story_lock.specs.Owned.{Makes, paired, AscendsFrom, Owns, StepsBy}
+use Rattle.story_lock.specs.Owned.{AscendsFrom, Owns, StepsBy}
 use Rattle.story_lock.proofs.Sums.{append_three, length_snoc}
-
--- a list of steps goes on by one
-pub makes_snoc : {C E A : Type 0} (makes : C → E → A → C → Type 0) (x : C) (ss : List (E × A)) (y : C) (event : E) (said : A) (z : C) → Makes makes x ss y → makes y event said z → Makes makes x (ss ++ (event, said) ∷ []) z
-makes_snoc makes x [] y event said z all step = subst (λ w. Makes makes w ((event, said) ∷ []) z) (sym all) (z, step, refl)
-makes_snoc makes x (s ∷ ss) y event said z all step = (all.0, all.1, makes_snoc makes all.0 ss y event said z all.2 step)
-
--- two lists of steps are one
-pub makes_append : {C E A : Type 0} (makes : C → E → A → C → Type 0) (x : C) (ss : List (E × A)) (y : C) (more : List (E × A)) (z : C) → Makes makes x ss y → Makes makes y more z → Makes makes x (ss ++ more) z
-makes_append makes x [] y more z all rest = subst (λ w. Makes makes w more z) (sym all) rest
-makes_append makes x (s ∷ ss) y more z all rest = (all.0, all.1, makes_append makes all.0 ss y more z all.2 rest)
-
--- one event more, and what was said to it
-pub paired_snoc : {E A : Type 0} (es : List E) (said : List A) (a : A) (default : E) → length said < length es → paired es (said ++ a ∷ []) ≡ paired es said ++ (get_or es (length said) default, a) ∷ []
-paired_snoc [] said a default low = absurd (omega arith)
-paired_snoc (e ∷ []) [] a default low = refl
-paired_snoc (e ∷ f ∷ es) [] a default low = refl
-paired_snoc (e ∷ es) (x ∷ said) a default low = ap (λ l. (e, x) ∷ l) (paired_snoc es said a default (omega arith))
-
--- before the first event
-pub paired_none : {E A : Type 0} (es : List E) (said : List A) → said ≡ [] → paired es said ≡ []
-paired_none [] said none = refl
-paired_none {E} {A} (e ∷ es) said none = subst (λ (l : List A). paired (e ∷ es) l ≡ []) (sym none) refl
 
 -- the item after a first part
 get_at : {X : Type 0} (xs ys : List X) (x : X) → slice_get (xs ++ x ∷ ys) (length xs) ≡ Some x
@@ -68,16 +46,20 @@ module _ {S E A : Type 0} {chronicle : Ghosts S E A} where
         same = (later.same.0 ∙ adds.same.0, later.same.1 ∙ adds.same.1, later.same.2 ∙ adds.same.2);
       }
 
-  module _ {C : Type 0} (pass_of : C → Option (Pass S E A chronicle)) where
+  -- Lists of steps by turns: what no steps and what a first one say is all that is asked of them.
+  module _ {C : Type 0} (pass_of : C → Option (Pass S E A chronicle)) (makes : C → List (E × A) → C → Type 0) (none : (x y : C) → makes x [] y → x ≡ y)
+      (first : (x : C) (s : E × A) (ss : List (E × A)) (y : C) → makes x (s ∷ ss) y → (z : C) × StepsBy pass_of x s.0 s.1 z × makes z ss y) where
     -- the steps of an object that has a pass are the pass's own entries
-    pub owned : (x : C) (entries : List (E × A)) (y : C) (old : Pass S E A chronicle) → pass_of x ≡ Some old → Makes (StepsBy pass_of) x entries y → (new : Pass S E A chronicle) × (pass_of y ≡ Some new) × Owns old entries new
+    pub owned : (x : C) (entries : List (E × A)) (y : C) (old : Pass S E A chronicle) → pass_of x ≡ Some old → makes x entries y → (new : Pass S E A chronicle) × (pass_of y ≡ Some new) × Owns old entries new
     owned x [] y old at same = (
       old,
-      ap pass_of (sym same) ∙ at,
+      ap pass_of (sym (none x y same)) ∙ at,
       record { places = []; mine = sym (append-nil (mine_of old)); ascend = tt; stand = tt; seen = ([], sym (append-nil (seen_by old))); same = (refl, refl, refl) },
     )
-    owned x (s ∷ ss) y old at all = let step = all.1 in
-        let rest = owned all.0 ss y step.1 step.3 all.2 in
+    owned x (s ∷ ss) y old at all =
+        let parts = first x s ss y all in
+        let step = parts.1 in
+        let rest = owned parts.0 ss y step.1 step.3 parts.2 in
         let is : step.0 ≡ old = ap (value_or old) (sym step.2 ∙ at) in (
           rest.0,
           rest.1,
