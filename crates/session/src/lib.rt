@@ -8,3 +8,6 @@ mod talk;
 pub use heard::Heard;
 pub use laws::a_talk_hears_the_requests_of_its_stream;
 pub use talk::Talk;
+
+#[cfg(test)]
+mod tests;
