@@ -155,7 +155,8 @@ pub record IsReceipt (tells : Type 0) (batch : Batch) (file : LastFile) (receipt
 
 -- a turn writes the batch from its place on: behind the blank into a new file if one is due, or on in the last file
 pub record GoesToPlace (file : LastFile) (batch : Batch) : Type 0 where
-  pub place : base_behind (opens_segment file batch) batch.place file.base + unless_opened (opens_segment file batch) file.offset ≡ batch.place
+  pub place : base_behind (opens_segment file batch) batch.place file.base
+      + unless_opened (opens_segment file batch) file.offset ≡ batch.place
   pub room : file.offset + length batch.bytes < 2 ^ 63
 
 -- the file and the offset behind the blank, if one is due

@@ -6,8 +6,7 @@ use request_fields::Request;
 use std::test::Fail;
 
 /// The request starts at 38, and the bad length at 117.
-const STREAM: &[u8; 121] =
-    b"\x00\x00\x00\"\x00\x00\x00\x1E{\"code\":0,\"flag\":1,\"opaque\":6}\
+const STREAM: &[u8; 121] = b"\x00\x00\x00\"\x00\x00\x00\x1E{\"code\":0,\"flag\":1,\"opaque\":6}\
 \x00\x00\x00K\x00\x00\x00G{\"code\":31,\"extFields\":{\"queueId\":\"0\",\"topic\":\"T\"},\"flag\":2,\"opaque\":7}\
 \x00\x00\x00\x03";
 
@@ -34,6 +33,9 @@ fn the_request_behind_a_response_is_heard_and_a_fault_stays(rt: HostRuntime) -> 
         };
         assert_eq!(rt; fault, FrameFault::BadLength(117));
     }
-    assert_eq!(rt; (talk.link(), talk.host()[0], talk.rest()), (5, 127, (117, 4)));
+    assert_eq!(rt;
+        (talk.link(), talk.host()[0], talk.rest()),
+        (5, 127, (117, 4))
+    );
     Ok(())
 }

@@ -27,9 +27,11 @@ TakesFrom {C} makes x file = (batch : Batch) (y : C) → makes x Take (Some (sai
 
 -- What the turn of the batch did: to each log that is open on this disk and of which the batch is the next one; and where
 -- the next bytes go, whatever the disk tells. An Ok has synced the batch, and the blank before it.
-pub record Writes (tells : Type 0) (old new : Growing) (old_syncs new_syncs : ℕ) (batch : Batch) (result : Result Receipt FlushFault) : Type 0 where
+pub record Writes (tells : Type 0) (old new : Growing) (old_syncs new_syncs : ℕ) (batch : Batch)
+    (result : Result Receipt FlushFault) : Type 0 where
   pub turned : tells → (it : Stored) (behind : ℕ) → CanTurn it behind batch old → HasTurned it behind batch result old new
-  pub places : (it : Stored) → IsWellFormed it.geometry it.log → IsBatchOf it.geometry it.log it.flushed batch → IsPlaced it old.file → PlacesOn it batch result new.file
+  pub places : (it : Stored) → IsWellFormed it.geometry it.log → IsBatchOf it.geometry it.log it.flushed batch → IsPlaced it old.file
+      → PlacesOn it batch result new.file
   pub moves : MovesOn tells batch result old.file new.file
   pub synced : OnOk result (Counted (syncs_of (opens_segment old.file batch)) old_syncs new_syncs)
 
@@ -42,7 +44,8 @@ pub record IsDone {C : Type 0} (makes : Steps C) (writes : Batch → Result Rece
   pub wrote : writes batch (Ok receipt)
 
 -- a turn of some batch that failed, where the disk counts so many faults: it was taken, and is pending again
-pub record HasFailed {C : Type 0} (makes : Steps C) (writes : Batch → Result Receipt FlushFault → Type 0) (count : ℕ) (x y : C) : Type 0 where
+pub record HasFailed {C : Type 0} (makes : Steps C) (writes : Batch → Result Receipt FlushFault → Type 0)
+    (count : ℕ) (x y : C) : Type 0 where
   pub batch : Batch
   pub steps : Makes makes x ((Take, Some (said.Batch (Some batch))) ∷ (FlushFailed count, Some said.Done) ∷ []) y
   pub wrote : writes batch (Err (record { count = count }))

@@ -79,7 +79,9 @@ pub fn flush_turn<C: Calls, D: Disk>(
     requires inside { D.tells → IsInside flusher.old.file.base flusher.old.file.offset (D.state disk.old) }
 
     // The steps that it made, and what its batch did to the disk.
-    ensures ended { HasEnded C.makes (Writes D.tells (growing flusher.old.file (D.state disk.old)) (growing flusher.new.file (D.state disk.new)) (D.syncs disk.old) (D.syncs disk.new))
+    ensures ended { HasEnded C.makes
+        (Writes D.tells (growing flusher.old.file (D.state disk.old)) (growing flusher.new.file (D.state disk.new))
+        (D.syncs disk.old) (D.syncs disk.new))
         calls.old result calls.new }
     ensures rests { TookNone result → (flusher.new ≡ flusher.old) × (disk.new ≡ disk.old) }
     ensures outside { D.tells → StaysOutside (D.state disk.old) (D.state disk.new) }

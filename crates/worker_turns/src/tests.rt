@@ -25,7 +25,8 @@ struct OneBatch {
     end: u64,
     out: Option<Batch>,
     ghost few: { flushed ≤ 1 },
-    ghost first: { IfSome out (λ batch. (flushed ≡ 0) × (batch.count ≡ 1) × (batch.place ≡ 0) × (batch.blank ≡ None) × (length batch.bytes ≡ 5)) } by { Prim.hlevel props },
+    ghost first: { IfSome out (λ batch. (flushed ≡ 0) × (batch.count ≡ 1) × (batch.place ≡ 0) × (batch.blank ≡ None)
+        × (length batch.bytes ≡ 5)) } by { Prim.hlevel props },
 }
 
 fn hello() -> Batch
@@ -44,7 +45,8 @@ impl Calls for OneBatch {
     ghost use Rattle.std.specs.Prelude.{◌≡◌};
     ghost use Rattle.broker_events.specs.Shown.{Shown, moved};
 
-    ghost makes = { λ x event what y. record { flushed = y.flushed; end = y.end; out = y.out } ≡ moved (record { flushed = x.flushed; end = x.end; out = x.out }) event what };
+    ghost makes = { λ x event what y. record { flushed = y.flushed; end = y.end; out = y.out }
+        ≡ moved (record { flushed = x.flushed; end = x.end; out = x.out }) event what };
 
     ghost has_key = { λ x. Unit {0} };
 
