@@ -162,7 +162,7 @@ module _ (log : List Entry) (r : Entry) (h : ℕ) where
         state_is (log ++ r ∷ []) h
         ∙ ap (λ (b : Bool). by_tests b (list_any (copies_it (log ++ r ∷ []) h) (log ++ r ∷ [])) (list_any (discards_it (log ++ r ∷ []) h) (log ++ r ∷ [])))
         (any_more (names_it h) (names_it h) (λ e lawful low. refl))
-        ∙ ap (λ (b : Bool). by_tests (N || n) b (list_any (discards_it (log ++ r ∷ []) h) (log ++ r ∷ []))) (any_more (copies_it (log ++ r ∷ []) h) (copies_it log h) copy_same)
-        ∙ ap (λ (b : Bool). by_tests (N || n) (C || c) b) (any_more (discards_it (log ++ r ∷ []) h) (discards_it log h) discard_same)
+        ∙ ap (λ (b : Bool). by_tests (N || n) b (list_any (discards_it (log ++ r ∷ []) h) (log ++ r ∷ []))) (any_more (copies_it (log ++ r ∷ []) h) (copies_it log h) (copy_same S.size))
+        ∙ ap (λ (b : Bool). by_tests (N || n) (C || c) b) (any_more (discards_it (log ++ r ∷ []) h) (discards_it log h) (discard_same S.size))
         ∙ after_is N C D n c d
         ∙ ap (λ (s : TransactionState). state_after s n c d) (sym (state_is log h))
