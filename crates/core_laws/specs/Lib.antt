@@ -1,4 +1,8 @@
 pub mod Examples
+pub mod Halves
+pub mod Kept
+pub mod KeptDrafts
+pub mod LogSteps
 pub mod Offsets
 pub mod Pulls
 pub mod Replay

@@ -1,8 +1,10 @@
 //! What holds of every run of steps, savings and crashes from an opening. No call is made: the clauses speak of the definitions.
 
-ghost use Rattle.std.specs.Prelude.{◌≡◌, ◌+◌, ◌-◌, ◌<◌, ◌≤◌, ℕ, List, [], ◌∷◌, take, drop, map, Bool, Some, slice_get};
+ghost use Rattle.std.specs.Prelude.{◌≡◌, ◌+◌, ◌-◌, ◌<◌, ◌≤◌, ℕ, List, [], ◌∷◌, take, drop, map, max, Bool, true, Option, Some, slice_get, ◌^◌};
 ghost use Rattle.record_codec.specs.Entry.{Entry};
 ghost use Rattle.log_model.specs.Numbered.{count_of, records_of};
+ghost use Rattle.log_model.specs.Kinds.{is_copy};
+ghost use Rattle.log_model.specs.Transactions.{copies};
 ghost use Rattle.request_fields.specs.Requests.{PullSaid};
 ghost use Rattle.request_fields.specs.declared.request.Request.TheVariants.{Pull};
 ghost use Rattle.broker_model.specs.Tables.{OffsetRow};
@@ -12,6 +14,7 @@ ghost use Rattle.broker_model.specs.Answers.{pull_words};
 ghost use Rattle.broker_model.specs.Run.{Boot, Move, Steps, Crashes, Goes, Run, RunWith, IsOpening};
 ghost use Rattle.broker_model.specs.Acknowledged.{IsAcknowledged, StandsAt, StandsOrRemoved};
 ghost use Rattle.core_laws.specs.Examples as examples;
+ghost use Rattle.core_laws.specs.Halves.{IsMadeByCommit, NoCommitOn};
 ghost use Rattle.core_laws.specs.Offsets.{AllRows, IsAllowed, IsWithin, StoresOnly};
 ghost use Rattle.core_laws.specs.Pulls.{IsSliceOf};
 ghost use Rattle.core_laws.specs.Replay.{Tables, StandsFor, IsReplayOf};
@@ -59,6 +62,18 @@ pub fn offsets_hold()
     ensures stored { (b c d : Boot) (moves : List Move) (k : ℕ) (setup : Setup) (allowed : OffsetRow → Bool) → IsOpening b
         → AllRows (IsAllowed allowed b.now) b.now.saved.offsets → RunWith (StoresOnly allowed) b moves c → Goes c (Crashes k setup) d
         → AllRows (IsAllowed allowed d.now) d.now.offsets × (d.now.offsets ≡ c.now.saved.offsets) }
+{}
+
+/// A copy of a half message comes only by a Commit of one of its family while its origin is open, so without a Commit there is none,
+/// and whatever crashes there is at most one, or what the opening's log had. Queue offsets are below 2^64.
+pub fn halves_hold()
+    ensures only { (b c d : Boot) (moves : List Move) (e : events.Event) (said : Option events.Answer) (n : ℕ) (r : Entry) → IsOpening b
+        → Run b moves c → Goes c (Steps e said) d → count_of c.now.log ≤ n → StandsAt d.now n r → is_copy r ≡ true
+        → IsMadeByCommit c.now e r }
+    ensures none { (b c : Boot) (moves : List Move) (h : ℕ) → h < 2 ^ 64 → IsOpening b → copies b.now.log.records h ≡ 0
+        → RunWith (NoCommitOn h) b moves c → copies c.now.log.records h ≡ 0 }
+    ensures once { (b c : Boot) (moves : List Move) (h : ℕ) → h < 2 ^ 64 → IsOpening b → Run b moves c
+        → copies c.now.log.records h ≤ max 1 (copies b.now.log.records h) }
 {}
 
 /// The laws speak of something: `hi` is sent to an empty store, acknowledged, dispatched and pulled; the offset 9 is stored as 1, the
