@@ -121,7 +121,7 @@ deliver_copies s now (Some due) kept is =
 -- ---- all events
 
 -- the half's family is its origin's
-commit_family : (s : State) (end : EndSaid) (half origin : Entry) → IsKept s.log → named_half s end ≡ Some half → verdict_origin s end ≡ Some origin → in_family origin.queue_offset half ≡ true
+pub commit_family : (s : State) (end : EndSaid) (half origin : Entry) → IsKept s.log → named_half s end ≡ Some half → verdict_origin s end ≡ Some origin → in_family origin.queue_offset half ≡ true
 commit_family s end half origin kept named judged =
     let there = named_there s end half named in
     own_family s.log.records half origin there.2 ((kept.each there.0 half there.1).text there.2)

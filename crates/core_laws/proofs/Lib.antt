@@ -1,5 +1,6 @@
 pub mod Acknowledged
 pub mod Bases
+pub mod CommitAnswers
 pub mod Commits
 pub mod Copies
 pub mod Counts
@@ -22,4 +23,5 @@ pub mod Replay
 pub mod Runs
 pub mod Steps
 pub mod Texts
+pub mod Verdicts
 pub mod Within

@@ -3,7 +3,7 @@ use Rattle.std.specs.Prelude.{◌≡◌, ℕ, ◌||◌, Bool, true, false, Some}
 use Rattle.record_codec.specs.Entry.{Entry}
 use Rattle.log_model.specs.Drafts.{copy_draft}
 use Rattle.log_model.specs.Numbered.{next_record}
-use Rattle.log_model.specs.Transactions.{Open, transaction_state, is_origin, is_renewal}
+use Rattle.log_model.specs.Transactions.{Open, transaction_state, is_origin, is_renewal, copies_it}
 use Rattle.request_fields.specs.Requests.{EndSaid}
 use Rattle.request_fields.specs.declared.request.Request.TheVariants.{EndTransaction}
 use Rattle.broker_model.specs.State.{State}
@@ -11,7 +11,7 @@ use Rattle.broker_model.specs.Events
 use Rattle.broker_model.specs.Appended.{is_refused, moment}
 use Rattle.broker_model.specs.Refusals.{named_half, verdict_origin}
 use Rattle.broker_model.specs.Run.{Boot, Move, Steps, SavesOffsets, SavesTopics, SavesBase, Crashes}
-use Rattle.broker_model.specs.Acknowledged.{is_verdict_on}
+use Rattle.broker_model.specs.Acknowledged.{StandsAt, is_verdict_on}
 
 -- a half message of the origin's family: the origin itself, or a renewal of it
 abbrev pub in_family : ℕ → Entry → Bool
@@ -44,3 +44,8 @@ NoCommitOn h b SavesOffsets c = Unit {0}
 NoCommitOn h b SavesTopics c = Unit {0}
 NoCommitOn h b (SavesBase base) c = Unit {0}
 NoCommitOn h b (Crashes k setup) c = Unit {0}
+
+-- the record with this number is a copy of a half message of the family
+pub record IsCopyAt (s : State) (h n : ℕ) (copy : Entry) : Type 0 where
+  pub stands : StandsAt s n copy
+  pub copies : copies_it s.log.records h copy ≡ true
