@@ -1,11 +1,10 @@
 -- The copy of a Commit that is answered.
-use Rattle.std.proofs.Common.{◌≡◌, ◌⊎◌, inl, inr, refl, ap, sym, ◌∙◌, subst, arith, ℕ, ◌+◌, ◌-◌, ◌<◌, ◌≤◌, max, List, [], ◌∷◌, ◌++◌, length, slice_get, Bool, true, false, Option, Some, None, cond, if◌then◌else◌}
-use Rattle.std.specs.Prelude.{◌&&◌, ◌||◌, ◌==◌, not, bit_and, nat_le}
+use Rattle.std.proofs.Common.{◌≡◌, inl, inr, refl, ap, sym, ◌∙◌, subst, arith, ℕ, ◌+◌, ◌-◌, ◌<◌, ◌≤◌, max, List, [], ◌∷◌, ◌++◌, length, slice_get, Bool, true, false, Option, Some, if◌then◌else◌}
+use Rattle.std.specs.Prelude.{◌&&◌, ◌==◌, not, nat_le}
 use Rattle.std.specs.List.{list_any}
 use Rattle.std.proofs.lemmas.Bool.{and_from, eq-eqb, cond-false, leb-false}
 use Rattle.std.proofs.lemmas.List.{append-nil}
 use Rattle.record_codec.specs.Entry.{Entry}
-use Rattle.record_codec.specs.declared.draft.Draft.{Draft}
 use Rattle.log_model.specs.Drafts.{copy_draft, op_draft}
 use Rattle.log_model.specs.Kinds.{is_copy}
 use Rattle.log_model.specs.Numbered.{Log, count_of, with_appended, next_record, next_records}
@@ -17,10 +16,10 @@ use Rattle.broker_model.specs.State.{State}
 use Rattle.broker_model.specs.Sends.{waits}
 use Rattle.broker_model.specs.Events
 use Rattle.broker_model.specs.Refusals.{named_half, verdict_origin}
-use Rattle.broker_model.specs.Appended.{drafts_of, request_drafts, verdict_drafts, first_verdict, open_verdict, appended, made_by, is_refused, moment}
-use Rattle.broker_model.specs.Answers.{answer_of, end_answer, append_answer, repeated_answer, settling_number, half_waits, done_reply}
+use Rattle.broker_model.specs.Appended.{drafts_of, request_drafts, verdict_drafts, first_verdict, open_verdict, appended, made_by, is_refused}
+use Rattle.broker_model.specs.Answers.{end_answer, repeated_answer, settling_number, half_waits, done_reply}
 use Rattle.broker_model.specs.Step.{Step}
-use Rattle.broker_model.specs.Acknowledged.{StandsAt, is_verdict_on}
+use Rattle.broker_model.specs.Acknowledged.{is_verdict_on}
 use Rattle.broker_model.proofs.StepLemmas.{log_grows}
 use Rattle.core_laws.specs.Kept.{IsKept}
 use Rattle.core_laws.specs.Halves.{in_family, IsCopyAt}
@@ -72,7 +71,7 @@ fresh_copy : (s t : State) (a : Events.Asked) (end : EndSaid) (half origin : Ent
 fresh_copy s t a end half origin h kept named judged of drafts log =
     let copy : Entry = next_record s.setup.segment (max a.now s.now) s.log (copy_draft s.setup.host half) in
     let made : made_by s (Events.Asks a) ≡ next_records s.setup.segment (max a.now s.now) s.log (copy_draft s.setup.host half ∷ op_draft s.setup.host (max a.now s.now) origin.queue_offset ∷ []) =
-        ap (next_records s.setup.segment (max a.now s.now) s.log) drafts in
+    ap (next_records s.setup.segment (max a.now s.now) s.log) drafts in
     let there = named_there s end half named in
     let family : in_family h half ≡ true = subst (λ (n : ℕ). in_family n half ≡ true) of (commit_family s end half origin kept named judged) in
     let records : t.log.records ≡ s.log.records ++ made_by s (Events.Asks a) = ap (λ (l : Log). l.records) log in
@@ -81,13 +80,13 @@ fresh_copy s t a end half origin h kept named judged of drafts log =
         index = length s.log.records;
         number = ap (λ (l : Log). l.base.records + length s.log.records) (sym log);
         stands = subst (λ (l : List Entry). slice_get l (length s.log.records) ≡ Some copy) (sym records)
-          (subst (λ (l : List Entry). slice_get (s.log.records ++ l) (length s.log.records) ≡ Some copy) (sym made) (seam s.log.records copy _));
+            (subst (λ (l : List Entry). slice_get (s.log.records ++ l) (length s.log.records) ≡ Some copy) (sym made) (seam s.log.records copy _));
       };
       copies = and_from (is_copy copy) (is_of_family t.log.records h copy.prepared) (eq-eqb _ 8 (copy_bits half.sysflag))
-        (family_at t.log.records h copy.prepared there.0 half
+          (family_at t.log.records h copy.prepared there.0 half
           (subst (λ (l : List Entry). slice_get l there.0 ≡ Some half) (sym records) (get_left s.log.records (made_by s (Events.Asks a)) there.0 half there.1)) family refl);
     }
-    where
+  where
     seam : (xs : List Entry) (x : Entry) (more : List Entry) → slice_get (xs ++ x ∷ more) (length xs) ≡ Some x
     seam [] x more = refl
     seam (y ∷ xs) x more = seam xs x more
@@ -113,10 +112,10 @@ pub record IsAgreed (s : State) (h : ℕ) (origin : Entry) : Type 0 where
 agreed : (s : State) (h : ℕ) (origin : Entry) → origin.queue_offset ≡ h → transaction_state s.log.records origin.queue_offset ≡ Committed → IsAgreed s h origin
 agreed s h origin of is =
     let some = copied_case (is_settled s.log.records origin.queue_offset) (list_any (discards_it s.log.records origin.queue_offset) s.log.records)
-        (list_any (copies_it s.log.records origin.queue_offset) s.log.records) is in
+    (list_any (copies_it s.log.records origin.queue_offset) s.log.records) is in
     let found = any_found (copies_it s.log.records origin.queue_offset) s.log.records some in
     let high = number_high (settles s.log.records origin.queue_offset) s.log.base.records s.log.records found.0 found.1 found.2
-        (copy_settles s.log.records origin.queue_offset found.1 found.3) in
+    (copy_settles s.log.records origin.queue_offset found.1 found.3) in
     record {
       index = found.0;
       copy = found.1;
@@ -154,29 +153,36 @@ pub step_after : (s t : State) (e : Events.Event) (h : ℕ) (reply : Events.Repl
 step_after s t e h reply number turn kept is step =
     let v = verdict_of s e h is in
     asked_after v (subst (λ (x : Events.Event). Step s x (Some (Events.After reply number turn)) t) v.is step) (subst (λ (x : Events.Event). is_refused s x ≡ false) v.is v.fine)
-    where
+  where
     asked_after : (v : IsVerdict s e h) → Step s (Events.Asks v.asked) (Some (Events.After reply number turn)) t → is_refused s (Events.Asks v.asked) ≡ false
         → (n : ℕ) × (copy : Entry) × (n ≤ number) × IsCopyAt t h n copy
     asked_after v taken fine =
         let says = taken.1 ∙ verdict_answer s v.asked v.end v.request fine in
         let log = verdict_log s t v.asked (Events.After reply number turn) fine taken in
         elim v.state [
-          inl was_open ↦
-            let drafts = verdict_writes s v.asked v.end v.half v.origin Open v.request v.verdict v.named v.judged was_open in
-            let made : made_by s (Events.Asks v.asked) ≡ next_records s.setup.segment (max v.asked.now s.now) s.log (copy_draft s.setup.host v.half ∷ op_draft s.setup.host (max v.asked.now s.now) v.origin.queue_offset ∷ []) =
-                ap (next_records s.setup.segment (max v.asked.now s.now) s.log) drafts in
-            let said = says ∙ ap (end_answer s v.end) made in
-            let number_is = after_number (s.setup.sync && half_waits (named_half s v.end)) reply number turn (count_of s.log + 2 - 1) s.turns said in
-            (count_of s.log, next_record s.setup.segment (max v.asked.now s.now) s.log (copy_draft s.setup.host v.half), omega (arith, number_is),
-              fresh_copy s t v.asked v.end v.half v.origin h kept v.named v.judged v.of drafts log)
+          | inl was_open ↦
+              let drafts = verdict_writes s v.asked v.end v.half v.origin Open v.request v.verdict v.named v.judged was_open in
+              let made : made_by s (Events.Asks v.asked) ≡ next_records s.setup.segment (max v.asked.now s.now) s.log (copy_draft s.setup.host v.half ∷ op_draft s.setup.host (max v.asked.now s.now) v.origin.queue_offset ∷ []) =
+              ap (next_records s.setup.segment (max v.asked.now s.now) s.log) drafts in
+              let said = says ∙ ap (end_answer s v.end) made in
+              let number_is = after_number (s.setup.sync && half_waits (named_half s v.end)) reply number turn (count_of s.log + 2 - 1) s.turns said in (
+                count_of s.log,
+                next_record s.setup.segment (max v.asked.now s.now) s.log (copy_draft s.setup.host v.half),
+                omega (arith, number_is),
+                fresh_copy s t v.asked v.end v.half v.origin h kept v.named v.judged v.of drafts log,
+              )
           | inr done ↦
-            let c = agreed s h v.origin v.of done in
-            let drafts = verdict_writes s v.asked v.end v.half v.origin Committed v.request v.verdict v.named v.judged done in
-            let made : made_by s (Events.Asks v.asked) ≡ [] = ap (next_records s.setup.segment (max v.asked.now s.now) s.log) drafts in
-            let said = says ∙ (ap (end_answer s v.end) made ∙ again_answer s v.end v.origin c.number v.verdict v.judged c.last) in
-            let number_is = after_number (s.setup.sync && nat_le s.flushed c.number) reply number turn c.number s.turns said in
-            (s.log.base.records + c.index, c.copy, omega (arith, number_is, c.low),
-              again_copy s t h v.origin c (log ∙ ap (λ (rs : List Entry). with_appended s.log rs) made)) ]
+              let c = agreed s h v.origin v.of done in
+              let drafts = verdict_writes s v.asked v.end v.half v.origin Committed v.request v.verdict v.named v.judged done in
+              let made : made_by s (Events.Asks v.asked) ≡ [] = ap (next_records s.setup.segment (max v.asked.now s.now) s.log) drafts in
+              let said = says ∙ (ap (end_answer s v.end) made ∙ again_answer s v.end v.origin c.number v.verdict v.judged c.last) in
+              let number_is = after_number (s.setup.sync && nat_le s.flushed c.number) reply number turn c.number s.turns said in (
+                s.log.base.records + c.index,
+                c.copy,
+                omega (arith, number_is, c.low),
+                again_copy s t h v.origin c (log ∙ ap (λ (rs : List Entry). with_appended s.log rs) made),
+              )
+        ]
 
 -- one that is answered at once in sync mode, for a message that waits, was said before, and its copy is on the disk
 pub step_at_once : (s t : State) (a : Events.Asked) (end : EndSaid) (h : ℕ) (reply : Events.Reply) → IsKept s.log → a.request ≡ EndTransaction end
@@ -187,28 +193,33 @@ step_at_once s t a end h reply kept request is sync waits step =
     let same : v.asked ≡ a = let e = v.is in cc in
     let one : v.end ≡ end = same_end v.end end (sym v.request ∙ (ap (λ (x : Events.Asked). x.request) same ∙ request)) in
     once v (subst (λ (x : Events.Asked). Step s (Events.Asks x) (Some (Events.Replies reply)) t) (sym same) step) (subst (λ (x : Events.Event). is_refused s x ≡ false) v.is v.fine)
-      (subst (λ (x : EndSaid). half_waits (named_half s x) ≡ true) (sym one) waits)
-    where
+    (subst (λ (x : EndSaid). half_waits (named_half s x) ≡ true) (sym one) waits)
+  where
     same_end : (x y : EndSaid) → EndTransaction x ≡ EndTransaction y → x ≡ y
     same_end x y e = cc
+
     once : (v : IsVerdict s (Events.Asks a) h) → Step s (Events.Asks v.asked) (Some (Events.Replies reply)) t → is_refused s (Events.Asks v.asked) ≡ false
         → half_waits (named_half s v.end) ≡ true → (n : ℕ) × (copy : Entry) × (n < s.flushed) × IsCopyAt t h n copy
     once v taken fine waits =
         let says = taken.1 ∙ verdict_answer s v.asked v.end v.request fine in
         let log = verdict_log s t v.asked (Events.Replies reply) fine taken in
         elim v.state [
-          inl was_open ↦
-            let drafts = verdict_writes s v.asked v.end v.half v.origin Open v.request v.verdict v.named v.judged was_open in
-            let made : made_by s (Events.Asks v.asked) ≡ next_records s.setup.segment (max v.asked.now s.now) s.log (copy_draft s.setup.host v.half ∷ op_draft s.setup.host (max v.asked.now s.now) v.origin.queue_offset ∷ []) =
-                ap (next_records s.setup.segment (max v.asked.now s.now) s.log) drafts in
-            let said = says ∙ ap (end_answer s v.end) made in
-            let late = replies_now s.setup.sync (half_waits (named_half s v.end)) reply (count_of s.log + 2 - 1) s.turns sync said in
-            absurd (let e : true ≡ false = sym waits ∙ late in cc)
+          | inl was_open ↦
+              let drafts = verdict_writes s v.asked v.end v.half v.origin Open v.request v.verdict v.named v.judged was_open in
+              let made : made_by s (Events.Asks v.asked) ≡ next_records s.setup.segment (max v.asked.now s.now) s.log (copy_draft s.setup.host v.half ∷ op_draft s.setup.host (max v.asked.now s.now) v.origin.queue_offset ∷ []) =
+              ap (next_records s.setup.segment (max v.asked.now s.now) s.log) drafts in
+              let said = says ∙ ap (end_answer s v.end) made in
+              let late = replies_now s.setup.sync (half_waits (named_half s v.end)) reply (count_of s.log + 2 - 1) s.turns sync said in
+              absurd (let e : true ≡ false = sym waits ∙ late in cc)
           | inr done ↦
-            let c = agreed s h v.origin v.of done in
-            let drafts = verdict_writes s v.asked v.end v.half v.origin Committed v.request v.verdict v.named v.judged done in
-            let made : made_by s (Events.Asks v.asked) ≡ [] = ap (next_records s.setup.segment (max v.asked.now s.now) s.log) drafts in
-            let said = says ∙ (ap (end_answer s v.end) made ∙ again_answer s v.end v.origin c.number v.verdict v.judged c.last) in
-            let low = leb-false s.flushed c.number (replies_now s.setup.sync (nat_le s.flushed c.number) reply c.number s.turns sync said) in
-            (s.log.base.records + c.index, c.copy, omega (arith, low, c.low),
-              again_copy s t h v.origin c (log ∙ ap (λ (rs : List Entry). with_appended s.log rs) made)) ]
+              let c = agreed s h v.origin v.of done in
+              let drafts = verdict_writes s v.asked v.end v.half v.origin Committed v.request v.verdict v.named v.judged done in
+              let made : made_by s (Events.Asks v.asked) ≡ [] = ap (next_records s.setup.segment (max v.asked.now s.now) s.log) drafts in
+              let said = says ∙ (ap (end_answer s v.end) made ∙ again_answer s v.end v.origin c.number v.verdict v.judged c.last) in
+              let low = leb-false s.flushed c.number (replies_now s.setup.sync (nat_le s.flushed c.number) reply c.number s.turns sync said) in (
+                s.log.base.records + c.index,
+                c.copy,
+                omega (arith, low, c.low),
+                again_copy s t h v.origin c (log ∙ ap (λ (rs : List Entry). with_appended s.log rs) made),
+              )
+        ]

@@ -1,11 +1,9 @@
 -- What the broker appends fits its log.
-use Rattle.std.proofs.Common.{◌≡◌, ◌≢◌, ◌⊎◌, inl, inr, refl, ap, sym, ◌∙◌, subst, arith, ℕ, ◌+◌, ◌<◌, ◌≤◌, ◌^◌, ◌-◌, List, [], ◌∷◌, length, slice_get, Bool, true, false, Option, Some, None, if◌then◌else◌}
+use Rattle.std.proofs.Common.{◌≡◌, ◌≢◌, refl, ap, sym, ◌∙◌, subst, arith, ℕ, ◌<◌, List, [], slice_get, Bool, true, false, Option, Some, None, if◌then◌else◌}
 use Rattle.std.specs.Prelude.{bit_and, codes, ◌||◌, ◌==◌, unwrap_or}
 use Rattle.std.specs.Str.{bytes_eq}
-use Rattle.std.proofs.lemmas.Bool.{or_cases}
 use Rattle.mq_bytes.specs.Decimal.{digits_of}
 use Rattle.record_codec.specs.Entry.{Entry}
-use Rattle.record_codec.specs.Layout.{size}
 use Rattle.record_codec.specs.Props.{value_of, with_prop, without, has_name}
 use Rattle.record_codec.specs.LaxProps.{read_props}
 use Rattle.record_codec.specs.declared.draft.Draft.{Draft}
@@ -15,7 +13,7 @@ use Rattle.log_model.specs.Kinds.{is_half, is_delayed}
 use Rattle.log_model.specs.Drafts.{text_in, plain_flag, copy_draft, op_draft, renewal_draft, renewed_props, discard_draft, delivery_draft}
 use Rattle.log_model.specs.Numbered.{Log, place_end}
 use Rattle.request_fields.specs.Requests.{SendSaid}
-use Rattle.broker_model.specs.Sends.{send_draft, half_draft, delayed_draft, delayed_or_plain, plain_draft, kept_props, with_real, with_group, is_half_send, level_of, flag_of, queue_named}
+use Rattle.broker_model.specs.Sends.{send_draft, half_draft, delayed_or_plain, plain_draft, kept_props, with_real, with_group, is_half_send, level_of, flag_of, queue_named}
 use Rattle.core_laws.specs.Kept.{IsKept, IsNumberText}
 use Rattle.core_laws.specs.KeptDrafts.{IsFitDraft}
 use Rattle.core_laws.proofs.Kept.{ends_behind}
@@ -95,19 +93,19 @@ copy_fits log host half k kept at is =
 
 pub op_fits : (log : Log) (host : List ℕ) (now origin : ℕ) → IsFitDraft log (op_draft host now origin)
 op_fits log host now origin = record {
-    prepared = neither _ _ refl refl;
-    bits = neither _ _ refl refl;
-    real = neither _ _ refl refl;
-    text = never _ refl;
-  }
+  prepared = neither _ _ refl refl;
+  bits = neither _ _ refl refl;
+  real = neither _ _ refl refl;
+  text = never _ refl;
+}
 
 pub discard_fits : (log : Log) (host : List ℕ) (half : Entry) (k : ℕ) → IsKept log → slice_get log.records k ≡ Some half → IsFitDraft log (discard_draft host half)
 discard_fits log host half k kept at = record {
-    prepared = λ any. inside log k half kept at;
-    bits = neither _ _ refl refl;
-    real = neither _ _ refl refl;
-    text = never _ refl;
-  }
+  prepared = λ any. inside log k half kept at;
+  bits = neither _ _ refl refl;
+  real = neither _ _ refl refl;
+  text = never _ refl;
+}
 
 pub delivery_fits : (log : Log) (host : List ℕ) (level number : ℕ) (item : Entry) (k : ℕ) → IsKept log → slice_get log.records k ≡ Some item → is_delayed item ≡ true
     → IsFitDraft log (delivery_draft host level number item)
@@ -125,11 +123,11 @@ renewal_fits log host n origin k kept at is =
     let waits = left_of (is_half origin) (is_delayed origin) is in
     let before = kept.each k origin at in
     let real : value_of (codes "REAL_TOPIC") (renewed_props n origin) ≡ value_of (codes "REAL_TOPIC") origin.props =
-        value_of-other (codes "REAL_TOPIC") (codes "TRANSACTION_CHECK_TIMES") (digits_of n) (with_prop (codes "TRAN_PREPARED_QUEUE_OFFSET") (digits_of origin.queue_offset) origin.props) (differ _ _ refl)
-        ∙ value_of-other (codes "REAL_TOPIC") (codes "TRAN_PREPARED_QUEUE_OFFSET") (digits_of origin.queue_offset) origin.props (differ _ _ refl) in
+    value_of-other (codes "REAL_TOPIC") (codes "TRANSACTION_CHECK_TIMES") (digits_of n) (with_prop (codes "TRAN_PREPARED_QUEUE_OFFSET") (digits_of origin.queue_offset) origin.props) (differ _ _ refl)
+    ∙ value_of-other (codes "REAL_TOPIC") (codes "TRAN_PREPARED_QUEUE_OFFSET") (digits_of origin.queue_offset) origin.props (differ _ _ refl) in
     let text : value_of (codes "TRAN_PREPARED_QUEUE_OFFSET") (renewed_props n origin) ≡ Some (digits_of origin.queue_offset) =
-        value_of-other (codes "TRAN_PREPARED_QUEUE_OFFSET") (codes "TRANSACTION_CHECK_TIMES") (digits_of n) (with_prop (codes "TRAN_PREPARED_QUEUE_OFFSET") (digits_of origin.queue_offset) origin.props) (differ _ _ refl)
-        ∙ value_of-put (codes "TRAN_PREPARED_QUEUE_OFFSET") (digits_of origin.queue_offset) origin.props in
+    value_of-other (codes "TRAN_PREPARED_QUEUE_OFFSET") (codes "TRANSACTION_CHECK_TIMES") (digits_of n) (with_prop (codes "TRAN_PREPARED_QUEUE_OFFSET") (digits_of origin.queue_offset) origin.props) (differ _ _ refl)
+    ∙ value_of-put (codes "TRAN_PREPARED_QUEUE_OFFSET") (digits_of origin.queue_offset) origin.props in
     record {
       prepared = neither _ _ (no_copy origin.sysflag (before.bits waits)) (half_apart origin.topic discard_topic (same_text origin.topic half_topic is) refl);
       bits = λ any. before.bits waits;
@@ -151,8 +149,9 @@ kept_without text =
 group_other : (other group : List ℕ) (props : List (List ℕ × List ℕ)) → other ≢ codes "PGROUP" → value_of other (with_group group props) ≡ value_of other props
 group_other other group props differs =
     elim (has_name (codes "PGROUP") props) as (λ b. value_of other (if b then props else with_prop (codes "PGROUP") group props) ≡ value_of other props) [
-      true ↦ refl
-      | false ↦ value_of-other other (codes "PGROUP") group props differs ]
+      | true ↦ refl
+      | false ↦ value_of-other other (codes "PGROUP") group props differs
+    ]
 
 real_topic : (topic : List ℕ) (queue : ℕ) (props : List (List ℕ × List ℕ)) → value_of (codes "REAL_TOPIC") (with_real topic queue props) ≡ Some topic
 real_topic topic queue props = value_of-other (codes "REAL_TOPIC") (codes "REAL_QID") (digits_of queue) (with_prop (codes "REAL_TOPIC") topic props) (differ _ _ refl)
@@ -169,21 +168,23 @@ half_text group topic queue text =
 pub send_fits : (log : Log) (host born : List ℕ) (send : SendSaid) → is_system_topic send.topic ≡ false → IsFitDraft log (send_draft host born send)
 send_fits log host born send plain =
     elim (is_half_send send) as (λ b. IsFitDraft log (if b then half_draft send.group (plain_draft host born send) else delayed_or_plain (level_of send) (plain_draft host born send))) [
-      true ↦ record {
+      | true ↦ record {
         prepared = neither _ _ (no_copy (plain_flag (flag_of send)) bits) refl;
         bits = λ any. bits;
         real = λ any. ap (λ (o : Option (List ℕ)). is_system_topic (unwrap_or o []))
-          (group_other (codes "REAL_TOPIC") send.group (with_real send.topic (queue_named send.queue) (without (codes "DELAY") (kept_props send.props))) (differ _ _ refl) ∙ real_topic send.topic (queue_named send.queue) (without (codes "DELAY") (kept_props send.props))) ∙ plain;
+            (group_other (codes "REAL_TOPIC") send.group (with_real send.topic (queue_named send.queue) (without (codes "DELAY") (kept_props send.props))) (differ _ _ refl) ∙ real_topic send.topic (queue_named send.queue) (without (codes "DELAY") (kept_props send.props))) ∙ plain;
         text = λ any. subst IsNumberText (sym (half_text send.group send.topic (queue_named send.queue) send.props)) tt;
       }
       | false ↦ elim (level_of send) as (λ level. IsFitDraft log (delayed_or_plain level (plain_draft host born send))) [
-        None ↦ plain_fits log (plain_draft host born send) plain bits
+        | None ↦ plain_fits log (plain_draft host born send) plain bits
         | Some level ↦ record {
           prepared = neither _ _ (no_copy (plain_flag (flag_of send)) bits) refl;
           bits = λ any. bits;
           real = λ any. ap (λ (o : Option (List ℕ)). is_system_topic (unwrap_or o [])) (real_topic send.topic (queue_named send.queue) (kept_props send.props)) ∙ plain;
           text = never _ refl;
-        } ] ]
-    where
+        }
+      ]
+    ]
+  where
     bits : bit_and (plain_flag (flag_of send)) 12 ≡ 0
     bits = plain_bits (flag_of send)

@@ -1,20 +1,18 @@
 -- Families of halves, and the copies of them.
-use Rattle.std.proofs.Common.{◌≡◌, ◌⊎◌, inl, inr, refl, ap, sym, ◌∙◌, subst, arith, ℕ, zero, suc, ◌+◌, ◌<◌, ◌≤◌, ◌^◌, List, [], ◌∷◌, ◌++◌, length, take, drop, filter, slice_get, Bool, true, false, Option, Some, None, cond, find, if◌then◌else◌}
-use Rattle.std.specs.Prelude.{◌&&◌, ◌||◌, ◌==◌, not, bit_and, is_none}
-use Rattle.std.specs.List.{list_any, count_by}
-use Rattle.std.specs.Str.{bytes_eq}
+use Rattle.std.proofs.Common.{◌≡◌, ◌⊎◌, inl, inr, refl, ap, sym, ◌∙◌, subst, arith, ℕ, zero, suc, ◌+◌, ◌<◌, ◌≤◌, ◌^◌, List, [], ◌∷◌, take, drop, filter, slice_get, Bool, true, false, Option, Some, None, cond, if◌then◌else◌}
+use Rattle.std.specs.Prelude.{◌&&◌, ◌||◌, ◌==◌, not, is_none}
+use Rattle.std.specs.List.{list_any}
 use Rattle.std.specs.Str.Parse.{digits_value}
 use Rattle.std.proofs.lemmas.Bool.{cases_Bool, and_parts, and_from, eqb-true, eq-eqb, cases_order, or_cases}
 use Rattle.std.proofs.lemmas.Option.{same_Some}
 use Rattle.mq_bytes.specs.Decimal.{digits_of}
 use Rattle.record_codec.specs.Entry.{Entry}
-use Rattle.record_codec.specs.Layout.{size}
 use Rattle.log_model.specs.Kinds.{is_half, is_copy, is_text, origin_text}
 use Rattle.log_model.specs.Numbered.{Log}
-use Rattle.log_model.specs.Transactions.{is_origin, is_renewal, family, is_of_family, copies_it, discards_it, names_it, settles, is_settled, copies, Open, Committed, RolledBack, Discarded, transaction_state, named_origin, origin_of}
-use Rattle.core_laws.specs.Kept.{IsKept, IsKeptBehind, IsNumberText}
+use Rattle.log_model.specs.Transactions.{is_origin, family, is_of_family, copies_it, discards_it, names_it, settles, is_settled, copies, Open, Committed, RolledBack, Discarded, transaction_state, named_origin, origin_of}
+use Rattle.core_laws.specs.Kept.{IsKept, IsNumberText}
 use Rattle.core_laws.specs.Halves.{in_family}
-use Rattle.core_laws.proofs.Lists.{get_take, take_get, drop_get, get_left, get_append}
+use Rattle.core_laws.proofs.Lists.{get_take, take_get, drop_get}
 use Rattle.core_laws.proofs.Counts.{count_le, count_none, count_take, count_drop, any_at, any_found}
 use Rattle.core_laws.proofs.Pulls.{kept_was_there, kept_passes}
 use Rattle.core_laws.proofs.Texts.{same_text, text_equal, number_value, found_at}
@@ -27,9 +25,10 @@ places_rise log i j x y kept at_i at_j low = let h = (kept.each j y at_j).place 
 -- two records at one place are one
 pub one_place : (log : Log) (i j : ℕ) (x y : Entry) → IsKept log → slice_get log.records i ≡ Some x → slice_get log.records j ≡ Some y → x.offset ≡ y.offset → x ≡ y
 one_place log i j x y kept at_i at_j same = elim (cases_order i j) [
-    inl is ↦ same_Some x y (sym at_i ∙ (ap (λ (n : ℕ). slice_get log.records n) is ∙ at_j))
-    | inr other ↦ absurd (apart other) ]
-    where
+  | inl is ↦ same_Some x y (sym at_i ∙ (ap (λ (n : ℕ). slice_get log.records n) is ∙ at_j))
+  | inr other ↦ absurd (apart other)
+]
+  where
     apart : (i < j) ⊎ (j < i) → ⊥
     apart (inl low) = omega (arith, places_rise log i j x y kept at_i at_j low, same)
     apart (inr high) = omega (arith, places_rise log j i y x kept at_j at_i high, same)
@@ -71,12 +70,20 @@ copies_part log part h back r is =
     and_from (is_copy r) (is_of_family log h r.prepared) parts.0 (family_at log h r.prepared there.0 found.1 there.1 found.3 found.4)
 
 pub copies_take : (log : List Entry) (k h : ℕ) → copies (take k log) h ≤ copies log h
-copies_take log k h = omega (arith, count_le (copies_it (take k log) h) (copies_it log h) (take k log)
-    (λ j x at is. copies_part log (take k log) h (λ i y there. (i, (get_take k i log y there).0)) x is), count_take (copies_it log h) k log)
+copies_take log k h = omega (
+  arith,
+  count_le (copies_it (take k log) h) (copies_it log h) (take k log)
+      (λ j x at is. copies_part log (take k log) h (λ i y there. (i, (get_take k i log y there).0)) x is),
+  count_take (copies_it log h) k log,
+)
 
 pub copies_drop : (log : List Entry) (k h : ℕ) → copies (drop k log) h ≤ copies log h
-copies_drop log k h = omega (arith, count_le (copies_it (drop k log) h) (copies_it log h) (drop k log)
-    (λ j x at is. copies_part log (drop k log) h (λ i y there. (k + i, drop_get k i log y there)) x is), count_drop (copies_it log h) k log)
+copies_drop log k h = omega (
+  arith,
+  count_le (copies_it (drop k log) h) (copies_it log h) (drop k log)
+      (λ j x at is. copies_part log (drop k log) h (λ i y there. (k + i, drop_get k i log y there)) x is),
+  count_drop (copies_it log h) k log,
+)
 
 -- ---- origins
 
@@ -91,7 +98,7 @@ open_unsettled log h is = open_case (is_settled log h) (list_any (discards_it lo
 
 pub copy_settles : (log : List Entry) (h : ℕ) (r : Entry) → copies_it log h r ≡ true → settles log h r ≡ true
 copy_settles log h r is = middle (names_it h r) (copies_it log h r) (discards_it log h r) is
-    where
+  where
     middle : (a b c : Bool) → b ≡ true → (a || b || c) ≡ true
     middle true true c e = refl
     middle false true c e = refl
@@ -100,8 +107,9 @@ copy_settles log h r is = middle (names_it h r) (copies_it log h r) (discards_it
 -- an open origin has no copy
 pub open_no_copy : (log : List Entry) (h : ℕ) → transaction_state log h ≡ Open → copies log h ≡ 0
 open_no_copy log h is = count_none (copies_it log h) log (λ k x at. elim (cases_Bool (copies_it log h x)) [
-    inl copy ↦ absurd (let a = any_at (settles log h) log k x at (copy_settles log h x copy) in let b = open_unsettled log h is in let e : true ≡ false = sym a ∙ b in cc)
-    | inr not ↦ not ])
+  | inl copy ↦ absurd (let a = any_at (settles log h) log k x at (copy_settles log h x copy) in let b = open_unsettled log h is in let e : true ≡ false = sym a ∙ b in cc)
+  | inr not ↦ not
+])
 
 -- a half message's family is that of its origin
 family_case : (h : ℕ) (half : Bool) (text : Option (List ℕ)) (offset : ℕ) (log : List Entry) (r origin : Entry) → h < 2 ^ 64 → r.queue_offset ≡ offset
@@ -110,8 +118,9 @@ family_case h false text offset log r origin low number is found = absurd (cc)
 family_case h true None offset log r origin low number is found =
     let same = same_Some r origin found in
     elim (or_cases (offset == h) false is) [
-      inl here ↦ ap (λ (x : Entry). x.queue_offset) (sym same) ∙ (number ∙ eqb-true offset h here)
-      | inr never ↦ absurd (let e = never in cc) ]
+      | inl here ↦ ap (λ (x : Entry). x.queue_offset) (sym same) ∙ (number ∙ eqb-true offset h here)
+      | inr never ↦ absurd (let e = never in cc)
+    ]
 family_case h true (Some text) offset log r origin low number is found =
     let there = found_at (is_origin (digits_value 10 text)) log origin found in
     let parts = and_parts (is_half origin && is_none (origin_text origin)) (origin.queue_offset == digits_value 10 text) there.2 in
@@ -128,7 +137,7 @@ own_case : (text : Option (List ℕ)) (offset g : ℕ) (log : List Entry) (r ori
 own_case None offset g log r origin number same is found =
     let one = same_Some r origin found in
     or_true (offset == g) false (eq-eqb offset g (sym same ∙ (ap (λ (x : Entry). x.queue_offset) one ∙ is)))
-    where
+  where
     or_true : (a b : Bool) → a ≡ true → (a || b) ≡ true
     or_true true b e = refl
     or_true false b e = absurd (cc)
@@ -144,4 +153,4 @@ pub own_family : (log : List Entry) (half origin : Entry) → is_half half ≡ t
     → in_family origin.queue_offset half ≡ true
 own_family log half origin is number found =
     subst (λ (b : Bool). ((b && is_none (origin_text half) && (half.queue_offset == origin.queue_offset)) || (b && is_text (digits_of origin.queue_offset) (origin_text half))) ≡ true)
-      (sym is) (own_case (origin_text half) half.queue_offset origin.queue_offset log half origin number refl refl found)
+    (sym is) (own_case (origin_text half) half.queue_offset origin.queue_offset log half origin number refl refl found)

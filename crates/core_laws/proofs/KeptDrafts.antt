@@ -1,5 +1,5 @@
 -- The next record of a draft that fits keeps the log.
-use Rattle.std.proofs.Common.{◌≡◌, refl, ap, sym, ◌∙◌, subst, arith, ℕ, ◌+◌, ◌*◌, ◌/◌, ◌%◌, ◌<◌, ◌≤◌, ◌^◌, List, [], ◌∷◌, length, take, Bool, true, false, if◌then◌else◌}
+use Rattle.std.proofs.Common.{◌≡◌, subst, arith, ℕ, ◌+◌, ◌<◌, ◌≤◌, ◌^◌, List, [], ◌∷◌, length, take}
 use Rattle.std.proofs.lemmas.List.{take_all}
 use Rattle.record_codec.specs.Entry.{Entry}
 use Rattle.record_codec.specs.Layout.{size}
@@ -9,7 +9,7 @@ use Rattle.log_model.specs.Log.{end_from}
 use Rattle.log_model.specs.Numbered.{Log, with_appended, next_record, queue_max, place_end}
 use Rattle.log_model.specs.Queues.{queue_of}
 use Rattle.log_model.proofs.FirstFits.{place_behind}
-use Rattle.core_laws.specs.Kept.{IsKept, IsKeptBehind}
+use Rattle.core_laws.specs.Kept.{IsKept}
 use Rattle.core_laws.specs.KeptDrafts.{IsFitDraft}
 use Rattle.core_laws.proofs.Kept.{kept_one, ends_behind}
 
@@ -18,7 +18,7 @@ pub queue_low : (log : Log) (topic : List ℕ) (queue : ℕ) → IsKept log → 
 queue_low log topic queue kept =
     let all : take (length log.records) log.records ≡ log.records = take_all (length log.records) log.records (omega arith) in
     subst (λ (l : List Entry). log.base.queues topic queue + length (queue_of l topic queue) ≤ end_from log.base.place l) all
-      (kept.counted (length log.records) topic queue)
+    (kept.counted (length log.records) topic queue)
 
 pub kept_next : (S now : ℕ) (log : Log) (d : Draft) → 0 < S → IsKept log → IsFitDraft log d
     → (next_record S now log d).offset + size (next_record S now log d) ≤ 2 ^ 62 → IsKept (with_appended log (next_record S now log d ∷ []))

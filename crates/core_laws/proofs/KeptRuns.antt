@@ -1,11 +1,9 @@
 -- Each log of a run is kept.
-use Rattle.std.proofs.Common.{◌≡◌, ◌⊎◌, inl, inr, refl, ap, sym, ◌∙◌, subst, arith, ℕ, ◌+◌, ◌-◌, ◌<◌, ◌≤◌, List, [], ◌∷◌, ◌++◌, length, take, Bool, true, false, Option, Some, None, if◌then◌else◌}
+use Rattle.std.proofs.Common.{◌≡◌, inl, inr, refl, ap, sym, ◌∙◌, subst, arith, ℕ, ◌-◌, ◌<◌, ◌≤◌, List, [], ◌∷◌, length, true, false, Option, Some, None, if◌then◌else◌}
 use Rattle.std.proofs.lemmas.Bool.{cases_Bool, or_parts, cond-true, cond-false}
 use Rattle.record_codec.specs.Entry.{Entry}
 use Rattle.log_model.specs.Bases.{Base}
 use Rattle.log_model.specs.Numbered.{Log, with_appended, above, below}
-use Rattle.log_model.specs.Log.{end_from}
-use Rattle.log_model.specs.Queues.{queue_of}
 use Rattle.std.specs.Prelude.{◌||◌, max}
 use Rattle.request_fields.specs.declared.request.Request.{Request}
 use Rattle.request_fields.specs.declared.request.Request.TheVariants.{Pull}
@@ -16,11 +14,11 @@ use Rattle.broker_model.specs.Step.{Step, after, changed, request_changed, store
 use Rattle.broker_model.specs.Answers.{taken}
 use Rattle.broker_model.specs.Removal.{IsRemovable}
 use Rattle.broker_model.specs.Laws.{IsRemoval}
-use Rattle.broker_model.specs.Run.{Boot, Move, Steps, SavesOffsets, SavesTopics, SavesBase, Crashes, Goes, RunWith, IsAmong, IsOfBoot, with_saved, kept_log, crashed, CanCrash}
+use Rattle.broker_model.specs.Run.{Boot, Move, Steps, SavesOffsets, SavesTopics, SavesBase, Crashes, Goes, RunWith, IsAmong, IsOfBoot, with_saved, kept_log, CanCrash}
 use Rattle.broker_model.proofs.StepLemmas.{log_stays, with_appended-nil}
 use Rattle.core_laws.specs.Sound.{IsSound, IsSoundBoot}
 use Rattle.core_laws.specs.Kept.{IsKept, IsKeptBoot}
-use Rattle.core_laws.specs.LogSteps.{Appends, Removes, LogStep}
+use Rattle.core_laws.specs.LogSteps.{LogStep}
 use Rattle.core_laws.proofs.Bases.{base_same}
 use Rattle.core_laws.proofs.Lists.{length_take, take_take_less}
 use Rattle.core_laws.proofs.Kept.{kept_above, kept_below}
@@ -42,9 +40,9 @@ trim_log s base is = ap (λ (b : Base). above s.log b) is
 -- any other event appends what it makes
 grows_by : (s : State) (e : Events.Event) → ¬ IsRemoval e → is_refused s e ≡ false → LogStep s e (with_records (changed s e) (moment s e) (made_by s e))
 grows_by s e stays fine = inr (inl (record {
-    fine = fine;
-    log = with_log (changed s e) (moment s e) (made_by s e) ∙ ap (λ (l : Log). with_appended l (made_by s e)) (log_stays s e stays);
-  }))
+  fine = fine;
+  log = with_log (changed s e) (moment s e) (made_by s e) ∙ ap (λ (l : Log). with_appended l (made_by s e)) (log_stays s e stays);
+}))
 
 carried : (s : State) (e : Events.Event) → IsPossible s e → is_refused s e ≡ false
     → LogStep s e (with_records (changed s e) (moment s e) (made_by s e))
@@ -62,8 +60,9 @@ carried s (Events.Leave n) possible fine = grows_by s (Events.Leave n) (λ no. n
 after_log : (s : State) (e : Events.Event) → IsPossible s e → LogStep s e (after s e)
 unfolding after
 after_log s e possible = elim (cases_Bool (is_refused s e)) [
-    inl refused ↦ inl (ap (λ (t : State). t.log) (cond-true (is_refused s e) s (with_records (changed s e) (moment s e) (made_by s e)) refused))
-    | inr fine ↦ subst (LogStep s e) (sym (cond-false (is_refused s e) s (with_records (changed s e) (moment s e) (made_by s e)) fine)) (carried s e possible fine) ]
+  | inl refused ↦ inl (ap (λ (t : State). t.log) (cond-true (is_refused s e) s (with_records (changed s e) (moment s e) (made_by s e)) refused))
+  | inr fine ↦ subst (LogStep s e) (sym (cond-false (is_refused s e) s (with_records (changed s e) (moment s e) (made_by s e)) fine)) (carried s e possible fine)
+]
 
 -- the log stays, grows by what the event makes, or begins at the saved base
 pub step_log : (s t : State) (e : Events.Event) (said : Option Events.Answer) → Step s e said t → LogStep s e t
@@ -98,8 +97,8 @@ crash_kept s k setup can sound kept low =
     let long : sound.ahead ≤ length s.log.records = omega (arith, sound.within, sound.dispatched, sound.flushed) in
     let front : sound.ahead ≤ k - s.log.base.records = omega (arith, sound.within, sound.dispatched, can.no_less) in
     kept_above (below s.log k) s.saved.base sound.ahead
-      (omega (arith, length_take (k - s.log.base.records) s.log.records (omega (arith, can.no_more)), front))
-      (base_same s.log.base s.saved.base _ _ (sym (take_take_less sound.ahead (k - s.log.base.records) s.log.records front)) sound.saved) low (kept_below s.log k kept)
+    (omega (arith, length_take (k - s.log.base.records) s.log.records (omega (arith, can.no_more)), front))
+    (base_same s.log.base s.saved.base _ _ (sym (take_take_less sound.ahead (k - s.log.base.records) s.log.records front)) sound.saved) low (kept_below s.log k kept)
 
 -- a base at which a state may begin counts no more records than there are places before it
 base_low : (p : State) (base : Base) → IsKept p.log → IsRemovable p base → (topic : List ℕ) (queue : ℕ) → base.queues topic queue ≤ base.place
@@ -136,9 +135,10 @@ changed_setup s _ = (refl, refl)
 after_setup : (s : State) (e : Events.Event) → ((after s e).setup ≡ s.setup) × ((after s e).saved ≡ s.saved)
 unfolding after
 after_setup s e = elim (is_refused s e) as (λ b. ((if b then s else with_records (changed s e) (moment s e) (made_by s e)).setup ≡ s.setup)
-      × ((if b then s else with_records (changed s e) (moment s e) (made_by s e)).saved ≡ s.saved)) [
-    true ↦ (refl, refl)
-    | false ↦ let w = with_setup (changed s e) (moment s e) (made_by s e) in let c = changed_setup s e in (w.0 ∙ c.0, w.1 ∙ c.1) ]
+    × ((if b then s else with_records (changed s e) (moment s e) (made_by s e)).saved ≡ s.saved)) [
+      | true ↦ (refl, refl)
+      | false ↦ let w = with_setup (changed s e) (moment s e) (made_by s e) in let c = changed_setup s e in (w.0 ∙ c.0, w.1 ∙ c.1)
+    ]
 
 step_saved : (s t : State) (e : Events.Event) (said : Option Events.Answer) → Step s e said t → (t.setup ≡ s.setup) × (t.saved ≡ s.saved)
 step_saved s t e None step = (ap (λ (x : State). x.setup) step.1, ap (λ (x : State). x.saved) step.1)
@@ -161,36 +161,38 @@ goes_kept b (Steps e said) c kept goes =
       sound = good.0;
       segment = subst (λ (x : Setup). 0 < x.segment) (sym rest.0) kept.segment;
       logs = λ s of. elim of [
-        inl now ↦ subst (λ (x : State). IsKept x.log) (sym now) here
-        | inr past ↦ elim (subst (λ (l : List State). IsAmong l s) goes.1 past) [ inl last ↦ kept.logs s (inl last) | inr before ↦ kept.logs s (inr before) ] ];
+        | inl now ↦ subst (λ (x : State). IsKept x.log) (sym now) here
+        | inr past ↦ elim (subst (λ (l : List State). IsAmong l s) goes.1 past) [ inl last ↦ kept.logs s (inl last) | inr before ↦ kept.logs s (inr before) ]
+      ];
       saved = λ topic queue. subst (λ (x : Saved). x.base.queues topic queue ≤ x.base.place) (sym rest.1) (kept.saved topic queue);
     }
 goes_kept b SavesOffsets c kept goes = subst IsKeptBoot (sym goes.2) (record {
-    sound = subst IsSoundBoot goes.2 (goes_good b SavesOffsets c kept.sound goes).0;
-    segment = kept.segment;
-    logs = of_saved b _ kept.logs;
-    saved = kept.saved;
-  })
+  sound = subst IsSoundBoot goes.2 (goes_good b SavesOffsets c kept.sound goes).0;
+  segment = kept.segment;
+  logs = of_saved b _ kept.logs;
+  saved = kept.saved;
+})
 goes_kept b SavesTopics c kept goes = subst IsKeptBoot (sym goes.2) (record {
-    sound = subst IsSoundBoot goes.2 (goes_good b SavesTopics c kept.sound goes).0;
-    segment = kept.segment;
-    logs = of_saved b _ kept.logs;
-    saved = kept.saved;
-  })
+  sound = subst IsSoundBoot goes.2 (goes_good b SavesTopics c kept.sound goes).0;
+  segment = kept.segment;
+  logs = of_saved b _ kept.logs;
+  saved = kept.saved;
+})
 goes_kept b (SavesBase base) c kept goes = subst IsKeptBoot (sym goes.4) (record {
-    sound = subst IsSoundBoot goes.4 (goes_good b (SavesBase base) c kept.sound goes).0;
-    segment = kept.segment;
-    logs = of_saved b _ kept.logs;
-    saved = base_low goes.0 base (kept.logs goes.0 goes.1) goes.2;
-  })
+  sound = subst IsSoundBoot goes.4 (goes_good b (SavesBase base) c kept.sound goes).0;
+  segment = kept.segment;
+  logs = of_saved b _ kept.logs;
+  saved = base_low goes.0 base (kept.logs goes.0 goes.1) goes.2;
+})
 goes_kept b (Crashes k setup) c kept goes = subst IsKeptBoot (sym goes.1) (record {
-    sound = subst IsSoundBoot goes.1 (goes_good b (Crashes k setup) c kept.sound goes).0;
-    segment = omega (arith, goes.0.segment, kept.segment);
-    logs = λ s of. elim of [
-      inl now ↦ subst (λ (x : State). IsKept x.log) (sym now) (crash_kept b.now k setup goes.0 kept.sound.state (kept.logs b.now (inl refl)) kept.saved)
-      | inr past ↦ absurd past ];
-    saved = kept.saved;
-  })
+  sound = subst IsSoundBoot goes.1 (goes_good b (Crashes k setup) c kept.sound goes).0;
+  segment = omega (arith, goes.0.segment, kept.segment);
+  logs = λ s of. elim of [
+    | inl now ↦ subst (λ (x : State). IsKept x.log) (sym now) (crash_kept b.now k setup goes.0 kept.sound.state (kept.logs b.now (inl refl)) kept.saved)
+    | inr past ↦ absurd past
+  ];
+  saved = kept.saved;
+})
 
 pub run_kept : (P : Boot → Move → Boot → Type 0) (b : Boot) (moves : List Move) (c : Boot) → IsKeptBoot b → RunWith P b moves c → IsKeptBoot c
 run_kept P b [] c kept run = subst IsKeptBoot (sym run) kept

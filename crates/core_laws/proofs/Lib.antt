@@ -1,6 +1,7 @@
 pub mod Acknowledged
 pub mod Bases
 pub mod CommitAnswers
+pub mod CommitExamples
 pub mod Commits
 pub mod Copies
 pub mod Counts

@@ -1,5 +1,5 @@
 -- Number texts, flags, and what is found in lists.
-use Rattle.std.proofs.Common.{◌≡◌, ◌⊎◌, inl, inr, refl, ap, sym, ◌∙◌, subst, arith, ℕ, zero, suc, ◌+◌, ◌-◌, ◌<◌, ◌≤◌, ◌^◌, List, [], ◌∷◌, Bool, true, false, Option, Some, None, find, slice_get, if◌then◌else◌, cond}
+use Rattle.std.proofs.Common.{◌≡◌, refl, sym, subst, arith, ℕ, suc, ◌-◌, ◌<◌, ◌^◌, List, [], ◌∷◌, Bool, true, false, Option, Some, None, find, slice_get, if◌then◌else◌, cond}
 use Rattle.std.specs.Prelude.{bit_and, ℤ, pos, neg_ℤ, nat_lt, nat_le, ◌&&◌, not, ◌==◌, IsSome, length, drop, slice_index, ◌||◌}
 use Rattle.std.specs.Str.{bytes_eq, all_ascii_digits}
 use Rattle.std.specs.Str.Parse.{digits_value, starts_with_minus}
@@ -71,13 +71,15 @@ pub number_text : (text : List ℕ) → IsSome (number_in text) → IsNumberText
 unfolding decimal_value
 number_text text is =
     let bare = bare_parts (nat_lt 0 (length text)) (slice_index text 0 == 45) (slice_index text 0 == 48) (length text == 1)
-      (something (is_bare text) (low_number (decimal_value text)) is) in
+    (something (is_bare text) (low_number (decimal_value text)) is) in
     let test = by_parts (is_bare text) (starts_with_minus text)
-      (nat_lt 0 (length text) && all_ascii_digits text && nat_le (digits_value 10 text) (2 ^ 63 - 1))
-      (option_map (λ n. neg_ℤ (pos n)) (number_up_to (2 ^ 63) (drop 1 text))) (digits_value 10 text) bare.1 is in
+    (nat_lt 0 (length text) && all_ascii_digits text && nat_le (digits_value 10 text) (2 ^ 63 - 1))
+    (option_map (λ n. neg_ℤ (pos n)) (number_up_to (2 ^ 63) (drop 1 text))) (digits_value 10 text) bare.1 is in
     let outer = and_parts (nat_lt 0 (length text) && all_ascii_digits text) (nat_le (digits_value 10 text) (2 ^ 63 - 1)) test in
     let digits = (and_parts (nat_lt 0 (length text)) (all_ascii_digits text) outer.0).1 in
     let low = leb-true (digits_value 10 text) (2 ^ 63 - 1) outer.1 in
-    let small : digits_value 10 text < 2 ^ 64 = omega (arith, low) in
-    (digits_value 10 text, small,
-      sym (decimal-digits_value model text digits (ltb-true 0 (length text) bare.0) (λ e. eqb-true (length text) 1 (bare.2 (eq-eqb (slice_index text 0) 48 e))) small))
+    let small : digits_value 10 text < 2 ^ 64 = omega (arith, low) in (
+      digits_value 10 text,
+      small,
+      sym (decimal-digits_value model text digits (ltb-true 0 (length text) bare.0) (λ e. eqb-true (length text) 1 (bare.2 (eq-eqb (slice_index text 0) 48 e))) small),
+    )

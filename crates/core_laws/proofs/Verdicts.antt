@@ -1,20 +1,20 @@
 -- An accepted Commit: what it is, what it appends, and what it is answered.
-use Rattle.std.proofs.Common.{◌≡◌, ◌⊎◌, inl, inr, refl, ap, sym, ◌∙◌, subst, arith, ℕ, zero, suc, ◌+◌, ◌-◌, ◌*◌, ◌/◌, ◌%◌, ◌<◌, ◌≤◌, ◌^◌, max, List, [], ◌∷◌, ◌++◌, length, slice_get, Bool, true, false, Option, Some, None, cond, if◌then◌else◌}
-use Rattle.std.specs.Prelude.{◌&&◌, ◌||◌, ◌==◌, not, bit_and, bit_or, nat_le, is_some}
-use Rattle.std.proofs.lemmas.Bool.{and_parts, eqb-true, or_parts, cond-false, cond-true, leb-false, eq-eqb}
+use Rattle.std.proofs.Common.{◌≡◌, ◌⊎◌, inl, inr, refl, ap, ◌∙◌, subst, arith, ℕ, zero, suc, ◌+◌, ◌*◌, ◌/◌, ◌%◌, ◌<◌, ◌≤◌, ◌^◌, max, List, [], ◌∷◌, slice_get, Bool, true, false, Option, Some, None, if◌then◌else◌}
+use Rattle.std.specs.Prelude.{◌||◌, ◌==◌, not, bit_and, bit_or, is_some}
+use Rattle.std.proofs.lemmas.Bool.{and_parts, eqb-true, or_parts, cond-false}
 use Rattle.std.proofs.lemmas.Nat.{and_or_self, and_or_apart, and_block, and_assoc, and_le_r}
 use Rattle.std.proofs.lemmas.Option.{same_Some}
 use Rattle.record_codec.specs.Entry.{Entry}
-use Rattle.log_model.specs.Drafts.{copy_draft, op_draft, plain_flag}
-use Rattle.log_model.specs.Transactions.{TransactionState, Open, Committed, RolledBack, Discarded, transaction_state, settles}
+use Rattle.log_model.specs.Drafts.{plain_flag}
+use Rattle.log_model.specs.Transactions.{TransactionState, Open, Committed, RolledBack, Discarded, transaction_state}
 use Rattle.request_fields.specs.Requests.{EndSaid}
 use Rattle.request_fields.specs.declared.request.Request.{Request}
 use Rattle.request_fields.specs.declared.request.Request.TheVariants.{EndTransaction}
 use Rattle.broker_model.specs.State.{State}
 use Rattle.broker_model.specs.Events
-use Rattle.broker_model.specs.Refusals.{refusal_of, end_refusal, origin_refusal, settled_otherwise, named_half, verdict_origin, judged_origin}
-use Rattle.broker_model.specs.Appended.{drafts_of, verdict_drafts, first_verdict, open_verdict, appended, made_by, is_refused, is_refused_request, is_past_end, is_full}
-use Rattle.broker_model.specs.Answers.{answer_of, carried_out_answer, request_answer, end_answer, or_refused, event_refusal, refused_answer, last_number, or_number}
+use Rattle.broker_model.specs.Refusals.{refusal_of, origin_refusal, settled_otherwise, named_half, verdict_origin, judged_origin}
+use Rattle.broker_model.specs.Appended.{appended, made_by, is_refused, is_refused_request, is_past_end, is_full}
+use Rattle.broker_model.specs.Answers.{answer_of, carried_out_answer, request_answer, end_answer, or_refused, refused_answer, last_number, or_number}
 use Rattle.broker_model.specs.Acknowledged.{is_verdict_on, is_request_on, is_that_origin}
 
 -- ---- what it is
@@ -71,7 +71,7 @@ end_row : (s : State) (end : EndSaid) (origin : Entry) → end.verdict ≡ 8 →
 unfolding refusal_of
 end_row s end origin eight judged none =
     subst (λ (v : ℕ). settled_otherwise v (transaction_state s.log.records origin.queue_offset) ≡ None) eight
-      (subst (λ (o : Option Entry). origin_refusal s.log.records end.verdict o ≡ None) judged none)
+    (subst (λ (o : Option Entry). origin_refusal s.log.records end.verdict o ≡ None) judged none)
 
 unrefused : (b : Bool) → not b ≡ true → b ≡ false
 unrefused true is = absurd (cc)
@@ -97,7 +97,7 @@ verdict_of s (Events.Asks a) h is =
       of = origin.2;
       fine = fine;
       state = accepted (transaction_state s.log.records origin.0.queue_offset)
-        (end_row s asks.0 origin.0 asks.2 origin.1 (subst (λ (r : Request). refusal_of s r ≡ None) asks.1 (no_row s a fine)));
+          (end_row s asks.0 origin.0 asks.2 origin.1 (subst (λ (r : Request). refusal_of s r ≡ None) asks.1 (no_row s a fine)));
     }
 verdict_of s Events.Take h is = absurd (cc)
 verdict_of s (Events.Flushed n) h is = absurd (cc)
@@ -116,7 +116,7 @@ pub verdict_answer : (s : State) (a : Events.Asked) (end : EndSaid) → a.reques
 unfolding answer_of appended carried_out_answer request_answer
 verdict_answer s a end is fine =
     ap (λ (o : Option Events.Reply). or_refused o (if is_refused s (Events.Asks a) then refused_answer s (Events.Asks a)
-        else request_answer s (max a.now s.now) a.request (if is_refused s (Events.Asks a) then [] else made_by s (Events.Asks a)))) (no_row s a fine)
+    else request_answer s (max a.now s.now) a.request (if is_refused s (Events.Asks a) then [] else made_by s (Events.Asks a)))) (no_row s a fine)
     ∙ (cond-false (is_refused s (Events.Asks a)) (refused_answer s (Events.Asks a)) (request_answer s (max a.now s.now) a.request (if is_refused s (Events.Asks a) then [] else made_by s (Events.Asks a))) fine
     ∙ (ap (λ (rs : List Entry). request_answer s (max a.now s.now) a.request rs) (cond-false (is_refused s (Events.Asks a)) [] (made_by s (Events.Asks a)) fine)
     ∙ ap (λ (r : Request). request_answer s (max a.now s.now) r (made_by s (Events.Asks a))) is))
@@ -127,7 +127,7 @@ verdict_answer s a end is fine =
 number_low : (test : Entry → Bool) (n m : ℕ) (log : List Entry) → last_number test n log ≡ Some m → n ≤ m
 number_low test n m [] is = absurd (cc)
 number_low test n m (r ∷ log) is = first (last_number test (n + 1) log) (test r) (λ k e. number_low test (n + 1) k log e) is
-    where
+  where
     first : (o : Option ℕ) (b : Bool) → ((k : ℕ) → o ≡ Some k → n + 1 ≤ k) → or_number o (if b then Some n else None) ≡ Some m → n ≤ m
     first (Some k) b later got = let same = same_Some k m got in let low = later k refl in omega (arith, same, low)
     first None true later got = let same = same_Some n m got in omega (arith, same)
@@ -138,7 +138,7 @@ pub number_high : (test : Entry → Bool) (n : ℕ) (log : List Entry) (j : ℕ)
 number_high test n [] j r got is = absurd (cc)
 number_high test n (x ∷ log) zero r got is =
     here (last_number test (n + 1) log) (test x) (ap test (same_Some x r got) ∙ is) (λ k e. number_low test (n + 1) k log e)
-    where
+  where
     here : (o : Option ℕ) (b : Bool) → b ≡ true → ((k : ℕ) → o ≡ Some k → n + 1 ≤ k) → (m : ℕ) × (or_number o (if b then Some n else None) ≡ Some m) × (n + 0 ≤ m)
     here (Some k) b e later = let low = later k refl in (k, refl, omega (arith, low))
     here None true e later = (n, refl, omega arith)
@@ -157,8 +157,19 @@ eight_bits y eight four =
     let a = and_block 3 (y / 8) 1 (y % 8) 0 low (omega arith) in
     let b = and_block 3 (y / 8) 0 (y % 8) 4 low (omega arith) in
     let c = and_block 3 (y / 8) 1 (y % 8) 4 low (omega arith) in
-    omega (arith, a, b, c, eight, four, ap (λ (n : ℕ). bit_and n 8) whole, ap (λ (n : ℕ). bit_and n 4) whole, ap (λ (n : ℕ). bit_and n 12) whole,
-      and_le_r (y % 8) 0, and_le_r (y / 8) 0)
+    omega (
+      arith,
+      a,
+      b,
+      c,
+      eight,
+      four,
+      ap (λ (n : ℕ). bit_and n 8) whole,
+      ap (λ (n : ℕ). bit_and n 4) whole,
+      ap (λ (n : ℕ). bit_and n 12) whole,
+      and_le_r (y % 8) 0,
+      and_le_r (y / 8) 0,
+    )
 
 pub copy_bits : (flag : ℕ) → bit_and (bit_or (plain_flag flag) 8) 12 ≡ 8
 copy_bits flag = eight_bits (bit_or (plain_flag flag) 8) (and_or_self 8 (plain_flag flag))

@@ -1,5 +1,5 @@
 -- Which drafts may be appended to a kept log.
-use Rattle.std.specs.Prelude.{◌≡◌, ℕ, ◌<◌, ◌==◌, ◌||◌, codes, bit_and, true, false, Option}
+use Rattle.std.specs.Prelude.{◌≡◌, ◌<◌, ◌==◌, ◌||◌, codes, bit_and, true, false}
 use Rattle.std.specs.Str.{bytes_eq}
 use Rattle.record_codec.specs.Props.{value_of}
 use Rattle.record_codec.specs.declared.draft.Draft.{Draft}
@@ -13,5 +13,6 @@ use Rattle.core_laws.specs.Kept.{IsNumberText}
 pub record IsFitDraft (log : Log) (d : Draft) : Type 0 where
   pub prepared : ((bit_and d.sysflag 12 == 8) || bytes_eq d.topic discard_topic) ≡ true → d.prepared < place_end log
   pub bits : (bytes_eq d.topic half_topic || bytes_eq d.topic level_topic) ≡ true → bit_and d.sysflag 12 ≡ 0
-  pub real : (bytes_eq d.topic half_topic || bytes_eq d.topic level_topic) ≡ true → is_system_topic (text_in (codes "REAL_TOPIC") d.props) ≡ false
+  pub real : (bytes_eq d.topic half_topic || bytes_eq d.topic level_topic) ≡ true
+      → is_system_topic (text_in (codes "REAL_TOPIC") d.props) ≡ false
   pub text : bytes_eq d.topic half_topic ≡ true → IsNumberText (value_of (codes "TRAN_PREPARED_QUEUE_OFFSET") d.props)

@@ -1,3 +1,4 @@
+pub mod CommitExamples
 pub mod Examples
 pub mod Halves
 pub mod Kept

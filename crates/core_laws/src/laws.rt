@@ -1,6 +1,6 @@
 //! What holds of every run of steps, savings and crashes from an opening. No call is made: the clauses speak of the definitions.
 
-ghost use Rattle.std.specs.Prelude.{◌≡◌, ◌+◌, ◌-◌, ◌<◌, ◌≤◌, ℕ, List, [], ◌∷◌, take, drop, map, max, Bool, true, Option, Some, slice_get, ◌^◌};
+ghost use Rattle.std.specs.Prelude.{◌≡◌, ◌+◌, ◌-◌, ◌^◌, ◌<◌, ◌≤◌, ℕ, max, List, [], ◌∷◌, take, drop, map, slice_get, Bool, true, Option, Some};
 ghost use Rattle.record_codec.specs.Entry.{Entry};
 ghost use Rattle.log_model.specs.Numbered.{count_of, records_of};
 ghost use Rattle.log_model.specs.Kinds.{is_copy};
@@ -10,10 +10,11 @@ ghost use Rattle.request_fields.specs.declared.request.Request.TheVariants.{Pull
 ghost use Rattle.broker_model.specs.Tables.{OffsetRow};
 ghost use Rattle.broker_model.specs.State.{State, Setup, seen};
 ghost use Rattle.broker_model.specs.Events as events;
-ghost use Rattle.broker_model.specs.Answers.{pull_words, half_waits};
+ghost use Rattle.broker_model.specs.Answers.{pull_words, half_waits, done_reply};
 ghost use Rattle.broker_model.specs.Refusals.{named_half};
 ghost use Rattle.broker_model.specs.Run.{Boot, Move, Steps, Crashes, Goes, Run, RunWith, IsOpening};
 ghost use Rattle.broker_model.specs.Acknowledged.{AnswersAfter, AnswersAtOnce, IsAcknowledged, StandsAt, StandsOrRemoved, is_verdict_on};
+ghost use Rattle.core_laws.specs.CommitExamples as commits;
 ghost use Rattle.core_laws.specs.Examples as examples;
 ghost use Rattle.core_laws.specs.Halves.{IsMadeByCommit, NoCommitOn, IsCopyAt};
 ghost use Rattle.core_laws.specs.Offsets.{AllRows, IsAllowed, IsWithin, StoresOnly};
@@ -102,4 +103,15 @@ pub fn a_run_happens()
     ensures offset { map (λ row. row.offset) examples.at_crash.now.offsets ≡ 1 ∷ [] }
     ensures cut { IsOpening examples.at_cut × (map (λ row. row.offset) examples.at_cut.now.offsets ≡ 0 ∷ []) }
     ensures tables { (s : State) → StandsFor (examples.tables_of s) s }
+{}
+
+/// The law on halves speaks of something: a half message is sent and flushed, and a Commit of it is answered once its copy and op
+/// record are flushed. Or a crash keeps the copy alone: the Commit that is said again is answered at once, and there is still one copy.
+pub fn a_commit_happens()
+    ensures answered { AnswersAfter examples.at_opening commits.until_told commits.at_told commits.commits done_reply 2 }
+    ensures verdict { is_verdict_on commits.at_flushed.now 0 8 commits.commits ≡ true }
+    ensures copied { copies commits.at_commit.now.log.records 0 ≡ 1 }
+    ensures again { AnswersAtOnce examples.at_opening commits.until_again commits.at_again commits.commits done_reply }
+    ensures again_verdict { is_verdict_on commits.at_kept_copy.now 0 8 commits.commits ≡ true }
+    ensures once { copies commits.at_again.now.log.records 0 ≡ 1 }
 {}

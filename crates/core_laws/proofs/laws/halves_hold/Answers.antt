@@ -3,7 +3,7 @@ use Rattle.std.proofs.Common.{arith, inl, inr, refl, max, ◌<◌, Some}
 use Rattle.broker_model.specs.Run.{Anything, Steps}
 use Rattle.broker_model.specs.Events
 use Rattle.log_model.specs.Transactions.{copies}
-use Rattle.core_laws.proofs.Acknowledged.{answered_stays, answer_sound}
+use Rattle.core_laws.proofs.Acknowledged.{answered_stays}
 use Rattle.core_laws.proofs.Runs.{run_good, goes_good}
 use Rattle.core_laws.proofs.Copies.{run_copies, run_no_copies}
 use Rattle.core_laws.proofs.KeptOpenings.{opening_kept}
