@@ -111,7 +111,7 @@ Says said.Done answer = answer ≡ model.Done
 Says (said.Awaited what) answer = answer ≡ model.Looked (awaited_of what)
 Says (said.Moved number) answer = answer ≡ model.Moved number
 
--- the same, where nothing was said for want of memory
+-- the same, where nothing was said since memory ran out
 abbrev pub SaysIn : Option Said → Option model.Answer → Type 0
 SaysIn None None = Unit {0}
 SaysIn None (Some answer) = ⊥

@@ -22,7 +22,7 @@ pub trait Calls {
     // What an object with the key shows: the end of the flushed records, and the batch that is out.
     ghost shown: { Self → Shown };
 
-    /// Makes one step. Want of memory comes only at a request and at `Take`, and changes nothing.
+    /// Makes one step. It runs out of memory only at a request and at `Take`, and changes nothing then.
     fn call(&mut self, alloc: Global, event: &Event) -> Result<Said, AllocError>
         requires key { IsKeyed event.now → has_key self.old }
         requires accepted { Accepts (shown self.old) event.now }

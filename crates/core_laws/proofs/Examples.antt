@@ -22,7 +22,7 @@ use Rattle.core_laws.specs.Replay.{StandsFor}
 use Rattle.core_laws.specs.Examples.{setup, at_opening, stepped, answered, at_send, at_take, at_flush, at_look, hi_record, hi_reply, until_look, at_dispatch, asked_pull, pull_said, at_pull, until_dispatch, at_store, at_saving, until_saving, is_one, at_crash, at_cut, tables_of}
 
 -- what may happen happens
-goes : (b : Boot) (e : Events.Event) → IsPossible b.now e → Goes b (answered b e) (stepped b e)
+pub goes : (b : Boot) (e : Events.Event) → IsPossible b.now e → Goes b (answered b e) (stepped b e)
 goes b e possible = ((possible, refl, refl), refl)
 
 -- no record is a lawful log

@@ -2,6 +2,7 @@
 use Rattle.std.proofs.Common.{◌≡◌, refl, ap, sym, ◌∙◌, subst, arith, ℕ, zero, suc, ◌+◌, ◌-◌, ◌<◌, List, [], ◌∷◌, ◌++◌, length, take, drop, filter, slice_get, Bool, true, false, Option, Some, None, cond, if◌then◌else◌, append_assoc}
 use Rattle.std.specs.Prelude.{ℤ, pos, negsuc, nat_lt, ◌&&◌, ◌==◌, ◌||◌, not, is_some, is_none, unwrap_or, codes}
 use Rattle.std.specs.Str.{bytes_eq}
+use Rattle.std.proofs.lemmas.Option.{same_Some}
 use Rattle.record_codec.specs.Entry.{Entry}
 use Rattle.record_codec.specs.Units.{unit_of}
 use Rattle.record_codec.specs.Drafts.{first_that_holds}
@@ -143,6 +144,18 @@ pub kept_was_there : (test : Entry → Bool) (xs : List Entry) (k : ℕ) (r : En
     → (j : ℕ) × (slice_get xs j ≡ Some r)
 kept_was_there test [] k r got = absurd (cc)
 kept_was_there test (x ∷ xs) k r got = kept_at test x xs r (test x) (λ i at. kept_was_there test xs i r at) k got
+
+-- and passes
+passes_at : (test : Entry → Bool) (x : Entry) (xs : List Entry) (r : Entry) (b : Bool) → test x ≡ b
+    → ((i : ℕ) → slice_get (filter test xs) i ≡ Some r → test r ≡ true)
+    → (k : ℕ) → slice_get (cond b (x ∷ filter test xs) (filter test xs)) k ≡ Some r → test r ≡ true
+passes_at test x xs r true is rest zero got = ap test (sym (same_Some x r got)) ∙ is
+passes_at test x xs r true is rest (suc k) got = rest k got
+passes_at test x xs r false is rest k got = rest k got
+
+pub kept_passes : (test : Entry → Bool) (xs : List Entry) (k : ℕ) (r : Entry) → slice_get (filter test xs) k ≡ Some r → test r ≡ true
+kept_passes test [] k r got = absurd (cc)
+kept_passes test (x ∷ xs) k r got = passes_at test x xs r (test x) refl (λ i at. kept_passes test xs i r at) k got
 
 -- what a slice has is in its queue
 slice_in : (queue body : List Entry) (words : List ℕ) (k : ℕ) (r : Entry) → IsSliceOf queue words body → slice_get body k ≡ Some r → (j : ℕ) × (slice_get queue j ≡ Some r)

@@ -1,4 +1,9 @@
+pub mod CommitExamples
 pub mod Examples
+pub mod Halves
+pub mod Kept
+pub mod KeptDrafts
+pub mod LogSteps
 pub mod Offsets
 pub mod Pulls
 pub mod Replay

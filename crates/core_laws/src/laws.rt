@@ -1,17 +1,22 @@
 //! What holds of every run of steps, savings and crashes from an opening. No call is made: the clauses speak of the definitions.
 
-ghost use Rattle.std.specs.Prelude.{◌≡◌, ◌+◌, ◌-◌, ◌<◌, ◌≤◌, ℕ, List, [], ◌∷◌, take, drop, map, Bool, Some, slice_get};
+ghost use Rattle.std.specs.Prelude.{◌≡◌, ◌+◌, ◌-◌, ◌^◌, ◌<◌, ◌≤◌, ℕ, max, List, [], ◌∷◌, take, drop, map, slice_get, Bool, true, Option, Some};
 ghost use Rattle.record_codec.specs.Entry.{Entry};
 ghost use Rattle.log_model.specs.Numbered.{count_of, records_of};
-ghost use Rattle.request_fields.specs.Requests.{PullSaid};
-ghost use Rattle.request_fields.specs.declared.request.Request.TheVariants.{Pull};
+ghost use Rattle.log_model.specs.Kinds.{is_copy};
+ghost use Rattle.log_model.specs.Transactions.{copies};
+ghost use Rattle.request_fields.specs.Requests.{PullSaid, EndSaid};
+ghost use Rattle.request_fields.specs.declared.request.Request.TheVariants.{Pull, EndTransaction};
 ghost use Rattle.broker_model.specs.Tables.{OffsetRow};
 ghost use Rattle.broker_model.specs.State.{State, Setup, seen};
 ghost use Rattle.broker_model.specs.Events as events;
-ghost use Rattle.broker_model.specs.Answers.{pull_words};
+ghost use Rattle.broker_model.specs.Answers.{pull_words, half_waits, done_reply};
+ghost use Rattle.broker_model.specs.Refusals.{named_half};
 ghost use Rattle.broker_model.specs.Run.{Boot, Move, Steps, Crashes, Goes, Run, RunWith, IsOpening};
-ghost use Rattle.broker_model.specs.Acknowledged.{IsAcknowledged, StandsAt, StandsOrRemoved};
+ghost use Rattle.broker_model.specs.Acknowledged.{AnswersAfter, AnswersAtOnce, IsAcknowledged, StandsAt, StandsOrRemoved, is_verdict_on};
+ghost use Rattle.core_laws.specs.CommitExamples as commits;
 ghost use Rattle.core_laws.specs.Examples as examples;
+ghost use Rattle.core_laws.specs.Halves.{IsMadeByCommit, NoCommitOn, IsCopyAt};
 ghost use Rattle.core_laws.specs.Offsets.{AllRows, IsAllowed, IsWithin, StoresOnly};
 ghost use Rattle.core_laws.specs.Pulls.{IsSliceOf};
 ghost use Rattle.core_laws.specs.Replay.{Tables, StandsFor, IsReplayOf};
@@ -61,6 +66,28 @@ pub fn offsets_hold()
         → AllRows (IsAllowed allowed d.now) d.now.offsets × (d.now.offsets ≡ c.now.saved.offsets) }
 {}
 
+/// A copy of a half message comes only by a Commit of one of its family while its origin is open, so without a Commit there is none,
+/// and whatever crashes there is at most one, or what the opening's log had. Where a Commit is answered, its copy stays until it is
+/// removed, whether this Commit made it or an earlier one. Queue offsets are below 2^64.
+pub fn halves_hold()
+    ensures only { (b c d : Boot) (moves : List Move) (e : events.Event) (said : Option events.Answer) (n : ℕ) (r : Entry) → IsOpening b
+        → Run b moves c → Goes c (Steps e said) d → count_of c.now.log ≤ n → StandsAt d.now n r → is_copy r ≡ true
+        → IsMadeByCommit c.now e r }
+    ensures none { (b c : Boot) (moves : List Move) (h : ℕ) → h < 2 ^ 64 → IsOpening b → copies b.now.log.records h ≡ 0
+        → RunWith (NoCommitOn h) b moves c → copies c.now.log.records h ≡ 0 }
+    ensures once { (b c : Boot) (moves : List Move) (h : ℕ) → h < 2 ^ 64 → IsOpening b → Run b moves c
+        → copies c.now.log.records h ≤ max 1 (copies b.now.log.records h) }
+    ensures stays { (b c : Boot) (moves : List Move) (e : events.Event) (reply : events.Reply) (number h : ℕ) → IsOpening b
+        → (answers : AnswersAfter b moves c e reply number) → is_verdict_on answers.asked.now h 8 e ≡ true
+        → (n : ℕ) × (copy : Entry) × IsCopyAt answers.heard.now h n copy × (n < c.now.flushed) × StandsOrRemoved c.now n copy }
+    // At once: in sync mode, of a half message that waits, such a Commit was said before.
+    ensures stays_at_once { (b c : Boot) (moves : List Move) (a : events.Asked) (end : EndSaid) (reply : events.Reply) (h : ℕ) → IsOpening b
+        → a.request ≡ EndTransaction end → (answers : AnswersAtOnce b moves c (events.Asks a) reply)
+        → is_verdict_on answers.asked.now h 8 (events.Asks a) ≡ true → answers.asked.now.setup.sync ≡ true
+        → half_waits (named_half answers.asked.now end) ≡ true
+        → (n : ℕ) × (copy : Entry) × IsCopyAt answers.heard.now h n copy × (n < c.now.flushed) × StandsOrRemoved c.now n copy }
+{}
+
 /// The laws speak of something: `hi` is sent to an empty store, acknowledged, dispatched and pulled; the offset 9 is stored as 1, the
 /// end of its queue, and saved; then all crashes, and the record and the offset are kept. A saved offset past its queue is cut.
 pub fn a_run_happens()
@@ -76,4 +103,15 @@ pub fn a_run_happens()
     ensures offset { map (λ row. row.offset) examples.at_crash.now.offsets ≡ 1 ∷ [] }
     ensures cut { IsOpening examples.at_cut × (map (λ row. row.offset) examples.at_cut.now.offsets ≡ 0 ∷ []) }
     ensures tables { (s : State) → StandsFor (examples.tables_of s) s }
+{}
+
+/// The law on halves speaks of something: a half message is sent and flushed, and a Commit of it is answered once its copy and op
+/// record are flushed. Or a crash keeps the copy alone: the Commit that is said again is answered at once, and there is still one copy.
+pub fn a_commit_happens()
+    ensures answered { AnswersAfter examples.at_opening commits.until_told commits.at_told commits.commits done_reply 2 }
+    ensures verdict { is_verdict_on commits.at_flushed.now 0 8 commits.commits ≡ true }
+    ensures copied { copies commits.at_commit.now.log.records 0 ≡ 1 }
+    ensures again { AnswersAtOnce examples.at_opening commits.until_again commits.at_again commits.commits done_reply }
+    ensures again_verdict { is_verdict_on commits.at_kept_copy.now 0 8 commits.commits ≡ true }
+    ensures once { copies commits.at_again.now.log.records 0 ≡ 1 }
 {}

@@ -4,5 +4,6 @@
 mod laws;
 
 pub use laws::{
-    a_run_happens, acknowledged_stay, offsets_hold, pulls_are_slices, tables_are_replay,
+    a_commit_happens, a_run_happens, acknowledged_stay, halves_hold, offsets_hold,
+    pulls_are_slices, tables_are_replay,
 };

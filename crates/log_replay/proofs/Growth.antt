@@ -119,36 +119,36 @@ family_same log r h place low =
     ∙ or_false _ _ (no_more (M r) true r T (not_at r.offset place low))
 
 module _ (log : List Entry) (r : Entry) (h : ℕ) where
-  copy_same : (e : Entry) → IsAdmissible e → e.offset ≤ r.offset → copies_it (log ++ r ∷ []) h e ≡ copies_it log h e
-  copy_same e lawful low = and_under (is_copy e) _ _ (λ is. family_same log r h e.prepared (omega (arith, lawful.copy (eqb-true (bit_and e.sysflag 12) 8 is), low)))
+  copy_same : (segment : ℕ) (e : Entry) → IsAdmissible segment e → e.offset ≤ r.offset → copies_it (log ++ r ∷ []) h e ≡ copies_it log h e
+  copy_same segment e lawful low = and_under (is_copy e) _ _ (λ is. family_same log r h e.prepared (omega (arith, lawful.copy (eqb-true (bit_and e.sysflag 12) 8 is), low)))
 
-  discard_same : (e : Entry) → IsAdmissible e → e.offset ≤ r.offset → discards_it (log ++ r ∷ []) h e ≡ discards_it log h e
-  discard_same e lawful low = and_under (is_discard e) _ _ (λ is. family_same log r h e.prepared (omega (arith, lawful.checked is, low)))
+  discard_same : (segment : ℕ) (e : Entry) → IsAdmissible segment e → e.offset ≤ r.offset → discards_it (log ++ r ∷ []) h e ≡ discards_it log h e
+  discard_same segment e lawful low = and_under (is_discard e) _ _ (λ is. family_same log r h e.prepared (omega (arith, lawful.discard is, low)))
 
   module _ (S : Geometry) (well : IsWellFormed S log) (follows : Follows S log r) where
-    lawful_at : (k : ℕ) (e : Entry) → slice_get log k ≡ Some e → IsAdmissible e
-    lawful_at k e got = (well.each k e got).shaped
+    lawful_at : (k : ℕ) (e : Entry) → slice_get log k ≡ Some e → IsAdmissible S.size e
+    lawful_at k e got = (well.each k e got).admissible
 
     -- how often it was copied
     pub copies_more : copies (log ++ r ∷ []) h ≡ copies log h + cond (copies_it log h r) 1 0
     copies_more =
         let C : Entry → Bool = copies_it (log ++ r ∷ []) h in
-        let same : filter C log ≡ filter (copies_it log h) log = kept_agree C (copies_it log h) log (λ k e got. copy_same e (lawful_at k e got) (stands_behind S log r well follows k e got)) in
+        let same : filter C log ≡ filter (copies_it log h) log = kept_agree C (copies_it log h) log (λ k e got. copy_same S.size e (lawful_at k e got) (stands_behind S log r well follows k e got)) in
         count_by-more C log r
         ∙ ap (λ (n : ℕ). n + cond (C r) 1 0) (sym (length-filter C log) ∙ ap (λ (l : List Entry). length l) same ∙ length-filter (copies_it log h) log)
-        ∙ ap (λ (b : Bool). copies log h + cond b 1 0) (copy_same r follows.shaped (omega arith))
+        ∙ ap (λ (b : Bool). copies log h + cond b 1 0) (copy_same S.size r follows.admissible (omega arith))
 
-    any_more : (P Q : Entry → Bool) → ((e : Entry) → IsAdmissible e → e.offset ≤ r.offset → P e ≡ Q e) → list_any P (log ++ r ∷ []) ≡ (list_any Q log || Q r)
+    any_more : (P Q : Entry → Bool) → ((e : Entry) → IsAdmissible S.size e → e.offset ≤ r.offset → P e ≡ Q e) → list_any P (log ++ r ∷ []) ≡ (list_any Q log || Q r)
     any_more P Q agree =
         list_any-append P log (r ∷ [])
         ∙ ap (λ (b : Bool). b || (P r || false)) (any_agree P Q log (λ k e got. agree e (lawful_at k e got) (stands_behind S log r well follows k e got)))
-        ∙ ap (λ (b : Bool). list_any Q log || b) (or_false (P r) false refl ∙ agree r follows.shaped (omega arith))
+        ∙ ap (λ (b : Bool). list_any Q log || b) (or_false (P r) false refl ∙ agree r follows.admissible (omega arith))
 
     -- what settles it
     pub settled_more : is_settled (log ++ r ∷ []) h ≡ (is_settled log h || settles log h r)
     settled_more = any_more (settles (log ++ r ∷ []) h) (settles log h) (λ e lawful low.
-        ap (λ (b : Bool). names_it h e || b || discards_it (log ++ r ∷ []) h e) (copy_same e lawful low)
-        ∙ ap (λ (b : Bool). names_it h e || copies_it log h e || b) (discard_same e lawful low))
+        ap (λ (b : Bool). names_it h e || b || discards_it (log ++ r ∷ []) h e) (copy_same S.size e lawful low)
+        ∙ ap (λ (b : Bool). names_it h e || copies_it log h e || b) (discard_same S.size e lawful low))
 
     -- what became of it
     pub state_more : transaction_state (log ++ r ∷ []) h ≡ state_after (transaction_state log h) (names_it h r) (copies_it log h r) (discards_it log h r)
@@ -162,7 +162,7 @@ module _ (log : List Entry) (r : Entry) (h : ℕ) where
         state_is (log ++ r ∷ []) h
         ∙ ap (λ (b : Bool). by_tests b (list_any (copies_it (log ++ r ∷ []) h) (log ++ r ∷ [])) (list_any (discards_it (log ++ r ∷ []) h) (log ++ r ∷ [])))
         (any_more (names_it h) (names_it h) (λ e lawful low. refl))
-        ∙ ap (λ (b : Bool). by_tests (N || n) b (list_any (discards_it (log ++ r ∷ []) h) (log ++ r ∷ []))) (any_more (copies_it (log ++ r ∷ []) h) (copies_it log h) copy_same)
-        ∙ ap (λ (b : Bool). by_tests (N || n) (C || c) b) (any_more (discards_it (log ++ r ∷ []) h) (discards_it log h) discard_same)
+        ∙ ap (λ (b : Bool). by_tests (N || n) b (list_any (discards_it (log ++ r ∷ []) h) (log ++ r ∷ []))) (any_more (copies_it (log ++ r ∷ []) h) (copies_it log h) (copy_same S.size))
+        ∙ ap (λ (b : Bool). by_tests (N || n) (C || c) b) (any_more (discards_it (log ++ r ∷ []) h) (discards_it log h) (discard_same S.size))
         ∙ after_is N C D n c d
         ∙ ap (λ (s : TransactionState). state_after s n c d) (sym (state_is log h))

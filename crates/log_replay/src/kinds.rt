@@ -2,7 +2,7 @@
 
 ghost use Rattle.std.specs.Prelude.{◌≡◌, ◌&&◌, is_none, option_map};
 ghost use Rattle.log_model.specs.Queues.{said_by};
-ghost use Rattle.log_model.specs.Kinds.{is_half as is_half_entry, is_op as is_op_entry, is_discard as is_discard_entry, is_copy as is_copy_entry, origin_text as origin_text_of, is_text as is_text_of};
+ghost use Rattle.log_model.specs.Kinds.{is_half as is_half_entry, is_op as is_op_entry, is_discard as is_discard_entry, is_copy as is_copy_entry, origin_text as origin_text_of};
 ghost use Rattle.log_replay.specs.Told.{is_of_origin};
 
 use record_codec::{COMMITTED, Record, TRANSACTION_BITS};
@@ -44,16 +44,6 @@ pub(crate) fn is_origin(r: &Record) -> bool
     ensures { result ≡ (is_half_entry (said_by r.now) && is_none (origin_text_of (said_by r.now))) }
 {
     is_half(r) && origin_text(r).is_none()
-}
-
-// The value is there, and these bytes.
-pub(crate) fn is_text(bytes: &[u8], value: Option<&str>) -> bool
-    ensures { result ≡ is_text_of bytes.now (option_map (λ text. text.now) value.entry) }
-{
-    match value {
-        Some(text) => text.as_bytes() == bytes,
-        None => false,
-    }
 }
 
 // Whether the record is the origin of this queue offset, or a renewal of it. `digits` are the queue offset in decimal.

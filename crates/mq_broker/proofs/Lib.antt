@@ -6,3 +6,4 @@ pub mod PipeLemmas
 pub mod RunLemmas
 pub mod CauseLemmas
 pub mod ActionLemmas
+pub mod LeftLemmas

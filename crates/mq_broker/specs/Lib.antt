@@ -9,3 +9,4 @@ pub mod Progress
 pub mod Causes
 pub mod Pipes
 pub mod Promise
+pub mod Left

@@ -11,7 +11,7 @@ use Rattle.log_recovery.specs.declared.fault.RecoverFault.TheVariants.{Damaged, 
 use Rattle.log_model.specs.Stored.{HasFirst}
 use Rattle.log_writer.specs.Durable.{flushed_by}
 use Rattle.store_open.specs.Words.{IsCommand}
-use Rattle.store_open.specs.Openings.{IsOpened}
+use Rattle.store_open.specs.Openings.{FORMAT, IsOpened, PutsOnly, own_format}
 use Rattle.store_open.specs.declared.status.Status.{Status}
 use Rattle.mq_broker.specs.Outcomes.{Event}
 use Rattle.mq_broker.specs.Run.{run, flushed_of}
@@ -110,11 +110,12 @@ pub record Unrecovered (asked : Option ℕ) (status : Status) (seen : Seen) (kee
 abbrev pub HasCalled : Option ℕ → Status → Seen → KeepSeen → Type 0
 HasCalled asked status seen keep = Served asked status seen keep ⊎ (IsUntouched seen × (Refused status seen ⊎ Unrecovered asked status seen keep))
 
--- the words are a command, and this came of it
+-- The words are a command, and this came of it. At each moment the format is as it was before, or the right text.
 pub record Call (words : List (List ℕ)) (status : Status) (seen : Seen) (keep : KeepSeen) : Type 0 where
   pub asked : Option ℕ
   pub command : IsCommand words asked
   pub called : HasCalled asked status seen keep
+  pub puts : keep.tells → PutsOnly (own_format (keep.old.reads FORMAT) asked) keep.old keep.new
 
 -- each fault of a device is told only where the device's count rose
 pub record Causes (status : Status) (old new : AllFaults) : Type 0 where

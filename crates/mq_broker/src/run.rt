@@ -6,6 +6,7 @@ ghost use Rattle.mq_outside.specs.Files.{Same};
 ghost use Rattle.log_model.specs.Stored.{StaysOutside};
 ghost use Rattle.store_open.specs.Words.{texts_of, IsCommand, IsFirstWrong};
 ghost use Rattle.store_open.specs.Openings.{FORMAT, IsForeign};
+ghost use Rattle.store_open.specs.Statuses.{FitsTable};
 ghost use Rattle.mq_broker.specs.Promise.{StatusTells, StatusTellsFault, Call, Causes};
 
 use crate::broker::Broker;
@@ -19,7 +20,8 @@ use store_open::{Status, open_format, read_words};
 
 // The status that tells what ended the reading.
 fn status_of(alloc: Global, ended: Result<(), Halt>) -> Status
-    ensures { StatusTells result ended }
+    ensures tells { StatusTells result ended }
+    ensures table { FitsTable result }
 {
     match ended {
         Ok(()) => Status::plain(alloc, 0),
@@ -34,7 +36,8 @@ fn status_of(alloc: Global, ended: Result<(), Halt>) -> Status
 
 // The status of a log that could not be recovered.
 fn status_of_fault(alloc: Global, fault: RecoverFault) -> Status
-    ensures { StatusTellsFault result fault }
+    ensures tells { StatusTellsFault result fault }
+    ensures table { FitsTable result }
 {
     match fault {
         RecoverFault::Damaged(place, name) => Status::damaged(place, name),
@@ -84,9 +87,11 @@ pub fn run_pipe<S: Source, K: Sink, D: Disk, P: Keep, C: Clock>(
     ensures theirs { P.tells → result.code ≡ 6 → Moves Same (P.state keep.old) (P.state keep.new) }
     // The disk's files outside the log's folder stay.
     ensures outside { D.tells → StaysOutside (D.state disk.old) (D.state disk.new) }
-    // A format that stands is never written again, and no other text of the keep is touched.
-    ensures stands { P.tells → (text : List ℕ) → (P.state keep.old).reads FORMAT ≡ Some text → Moves Same (P.state keep.old) (P.state keep.new) }
+    // A format that stands stays, and no other text of the keep is touched.
+    ensures stands { P.tells → (text : List ℕ) → (P.state keep.old).reads FORMAT ≡ Some text → (P.state keep.new).reads FORMAT ≡ Some text }
     ensures kept { P.tells → (name : List ℕ) → name ≢ FORMAT → (P.state keep.new).reads name ≡ (P.state keep.old).reads name }
+    // The status has a place and a name only where the table names one, and its cause.
+    ensures table { FitsTable result }
     ensures causes { Causes result
         (record { source = S.faults source.old; sink = K.faults sink.old; disk = D.faults disk.old; keep = P.faults keep.old; clock = C.faults clock.old })
         (record { source = S.faults source.new; sink = K.faults sink.new; disk = D.faults disk.new; keep = P.faults keep.new; clock = C.faults clock.new }) }

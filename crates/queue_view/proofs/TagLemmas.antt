@@ -1,11 +1,8 @@
 -- The words of a subscription: what one step over a space, and over two bars, leaves of a text.
-use Rattle.std.proofs.Common.{◌≡◌, ◌≢◌, refl, ap, sym, ◌∙◌, subst, arith, ℕ, zero, suc, ◌+◌, ◌<◌, ◌≤◌, Bool, true, false, cond, ◌&&◌, ◌==◌, nat_lt, List, [], ◌∷◌, ◌++◌, length, map, filter, reverse, take, drop, Option, Some, None, append_assoc, length-append, ℤ, ◌||◌}
+use Rattle.std.proofs.Common.{◌≡◌, ◌≢◌, refl, ap, sym, ◌∙◌, arith, ℕ, ◌+◌, Bool, true, false, cond, ◌&&◌, ◌==◌, nat_lt, List, [], ◌∷◌, ◌++◌, length, map, filter, reverse, take, drop, Some, None, append_assoc, length-append, ℤ, ◌||◌}
 use Rattle.std.proofs.lemmas.Bool.{eqb-true, and_parts, false_from_ne_true}
-use Rattle.std.proofs.lemmas.List.{take-append-drop, reverse-append, reverse-reverse, append-nil, drop_at, map-append}
-use Rattle.std.proofs.lemmas.List.Elements.{filter-append}
-use Rattle.std.specs.Str.Pattern.{FindsText, LacksTextAt}
-use Rattle.std.specs.Option.{MatchOption}
-use Rattle.std.specs.Borrow.{Bor}
+use Rattle.std.proofs.lemmas.List.{take-append-drop, reverse-append, reverse-reverse, drop_at, map-append}
+use Rattle.std.specs.Str.Pattern.{FindsText}
 use Rattle.std.specs.List.{list_any}
 use Rattle.std.specs.Ordering.{int_eq}
 use Rattle.mq_bytes.specs.Hashes.{java_hash}

@@ -1,5 +1,5 @@
 -- How a table is kept.
-use Rattle.std.specs.Prelude.{◌≡◌, ℕ, ◌+◌, ◌-◌, ◌<◌, ◌≤◌, ◌^◌, min, List, length, String, string_bytes}
+use Rattle.std.specs.Prelude.{ℕ, ◌+◌, ◌-◌, ◌<◌, ◌≤◌, ◌^◌, min, List, length, String, string_bytes}
 use Rattle.chunks.specs.Lists.{Roomy}
 use Rattle.queue_view.specs.declared.stored.StoredUnit.{StoredUnit}
 use Rattle.queue_view.specs.Tables.{Table}

@@ -1,5 +1,5 @@
 -- What contracts see of the tables of the queues.
-use Rattle.std.specs.Prelude.{◌≡◌, ℕ, ◌+◌, ◌-◌, ◌==◌, ◌&&◌, ◌++◌, ◌∷◌, Bool, List, [], length, take, drop, map, Option, position}
+use Rattle.std.specs.Prelude.{ℕ, ◌+◌, ◌-◌, ◌==◌, ◌&&◌, ◌++◌, ◌∷◌, Bool, List, [], length, take, drop, map, Option, position}
 use Rattle.std.specs.Str.{bytes_eq}
 use Rattle.record_codec.specs.declared.unit.Unit.{Unit as QueueUnit}
 use Rattle.queue_view.specs.declared.stored.StoredUnit.{StoredUnit}

@@ -111,9 +111,9 @@ pub record CanTurn (it : Stored) (behind : ℕ) (batch : Batch) (at : Growing) :
   pub ready : IsReady it behind at
   pub next : IsBatchOf it.geometry it.log it.flushed batch
 
--- What a turn did. At each moment of it a crash leaves the records that were flushed before, and of the log no others. After a
--- fault a turn can be made with each batch that comes next in this log, or in it with more appended. After Ok the batch is
--- flushed, and where nothing longer stood behind the records, every crash leaves exactly the log's files.
+-- What a turn did. At each moment of it a crash leaves the records that were flushed before, and behind them arbitrary bytes.
+-- After a fault a turn can be made with each batch that comes next in this log, or in it with more appended. After Ok the batch
+-- is flushed, and where nothing longer stood behind the records, every crash leaves exactly the log's files.
 pub record HasTurned {E : Type 0} (it : Stored) (behind : ℕ) (batch : Batch) (result : Result Receipt E) (old new : Growing) : Type 0 where
   pub any_moment : KeepsAtLeast it.geometry (flushed_of it) (λ m. it.flushed) old.disk new.disk
   pub fault : OnErr result ((more : List Entry) (next : Batch) → IsWellFormed it.geometry (it.log ++ more) → IsBatchOf it.geometry (it.log ++ more) it.flushed next

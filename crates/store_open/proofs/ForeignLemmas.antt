@@ -54,5 +54,5 @@ new_opened asked segment disk files keep old new none size empty written durable
   size = λ told. subst (λ (kept : Option (List ℕ)). IsSegmentOf kept asked segment) (sym (none told)) size;
   own = λ told kept name foreign. no_first_file files name (empty told) (subst (λ (text : Option (List ℕ)). IsForeign files text asked name) (none kept) foreign);
   stands = λ told. subst (λ (kept : Option (List ℕ)). new.reads FORMAT ≡ Some (format_after kept segment)) (sym (none told)) (written told);
-  stays = λ told gone. durable told;
+  stays = durable;
 }

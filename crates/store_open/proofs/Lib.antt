@@ -1,3 +1,4 @@
 pub mod ForeignLemmas
 pub mod FormatLemmas
+pub mod KeepLemmas
 pub mod WordLemmas

@@ -1,3 +1,4 @@
 pub mod Formats
 pub mod Openings
+pub mod Statuses
 pub mod Words

@@ -1,8 +1,8 @@
 -- The opening of a store: which size its segments have, and when it is another's.
 use Rattle.std.specs.Prelude.{◌≡◌, ◌⊎◌, ℕ, List, codes, Option, Some, None, slice_get, unwrap_or}
 use Rattle.mq_outside.specs.Counts.{Rises}
-use Rattle.mq_outside.specs.Files.{Files, Lists}
-use Rattle.mq_outside.specs.Disk.{DiskState, IsDurable}
+use Rattle.mq_outside.specs.Files.{Files, Lists, At, OldOrNew}
+use Rattle.mq_outside.specs.Disk.{DiskState, IsCrashImage, IsDurable, Throughout}
 use Rattle.store_open.specs.Formats.{format_text, IsFormatFor, NEW_SEGMENT, NEW_SLOTS, NEW_ENTRIES}
 use Rattle.store_open.specs.declared.status.Status.{Status}
 
@@ -26,18 +26,33 @@ abbrev pub format_after : Option (List ℕ) → ℕ → List ℕ
 format_after None segment = format_text segment NEW_SLOTS NEW_ENTRIES
 format_after (Some text) segment = text
 
+-- the one text that an opening puts under the name: that of a new store, or the one that stands there
+abbrev pub own_format : Option (List ℕ) → Option ℕ → List ℕ
+own_format None asked = format_text (unwrap_or asked NEW_SEGMENT) NEW_SLOTS NEW_ENTRIES
+own_format (Some text) asked = text
+
+-- a crash image of this keep, but that the format may have become this text
+abbrev pub IsImageWith : List ℕ → DiskState → Files → Type 0
+IsImageWith text keep files = (before : Files) × IsCrashImage keep before × At FORMAT (OldOrNew text) before files
+
+-- From old to new nothing of the keep changed but that the format may have become this text: as it is read, and in each crash
+-- image of each moment.
+pub record PutsOnly (text : List ℕ) (old new : DiskState) : Type 0 where
+  pub reads : At FORMAT (OldOrNew text) old.reads new.reads
+  pub at_each : Throughout old new (IsImageWith text old)
+
 -- The store is another's: it has no format, and this file stands in it; or `format` is none, or of another size than was asked for.
 abbrev pub IsForeign : Files → Option (List ℕ) → Option ℕ → List ℕ → Type 0
 IsForeign files None asked name = IsFirstFile files name
 IsForeign files (Some text) asked name = (name ≡ FORMAT) × ((segment : ℕ) → IsFormatFor text asked segment → ⊥)
 
--- A store that was opened in segments of this size: it is nobody else's, its format stands, and one that was written now stays.
+-- A store that was opened in segments of this size: it is nobody else's, its format stands, and stays through a crash.
 -- What is said of the disk and of the keep is said where these tell what they hold.
 pub record IsOpened (asked : Option ℕ) (segment : ℕ) (disk : Type 0) (files : Files) (keep : Type 0) (old new : DiskState) : Type 0 where
   pub size : keep → IsSegmentOf (old.reads FORMAT) asked segment
   pub own : disk → keep → (name : List ℕ) → IsForeign files (old.reads FORMAT) asked name → ⊥
   pub stands : keep → new.reads FORMAT ≡ Some (format_after (old.reads FORMAT) segment)
-  pub stays : keep → old.reads FORMAT ≡ None → IsDurable FORMAT new
+  pub stays : keep → IsDurable FORMAT new
 
 -- the counts of the disk and of the keep
 abbrev pub OpeningCause : Status → ℕ → ℕ → ℕ → ℕ → Type 0

@@ -14,6 +14,7 @@
 //! |   10 | a device | the clock or the keep failed                                                         |
 
 ghost use Rattle.std.specs.Prelude.{◌≡◌, ◌≢◌, ◌⊎◌, []};
+ghost use Rattle.store_open.specs.Statuses.{FitsTable};
 
 use mq_bytes::Text;
 use std::alloc::Global;
@@ -32,6 +33,7 @@ impl Status {
         ensures code { result.code ≡ code }
         ensures place { result.place ≡ 0 }
         ensures name { result.name ≡ [] }
+        ensures table { FitsTable result }
     {
         Status::at(alloc, code, 0)
     }
@@ -41,6 +43,7 @@ impl Status {
         ensures code { result.code ≡ code }
         ensures place { result.place ≡ place }
         ensures name { result.name ≡ [] }
+        ensures table { (code ≡ 1) ⊎ (code ≡ 2) → FitsTable result }
     {
         Status {
             code,
@@ -55,6 +58,7 @@ impl Status {
         ensures place { result.place ≡ 0 }
         ensures name { result.code ≢ 7 → result.name ≡ name.now }
         ensures none { code ≢ 7 → result.code ≡ 7 → result.name ≡ [] }
+        ensures table { (code ≡ 6) ⊎ (code ≡ 10) → FitsTable result }
     {
         match String::from_str(alloc, name) {
             Ok(name) => Status {
@@ -71,6 +75,7 @@ impl Status {
         ensures code { result.code ≡ 8 }
         ensures place { result.place ≡ place }
         ensures name { result.name ≡ name }
+        ensures table { FitsTable result }
     {
         Status {
             code: 8,

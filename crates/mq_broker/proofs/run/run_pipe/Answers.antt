@@ -25,10 +25,11 @@ returns-in-Err-open-clause-fits g c = λ fits. record {
   called = inr (
     record { given_is = refl; taken_is = refl; readings_is = refl },
     inr (unrecovered c.in-Ok.command.segment c.status_of_fault.result _ _ _
-        c.in-Err-open.fault c.in-Ok-open_format.segment c.status_of_fault.ensures c.in-Ok-open_format.ensures.opened c.in-Ok-open_format.ensures.rests
+        c.in-Err-open.fault c.in-Ok-open_format.segment c.status_of_fault.ensures.tells c.in-Ok-open_format.ensures.opened c.in-Ok-open_format.ensures.rests
         c.in-Err-open.ensures.damaged c.in-Err-open.ensures.untouched (λ told stored flushed stores honest. (c.in-Err-open.ensures.flushed told stored flushed stores honest).still)
         (λ told stored flushed stores honest. (c.in-Err-open.ensures.flushed told stored flushed stores honest).any_moment)),
   );
+  puts = c.in-Ok-open_format.ensures.puts;
 }
 
 pub returns-clause-fits : goal.returns-clause-fits
@@ -44,7 +45,7 @@ returns-clause-fits g c = λ fits.
       command = c.in-Ok.ensures.fits;
       called = inl (record {
         result = c.serve_all-ended.result;
-        tells = c.status_of.ensures;
+        tells = c.status_of.ensures.tells;
         segment = segment;
         opened = c.in-Ok-open_format.ensures.opened;
         begins = λ told. begins_with (whole segment) _ _ disk faults writer _ c.serve_all-ended.result same rests c.serve_all-ended.ensures.served told
@@ -56,6 +57,7 @@ returns-clause-fits g c = λ fits.
             (subst (Opened (whole segment) stored flushed (g.D.Disk.state c.open.new.disk)) (sym c.new-broker.ensures) (c.in-Ok-open.ensures.ours told stored flushed mid_stores mid_honest))
             (c.in-Ok-open.ensures.flushed told stored flushed mid_stores mid_honest).any_moment;
       });
+      puts = c.in-Ok-open_format.ensures.puts;
     }
 
 pub returns-in-Err-clause-outside : goal.returns-in-Err-clause-outside

@@ -1,4 +1,4 @@
-use Rattle.std.proofs.Common.{◌≡◌, ◌∙◌, refl, sym, ap, subst, arith, ℕ, suc, ◌+◌, ◌-◌, ◌<◌, ◌≤◌, ◌^◌, min, Bool, true, false, not, [], ◌∷◌, ◌++◌, List, length, take, drop, map, filter, slice_get, Some}
+use Rattle.std.proofs.Common.{◌≡◌, ◌∙◌, sym, ap, subst, arith, suc, ◌+◌, ◌-◌, [], ◌∷◌, ◌++◌, List, take, drop, map}
 use Rattle.record_codec.specs.declared.unit.Unit.{Unit as QueueUnit}
 use Rattle.queue_view.specs.Subscriptions.{tags_take}
 use Rattle.queue_view.specs.Tables.{unit_in}

@@ -1,4 +1,4 @@
-use Rattle.std.proofs.Common.{◌≡◌, ◌∙◌, ◌++◌, sym, ap, map, None, List, rules, ℤ}
+use Rattle.std.proofs.Common.{◌∙◌, ◌++◌, sym, ap, map, List, rules}
 use Rattle.mq_bytes.specs.Hashes.{java_hash}
 use Rattle.log_model.specs.Pulls.{words_in}
 use Rattle.queue_view.specs.Subscriptions.{word_in}

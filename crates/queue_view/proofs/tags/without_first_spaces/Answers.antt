@@ -1,4 +1,4 @@
-use Rattle.std.proofs.Common.{◌≡◌, ◌∙◌, sym, lit<, None}
+use Rattle.std.proofs.Common.{◌∙◌, sym, lit<, None}
 use Rattle.std.proofs.lemmas.Str.Pattern.{strip_prefix_char}
 use Rattle.queue_view.proofs.TagLemmas.{past_none}
 use Rattle.queue_view.proofs.tags.without_first_spaces.Goals as goal

@@ -1,4 +1,4 @@
-use Rattle.std.proofs.Common.{◌≡◌, ◌∙◌, sym, ap, reverse, lit<, None}
+use Rattle.std.proofs.Common.{◌∙◌, ap, reverse, lit<, None}
 use Rattle.std.proofs.lemmas.Str.Pattern.{strip_suffix_char}
 use Rattle.queue_view.proofs.TagLemmas.{past_none_last}
 use Rattle.queue_view.proofs.tags.without_last_spaces.Goals as goal

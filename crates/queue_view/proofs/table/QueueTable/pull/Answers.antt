@@ -1,4 +1,4 @@
-use Rattle.std.proofs.Common.{◌≡◌, ◌∙◌, ap, sym, subst, refl, ◌≤◌, length, IfOk, rules}
+use Rattle.std.proofs.Common.{◌∙◌, ap, subst, refl, ◌≤◌, length, IfOk, rules}
 use Rattle.std.proofs.lemmas.Int.{to_z-of_z}
 use Rattle.std.specs.Int.{w32, w64}
 use Rattle.log_model.specs.Keys.{asked_number}

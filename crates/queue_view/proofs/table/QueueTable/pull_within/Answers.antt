@@ -1,4 +1,4 @@
-use Rattle.std.proofs.Common.{◌≡◌, ◌∙◌, ap, sym, subst, ◌==◌, pos, if◌then◌else◌, length, ◌-◌, [], List, drop, filter, refl, rules}
+use Rattle.std.proofs.Common.{◌∙◌, ap, ◌==◌, pos, if◌then◌else◌, length, ◌-◌, [], List, drop, filter, refl, rules}
 use Rattle.std.proofs.lemmas.Int.{to_z-of_z}
 use Rattle.std.specs.Int.{w32}
 use Rattle.record_codec.specs.declared.unit.Unit.{Unit as QueueUnit}

@@ -1,4 +1,4 @@
-use Rattle.std.proofs.Common.{◌≡◌, ◌∙◌, ◌++◌, ap, map, rules, List}
+use Rattle.std.proofs.Common.{◌∙◌, ◌++◌, ap, map, rules, List}
 use Rattle.mq_bytes.specs.Hashes.{java_hash}
 use Rattle.log_model.specs.Pulls.{words_in}
 use Rattle.queue_view.proofs.TagLemmas.{read_takes}

@@ -1,4 +1,4 @@
-use Rattle.std.proofs.Common.{◌≡◌, ◌<◌, ◌-◌, drop, refl, subst, sym, length, List}
+use Rattle.std.proofs.Common.{◌<◌, ◌-◌, drop, refl, subst, sym, length, List}
 use Rattle.queue_view.specs.Tables.{Table}
 use Rattle.queue_view.proofs.NumberedLemmas.{numbered_set}
 use Rattle.queue_view.proofs.view.QueueView.cut.Goals as goal

@@ -1,4 +1,4 @@
-use Rattle.std.proofs.Common.{◌≡◌, ◌∙◌, refl, subst, sym, ap, length, List, None, ◌++◌, ◌∷◌, [], rules}
+use Rattle.std.proofs.Common.{◌≡◌, ◌∙◌, ap, length, List, ◌++◌, ◌∷◌, [], rules}
 use Rattle.queue_view.specs.Tables.{Table, number_of}
 use Rattle.queue_view.proofs.NumberedLemmas.{numbered_push, number_of-push}
 use Rattle.queue_view.proofs.view.QueueView.make.Goals as goal

@@ -1,4 +1,4 @@
-use Rattle.std.proofs.Common.{◌≡◌, ◌<◌, ◌∙◌, refl, subst, sym, ap, length, List}
+use Rattle.std.proofs.Common.{◌∙◌, refl, subst, sym, ap, List}
 use Rattle.queue_view.specs.Tables.{Table, number_of}
 use Rattle.queue_view.specs.Added.{AreTablesOf}
 use Rattle.queue_view.proofs.NumberedLemmas.{numbered_set, number_of-changed, number_within}

@@ -1,0 +1,145 @@
+-- The run of a half message is one.
+use Rattle.std.proofs.Common.{◌≡◌, refl, arith, [], ◌∷◌, true, Some}
+use Rattle.std.specs.Fmt.{digits}
+use Rattle.mq_bytes.specs.Decimal.{decimal_value}
+use Rattle.record_codec.specs.LaxProps.{read_props, pieces}
+use Rattle.record_codec.specs.Props.{pair_in, until}
+use Rattle.log_model.specs.Numbered.{count_of}
+use Rattle.log_model.specs.Transactions.{copies}
+use Rattle.broker_model.specs.Events
+use Rattle.broker_model.specs.Refusals.{refusal_of}
+use Rattle.broker_model.specs.Appended.{appended, is_refused, drafts_of}
+use Rattle.broker_model.specs.Answers.{answer_of, carried_out_answer, request_answer, done_reply}
+use Rattle.broker_model.specs.Step.{after, changed, request_changed, IsPossible}
+use Rattle.broker_model.specs.Run.{Steps, Crashes, Goes}
+use Rattle.broker_model.specs.Acknowledged.{AnswersAfter, AnswersAtOnce, is_verdict_on}
+use Rattle.broker_model.specs.Examples.{half_props}
+use Rattle.broker_model.specs.StepExamples.{sends}
+use Rattle.core_laws.specs.Examples.{setup, at_opening, answered}
+use Rattle.core_laws.specs.CommitExamples.{at_half, at_turn, at_flushed, commits, at_commit, at_next_turn, at_both_flushed, at_told, until_told, at_kept_copy, at_again, until_again}
+use Rattle.core_laws.proofs.Examples.{goes}
+
+-- ---- answers and numbers, computed
+
+first_flush : IsPossible at_turn.now (Events.Flushed 1)
+unfolding read_props pieces pair_in until decimal_value digits after changed request_changed is_refused drafts_of refusal_of answer_of
+    carried_out_answer request_answer appended
+first_flush = refl
+
+commit_answer : Events.After done_reply 2 1 ≡ answer_of at_flushed.now commits
+unfolding read_props pieces pair_in until decimal_value digits after changed request_changed is_refused drafts_of refusal_of answer_of
+    carried_out_answer request_answer appended
+commit_answer = refl
+
+second_flush : IsPossible at_next_turn.now (Events.Flushed 2)
+unfolding read_props pieces pair_in until decimal_value digits after changed request_changed is_refused drafts_of refusal_of answer_of
+    carried_out_answer request_answer appended
+second_flush = refl
+
+told_answer : Events.Looked Events.IsFlushed ≡ answer_of at_both_flushed.now (Events.Look 2 1)
+unfolding read_props pieces pair_in until decimal_value digits after changed request_changed is_refused drafts_of refusal_of answer_of
+    carried_out_answer request_answer appended
+told_answer = refl
+
+again_answer : Events.Replies done_reply ≡ answer_of at_kept_copy.now commits
+unfolding read_props pieces pair_in until decimal_value digits after changed request_changed is_refused drafts_of refusal_of answer_of
+    carried_out_answer request_answer appended
+again_answer = refl
+
+flushed_is_1 : at_commit.now.flushed ≡ 1
+unfolding read_props pieces pair_in until decimal_value digits after changed request_changed is_refused drafts_of refusal_of answer_of
+    carried_out_answer request_answer appended
+flushed_is_1 = refl
+
+count_is_3 : count_of at_commit.now.log ≡ 3
+unfolding read_props pieces pair_in until decimal_value digits after changed request_changed is_refused drafts_of refusal_of answer_of
+    carried_out_answer request_answer appended
+count_is_3 = refl
+
+segment_stays : setup.segment ≡ at_commit.now.setup.segment
+unfolding read_props pieces pair_in until decimal_value digits after changed request_changed is_refused drafts_of refusal_of answer_of
+    carried_out_answer request_answer appended
+segment_stays = refl
+
+pub commit_is_verdict : is_verdict_on at_flushed.now 0 8 commits ≡ true
+unfolding read_props pieces pair_in until decimal_value digits after changed request_changed is_refused drafts_of refusal_of answer_of
+    carried_out_answer request_answer appended
+commit_is_verdict = refl
+
+pub again_is_verdict : is_verdict_on at_kept_copy.now 0 8 commits ≡ true
+unfolding read_props pieces pair_in until decimal_value digits after changed request_changed is_refused drafts_of refusal_of answer_of
+    carried_out_answer request_answer appended
+again_is_verdict = refl
+
+pub one_copy : copies at_commit.now.log.records 0 ≡ 1
+unfolding read_props pieces pair_in until decimal_value digits after changed request_changed is_refused drafts_of refusal_of answer_of
+    carried_out_answer request_answer appended
+one_copy = refl
+
+pub still_one_copy : copies at_again.now.log.records 0 ≡ 1
+unfolding read_props pieces pair_in until decimal_value digits after changed request_changed is_refused drafts_of refusal_of answer_of
+    carried_out_answer request_answer appended
+still_one_copy = refl
+
+-- ---- the moves
+
+sends_half : Goes at_opening (answered at_opening (sends half_props)) at_half
+sends_half = goes at_opening (sends half_props) tt
+
+takes_half : Goes at_half (answered at_half Events.Take) at_turn
+takes_half = goes at_half Events.Take tt
+
+flushes_half : Goes at_turn (answered at_turn (Events.Flushed 1)) at_flushed
+flushes_half = goes at_turn (Events.Flushed 1) first_flush
+
+commits_half : Goes at_flushed (Steps commits (Some (Events.After done_reply 2 1))) at_commit
+commits_half = ((tt, commit_answer, refl), refl)
+
+takes_copy : Goes at_commit (answered at_commit Events.Take) at_next_turn
+takes_copy = goes at_commit Events.Take tt
+
+flushes_copy : Goes at_next_turn (answered at_next_turn (Events.Flushed 2)) at_both_flushed
+flushes_copy = goes at_next_turn (Events.Flushed 2) second_flush
+
+tells : Goes at_both_flushed (Steps (Events.Look 2 1) (Some (Events.Looked Events.IsFlushed))) at_told
+tells = ((tt, told_answer, refl), refl)
+
+crashes : Goes at_commit (Crashes 2 setup) at_kept_copy
+crashes = (record { no_less = omega (arith, flushed_is_1); no_more = omega (arith, count_is_3); segment = segment_stays }, refl)
+
+says_again : Goes at_kept_copy (Steps commits (Some (Events.Replies done_reply))) at_again
+says_again = ((tt, again_answer, refl), refl)
+
+-- ---- the answers
+
+pub commit_is_answered : AnswersAfter at_opening until_told at_told commits done_reply 2
+commit_is_answered = record {
+  turn = 1;
+  before = answered at_opening (sends half_props) ∷ answered at_half Events.Take ∷ answered at_turn (Events.Flushed 1) ∷ [];
+  waiting = answered at_commit Events.Take ∷ answered at_next_turn (Events.Flushed 2) ∷ [];
+  later = [];
+  asked = at_flushed;
+  heard = at_commit;
+  looked = at_both_flushed;
+  answered = at_told;
+  moves_are = refl;
+  first = (at_half, sends_half, tt, (at_turn, takes_half, tt, (at_flushed, flushes_half, tt, refl)));
+  asks = commits_half;
+  boot = (λ crash. crash, (λ crash. crash, tt));
+  waits = (at_next_turn, takes_copy, tt, (at_both_flushed, flushes_copy, tt, refl));
+  looks = tells;
+  rest = refl;
+}
+
+pub commit_is_answered_again : AnswersAtOnce at_opening until_again at_again commits done_reply
+commit_is_answered_again = record {
+  before = answered at_opening (sends half_props) ∷ answered at_half Events.Take ∷ answered at_turn (Events.Flushed 1)
+      ∷ Steps commits (Some (Events.After done_reply 2 1)) ∷ Crashes 2 setup ∷ [];
+  later = [];
+  asked = at_kept_copy;
+  heard = at_again;
+  moves_are = refl;
+  first = (at_half, sends_half, tt, (at_turn, takes_half, tt, (at_flushed, flushes_half, tt, (at_commit, commits_half, tt, (at_kept_copy, crashes, tt, refl)))));
+  asks = says_again;
+  rest = refl;
+}

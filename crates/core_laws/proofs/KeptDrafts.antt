@@ -1,0 +1,34 @@
+-- The next record of a draft that fits keeps the log.
+use Rattle.std.proofs.Common.{◌≡◌, subst, arith, ℕ, ◌+◌, ◌<◌, ◌≤◌, ◌^◌, List, [], ◌∷◌, length, take}
+use Rattle.std.proofs.lemmas.List.{take_all}
+use Rattle.record_codec.specs.Entry.{Entry}
+use Rattle.record_codec.specs.Layout.{size}
+use Rattle.record_codec.specs.Drafts.{draft_size}
+use Rattle.record_codec.specs.declared.draft.Draft.{Draft}
+use Rattle.log_model.specs.Log.{end_from}
+use Rattle.log_model.specs.Numbered.{Log, with_appended, next_record, queue_max, place_end}
+use Rattle.log_model.specs.Queues.{queue_of}
+use Rattle.log_model.proofs.FirstFits.{place_behind}
+use Rattle.core_laws.specs.Kept.{IsKept}
+use Rattle.core_laws.specs.KeptDrafts.{IsFitDraft}
+use Rattle.core_laws.proofs.Kept.{kept_one, ends_behind}
+
+-- a queue has no more records than there are places
+pub queue_low : (log : Log) (topic : List ℕ) (queue : ℕ) → IsKept log → queue_max log topic queue ≤ place_end log
+queue_low log topic queue kept =
+    let all : take (length log.records) log.records ≡ log.records = take_all (length log.records) log.records (omega arith) in
+    subst (λ (l : List Entry). log.base.queues topic queue + length (queue_of l topic queue) ≤ end_from log.base.place l) all
+    (kept.counted (length log.records) topic queue)
+
+pub kept_next : (S now : ℕ) (log : Log) (d : Draft) → 0 < S → IsKept log → IsFitDraft log d
+    → (next_record S now log d).offset + size (next_record S now log d) ≤ 2 ^ 62 → IsKept (with_appended log (next_record S now log d ∷ []))
+kept_next S now log d some kept fit high =
+    let behind : place_end log ≤ (next_record S now log d).offset = place_behind S (place_end log) (draft_size d) some in
+    kept_one log (next_record S now log d) kept (record {
+      place = λ i x at. omega (arith, behind, ends_behind log i x kept at);
+      prepared = λ is. omega (arith, behind, fit.prepared is);
+      bits = fit.bits;
+      real = fit.real;
+      low = λ is. omega (arith, queue_low log d.topic d.queue kept, behind, high);
+      text = fit.text;
+    }) behind

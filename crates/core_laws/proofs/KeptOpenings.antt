@@ -1,0 +1,110 @@
+-- A lawful log is kept, so a run begins with a kept one.
+use Rattle.std.proofs.Common.{◌≡◌, inl, inr, refl, ap, sym, subst, arith, ℕ, zero, suc, ◌+◌, ◌<◌, ◌≤◌, List, [], ◌∷◌, ◌++◌, length, take, slice_get, true, false, Option, Some, None}
+use Rattle.std.specs.Prelude.{codes, bit_and, ◌||◌, IsSome, IfSome, unwrap_or}
+use Rattle.std.proofs.lemmas.Bool.{or_cases, eqb-true}
+use Rattle.std.proofs.lemmas.List.{take_all}
+use Rattle.record_codec.specs.Entry.{Entry}
+use Rattle.record_codec.specs.Layout.{size}
+use Rattle.record_codec.specs.Props.{value_of}
+use Rattle.log_model.specs.Admissible.{IsAdmissible, Waits, IsPlainTopic, is_system_topic, number_in}
+use Rattle.log_model.specs.Bases.{Base, geometry}
+use Rattle.log_model.specs.Kinds.{is_half, is_delayed, is_copy, is_discard}
+use Rattle.log_model.specs.Log.{IsGeometry, IsWellFormed, Follows, end_from, end_of}
+use Rattle.log_model.specs.Numbered.{Log, IsLawful}
+use Rattle.log_model.specs.Queues.{queue_of}
+use Rattle.log_model.proofs.FirstFits.{place_behind}
+use Rattle.broker_model.specs.State.{State}
+use Rattle.broker_model.specs.Run.{Boot, IsAmong, IsOpening}
+use Rattle.core_laws.specs.Kept.{IsKept, IsKeptBoot, IsNumberText}
+use Rattle.core_laws.proofs.Kept.{kept_one, ends_behind}
+use Rattle.core_laws.proofs.KeptDrafts.{queue_low}
+use Rattle.core_laws.proofs.Runs.{opening_sound}
+use Rattle.core_laws.proofs.Texts.{number_text}
+
+-- no record is a kept log
+none_kept : (S : ℕ) (base : Base) → IsGeometry (geometry S base) → IsKept (record { base = base; records = [] })
+none_kept S base site = record { each = λ i r at. absurd (cc); counted = counted }
+  where
+    low : (topic : List ℕ) (queue : ℕ) → base.queues topic queue + 0 ≤ base.place
+    low topic queue = omega (arith, site.counted topic queue, site.some)
+
+    counted : (k : ℕ) (topic : List ℕ) (queue : ℕ) → base.queues topic queue + length (queue_of (take {A = Entry} k []) topic queue) ≤ end_from base.place (take {A = Entry} k [])
+    counted zero topic queue = low topic queue
+    counted (suc k) topic queue = low topic queue
+
+-- one record more
+take_next : (k : ℕ) (xs : List Entry) (r : Entry) → slice_get xs k ≡ Some r → take (suc k) xs ≡ take k xs ++ r ∷ []
+take_next k [] r got = absurd (cc)
+take_next zero (x ∷ xs) r got = let same : x ≡ r = some_is x r got in ap (λ (y : Entry). y ∷ []) same
+  where
+    some_is : (a b : Entry) → Some a ≡ Some b → a ≡ b
+    some_is a b e = cc
+take_next (suc k) (x ∷ xs) r got = ap (λ (l : List Entry). x ∷ l) (take_next k xs r got)
+
+there_is : (k : ℕ) (xs : List Entry) → k < length xs → (r : Entry) × (slice_get xs k ≡ Some r)
+there_is k [] low = absurd (omega (arith, low))
+there_is zero (x ∷ xs) low = (x, refl)
+there_is (suc k) (x ∷ xs) low = there_is k xs (omega (arith, low))
+
+-- ---- one admissible record
+
+plain_real : (o : Option (List ℕ)) → IsSome o × IfSome o IsPlainTopic → is_system_topic (unwrap_or o []) ≡ false
+plain_real None has = absurd (let h = has.0 in cc)
+plain_real (Some topic) has = has.1.1
+
+half_or_delayed : (r : Entry) → IsAdmissible r → (is_half r || is_delayed r) ≡ true → Waits r
+half_or_delayed r shaped is = elim (or_cases (is_half r) (is_delayed r) is) [
+  | inl half ↦ (shaped.half half).0
+  | inr delayed ↦ shaped.level delayed
+]
+
+copy_or_discard : (r : Entry) → IsAdmissible r → (is_copy r || is_discard r) ≡ true → r.prepared < r.offset
+copy_or_discard r shaped is = elim (or_cases (is_copy r) (is_discard r) is) [
+  | inl copy ↦ shaped.copy (eqb-true (bit_and r.sysflag 12) 8 copy)
+  | inr discard ↦ shaped.checked discard
+]
+
+renewal_text : (o : Option (List ℕ)) → IfSome o (λ text. IsSome (number_in text)) → IsNumberText o
+renewal_text None has = tt
+renewal_text (Some text) has = number_text text has
+
+follows_kept : (S : ℕ) (base : Base) (log : List Entry) (r : Entry) → 0 < S → IsKept (record { base = base; records = log })
+    → Follows (geometry S base) log r → IsKept (record { base = base; records = log ++ r ∷ [] })
+follows_kept S base log r some kept follows =
+    let place : end_of base log ≤ r.offset = omega (arith, follows.place, place_behind S (end_of base log) (size r) some) in
+    kept_one (record { base = base; records = log }) r kept (record {
+      place = λ i x at. omega (arith, ends_behind (record { base = base; records = log }) i x kept at, place);
+      prepared = copy_or_discard r follows.shaped;
+      bits = λ is. (half_or_delayed r follows.shaped is).bits;
+      real = λ is. plain_real (value_of (codes "REAL_TOPIC") r.props) (half_or_delayed r follows.shaped is).topic;
+      low = λ is. omega (arith, follows.queue_offset, queue_low (record { base = base; records = log }) r.topic r.queue kept, place, follows.low);
+      text = λ is. renewal_text (value_of (codes "TRAN_PREPARED_QUEUE_OFFSET") r.props) follows.shaped.renewal;
+    }) place
+
+-- ---- a whole log
+
+front_kept : (S : ℕ) (base : Base) (log : List Entry) → 0 < S → IsWellFormed (geometry S base) log → (k : ℕ) → k ≤ length log
+    → IsKept (record { base = base; records = take k log })
+front_kept S base log some well zero low = none_kept S base well.segment
+front_kept S base log some well (suc k) low =
+    let there = there_is k log (omega (arith, low)) in
+    subst (λ (l : List Entry). IsKept (record { base = base; records = l })) (sym (take_next k log there.0 there.1))
+    (follows_kept S base (take k log) there.0 some (front_kept S base log some well k (omega (arith, low))) (well.each k there.0 there.1))
+
+pub lawful_kept : (S : ℕ) (log : Log) → IsLawful S log → IsKept log
+lawful_kept S log lawful =
+    let some : 0 < S = omega (arith, lawful.segment.low) in
+    subst (λ (l : List Entry). IsKept (record { base = log.base; records = l })) (take_all (length log.records) log.records (omega arith))
+    (front_kept S log.base log.records some lawful (length log.records) (omega arith))
+
+pub opening_kept : (b : Boot) → IsOpening b → IsKeptBoot b
+opening_kept b opening = record {
+  sound = opening_sound b opening;
+  segment = omega (arith, opening.lawful.segment.low);
+  logs = λ s of. elim of [
+    | inl now ↦ subst (λ (x : State). IsKept x.log) (sym now) (lawful_kept b.now.setup.segment b.now.log opening.lawful)
+    | inr past ↦ absurd (subst (λ (l : List State). IsAmong l s) opening.before past)
+  ];
+  saved = λ topic queue. subst (λ (x : Base). x.queues topic queue ≤ x.place) (sym opening.base)
+      (omega (arith, opening.lawful.segment.counted topic queue, opening.lawful.segment.some));
+}

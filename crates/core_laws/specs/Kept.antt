@@ -1,0 +1,42 @@
+-- What every log of a run has, as far as halves and their copies need it.
+use Rattle.std.specs.Prelude.{◌≡◌, ℕ, ◌+◌, ◌<◌, ◌≤◌, ◌^◌, ◌||◌, List, take, length, slice_get, codes, bit_and, true, false, Option, Some, None}
+use Rattle.mq_bytes.specs.Decimal.{digits_of}
+use Rattle.record_codec.specs.Entry.{Entry}
+use Rattle.record_codec.specs.Layout.{size}
+use Rattle.log_model.specs.Admissible.{is_system_topic}
+use Rattle.log_model.specs.Drafts.{text_in}
+use Rattle.log_model.specs.Kinds.{is_half, is_delayed, is_copy, is_discard, origin_text}
+use Rattle.log_model.specs.Log.{end_from}
+use Rattle.log_model.specs.Numbered.{Log}
+use Rattle.log_model.specs.Queues.{queue_of}
+use Rattle.broker_model.specs.State.{State}
+use Rattle.broker_model.specs.Run.{Boot, IsOfBoot}
+use Rattle.core_laws.specs.Sound.{IsSoundBoot}
+
+-- the text, if any, is the digits of a number of 64 bits
+abbrev pub IsNumberText : Option (List ℕ) → Type 0
+IsNumberText None = Unit {0}
+IsNumberText (Some text) = (k : ℕ) × (k < 2 ^ 64) × (text ≡ digits_of k)
+
+-- Its place is behind each of these; a copy and a discarded half name a place before their own; a message that waits has no
+-- transaction bit and is for a topic of clients; a half message has a queue offset of 64 bits, and so has the origin that it names.
+pub record IsKeptBehind (earlier : List Entry) (r : Entry) : Type 0 where
+  pub place : (i : ℕ) (x : Entry) → slice_get earlier i ≡ Some x → x.offset + size x ≤ r.offset
+  pub prepared : (is_copy r || is_discard r) ≡ true → r.prepared < r.offset
+  pub bits : (is_half r || is_delayed r) ≡ true → bit_and r.sysflag 12 ≡ 0
+  pub real : (is_half r || is_delayed r) ≡ true → is_system_topic (text_in (codes "REAL_TOPIC") r.props) ≡ false
+  pub low : is_half r ≡ true → r.queue_offset < 2 ^ 64
+  pub text : is_half r ≡ true → IsNumberText (origin_text r)
+
+-- Each record stands so behind those before it, and no queue has more records than there are places.
+pub record IsKept (log : Log) : Type 0 where
+  pub each : (i : ℕ) (r : Entry) → slice_get log.records i ≡ Some r → IsKeptBehind (take i log.records) r
+  pub counted : (k : ℕ) (topic : List ℕ) (queue : ℕ)
+      → log.base.queues topic queue + length (queue_of (take k log.records) topic queue) ≤ end_from log.base.place (take k log.records)
+
+-- the logs of all states of the boot are so, and the saved base counts no more records than there are places before it
+pub record IsKeptBoot (b : Boot) : Type 0 where
+  pub sound : IsSoundBoot b
+  pub segment : 0 < b.now.setup.segment
+  pub logs : (s : State) → IsOfBoot b s → IsKept s.log
+  pub saved : (topic : List ℕ) (queue : ℕ) → b.now.saved.base.queues topic queue ≤ b.now.saved.base.place
