@@ -51,13 +51,13 @@ pub(crate) fn a_run_that_is_cut_off_leaves_a_store<D: Disk, E: Disk, P: Keep, Q:
     // While the format is looked up and put, the disk is as it was.
     ensures unopened { P.tells → (words : List (List ℕ)) (asked : Option ℕ) (segment m : ℕ) (files texts : Files) → IsCommand words asked
         → IsStoreOrNothing segment (D.state before.now) (P.state keep_before.now)
-        → PutsOnly (own_format ((P.state keep_before.now).reads FORMAT) asked) (P.state keep_before.now) (P.state keep_behind.now) → IsCrashImage (D.state before.now) files
-        → (P.state keep_before.now).moment ≤ m → m ≤ (P.state keep_behind.now).moment → (P.state keep_behind.now).image_at m texts
+        → PutsOnly (own_format ((P.state keep_before.now).reads FORMAT) asked) (P.state keep_before.now) (P.state keep_behind.now)
+        → IsCrashImage (D.state before.now) files → (P.state keep_before.now).moment ≤ m → m ≤ (P.state keep_behind.now).moment → (P.state keep_behind.now).image_at m texts
         → EachImage (λ image. image ≡ files) (E.state crashed.now) → EachImage (λ image. image ≡ texts) (Q.state keep_crashed.now)
         → IsStoreOrNothing segment (E.state crashed.now) (Q.state keep_crashed.now) }
 
     // From then on the keep is as it is at the end, whatever the disk is.
     ensures opened { P.tells → (words : List (List ℕ)) (asked : Option ℕ) (segment : ℕ) (texts : Files) → IsCommand words asked
-        → IsOpened asked segment D.tells (D.state before.now).reads P.tells (P.state keep_before.now) (P.state keep_behind.now) → IsCrashImage (P.state keep_behind.now) texts
-        → EachImage (λ image. image ≡ texts) (Q.state keep_crashed.now) → HasFormat segment (Q.state keep_crashed.now) }
+        → IsOpened asked segment D.tells (D.state before.now).reads P.tells (P.state keep_before.now) (P.state keep_behind.now)
+        → IsCrashImage (P.state keep_behind.now) texts → EachImage (λ image. image ≡ texts) (Q.state keep_crashed.now) → HasFormat segment (Q.state keep_crashed.now) }
 {}
