@@ -1,9 +1,8 @@
 //! Flush turns, as the core sees them: a batch is taken, and the turn ends. What became of a record is told by them.
 
-ghost use Rattle.std.specs.Prelude.{◌≡◌, IfOk, OnErr, IfSome};
+ghost use Rattle.std.specs.Prelude.{◌≡◌, IfOk, OnErr, IsSome};
 ghost use Rattle.broker_model.specs.Events as model;
-ghost use Rattle.broker_events.specs.Shown.{IsOut};
-ghost use Rattle.broker_events.specs.Steps.{AreBatchesFor, IsTakenAs, awaited_of};
+ghost use Rattle.broker_events.specs.Steps.{IsTakenAs, awaited_of};
 ghost use Rattle.pending_log.specs.Pending.{IsReceiptOf};
 ghost use Rattle.broker_core.specs.Carries.{Carries, Stays, RepresentsSome};
 
@@ -20,8 +19,13 @@ impl Parts {
         ensures carries { IfOk result (λ batch. Carries self.old model.Take (IsTakenAs batch) self.new) }
         ensures stays { OnErr result (Stays self.old self.new) }
     {
-        // Kept for the end of the turn, which takes no memory.
-        self.stored.reserve()?;
+        if self.pending.is_out() {
+            return Ok(None);
+        }
+        // Room for the end of the turn, which takes no memory.
+        if let Err(fault) = self.stored.reserve() {
+            return Err(fault);
+        }
         self.pending.take(alloc, &self.rows)
     }
 
@@ -38,7 +42,7 @@ impl Parts {
     /// The turn that is out failed, where the disk counts so many faults. Takes no memory.
     pub(crate) fn flush_failed(&mut self, count: u64)
         requires some { RepresentsSome self.old }
-        requires out { IfSome self.old.pending.out (λ out. Unit {0}) }
+        requires out { IsSome self.old.pending.out }
         ensures { Carries self.old (model.FlushFailed count) (λ answer. answer ≡ model.Done) self.new }
     {
         self.pending.failed(count);
@@ -47,12 +51,21 @@ impl Parts {
     /// What became of the record with this number, by the turns after `turn`. Takes no memory.
     pub(crate) fn look(&self, number: u64, turn: u64) -> Awaited
         requires some { RepresentsSome self.now }
-        ensures { Carries self.now (model.Look number turn) (λ answer. answer ≡ model.Looked (awaited_of result)) self.now }
+        ensures { Carries self.entry.now (model.Look number turn) (λ answer. answer ≡ model.Looked (awaited_of result)) self.entry.now }
     {
         match self.pending.look(number, turn) {
             Look::Flushed => Awaited::Flushed,
             Look::Failed(count) => Awaited::Failed { count },
             Look::NotYet => Awaited::NotYet,
         }
+    }
+
+    /// A link ended: the clients that were last heard on it are gone. Takes no memory.
+    pub(crate) fn leave(&mut self, link: u32)
+        requires some { RepresentsSome self.old }
+        ensures { Carries self.old (model.Leave link) (λ answer. answer ≡ model.Done) self.new }
+    {
+        // No client is known yet.
+        let _link = link;
     }
 }

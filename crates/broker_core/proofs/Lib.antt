@@ -1,0 +1,3 @@
+pub mod FlushLemmas
+pub mod StateLemmasTurns
+pub mod TurnLemmas

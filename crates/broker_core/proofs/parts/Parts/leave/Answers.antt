@@ -1,0 +1,6 @@
+use Rattle.std.proofs.Common.{◌≡◌}
+use Rattle.broker_core.proofs.TurnLemmas.{leaves}
+use Rattle.broker_core.proofs.parts.Parts.leave.Goals as goal
+
+pub returns : goal.returns
+returns c s are = leaves c.args.self.now s c.args.link are
