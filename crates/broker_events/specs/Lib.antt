@@ -1,3 +1,4 @@
 pub mod Replies
+pub mod Served
 pub mod Shown
 pub mod Steps
