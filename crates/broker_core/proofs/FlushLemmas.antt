@@ -35,6 +35,8 @@ use Rattle.broker_model.specs.Answers.{answer_of, carried_out_answer}
 use Rattle.broker_model.specs.Step.{after, changed}
 use Rattle.broker_core.specs.declared.parts.Parts.{Parts}
 use Rattle.broker_core.specs.Represents.{Represents, HasNumbers, AreOut, AreCovered, IsCovered, HasRoom}
+use Rattle.broker_events.specs.Shown.{Shown, after_batch}
+use Rattle.broker_core.specs.Makes.{batch_of, shown_in}
 use Rattle.broker_core.proofs.StateLemmasTurns.{flushed_state}
 
 -- ---- what the model says
@@ -234,6 +236,7 @@ pub record IsTurnEnd (old : Parts) (s : State) (receipt : Receipt) (turn : Out) 
   pub within : s.flushed + turn.batch.count ≤ count_of s.log
   pub behind : old.stored.end ≤ end_of s.log.base (take (s.flushed - s.log.base.records) s.log.records)
   pub room : HasRoom old.stored
+  pub end : turn.end ≡ place_end (below s.log (s.flushed + turn.batch.count))
 
 turn_end : (old : Parts) (s : State) (receipt : Receipt) (o : Option Out) → Represents old s → old.pending.out ≡ o → IsReceiptOf o receipt → (turn : Out) × IsTurnEnd old s receipt turn
 turn_end old s receipt None are there of = absurd of
@@ -251,6 +254,7 @@ turn_end old s receipt (Some turn) are there of =
       within = omega (arith, held, within);
       behind = are.stored.end;
       room = subst (λ (o : Option Out). IfSome o (λ out. HasRoom old.stored)) there are.room;
+      end = out.end;
     })
 
 -- the turn that ends with this receipt
@@ -319,3 +323,24 @@ flushes old s receipt stored pending are of pushed is kept =
      (subst (λ n. Represents (record old { stored = stored; pending = pending }) (record s { flushed = s.flushed + n; out = None })) (sym count)
      (subst (λ (p : PendingPart). Represents (record old { stored = stored; pending = p }) (record s { flushed = s.flushed + out.batch.count; out = None })) (sym same)
      (represents_flushed old s receipt out stored are turn.1 pushed (subst (λ (p : PendingPart). IsPendingOf s.log p) same kept)))))
+
+-- ---- what is shown
+
+-- what is shown once the turn that is out has written its batch
+pub shown_flushed : (old : Parts) (s : State) (receipt : Receipt) (pending : PendingPart) → Represents old s → IsReceiptOf old.pending.out receipt → pending ≡ after_flushed old.pending
+    → shown_in pending ≡ after_batch (shown_in old.pending) (batch_of old.pending.out)
+shown_flushed old s receipt pending are of is =
+    let turn = ends old s receipt are of in
+    let out = turn.0 in
+    let e = turn.1 in
+    let f = s.flushed - s.log.base.records in
+    let low = e.low in
+    let number : f + out.batch.count ≡ (s.flushed + out.batch.count) - s.log.base.records = omega (arith, low) in
+    let last = (ends_there s.log s.setup.segment f out.batch receipt e.is).0 in
+    let place = e.is.of.place in
+    let len = e.is.of.size in
+    let behind : end_of s.log.base (take (f + out.batch.count) s.log.records) ≡ place_end (below s.log (s.flushed + out.batch.count)) = ap (λ n. end_of s.log.base (take n s.log.records)) number in
+    let end : out.end ≡ out.batch.place + length out.batch.bytes = e.end ∙ (sym behind ∙ (sym last ∙ (let z : piece_end receipt.piece ≡ out.batch.place + length out.batch.bytes = omega (arith, place, len) in z))) in
+    ap (λ (p : PendingPart). shown_in p) (is ∙ ap (λ (o : Option Out). with_flushed old.pending o) e.there)
+    ∙ (ap (λ (n : ℕ). let shown : Shown = record { flushed = old.pending.flushed + out.batch.count; end = n; out = None } in shown) end
+    ∙ ap (λ (o : Option Out). after_batch (shown_in old.pending) (batch_of o)) (sym e.there))

@@ -1,4 +1,5 @@
 pub mod FlushLemmas
 pub mod SeeLemmas
 pub mod StateLemmasTurns
+pub mod StepLemmas
 pub mod TurnLemmas

@@ -6,6 +6,7 @@ ghost use Rattle.log_model.specs.Numbered.{Log};
 ghost use Rattle.pending_log.specs.Rows.{AreRowsOf};
 ghost use Rattle.broker_model.specs.Events as model;
 ghost use Rattle.broker_core.specs.Carries.{Carries, RepresentsSome};
+ghost use Rattle.broker_core.specs.Makes.{shown_of};
 ghost use Rattle.broker_core.specs.Represents.{AreTabled, AreTablesOf};
 
 use crate::parts::Parts;
@@ -30,7 +31,8 @@ impl Parts {
     /// Consumers see at most so many records more, of those that are on the disk; how many they see then. Takes no memory.
     pub(crate) fn dispatch(&mut self, most: u32) -> u64
         requires some { RepresentsSome self.old }
-        ensures { Carries self.old (model.Dispatch most) (λ answer. answer ≡ model.Moved result) self.new }
+        ensures carries { Carries self.old (model.Dispatch most) (λ answer. answer ≡ model.Moved result) self.new }
+        ensures shown { shown_of self.new ≡ shown_of self.old }
     {
         let from = self.dispatched;
         let to = self.pending.flushed_count().min(from.saturating_add(u64::from(most)));

@@ -2,6 +2,10 @@
 //! is not yet on the disk, and the tables.
 #![tactic(auto)]
 
+mod broker;
 mod dispatch;
 mod parts;
+mod request;
 mod turns;
+
+pub use broker::Core;

@@ -1,10 +1,13 @@
 //! Flush turns, as the core sees them: a batch is taken, and the turn ends. What became of a record is told by them.
 
-ghost use Rattle.std.specs.Prelude.{◌≡◌, IfOk, OnErr, IsSome};
+ghost use Rattle.std.specs.Prelude.{◌≡◌, IfOk, OnErr, IsSome, Some, None};
 ghost use Rattle.broker_model.specs.Events as model;
 ghost use Rattle.broker_events.specs.Steps.{IsTakenAs, awaited_of};
 ghost use Rattle.pending_log.specs.Pending.{IsReceiptOf};
+ghost use Rattle.broker_events.specs.Shown.{taken, after_batch};
+ghost use Rattle.broker_events.specs.declared.said.Said.TheVariants as said;
 ghost use Rattle.broker_core.specs.Carries.{Carries, Stays, RepresentsSome};
+ghost use Rattle.broker_core.specs.Makes.{shown_of};
 
 use crate::parts::Parts;
 use broker_events::Awaited;
@@ -17,7 +20,9 @@ impl Parts {
     pub(crate) fn take(&mut self, alloc: Global) -> Result<Option<Batch>, AllocError>
         requires some { RepresentsSome self.old }
         ensures carries { IfOk result (λ batch. Carries self.old model.Take (IsTakenAs batch) self.new) }
+        ensures shown { IfOk result (λ batch. shown_of self.new ≡ taken (shown_of self.old) (Some (said.Batch batch))) }
         ensures stays { OnErr result (Stays self.old self.new) }
+        ensures same { OnErr result (shown_of self.new ≡ shown_of self.old) }
     {
         if self.pending.is_out() {
             return Ok(None);
@@ -33,7 +38,8 @@ impl Parts {
     pub(crate) fn flushed(&mut self, receipt: &Receipt)
         requires some { RepresentsSome self.old }
         requires receipt { IsReceiptOf self.old.pending.out receipt.now }
-        ensures { Carries self.old (model.Flushed receipt.now.count) (λ answer. answer ≡ model.Done) self.new }
+        ensures carries { Carries self.old (model.Flushed receipt.now.count) (λ answer. answer ≡ model.Done) self.new }
+        ensures shown { shown_of self.new ≡ after_batch (shown_of self.old) (shown_of self.old).out }
     {
         let bytes = self.pending.flushed(receipt);
         self.stored.push(receipt.piece.keeping(bytes));
@@ -43,7 +49,8 @@ impl Parts {
     pub(crate) fn flush_failed(&mut self, count: u64)
         requires some { RepresentsSome self.old }
         requires out { IsSome self.old.pending.out }
-        ensures { Carries self.old (model.FlushFailed count) (λ answer. answer ≡ model.Done) self.new }
+        ensures carries { Carries self.old (model.FlushFailed count) (λ answer. answer ≡ model.Done) self.new }
+        ensures shown { shown_of self.new ≡ record (shown_of self.old) { out = None } }
     {
         self.pending.failed(count);
     }
@@ -63,7 +70,8 @@ impl Parts {
     /// A link ended: the clients that were last heard on it are gone. Takes no memory.
     pub(crate) fn leave(&mut self, link: u32)
         requires some { RepresentsSome self.old }
-        ensures { Carries self.old (model.Leave link) (λ answer. answer ≡ model.Done) self.new }
+        ensures carries { Carries self.old (model.Leave link) (λ answer. answer ≡ model.Done) self.new }
+        ensures shown { shown_of self.new ≡ shown_of self.old }
     {
         // No client is known yet.
         let _link = link;

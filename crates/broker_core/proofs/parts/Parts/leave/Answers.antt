@@ -2,5 +2,5 @@ use Rattle.std.proofs.Common.{◌≡◌}
 use Rattle.broker_core.proofs.TurnLemmas.{leaves}
 use Rattle.broker_core.proofs.parts.Parts.leave.Goals as goal
 
-pub returns : goal.returns
-returns c s are = leaves c.args.self.now s c.args.link are
+pub returns-clause-carries : goal.returns-clause-carries
+returns-clause-carries c s are = leaves c.args.self.now s c.args.link are

@@ -1,0 +1,33 @@
+//! Requests, each by its own call.
+
+ghost use Rattle.std.specs.Prelude.{◌≡◌, ◌<◌, ◌^◌, ℕ, true, IfOk, OnErr};
+ghost use Rattle.broker_model.specs.Events as model;
+ghost use Rattle.broker_events.specs.Served.{is_served};
+ghost use Rattle.broker_events.specs.Steps.{Says};
+ghost use Rattle.broker_core.specs.Carries.{Carries, Stays, RepresentsSome};
+ghost use Rattle.broker_core.specs.Makes.{shown_of};
+
+use crate::parts::Parts;
+use broker_events::Said;
+use request_fields::Request;
+use std::alloc::{AllocError, Global};
+
+impl Parts {
+    /// A request that is served, from this host, at this reading of the clock in milliseconds. At `Err` nothing changes.
+    pub(crate) fn request(
+        &mut self,
+        _alloc: Global,
+        _host: &[u8; 8],
+        _now: u64,
+        _request: &Request,
+    ) -> Result<Said, AllocError>
+        requires some { RepresentsSome self.old }
+        requires now { _now < 2 ^ 62 }
+        requires served { is_served _request.now ≡ true }
+        ensures carries { IfOk result (λ said. (link : ℕ) → Carries self.old (model.Asks (record { link = link; host = _host.now; now = _now; request = _request.now })) (Says said) self.new) }
+        ensures stays { OnErr result (Stays self.old self.new) }
+        ensures shown { shown_of self.new ≡ shown_of self.old }
+    {
+        Err(AllocError)
+    }
+}
