@@ -70,3 +70,9 @@ flush_possible old s receipt are accepted = out_count receipt old.pending.out s.
 -- and a turn fails only then
 pub failure_possible : (old : Parts) (s : State) (count : ℕ) → Represents old s → Accepts (shown_of old) (FlushFailed count) → IsPossible s (events.FlushFailed count)
 failure_possible old s count are accepted = out_there old.pending.out s.out are.out accepted
+
+-- after a call that may begin a turn it represents a state
+pub take_state : {E : Type 0} (old new : Parts) (result : Result (Option Batch) E) → IfOk result (λ batch. Carries old events.Take (IsTakenAs batch) new) → OnErr result (Stays old new)
+    → RepresentsSome old → RepresentsSome new
+take_state old new (Ok batch) carries stays some = (after some.0 events.Take, (carries some.0 some.1).1)
+take_state old new (Err fault) carries stays some = (some.0, stays some.0 some.1)

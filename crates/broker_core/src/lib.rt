@@ -2,10 +2,12 @@
 //! is not yet on the disk, and the tables.
 #![tactic(auto)]
 
+mod alone;
 mod broker;
 mod dispatch;
 mod parts;
 mod request;
 mod turns;
 
+pub use alone::Alone;
 pub use broker::Core;

@@ -1,4 +1,6 @@
-use Rattle.std.proofs.Common.{◌≡◌, sym, subst, Some, None, Option, IfOk}
+use Rattle.std.proofs.Common.{◌≡◌, sym, subst, Some, None, Option, IfOk, Result}
+use Rattle.std.specs.declared.alloc.AllocError.{AllocError}
+use Rattle.broker_events.specs.declared.said.Said.{Said}
 use Rattle.broker_model.specs.State.{State}
 use Rattle.broker_events.specs.declared.event.Event.{Event}
 use Rattle.broker_events.specs.declared.event.Event.TheVariants.{Request, Take, Flushed, FlushFailed, Look, Dispatch, Leave}
@@ -8,8 +10,9 @@ use Rattle.broker_events.specs.Steps.{said_in}
 use Rattle.broker_core.specs.declared.parts.Parts.{Parts}
 use Rattle.broker_core.specs.Represents.{Represents}
 use Rattle.broker_core.specs.Makes.{Makes, shown_of}
-use Rattle.broker_core.proofs.StepLemmas.{made, unmade, request_made, take_made, flush_possible, failure_possible}
+use Rattle.broker_core.proofs.StepLemmas.{made, unmade, request_made, take_made, take_state, flush_possible, failure_possible}
 use Rattle.broker_core.proofs.broker.Core.apply.Goals as goal
+use Rattle.broker_core.proofs.broker.Core.apply.Goals.{in-Ok, in-Err}
 
 pub invariant_of-self : goal.invariant_of-self
 invariant_of-self c =
@@ -18,7 +21,7 @@ invariant_of-self c =
     (makes.reached, makes.represents)
 
 pub invariant_of-self-in-Take : goal.invariant_of-self-in-Take
-invariant_of-self-in-Take c = ?
+invariant_of-self-in-Take c = take_state c.self.inside.parts c.take.new.self c.take.result c.take.ensures.carries c.take.ensures.stays c.self.invariant
 
 pub invariant_of-self-in-Dispatch : goal.invariant_of-self-in-Dispatch
 invariant_of-self-in-Dispatch c = (_, (c.dispatch.ensures.carries c.self.invariant.0 c.self.invariant.1).1)
@@ -34,7 +37,13 @@ returns-in-Request-clause-step c s are =
     (request_made c.self.inside.parts c.request.new.self s i.link i.host i.now i.request c.request.result c.request.ensures.carries c.request.ensures.stays before)
 
 pub returns-after-take-clause-step : goal.returns-after-take-clause-step
-returns-after-take-clause-step c s are = ?
+returns-after-take-clause-step c s are =
+    let before = subst (λ (p : Parts). Represents p s) (sym c.self.view_is) are in
+    subst (λ (e : Event). Makes s e (said_in c.match-take.result) c.take.new.self) (sym c.in-Take.is)
+    (elim c.match-take.branch [
+      | in-Ok w ↦ subst (λ (r : Result Said AllocError). Makes s Take (said_in r) c.take.new.self) (sym w.result-is) (take_made c.self.inside.parts c.take.new.self s w.in-Ok.batch w.in-Ok.ensures.carries before)
+      | in-Err w ↦ subst (λ (r : Result Said AllocError). Makes s Take (said_in r) c.take.new.self) (sym w.result-is) (unmade s Take c.take.new.self tt (w.in-Err.ensures.stays s before))
+    ])
 
 pub returns-in-Flushed-clause-step : goal.returns-in-Flushed-clause-step
 returns-in-Flushed-clause-step c s are =
