@@ -1,11 +1,11 @@
 -- The parts and the state when a batch is on the disk: each of its records lies in the piece, since records of one segment stand
 -- one behind another.
-use Rattle.std.proofs.Common.{◌≡◌, ◌≢◌, ◌⊎◌, ⊎_elim, inl, inr, eqb, refl, ap, sym, ◌∙◌, subst, arith, ℕ, zero, suc, ◌+◌, ◌-◌, ◌*◌, ◌/◌, ◌%◌, ◌^◌, ◌<◌, ◌≤◌, Bool, true, false, List, [], ◌∷◌, ◌++◌, length, take, drop, slice_get, Option, Some, None, IfSome, if◌then◌else◌, vec_len, vec_capacity}
+use Rattle.std.proofs.Common.{◌≡◌, ◌⊎◌, ⊎_elim, inl, inr, refl, ap, sym, ◌∙◌, subst, arith, ℕ, zero, suc, ◌+◌, ◌-◌, ◌*◌, ◌/◌, ◌%◌, ◌^◌, ◌<◌, ◌≤◌, true, false, List, [], ◌∷◌, ◌++◌, length, take, drop, slice_get, Option, Some, None, IfSome}
 use Rattle.std.proofs.lemmas.Bool.{cases_Bool, cond-true, cond-false}
 use Rattle.std.proofs.lemmas.Grind.{flat_map-append}
 use Rattle.std.proofs.lemmas.List.{length-append, length-drop, length-take, take-append-drop}
 use Rattle.std.proofs.lemmas.Nat.{le-div}
-use Rattle.std.proofs.Math.Nat.{lt-div-mul-add, div-mul-le_self, mul-div_left}
+use Rattle.std.proofs.Math.Nat.{div-mul-le_self, mul-div_left}
 use Rattle.std.proofs.Math.Seq.{drop-append_seam, take-append_seam, take-length}
 use Rattle.mq_outside.specs.Covers.{piece_start, piece_end, Covers, HasRange, HoldsRange, PieceHolds}
 use Rattle.mq_outside.specs.Readings.{HasAt}
@@ -14,27 +14,26 @@ use Rattle.mq_outside.specs.declared.frozen_ranges.FrozenRanges.{FrozenRanges}
 use Rattle.record_codec.specs.Entry.{Entry}
 use Rattle.record_codec.specs.Layout.{size, layout}
 use Rattle.record_codec.proofs.LayoutLengths.{length-layout}
-use Rattle.log_model.specs.Bases.{Base, Geometry, geometry}
+use Rattle.log_model.specs.Bases.{Geometry, geometry}
 use Rattle.log_model.specs.Batches.{IsBatchOf, IsReceiptFor}
 use Rattle.log_model.specs.declared.batch.Batch.{Batch}
 use Rattle.log_model.specs.declared.batch.Receipt.{Receipt}
 use Rattle.log_model.specs.Log.{end_of, fits, place_after, IsWellFormed}
-use Rattle.log_model.specs.Numbered.{Log, IsLawful, count_of, place_end, below, records_from}
+use Rattle.log_model.specs.Numbered.{Log, IsLawful, count_of, place_end, below}
 use Rattle.log_model.specs.Segments.{layouts}
 use Rattle.pending_log.specs.declared.turn.Out.{Out}
 use Rattle.pending_log.specs.Parts.{PendingPart}
 use Rattle.pending_log.specs.Pending.{IsPendingOf, IsOutOf, IsReceiptOf, with_flushed, after_flushed}
-use Rattle.pending_log.proofs.Lists.{get_there, get_within, drop_get, get_drop, take_next, some_one}
+use Rattle.pending_log.proofs.Lists.{get_there, get_within, drop_get, take_next}
 use Rattle.pending_log.proofs.LogLemmas.{place_past, ends_with, places_rise}
 use Rattle.queue_view.proofs.Lists.{take_get, drop_next}
-use Rattle.broker_model.specs.State as model
 use Rattle.broker_model.specs.State.{State}
 use Rattle.broker_model.specs.Events as events
 use Rattle.broker_model.specs.Appended.{is_refused, drafts_of}
 use Rattle.broker_model.specs.Answers.{answer_of, carried_out_answer}
 use Rattle.broker_model.specs.Step.{after, changed}
 use Rattle.broker_core.specs.declared.parts.Parts.{Parts}
-use Rattle.broker_core.specs.Represents.{Represents, HasNumbers, AreOut, AreCovered, IsCovered, HasRoom}
+use Rattle.broker_core.specs.Represents.{Represents, IsCovered, HasRoom}
 use Rattle.broker_events.specs.Shown.{Shown, after_batch}
 use Rattle.broker_core.specs.Makes.{batch_of, shown_in}
 use Rattle.broker_core.proofs.StateLemmasTurns.{flushed_state}
@@ -55,13 +54,13 @@ answer_flush s count = refl
 next_here : (S end n place low : ℕ) → 0 < S → place ≡ place_after S end n → low ≤ end → place / S ≡ low / S → place ≡ end
 next_here S end n place low some is up same =
     ⊎_elim (λ (here : fits S (end % S) n ≡ true). is ∙ cond-true _ end ((end / S + 1) * S) here)
-      (λ (next : fits S (end % S) n ≡ false).
-        let at : place ≡ (end / S + 1) * S = is ∙ cond-false _ end ((end / S + 1) * S) next in
-        let number : place / S ≡ end / S + 1 = ap (λ m. m / S) at ∙ mul-div_left (end / S + 1) some in
-        let floor : low / S * S ≤ low = div-mul-le_self low S in
-        let high : low / S ≤ end / S = le-div (low / S) end S some (omega (arith, floor, up)) in
-        absurd (let none : ⊥ = omega (arith, number, same, high) in none))
-      (cases_Bool (fits S (end % S) n))
+    (λ (next : fits S (end % S) n ≡ false).
+    let at : place ≡ (end / S + 1) * S = is ∙ cond-false _ end ((end / S + 1) * S) next in
+    let number : place / S ≡ end / S + 1 = ap (λ m. m / S) at ∙ mul-div_left (end / S + 1) some in
+    let floor : low / S * S ≤ low = div-mul-le_self low S in
+    let high : low / S ≤ end / S = le-div (low / S) end S some (omega (arith, floor, up)) in
+    absurd (let none : ⊥ = omega (arith, number, same, high) in none))
+    (cases_Bool (fits S (end % S) n))
 
 -- the records of a batch
 abbrev pub batch_records : List Entry → ℕ → ℕ → List Entry
@@ -94,10 +93,10 @@ placed_in S records f b well is (suc i) r low at =
     let follows = well.each (f + suc i) r at in
     let number : suc (f + i) ≡ f + suc i = omega arith in
     let end_is : end_of S.base (take (f + suc i) records) ≡ q.offset + size q =
-        subst (λ m. end_of S.base (take m records) ≡ q.offset + size q) number (ends_with S.base records (f + i) q before.1) in
+    subst (λ m. end_of S.base (take m records) ≡ q.offset + size q) number (ends_with S.base records (f + i) q before.1) in
     let same : r.offset / S.size ≡ q.offset / S.size = is.segment (suc i) r low at ∙ sym (is.segment i q (omega (arith, low)) before.1) in
     let here : r.offset ≡ end_of S.base (take (f + suc i) records) =
-        next_here S.size (end_of S.base (take (f + suc i) records)) (size r) r.offset q.offset (let some = well.segment.low in omega (arith, some)) follows.place (omega (arith, end_is)) same in
+    next_here S.size (end_of S.base (take (f + suc i) records)) (size r) r.offset q.offset (let some = well.segment.low in omega (arith, some)) follows.place (omega (arith, end_is)) same in
     let bytes = next_bytes xs i q (batch_get records f b.count i q (omega (arith, low)) before.1) in
     omega (arith, here, end_is, placed, bytes)
 
@@ -108,8 +107,8 @@ has_at : (held : Option (List ℕ)) (all before bytes behind : List ℕ) (at : �
 has_at None all before bytes behind at is parts place = tt
 has_at (Some h) all before bytes behind at is parts place =
     sym (ap (λ (hs : List ℕ). take (length bytes) (drop at hs)) (is ∙ parts)
-      ∙ (ap (λ n. take (length bytes) (drop n (before ++ (bytes ++ behind)))) place
-      ∙ (ap (λ (hs : List ℕ). take (length bytes) hs) (drop-append_seam before (bytes ++ behind)) ∙ take-append_seam bytes behind)))
+    ∙ (ap (λ n. take (length bytes) (drop n (before ++ (bytes ++ behind)))) place
+    ∙ (ap (λ (hs : List ℕ). take (length bytes) hs) (drop-append_seam before (bytes ++ behind)) ∙ take-append_seam bytes behind)))
 
 -- the layouts of records, parted at one of them
 parted_at : (xs : List Entry) (i : ℕ) (r : Entry) → slice_get xs i ≡ Some r → layouts xs ≡ layouts (take i xs) ++ (layout r ++ layouts (drop (suc i) xs))
@@ -180,7 +179,7 @@ ends_there log segment f b receipt is =
     let placed = placed_in (geometry segment log.base) log.records f b is.lawful is.batch n r (omega (arith, some)) last.1 in
     let number : suc (f + n) ≡ f + b.count = omega (arith, some) in
     let end_is : end_of log.base (take (f + b.count) log.records) ≡ r.offset + size r =
-        subst (λ m. end_of log.base (take m log.records) ≡ r.offset + size r) number (ends_with log.base log.records (f + n) r last.1) in
+    subst (λ m. end_of log.base (take m log.records) ≡ r.offset + size r) number (ends_with log.base log.records (f + n) r last.1) in
     let bytes = next_bytes xs n r (batch_get log.records f b.count n r (omega (arith, some)) last.1) in
     let long : length xs ≡ suc n = length-take b.count (drop f log.records) ∙ (let left = length-drop f log.records in omega (arith, left, within, some)) in
     let all : length (layouts xs) ≡ length (layouts (take (suc n) xs)) = ap (λ (rs : List Entry). length (layouts rs)) (sym (ap (λ m. take m xs) (sym long) ∙ take-length xs)) in
@@ -209,22 +208,22 @@ covered_more log segment f b receipt old new is pushed end before k r low at =
     let some = has_bytes r in
     let long = length-layout r in
     ⊎_elim (λ (early : k < f).
-        let had = before k r early at in
-        let first = get_there log.records f (let one = is.batch.some in let within = is.batch.within in omega (arith, one, within)) in
-        let rise = places_rise (geometry segment log.base) log.records is.lawful k f r first.0 early at first.1 in
-        let begin = is.batch.place first.0 first.1 in
-        record {
-          range = pushed.kept r.offset (size r) had.range;
-          held = pushed.holds r.offset (layout r) had.held (λ covers. let from = covers.from in absurd (let none : ⊥ = omega (arith, from, rise, begin, place, some) in none));
-        })
-      (λ (new_one : (j : ℕ) × (k ≡ f + j) × (j < b.count)).
-        let has = in_piece (geometry segment log.base) log.records f b receipt is.lawful is.batch is.of new_one.0 r new_one.2 (subst (λ m. slice_get log.records m ≡ Some r) new_one.1 at) in
-        let from = has.from in
-        record {
-          range = pushed.added r.offset (size r) has.covers;
-          held = pushed.fresh r.offset (layout r) (omega (arith, end, behind, from)) (omega (arith, some, long)) has.holds;
-        })
-      (parted f b.count k low)
+    let had = before k r early at in
+    let first = get_there log.records f (let one = is.batch.some in let within = is.batch.within in omega (arith, one, within)) in
+    let rise = places_rise (geometry segment log.base) log.records is.lawful k f r first.0 early at first.1 in
+    let begin = is.batch.place first.0 first.1 in
+    record {
+      range = pushed.kept r.offset (size r) had.range;
+      held = pushed.holds r.offset (layout r) had.held (λ covers. let from = covers.from in absurd (let none : ⊥ = omega (arith, from, rise, begin, place, some) in none));
+    })
+    (λ (new_one : (j : ℕ) × (k ≡ f + j) × (j < b.count)).
+    let has = in_piece (geometry segment log.base) log.records f b receipt is.lawful is.batch is.of new_one.0 r new_one.2 (subst (λ m. slice_get log.records m ≡ Some r) new_one.1 at) in
+    let from = has.from in
+    record {
+      range = pushed.added r.offset (size r) has.covers;
+      held = pushed.fresh r.offset (layout r) (omega (arith, end, behind, from)) (omega (arith, some, long)) has.holds;
+    })
+    (parted f b.count k low)
 
 -- ---- the parts
 
@@ -242,20 +241,22 @@ turn_end : (old : Parts) (s : State) (receipt : Receipt) (o : Option Out) → Re
 turn_end old s receipt None are there of = absurd of
 turn_end old s receipt (Some turn) are there of =
     let out : IsOutOf s.setup.segment s.log s.flushed turn =
-        subst (λ n. IsOutOf s.setup.segment s.log n turn) are.numbers.flushed
-        (subst (λ n. IsOutOf n s.log old.pending.flushed turn) are.numbers.segment
-        (subst (λ (o : Option Out). IfSome o (IsOutOf old.pending.segment s.log old.pending.flushed)) there are.pending.out)) in
+    subst (λ n. IsOutOf s.setup.segment s.log n turn) are.numbers.flushed
+    (subst (λ n. IsOutOf n s.log old.pending.flushed turn) are.numbers.segment
+    (subst (λ (o : Option Out). IfSome o (IsOutOf old.pending.segment s.log old.pending.flushed)) there are.pending.out)) in
     let held = out.held in
-    let within = out.within in
-    (turn, record {
-      there = there;
-      is = record { lawful = are.state.log; batch = out.batch; of = of };
-      low = (let base = are.state.base in let high = are.state.dispatched in omega (arith, base, high));
-      within = omega (arith, held, within);
-      behind = are.stored.end;
-      room = subst (λ (o : Option Out). IfSome o (λ out. HasRoom old.stored)) there are.room;
-      end = out.end;
-    })
+    let within = out.within in (
+      turn,
+      record {
+        there = there;
+        is = record { lawful = are.state.log; batch = out.batch; of = of };
+        low = (let base = are.state.base in let high = are.state.dispatched in omega (arith, base, high));
+        within = omega (arith, held, within);
+        behind = are.stored.end;
+        room = subst (λ (o : Option Out). IfSome o (λ out. HasRoom old.stored)) there are.room;
+        end = out.end;
+      },
+    )
 
 -- the turn that ends with this receipt
 pub ends : (old : Parts) (s : State) (receipt : Receipt) → Represents old s → IsReceiptOf old.pending.out receipt → (turn : Out) × IsTurnEnd old s receipt turn
@@ -279,9 +280,10 @@ pub piece_bytes : (old : Parts) (s : State) (receipt : Receipt) (bytes : List �
     → (length bytes ≡ receipt.piece.len) × IfSome receipt.piece.held (λ held. held ≡ bytes)
 piece_bytes old s receipt bytes are of told =
     let turn = ends old s receipt are of in
-    let same : bytes ≡ turn.0.batch.bytes = subst (λ (o : Option Out). IfSome o (λ out. bytes ≡ out.batch.bytes)) turn.1.there told in
-    (ap (λ (bs : List ℕ). length bs) same ∙ sym turn.1.is.of.size,
-     subst (λ (bs : List ℕ). IfSome receipt.piece.held (λ held. held ≡ bs)) (sym same) turn.1.is.of.held)
+    let same : bytes ≡ turn.0.batch.bytes = subst (λ (o : Option Out). IfSome o (λ out. bytes ≡ out.batch.bytes)) turn.1.there told in (
+      ap (λ (bs : List ℕ). length bs) same ∙ sym turn.1.is.of.size,
+      subst (λ (bs : List ℕ). IfSome receipt.piece.held (λ held. held ≡ bs)) (sym same) turn.1.is.of.held,
+    )
 
 represents_flushed : (old : Parts) (s : State) (receipt : Receipt) (turn : Out) (stored : FrozenRanges) → Represents old s → IsTurnEnd old s receipt turn → HasPushed old.stored receipt.piece stored
     → IsPendingOf s.log (with_flushed old.pending (Some turn))
@@ -317,12 +319,13 @@ flushes old s receipt stored pending are of pushed is kept =
     let turn = ends old s receipt are of in
     let out = turn.0 in
     let same : pending ≡ with_flushed old.pending (Some out) = is ∙ ap (λ (o : Option Out). with_flushed old.pending o) turn.1.there in
-    let count : receipt.count ≡ out.batch.count = turn.1.is.of.count in
-    (answer_flush s receipt.count,
-     subst (λ (t : State). Represents (record old { stored = stored; pending = pending }) t) (sym (after_flush s receipt.count))
-     (subst (λ n. Represents (record old { stored = stored; pending = pending }) (record s { flushed = s.flushed + n; out = None })) (sym count)
-     (subst (λ (p : PendingPart). Represents (record old { stored = stored; pending = p }) (record s { flushed = s.flushed + out.batch.count; out = None })) (sym same)
-     (represents_flushed old s receipt out stored are turn.1 pushed (subst (λ (p : PendingPart). IsPendingOf s.log p) same kept)))))
+    let count : receipt.count ≡ out.batch.count = turn.1.is.of.count in (
+      answer_flush s receipt.count,
+      subst (λ (t : State). Represents (record old { stored = stored; pending = pending }) t) (sym (after_flush s receipt.count))
+          (subst (λ n. Represents (record old { stored = stored; pending = pending }) (record s { flushed = s.flushed + n; out = None })) (sym count)
+          (subst (λ (p : PendingPart). Represents (record old { stored = stored; pending = p }) (record s { flushed = s.flushed + out.batch.count; out = None })) (sym same)
+          (represents_flushed old s receipt out stored are turn.1 pushed (subst (λ (p : PendingPart). IsPendingOf s.log p) same kept)))),
+    )
 
 -- ---- what is shown
 

@@ -1,5 +1,5 @@
 -- The tables when consumers see more records, and the parts after a dispatch.
-use Rattle.std.proofs.Common.{◌≡◌, ◌⊎◌, ⊎_elim, refl, ap, sym, ◌∙◌, subst, arith, ℕ, zero, suc, ◌+◌, ◌-◌, ◌*◌, ◌^◌, ◌<◌, ◌≤◌, ◌==◌, ◌&&◌, min, Bool, true, false, List, [], ◌∷◌, ◌++◌, length, take, drop, filter, map, get_or, slice_get, slice_set, Option, Some, None, if◌then◌else◌}
+use Rattle.std.proofs.Common.{◌≡◌, refl, ap, sym, ◌∙◌, subst, arith, ℕ, zero, suc, ◌+◌, ◌-◌, ◌^◌, ◌<◌, ◌≤◌, ◌==◌, ◌&&◌, min, Bool, true, false, List, [], ◌∷◌, ◌++◌, length, take, drop, filter, map, get_or, slice_get, slice_set, Some, None, if◌then◌else◌}
 use Rattle.std.specs.Str.{bytes_eq}
 use Rattle.std.proofs.lemmas.Bool.{and_parts}
 use Rattle.std.proofs.lemmas.Bool.Decides.{Decides-eqb}
@@ -11,7 +11,7 @@ use Rattle.std.proofs.lemmas.Slice.Eq.{bytes_eq-Decides}
 use Rattle.record_codec.specs.Entry.{Entry}
 use Rattle.record_codec.specs.Units.{unit_of}
 use Rattle.log_model.specs.Bases.{Base}
-use Rattle.log_model.specs.Numbered.{Log, count_of, place_end}
+use Rattle.log_model.specs.Numbered.{Log}
 use Rattle.log_model.specs.Queues.{queue_of}
 use Rattle.pending_log.specs.Rows.{AreAlike, AreRowsOf}
 use Rattle.pending_log.specs.Tables.{RowTable}
@@ -31,7 +31,7 @@ use Rattle.broker_model.specs.Appended.{is_refused, drafts_of}
 use Rattle.broker_model.specs.Answers.{answer_of, carried_out_answer}
 use Rattle.broker_model.specs.Step.{after, changed}
 use Rattle.broker_core.specs.declared.parts.Parts.{Parts}
-use Rattle.broker_core.specs.Represents.{Represents, HasNumbers, IsTableOf, AreTablesOf, AreTabled, stored_unit}
+use Rattle.broker_core.specs.Represents.{Represents, AreTablesOf, AreTabled, stored_unit}
 use Rattle.broker_core.proofs.StateLemmasTurns.{dispatched_state}
 
 -- ---- the records as the tables see them
@@ -44,7 +44,7 @@ pub queue_in_is : (records : List Entry) (topic : List ℕ) (queue : ℕ) → qu
 queue_in_is [] topic queue = refl
 queue_in_is (r ∷ records) topic queue =
     elim (bytes_eq r.topic topic && (r.queue == queue)) as (λ b. map stored_of (if b then added_of r ∷ filter (is_in topic queue) (map added_of records) else filter (is_in topic queue) (map added_of records))
-        ≡ map stored_unit (if b then r ∷ queue_of records topic queue else queue_of records topic queue)) [
+    ≡ map stored_unit (if b then r ∷ queue_of records topic queue else queue_of records topic queue)) [
       | true ↦ ap (λ (us : List StoredUnit). stored_unit r ∷ us) (queue_in_is records topic queue)
       | false ↦ queue_in_is records topic queue
     ]
@@ -82,15 +82,17 @@ as_added base records n tables rows alike tabled are = record {
     seen = is.seen ∙ sym (seen_in records n t.topic t.queue);
   };
   found = are.one;
-  none = λ topic queue absent. (are.known topic queue absent,
-      queue_in_is records topic queue ∙ ap (λ (rs : List Entry). map stored_unit rs) (none_of records topic queue (λ k r at e.
+  none = λ topic queue absent. (
+    are.known topic queue absent,
+    queue_in_is records topic queue ∙ ap (λ (rs : List Entry). map stored_unit rs) (none_of records topic queue (λ k r at e.
         let row = row_of rows records k r alike at in
         let parts = and_parts (bytes_eq r.topic topic) (r.queue == queue) e in
         let same_topic : r.topic ≡ topic = (bytes_eq-Decides r.topic topic).0 parts.0 in
         let same_queue : r.queue ≡ queue = (Decides-eqb r.queue queue).0 parts.1 in
         let has : number_of tables topic queue ≡ Some row.0.table =
-            ap (λ m. number_of tables topic m) (sym same_queue) ∙ (ap (λ (name : List ℕ). number_of tables name r.queue) (sym same_topic) ∙ tabled k r row.0 at row.1) in
-        let bad : None ≡ Some row.0.table = sym absent ∙ has in cc bad)));
+        ap (λ m. number_of tables topic m) (sym same_queue) ∙ (ap (λ (name : List ℕ). number_of tables name r.queue) (sym same_topic) ∙ tabled k r row.0 at row.1) in
+        let bad : None ≡ Some row.0.table = sym absent ∙ has in cc bad)),
+  );
 }
 
 -- and back
@@ -140,10 +142,10 @@ more_units records n r topic queue at same_topic same_queue =
     let test : Entry → Bool = λ q. bytes_eq q.topic topic && (q.queue == queue) in
     let yes : test r ≡ true = ap (λ b. b && (r.queue == queue)) ((bytes_eq-Decides r.topic topic).1 same_topic) ∙ (Decides-eqb r.queue queue).1 same_queue in
     let behind : queue_of (drop n records) topic queue ≡ r ∷ queue_of (drop (suc n) records) topic queue =
-        ap (λ (rs : List Entry). queue_of rs topic queue) (drop_next records n r at)
-        ∙ ap (λ b. if b then r ∷ queue_of (drop (suc n) records) topic queue else queue_of (drop (suc n) records) topic queue) yes in
+    ap (λ (rs : List Entry). queue_of rs topic queue) (drop_next records n r at)
+    ∙ ap (λ b. if b then r ∷ queue_of (drop (suc n) records) topic queue else queue_of (drop (suc n) records) topic queue) yes in
     let all : queue_of records topic queue ≡ queue_of (take n records) topic queue ++ queue_of (drop n records) topic queue =
-        ap (λ (rs : List Entry). queue_of rs topic queue) (sym (take-append-drop n records)) ∙ filter-append test (take n records) (drop n records) in
+    ap (λ (rs : List Entry). queue_of rs topic queue) (sym (take-append-drop n records)) ∙ filter-append test (take n records) (drop n records) in
     let long = ap length all ∙ length-append (queue_of (take n records) topic queue) (queue_of (drop n records) topic queue) in
     let one = ap length behind in
     omega (arith, long, one)
@@ -177,10 +179,11 @@ row_seen log rows n row old new of at changes sees are =
     let is = changes led.table led.there in
     let before = as_added log.base log.records n old rows.items of.items are.0 are.1 in
     let after = sees log.base.queues (map added_of log.records) n (added_of led.entry) led.table before (map_get added_of log.records n led.entry led.at) led.there
-        (record { topic = led.topic; queue = led.queue }) in
-    ((λ k r other r_at other_at.
-      ap (λ (ts : List Table). number_of ts r.topic r.queue) is ∙ (number_of-set old row.table led.table (with_next_seen led.table) led.there refl refl r.topic r.queue ∙ are.0 k r other r_at other_at)),
-     from_added log.base log.records (n + 1) new after)
+    (record { topic = led.topic; queue = led.queue }) in (
+      (λ k r other r_at other_at.
+          ap (λ (ts : List Table). number_of ts r.topic r.queue) is ∙ (number_of-set old row.table led.table (with_next_seen led.table) led.there refl refl r.topic r.queue ∙ are.0 k r other r_at other_at)),
+      from_added log.base log.records (n + 1) new after,
+    )
 
 -- ---- a dispatch
 
@@ -242,10 +245,11 @@ dispatches old s most to tables are is tabled queues =
     let flushed = are.numbers.flushed in
     let dispatched = are.numbers.dispatched in
     let mid = are.state.dispatched in
-    let same : min s.flushed (s.dispatched + most) ≡ to = omega (arith, is, flushed, dispatched) in
-    (answer_dispatch s most ∙ ap (λ n. events.Moved n) same,
-     subst (λ (t : State). Represents (record old { queues = tables; dispatched = to }) t) (sym (after_dispatch s most ∙ ap (λ (n : ℕ). record s { dispatched = n }) same))
-     (represents_dispatched old s to tables are (omega (arith, is, flushed, dispatched, mid)) (omega (arith, is, flushed)) tabled queues))
+    let same : min s.flushed (s.dispatched + most) ≡ to = omega (arith, is, flushed, dispatched) in (
+      answer_dispatch s most ∙ ap (λ n. events.Moved n) same,
+      subst (λ (t : State). Represents (record old { queues = tables; dispatched = to }) t) (sym (after_dispatch s most ∙ ap (λ (n : ℕ). record s { dispatched = n }) same))
+          (represents_dispatched old s to tables are (omega (arith, is, flushed, dispatched, mid)) (omega (arith, is, flushed)) tabled queues),
+    )
 
 -- the number that a dispatch computes, which doesn't overflow
 pub to_is : (old : Parts) (s : State) (most sum to : ℕ) → Represents old s → sum ≡ min (old.dispatched + most) (2 ^ 64 - 1) → to ≡ min old.pending.flushed sum → to ≡ min old.pending.flushed (old.dispatched + most)

@@ -1,5 +1,5 @@
 -- Each event as a step of the core, from what its call says.
-use Rattle.std.proofs.Common.{◌≡◌, refl, ap, sym, ◌∙◌, subst, ℕ, List, Option, Some, None, Result, Ok, Err, IfOk, OnErr}
+use Rattle.std.proofs.Common.{refl, sym, ◌∙◌, ℕ, List, Option, Some, None, Result, Ok, Err, IfOk, OnErr}
 use Rattle.log_model.specs.declared.batch.Batch.{Batch}
 use Rattle.log_model.specs.declared.batch.Receipt.{Receipt}
 use Rattle.log_model.specs.Batches.{IsReceiptFor}
@@ -16,7 +16,7 @@ use Rattle.broker_events.specs.declared.event.Event.TheVariants.{Request, Take, 
 use Rattle.broker_events.specs.declared.said.Said.{Said}
 use Rattle.broker_events.specs.declared.said.Said.TheVariants as said
 use Rattle.broker_events.specs.Shown.{Accepts, IsOut}
-use Rattle.broker_events.specs.Steps.{event_of, Says, SaysIn, IsTakenAs, said_in}
+use Rattle.broker_events.specs.Steps.{event_of, Says, IsTakenAs, said_in}
 use Rattle.broker_core.specs.declared.parts.Parts.{Parts}
 use Rattle.broker_core.specs.Represents.{Represents, AreOut}
 use Rattle.broker_core.specs.Carries.{Carries, Stays, RepresentsSome}
@@ -42,7 +42,7 @@ some_state s e what new makes = (makes.reached, makes.represents)
 
 -- a request
 pub request_made : {E : Type 0} (old new : Parts) (s : State) (link : ℕ) (host : List ℕ) (now : ℕ) (request : ARequest) (result : Result Said E)
-    → IfOk result (λ what. (link : ℕ) → Carries old (events.Asks (record { link = link; host = host; now = now; request = request })) (Says what) new) → OnErr result (Stays old new)
+    → ((link : ℕ) → IfOk result (λ what. Carries old (events.Asks (record { link = link; host = host; now = now; request = request })) (Says what) new)) → OnErr result (Stays old new)
     → Represents old s → Makes s (Request link host now request) (said_in result) new
 request_made old new s link host now request (Ok what) carries stays are = made s (Request link host now request) what new tt (carries link s are)
 request_made old new s link host now request (Err fault) carries stays are = unmade s (Request link host now request) new tt (stays s are)

@@ -1,5 +1,5 @@
 -- The parts and the state when a flush turn begins or fails, when somebody looks, and when a link ends.
-use Rattle.std.proofs.Common.{◌≡◌, ◌⊎◌, ⊎_elim, inl, inr, ◌↔◌, refl, ap, sym, ◌∙◌, subst, arith, ℕ, zero, suc, ◌+◌, ◌-◌, ◌^◌, ◌<◌, ◌≤◌, min, nat_lt, Bool, true, false, List, [], ◌∷◌, ◌++◌, length, take, drop, filter, slice_get, map, All, Option, Some, None, IfSome, IsSome, IsNone, if◌then◌else◌, Result, Ok, Err, IfOk, OnErr, is_some}
+use Rattle.std.proofs.Common.{◌≡◌, ⊎_elim, ◌↔◌, refl, ap, sym, ◌∙◌, subst, arith, ℕ, zero, suc, ◌+◌, ◌-◌, ◌<◌, ◌≤◌, nat_lt, true, false, List, [], ◌∷◌, ◌++◌, length, take, filter, slice_get, Option, Some, None, IfSome, IsSome, IsNone, if◌then◌else◌, Result, Ok, Err, IfOk, OnErr, is_some}
 use Rattle.std.proofs.lemmas.List.{length-drop}
 use Rattle.mq_outside.specs.Covers.{HasRange, HoldsRange}
 use Rattle.mq_outside.specs.declared.frozen.Frozen.{Frozen}
@@ -8,10 +8,10 @@ use Rattle.record_codec.specs.Entry.{Entry}
 use Rattle.record_codec.specs.Layout.{size, layout}
 use Rattle.log_model.specs.declared.batch.Batch.{Batch}
 use Rattle.log_model.specs.Batches.{blank_between}
-use Rattle.log_model.specs.Numbered.{Log, IsLawful, count_of, place_end, below, records_from}
+use Rattle.log_model.specs.Numbered.{Log, IsLawful, count_of, place_end, below}
 use Rattle.log_model.specs.Segments.{layouts}
 use Rattle.pending_log.specs.Parts.{PendingPart, turned}
-use Rattle.pending_log.specs.Pending.{IsPendingOf, IsOutOf, IsNextBatch, HasTaken, IsIdle, after_failed, with_failed}
+use Rattle.pending_log.specs.Pending.{IsPendingOf, IsNextBatch, HasTaken, IsIdle, after_failed, with_failed}
 use Rattle.pending_log.specs.Rows.{AreRowsOf}
 use Rattle.pending_log.specs.Extents as extents
 use Rattle.pending_log.specs.Looks.{Turn, KeepsLast, AreInOrder, kept_look}
@@ -25,14 +25,14 @@ use Rattle.pending_log.proofs.LookLemmas.{kept_answers, kept_last}
 use Rattle.broker_model.specs.State as model
 use Rattle.broker_model.specs.State.{State, pending, same_segment, next_batch}
 use Rattle.broker_model.specs.Events as events
-use Rattle.broker_model.specs.Clients.{ClientTable, no_clients, after_leave}
+use Rattle.broker_model.specs.Clients.{ClientTable, after_leave}
 use Rattle.broker_model.specs.Lawful.{IsState}
 use Rattle.broker_model.specs.Appended.{is_refused, drafts_of}
 use Rattle.broker_model.specs.Answers.{answer_of, carried_out_answer, taken, taken_of, looked, last_count, holds_up}
 use Rattle.broker_model.specs.Step.{after, changed, out_of, failed_turns, next_turn}
-use Rattle.broker_events.specs.Steps.{IsBatchFor, IsTakenAs, AreBatchesFor}
+use Rattle.broker_events.specs.Steps.{IsBatchFor, IsTakenAs}
 use Rattle.broker_core.specs.declared.parts.Parts.{Parts}
-use Rattle.broker_core.specs.Represents.{Represents, HasNumbers, AreOut, AreCovered, IsCovered, HasRoom, turn_of}
+use Rattle.broker_core.specs.Represents.{Represents, AreOut, AreCovered, HasRoom, turn_of}
 use Rattle.broker_core.specs.Carries.{Carries, Stays}
 use Rattle.broker_core.proofs.StateLemmasTurns.{taken_state, failed_state, left_state}
 
@@ -136,9 +136,12 @@ batch_for : (s : State) (b : Batch) (xs : List Entry) → 0 < length xs → b.fr
     → (t : events.Taken) × (taken_of s None xs ≡ Some t) × IsBatchFor b t × (length t.records ≡ length xs)
 batch_for s b [] some from count place blank bytes = absurd (let none : ⊥ = omega (arith, some) in none)
 batch_for s b (r ∷ xs) some from count place blank bytes =
-    let here = place r xs refl in
-    (record { from = s.flushed; records = r ∷ xs; blank = blank_between (place_end (below s.log s.flushed)) r.offset }, refl,
-     record { from = from; count = count; place = here; blank = blank ∙ ap (λ n. blank_between (place_end (below s.log s.flushed)) n) here; bytes = bytes }, refl)
+    let here = place r xs refl in (
+      record { from = s.flushed; records = r ∷ xs; blank = blank_between (place_end (below s.log s.flushed)) r.offset },
+      refl,
+      record { from = from; count = count; place = here; blank = blank ∙ ap (λ n. blank_between (place_end (below s.log s.flushed)) n) here; bytes = bytes },
+      refl,
+    )
 
 front_first : {A : Type 0} (xs more : List A) (n : ℕ) (x : A) → take n xs ≡ x ∷ more → slice_get xs 0 ≡ Some x
 front_first xs more zero x e = cc e
@@ -155,19 +158,19 @@ next_taken s b none low next =
     let is = next.is in
     let count : b.count ≡ length xs = next.longest ∙ ap (λ (rs : List Entry). length rs) (same_front S (pending s)) in
     let front : xs ≡ take b.count (pending s) =
-        sym (same_front S (pending s)) ∙ (batch_front S (pending s) ∙ ap (λ n. take n (pending s)) (ap (λ (rs : List Entry). length rs) (same_front S (pending s)) ∙ sym count)) in
+    sym (same_front S (pending s)) ∙ (batch_front S (pending s) ∙ ap (λ n. take n (pending s)) (ap (λ (rs : List Entry). length rs) (same_front S (pending s)) ∙ sym count)) in
     let some = is.some in
     let from = is.from in
     let found = batch_for s b xs (omega (arith, some, count)) (omega (arith, from, low)) count
-        (λ r more e. is.place r (subst (λ k. slice_get s.log.records k ≡ Some r) (let z : f + 0 ≡ f = omega arith in z) (get_drop s.log.records f 0 r (front_first (pending s) more b.count r (sym front ∙ e)))))
-        is.blank (is.bytes ∙ ap layouts (sym front)) in
+    (λ r more e. is.place r (subst (λ k. slice_get s.log.records k ≡ Some r) (let z : f + 0 ≡ f = omega arith in z) (get_drop s.log.records f 0 r (front_first (pending s) more b.count r (sym front ∙ e)))))
+    is.blank (is.bytes ∙ ap layouts (sym front)) in
     (found.0, ap (λ (o : Option model.Out). taken_of s o xs) none ∙ found.1, found.2)
 
 -- the parts of the turn
 represents_turn : (old : Parts) (s : State) (stored : FrozenRanges) (b : Batch) (count end : ℕ) → Represents old s → old.pending.out ≡ None → stored.pieces.items ≡ old.stored.pieces.items → stored.end ≡ old.stored.end → HasRoom stored
     → IsPendingOf s.log (turned old.pending (record { batch = b; held = old.pending.count; end = end })) → b.count ≡ count → 0 < b.count → s.flushed + b.count ≤ count_of s.log
     → Represents (record old { stored = stored; pending = turned old.pending (record { batch = b; held = old.pending.count; end = end }) })
-        (record s { out = Some (record { count = count; held = count_of s.log }); turns = next_turn s.turns })
+    (record s { out = Some (record { count = count; held = count_of s.log }); turns = next_turn s.turns })
 represents_turn old s stored b count end are none items ends room pending same some within = record {
   state = taken_state s count are.state are.numbers.bounded (omega (arith, some, same)) (omega (arith, within, same));
   numbers = record {
@@ -203,27 +206,29 @@ takes_one : (old : Parts) (s : State) (stored : FrozenRanges) (pending : Pending
 takes_one old s stored pending None are none items end room idle same next turn is =
     let free = out_none old.pending.out s.out none are.out in
     let all : old.pending.count ≡ old.pending.flushed =
-        ⊎_elim (λ (empty : old.pending.count ≡ old.pending.flushed). empty) (λ (out : IsSome old.pending.out). absurd (no_some (subst (λ (o : Option Out). IsSome o) none out))) (idle.0 refl) in
+    ⊎_elim (λ (empty : old.pending.count ≡ old.pending.flushed). empty) (λ (out : IsSome old.pending.out). absurd (no_some (subst (λ (o : Option Out). IsSome o) none out))) (idle.0 refl) in
     let nothing = taken_none s free (sym are.pending.count ∙ (all ∙ are.numbers.flushed)) (let low = are.state.base in let high = are.state.dispatched in omega (arith, low, high)) in
-    let stays : after s events.Take ≡ s = after_take s ∙ ap (λ (t : Option events.Taken). out_of s t) nothing in
-    ((None, (answer_take s ∙ ap (λ (t : Option events.Taken). events.Batch t) nothing), tt),
-     subst (λ (t : State). Represents (record old { stored = stored; pending = pending }) t) (sym stays)
-     (subst (λ (p : PendingPart). Represents (record old { stored = stored; pending = p }) s) (sym (same refl)) (represents_room old s stored none items end are)))
+    let stays : after s events.Take ≡ s = after_take s ∙ ap (λ (t : Option events.Taken). out_of s t) nothing in (
+      (None, (answer_take s ∙ ap (λ (t : Option events.Taken). events.Batch t) nothing), tt),
+      subst (λ (t : State). Represents (record old { stored = stored; pending = pending }) t) (sym stays)
+          (subst (λ (p : PendingPart). Represents (record old { stored = stored; pending = p }) s) (sym (same refl)) (represents_room old s stored none items end are)),
+    )
 takes_one old s stored pending (Some b) are none items end room idle same next turn is =
     let free = out_none old.pending.out s.out none are.out in
     let low : s.log.base.records ≤ s.flushed = (let base = are.state.base in let high = are.state.dispatched in omega (arith, base, high)) in
     let lawful : IsLawful old.pending.segment s.log = subst (λ n. IsLawful n s.log) (sym are.numbers.segment) are.state.log in
     let of : IsNextBatch s.setup.segment s.log s.flushed b =
-        subst (λ n. IsNextBatch n s.log s.flushed b) are.numbers.segment
-        (subst (λ n. IsNextBatch old.pending.segment s.log n b) are.numbers.flushed (next s.log lawful are.pending are.rows)) in
+    subst (λ n. IsNextBatch n s.log s.flushed b) are.numbers.segment
+    (subst (λ n. IsNextBatch old.pending.segment s.log n b) are.numbers.flushed (next s.log lawful are.pending are.rows)) in
     let found = next_taken s b free low of in
     let within = of.is.within in
     let goes : after s events.Take ≡ out_of s (Some found.0) = after_take s ∙ ap (λ (t : Option events.Taken). out_of s t) found.1 in
-    let new = turned old.pending (record { batch = b; held = old.pending.count; end = turn.end }) in
-    ((Some found.0, (answer_take s ∙ ap (λ (t : Option events.Taken). events.Batch t) found.1), found.2),
-     subst (λ (t : State). Represents (record old { stored = stored; pending = pending }) t) (sym goes)
-     (subst (λ (p : PendingPart). Represents (record old { stored = stored; pending = p }) (out_of s (Some found.0))) (sym turn.is)
-     (represents_turn old s stored b (length found.0.records) turn.end are none items end room (subst (λ (p : PendingPart). IsPendingOf s.log p) turn.is is) found.2.count of.is.some (omega (arith, within, low)))))
+    let new = turned old.pending (record { batch = b; held = old.pending.count; end = turn.end }) in (
+      (Some found.0, (answer_take s ∙ ap (λ (t : Option events.Taken). events.Batch t) found.1), found.2),
+      subst (λ (t : State). Represents (record old { stored = stored; pending = pending }) t) (sym goes)
+          (subst (λ (p : PendingPart). Represents (record old { stored = stored; pending = p }) (out_of s (Some found.0))) (sym turn.is)
+          (represents_turn old s stored b (length found.0.records) turn.end are none items end room (subst (λ (p : PendingPart). IsPendingOf s.log p) turn.is is) found.2.count of.is.some (omega (arith, within, low)))),
+    )
 
 -- what a call that may begin a turn says, by its result
 pub takes : {E : Type 0} (old : Parts) (stored : FrozenRanges) (pending : PendingPart) (result : Result (Option Batch) E) → old.pending.out ≡ None
@@ -278,9 +283,9 @@ represents_failed old s count turn out are there is held pending = record {
   pending = pending;
   out = tt;
   failed =
-    let last : model.FailedTurn = record { turn = s.turns; from = s.flushed; held = out.held; count = count } in
-    subst (λ n. KeepsLast turn_of (s.failed ++ last ∷ []) (Some (record { turn = n; held = turn.held; count = count }))) (sym are.numbers.turns)
-    (subst (λ n. KeepsLast turn_of (s.failed ++ last ∷ []) (Some (record { turn = s.turns; held = n; count = count }))) (sym held) (kept_last turn_of s.failed last));
+      let last : model.FailedTurn = record { turn = s.turns; from = s.flushed; held = out.held; count = count } in
+      subst (λ n. KeepsLast turn_of (s.failed ++ last ∷ []) (Some (record { turn = n; held = turn.held; count = count }))) (sym are.numbers.turns)
+      (subst (λ n. KeepsLast turn_of (s.failed ++ last ∷ []) (Some (record { turn = s.turns; held = n; count = count }))) (sym held) (kept_last turn_of s.failed last));
   rows = are.rows;
   tabled = are.tabled;
   queues = are.queues;
@@ -299,11 +304,12 @@ fails_one old s count (Some turn) (Some out) are there is some outs pending = re
 -- the turn that is out failed
 pub fails : (old : Parts) (s : State) (count : ℕ) (pending : PendingPart) → Represents old s → IsSome old.pending.out → pending ≡ after_failed old.pending count → IsPendingOf s.log pending
     → (answer_of s (events.FlushFailed count) ≡ events.Done) × Represents (record old { pending = pending }) (after s (events.FlushFailed count))
-fails old s count pending are some is of =
-    (answer_failure s count,
-     subst (λ (t : State). Represents (record old { pending = pending }) t) (sym (after_failure s count))
-     (subst (λ (p : PendingPart). Represents (record old { pending = p }) (record s { failed = failed_turns s count s.out; out = None })) (sym is)
-     (fails_one old s count old.pending.out s.out are refl refl some are.out (subst (λ (p : PendingPart). IsPendingOf s.log p) is of))))
+fails old s count pending are some is of = (
+  answer_failure s count,
+  subst (λ (t : State). Represents (record old { pending = pending }) t) (sym (after_failure s count))
+      (subst (λ (p : PendingPart). Represents (record old { pending = p }) (record s { failed = failed_turns s count s.out; out = None })) (sym is)
+      (fails_one old s count old.pending.out s.out are refl refl some are.out (subst (λ (p : PendingPart). IsPendingOf s.log p) is of))),
+)
 
 -- ---- looks
 
@@ -333,26 +339,29 @@ pub looks_up : (old : Parts) (s : State) (number turn : ℕ) (what : Look) → R
     → (answer_of s (events.Look number turn) ≡ events.Looked (told what)) × Represents old (after s (events.Look number turn))
 looks_up old s number turn what are is =
     let here : what ≡ looks.looked turn_of s.flushed s.failed number turn =
-        is ∙ (ap (λ n. if nat_lt number n then look.Flushed else kept_look old.pending.failed number turn) are.numbers.flushed
-        ∙ kept_answers turn_of s.flushed number turn s.failed old.pending.failed (in_order s are.state) are.failed) in
-    (answer_look s number turn ∙ ap (λ (a : events.Awaited). events.Looked a) (sym (ap told here ∙ told_looked s number turn)),
-     subst (λ (t : State). Represents old t) (sym (after_look s number turn)) are)
+    is ∙ (ap (λ n. if nat_lt number n then look.Flushed else kept_look old.pending.failed number turn) are.numbers.flushed
+    ∙ kept_answers turn_of s.flushed number turn s.failed old.pending.failed (in_order s are.state) are.failed) in (
+      answer_look s number turn ∙ ap (λ (a : events.Awaited). events.Looked a) (sym (ap told here ∙ told_looked s number turn)),
+      subst (λ (t : State). Represents old t) (sym (after_look s number turn)) are,
+    )
 
 -- ---- a link ends
 
 pub leaves : (old : Parts) (s : State) (link : ℕ) → Represents old s → (answer_of s (events.Leave link) ≡ events.Done) × Represents old (after s (events.Leave link))
-leaves old s link are =
-    (answer_leaving s link, subst (λ (t : State). Represents old t) (sym (after_leaving s link)) (record {
-      state = left_state s (after_leave link s.clients) are.state;
-      numbers = record { setup = are.numbers.setup; segment = are.numbers.segment; flushed = are.numbers.flushed; dispatched = are.numbers.dispatched; turns = are.numbers.turns; bounded = are.numbers.bounded; now = are.numbers.now; few = are.numbers.few; low = are.numbers.low };
-      pending = are.pending;
-      out = are.out;
-      failed = are.failed;
-      rows = are.rows;
-      tabled = are.tabled;
-      queues = are.queues;
-      stored = are.stored;
-      room = are.room;
-      topics = are.topics;
-      clients = ap (λ (t : ClientTable). after_leave link t) are.clients;
-    }))
+leaves old s link are = (
+  answer_leaving s link,
+  subst (λ (t : State). Represents old t) (sym (after_leaving s link)) (record {
+    state = left_state s (after_leave link s.clients) are.state;
+    numbers = record { setup = are.numbers.setup; segment = are.numbers.segment; flushed = are.numbers.flushed; dispatched = are.numbers.dispatched; turns = are.numbers.turns; bounded = are.numbers.bounded; now = are.numbers.now; few = are.numbers.few; low = are.numbers.low };
+    pending = are.pending;
+    out = are.out;
+    failed = are.failed;
+    rows = are.rows;
+    tabled = are.tabled;
+    queues = are.queues;
+    stored = are.stored;
+    room = are.room;
+    topics = are.topics;
+    clients = ap (λ (t : ClientTable). after_leave link t) are.clients;
+  }),
+)

@@ -1,5 +1,4 @@
 -- What a call of the core does, from every state that it represented.
-use Rattle.std.specs.Prelude.{◌≡◌, Option, Some, None}
 use Rattle.broker_model.specs.State.{State}
 use Rattle.broker_model.specs.Events as model
 use Rattle.broker_model.specs.Answers.{answer_of}

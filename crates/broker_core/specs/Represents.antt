@@ -1,5 +1,5 @@
 -- Which state the parts of a core represent. Each part has a field, so that an event touches two or three of them.
-use Rattle.std.specs.Prelude.{◌≡◌, ℕ, ◌+◌, ◌-◌, ◌*◌, ◌^◌, ◌<◌, ◌≤◌, List, [], ◌∷◌, length, take, map, slice_get, vec_len, vec_capacity, Option, Some, None, IfSome}
+use Rattle.std.specs.Prelude.{◌≡◌, ℕ, ◌-◌, ◌*◌, ◌^◌, ◌<◌, ◌≤◌, List, length, take, map, slice_get, vec_len, vec_capacity, Option, Some, None, IfSome}
 use Rattle.mq_outside.specs.Covers.{HasRange, HoldsRange}
 use Rattle.mq_outside.specs.declared.frozen_ranges.FrozenRanges.{FrozenRanges}
 use Rattle.record_codec.specs.Entry.{Entry}
@@ -16,7 +16,6 @@ use Rattle.broker_model.specs.Lawful.{IsState}
 use Rattle.broker_events.specs.declared.event.Setup.{Setup}
 use Rattle.queue_view.specs.Tables.{Table, number_of}
 use Rattle.queue_view.specs.declared.stored.StoredUnit.{StoredUnit}
-use Rattle.pending_log.specs.Parts.{PendingPart}
 use Rattle.pending_log.specs.Pending.{IsPendingOf}
 use Rattle.pending_log.specs.Rows.{AreRowsOf}
 use Rattle.pending_log.specs.Looks.{Turn, KeepsLast}
@@ -93,7 +92,8 @@ pub record AreTablesOf (base : Base) (records : List Entry) (n : ℕ) (tables : 
 -- each record's row has the number of the table of its queue
 abbrev pub AreTabled : List Table → List Entry → List Row → Type 0
 AreTabled tables records rows =
-    (k : ℕ) (r : Entry) (row : Row) → slice_get records k ≡ Some r → slice_get rows k ≡ Some row → number_of tables r.topic r.queue ≡ Some row.table
+    (k : ℕ) (r : Entry) (row : Row) → slice_get records k ≡ Some r → slice_get rows k ≡ Some row
+    → number_of tables r.topic r.queue ≡ Some row.table
 
 -- ---- all of it
 

@@ -20,7 +20,6 @@ pub struct Core {
 
 impl Model for Core {
     ghost use Rattle.broker_core.specs.declared.parts.Parts.{Parts};
-
     ghost use Rattle.broker_core.specs.contracts.parts.Parts.{the_row};
 
     ghost Value = { Parts };

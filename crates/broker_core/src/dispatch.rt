@@ -15,11 +15,13 @@ use queue_view::QueueView;
 
 // Consumers see the records with these numbers.
 fn see(queues: &mut QueueView, rows: &Rows, from: u64, to: u64)
-    requires some { (log : Log) × AreRowsOf log rows.now × AreTabled queues.old log.records rows.now.items × AreTablesOf log.base log.records (from - log.base.records) queues.old }
+    requires some { (log : Log) × AreRowsOf log rows.now × AreTabled queues.old log.records rows.now.items
+        × AreTablesOf log.base log.records (from - log.base.records) queues.old }
     requires kept { rows.now.first ≤ from }
     requires ordered { from ≤ to }
     requires within { to ≤ rows.now.first + length rows.now.items }
-    ensures { (log : Log) → AreRowsOf log rows.now → AreTabled queues.old log.records rows.now.items → AreTablesOf log.base log.records (from - log.base.records) queues.old
+    ensures { (log : Log) → AreRowsOf log rows.now → AreTabled queues.old log.records rows.now.items
+        → AreTablesOf log.base log.records (from - log.base.records) queues.old
         → AreTabled queues.new log.records rows.now.items × AreTablesOf log.base log.records (to - log.base.records) queues.new }
 {
     for number in from..to {
@@ -35,7 +37,10 @@ impl Parts {
         ensures shown { shown_of self.new ≡ shown_of self.old }
     {
         let from = self.dispatched;
-        let to = self.pending.flushed_count().min(from.saturating_add(u64::from(most)));
+        let to = self
+            .pending
+            .flushed_count()
+            .min(from.saturating_add(u64::from(most)));
         see(&mut self.queues, &self.rows, from, to);
         self.dispatched = to;
         to

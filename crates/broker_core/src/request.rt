@@ -5,7 +5,6 @@ ghost use Rattle.broker_model.specs.Events as model;
 ghost use Rattle.broker_events.specs.Served.{is_served};
 ghost use Rattle.broker_events.specs.Steps.{Says};
 ghost use Rattle.broker_core.specs.Carries.{Carries, Stays, RepresentsSome};
-ghost use Rattle.broker_core.specs.Makes.{shown_of};
 
 use crate::parts::Parts;
 use broker_events::Said;
@@ -24,9 +23,9 @@ impl Parts {
         requires some { RepresentsSome self.old }
         requires now { _now < 2 ^ 62 }
         requires served { is_served _request.now ≡ true }
-        ensures carries { IfOk result (λ said. (link : ℕ) → Carries self.old (model.Asks (record { link = link; host = _host.now; now = _now; request = _request.now })) (Says said) self.new) }
+        ensures carries { (link : ℕ) → IfOk result (λ said.
+            Carries self.old (model.Asks (record { link = link; host = _host.now; now = _now; request = _request.now })) (Says said) self.new) }
         ensures stays { OnErr result (Stays self.old self.new) }
-        ensures shown { shown_of self.new ≡ shown_of self.old }
     {
         Err(AllocError)
     }

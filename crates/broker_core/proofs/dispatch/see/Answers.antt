@@ -1,6 +1,4 @@
-use Rattle.std.proofs.Common.{◌≡◌, ap, sym, ◌∙◌, subst, arith, ℕ, ◌+◌, ◌-◌, ◌<◌, ◌≤◌, Some, slice_get}
-use Rattle.log_model.specs.Numbered.{Log}
-use Rattle.pending_log.specs.Rows.{AreRowsOf}
+use Rattle.std.proofs.Common.{◌≡◌, ap, subst, arith, ◌+◌, ◌-◌, ◌≤◌, Some, slice_get}
 use Rattle.broker_core.specs.Represents.{AreTablesOf}
 use Rattle.broker_core.proofs.SeeLemmas.{AreSeen, row_within, row_unseen, row_seen}
 use Rattle.broker_core.proofs.dispatch.see.Goals as goal
@@ -27,7 +25,7 @@ loop-number-preserved c log of tabled tables =
     let kept : log.base.records ≤ c.loop-number.number = (let first = of.first in let low = c.requires.kept in let up = c.loop-number.auto.number in omega (arith, first, low, up)) in
     subst (λ n. AreSeen log c.args.rows.now n c.see.new.self) (let e : (c.loop-number.number - log.base.records) + 1 ≡ (c.loop-number.number + 1) - log.base.records = omega (arith, kept) in e)
     (row_seen log c.args.rows.now (c.loop-number.number - log.base.records) c.at.result c.loop-number.queues c.see.new.self of
-      (subst (λ n. slice_get c.args.rows.now.items n ≡ Some c.at.result) same c.at.ensures) c.see.ensures.table c.see.ensures.records (c.loop-number.invariant log of tabled tables))
+    (subst (λ n. slice_get c.args.rows.now.items n ≡ Some c.at.result) same c.at.ensures) c.see.ensures.table c.see.ensures.records (c.loop-number.invariant log of tabled tables))
 
 pub returns : goal.returns
 returns c log of tabled tables =

@@ -1,4 +1,4 @@
-use Rattle.std.proofs.Common.{◌≡◌, ◌-◌}
+use Rattle.std.proofs.Common.{◌-◌}
 use Rattle.log_model.specs.Numbered.{Log}
 use Rattle.pending_log.specs.Rows.{AreRowsOf}
 use Rattle.broker_core.specs.Represents.{AreTabled, AreTablesOf}

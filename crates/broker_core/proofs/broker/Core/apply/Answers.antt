@@ -1,15 +1,15 @@
-use Rattle.std.proofs.Common.{◌≡◌, sym, subst, Some, None, Option, IfOk, Result}
+use Rattle.std.proofs.Common.{◌≡◌, ◌∙◌, ap, sym, subst, Some, Result}
 use Rattle.std.specs.declared.alloc.AllocError.{AllocError}
 use Rattle.broker_events.specs.declared.said.Said.{Said}
-use Rattle.broker_model.specs.State.{State}
 use Rattle.broker_events.specs.declared.event.Event.{Event}
-use Rattle.broker_events.specs.declared.event.Event.TheVariants.{Request, Take, Flushed, FlushFailed, Look, Dispatch, Leave}
+use Rattle.broker_events.specs.declared.event.Event.TheVariants.{Take, Flushed, FlushFailed, Look, Dispatch, Leave}
 use Rattle.broker_events.specs.declared.said.Said.TheVariants as said
-use Rattle.broker_events.specs.Shown.{Accepts}
+use Rattle.broker_events.specs.Shown.{Accepts, moved}
 use Rattle.broker_events.specs.Steps.{said_in}
 use Rattle.broker_core.specs.declared.parts.Parts.{Parts}
 use Rattle.broker_core.specs.Represents.{Represents}
 use Rattle.broker_core.specs.Makes.{Makes, shown_of}
+use Rattle.broker_core.proofs.ShownLemmas.{request_shown}
 use Rattle.broker_core.proofs.StepLemmas.{made, unmade, request_made, take_made, take_state, flush_possible, failure_possible}
 use Rattle.broker_core.proofs.broker.Core.apply.Goals as goal
 use Rattle.broker_core.proofs.broker.Core.apply.Goals.{in-Ok, in-Err}
@@ -83,3 +83,10 @@ returns-in-Leave-clause-step c s are =
     let before = subst (λ (p : Parts). Represents p s) (sym c.self.view_is) are in
     subst (λ (e : Event). Makes s e (Some said.Done) c.leave.new.self) (sym i.is)
     (made s (Leave i.link) said.Done c.leave.new.self tt (c.leave.ensures.carries s before))
+
+pub returns-in-Request-clause-shown : goal.returns-in-Request-clause-shown
+returns-in-Request-clause-shown c =
+    let i = c.in-Request in
+    subst (λ (e : Event). shown_of c.request.new.self ≡ moved (shown_of c.args.self.now) e (said_in c.request.result)) (sym i.is)
+    (request_shown c.self.inside.parts c.request.new.self i.link i.host i.now i.request c.request.result c.request.ensures.carries c.request.ensures.stays c.self.invariant
+      ∙ ap (λ (p : Parts). shown_of p) c.self.view_is)

@@ -1,4 +1,4 @@
-use Rattle.std.proofs.Common.{◌≡◌, ◌∙◌, ap, ℕ, min, ◌+◌, ◌-◌, ◌^◌}
+use Rattle.std.proofs.Common.{◌∙◌, ap, ℕ, min, ◌+◌, ◌-◌, ◌^◌}
 use Rattle.broker_core.proofs.SeeLemmas.{to_is, range_of, seen_now, dispatches}
 use Rattle.broker_core.proofs.parts.Parts.dispatch.Goals as goal
 

@@ -1,4 +1,3 @@
-use Rattle.std.proofs.Common.{◌≡◌}
 use Rattle.broker_core.proofs.TurnLemmas.{fails}
 use Rattle.broker_core.proofs.parts.Parts.flush_failed.Goals as goal
 

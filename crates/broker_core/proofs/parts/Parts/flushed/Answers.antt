@@ -1,4 +1,4 @@
-use Rattle.std.proofs.Common.{◌≡◌, ap, sym, subst, ◌≤◌, ◌<◌, ◌^◌}
+use Rattle.std.proofs.Common.{sym, subst, ◌≤◌, ◌<◌, ◌^◌}
 use Rattle.mq_outside.specs.Covers.{piece_start, piece_end}
 use Rattle.mq_outside.specs.declared.frozen.Frozen.{Frozen}
 use Rattle.broker_core.proofs.FlushLemmas.{HasPushed, piece_fits, flushes, shown_flushed}
@@ -18,7 +18,7 @@ pub returns-clause-carries : goal.returns-clause-carries
 returns-clause-carries c s are =
     flushes c.args.self.now s c.args.receipt.now c.push.new.self c.flushed-bytes.new.self are c.requires.receipt
     (subst (λ (p : Frozen). HasPushed c.args.self.now.stored p c.push.new.self) c.keeping.ensures
-      (record { added = c.push.ensures.added; kept = c.push.ensures.kept; holds = c.push.ensures.holds; fresh = c.push.ensures.fresh; end = c.push.ensures.end }))
+    (record { added = c.push.ensures.added; kept = c.push.ensures.kept; holds = c.push.ensures.holds; fresh = c.push.ensures.fresh; end = c.push.ensures.end }))
     c.flushed-bytes.ensures.flushed (c.flushed-bytes.ensures.log s.log are.pending)
 
 pub returns-clause-shown : goal.returns-clause-shown

@@ -1,4 +1,3 @@
-use Rattle.std.proofs.Common.{◌≡◌}
 use Rattle.broker_core.proofs.TurnLemmas.{leaves}
 use Rattle.broker_core.proofs.parts.Parts.leave.Goals as goal
 

@@ -1,4 +1,3 @@
-use Rattle.std.proofs.Common.{◌≡◌}
 use Rattle.pending_log.specs.declared.turn.Look.TheVariants as look
 use Rattle.broker_core.proofs.TurnLemmas.{looks_up}
 use Rattle.broker_core.proofs.parts.Parts.look.Goals as goal

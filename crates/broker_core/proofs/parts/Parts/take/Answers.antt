@@ -1,4 +1,4 @@
-use Rattle.std.proofs.Common.{◌≡◌, ◌∙◌, ap, sym, subst, Option, Some, None, IsSome}
+use Rattle.std.proofs.Common.{◌∙◌, sym}
 use Rattle.broker_core.proofs.TurnLemmas.{takes, takes_none, represents_room, stays_taken, is_out-some, is_out-none}
 use Rattle.broker_core.proofs.parts.Parts.take.Goals as goal
 
