@@ -37,10 +37,8 @@ impl Parts {
         ensures shown { shown_of self.new ≡ shown_of self.old }
     {
         let from = self.dispatched;
-        let to = self
-            .pending
-            .flushed_count()
-            .min(from.saturating_add(u64::from(most)));
+        let flushed = self.pending.flushed_count();
+        let to = flushed.min(from.saturating_add(u64::from(most)));
         see(&mut self.queues, &self.rows, from, to);
         self.dispatched = to;
         to
