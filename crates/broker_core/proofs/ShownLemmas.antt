@@ -51,12 +51,12 @@ same_batch segment log more f b c is_b is_c count =
     let from : c.from ≡ b.from = is_c.from ∙ sym is_b.from in
     let place : c.place ≡ b.place = is_c.place first.0 (get_more log.records more f (omega (arith, some, within)) ∙ first.1) ∙ sym (is_b.place first.0 first.1) in
     let bytes : c.bytes ≡ b.bytes =
-        is_c.bytes ∙ (ap (λ (n : ℕ). layouts (take n (drop f (log.records ++ more)))) count
-        ∙ (ap (λ (rs : List Entry). layouts (take b.count rs)) (drop_within log.records more f low)
-        ∙ (ap layouts (take_within (drop f log.records) more b.count (omega (arith, within, long))) ∙ sym is_b.bytes))) in
+    is_c.bytes ∙ (ap (λ (n : ℕ). layouts (take n (drop f (log.records ++ more)))) count
+    ∙ (ap (λ (rs : List Entry). layouts (take b.count rs)) (drop_within log.records more f low)
+    ∙ (ap layouts (take_within (drop f log.records) more b.count (omega (arith, within, long))) ∙ sym is_b.bytes))) in
     let blank : c.blank ≡ b.blank =
-        is_c.blank ∙ (ap (λ (rs : List Entry). blank_between (end_of log.base rs) c.place) (take_within log.records more f low)
-        ∙ (ap (λ (n : ℕ). blank_between (end_of log.base (take f log.records)) n) place ∙ sym is_b.blank)) in
+    is_c.blank ∙ (ap (λ (rs : List Entry). blank_between (end_of log.base rs) c.place) (take_within log.records more f low)
+    ∙ (ap (λ (n : ℕ). blank_between (end_of log.base (take f log.records)) n) place ∙ sym is_b.blank)) in
     λ i. record { from = from i; count = count i; place = place i; blank = blank i; bytes = bytes i }
 
 same_out : (segment : ℕ) (log : Log) (more : List Entry) (flushed : ℕ) (p q : Option Out) (o : Option model.Out) → IfSome p (IsOutOf segment log flushed) → IfSome q (IsOutOf segment (with_appended log more) flushed)
@@ -77,8 +77,8 @@ same_shown log more p q o is_p is_q flushed segment of_p of_q =
     let kept = is_p.kept in
     let within = is_p.within in
     let start : q.start ≡ p.start =
-        is_q.start ∙ (ap (λ n. end_of log.base (take (n - log.base.records) (log.records ++ more))) flushed
-        ∙ (ap (λ (rs : List Entry). end_of log.base rs) (take_within log.records more (p.flushed - log.base.records) (omega (arith, kept, within))) ∙ sym is_p.start)) in
+    is_q.start ∙ (ap (λ n. end_of log.base (take (n - log.base.records) (log.records ++ more))) flushed
+    ∙ (ap (λ (rs : List Entry). end_of log.base rs) (take_within log.records more (p.flushed - log.base.records) (omega (arith, kept, within))) ∙ sym is_p.start)) in
     let out_q = subst (λ n. IfSome q.out (IsOutOf n (with_appended log more) p.flushed)) segment (subst (λ n. IfSome q.out (IsOutOf q.segment (with_appended log more) n)) flushed is_q.out) in
     let out = same_out p.segment log more p.flushed p.out q.out o is_p.out out_q of_p of_q in
     λ i. record { flushed = flushed i; end = start i; out = out i }
@@ -116,9 +116,9 @@ event_keeps s a =
     elim (is_refused s (events.Asks a)) as (λ b. AreKept s (if b then s else with_records (request_changed s a.link (max a.now s.now) a.request) (moment s (events.Asks a)) (made_by s (events.Asks a)))) [
       | true ↦ (refl, refl, refl)
       | false ↦
-        let first = records_keep (request_changed s a.link (max a.now s.now) a.request) (moment s (events.Asks a)) (made_by s (events.Asks a)) in
-        let second = request_keeps s a.link (max a.now s.now) a.request in
-        (first.0 ∙ second.0, first.1 ∙ second.1, first.2 ∙ second.2)
+          let first = records_keep (request_changed s a.link (max a.now s.now) a.request) (moment s (events.Asks a)) (made_by s (events.Asks a)) in
+          let second = request_keeps s a.link (max a.now s.now) a.request in
+          (first.0 ∙ second.0, first.1 ∙ second.1, first.2 ∙ second.2)
     ]
 
 -- a request keeps the turn

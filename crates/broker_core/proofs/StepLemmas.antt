@@ -1,5 +1,5 @@
 -- Each event as a step of the core, from what its call says.
-use Rattle.std.proofs.Common.{refl, sym, ◌∙◌, ℕ, List, Option, Some, None, Result, Ok, Err, IfOk, OnErr}
+use Rattle.std.proofs.Common.{◌≡◌, refl, sym, ◌∙◌, ℕ, List, Option, Some, None, Result, Ok, Err, IfOk, OnErr}
 use Rattle.log_model.specs.declared.batch.Batch.{Batch}
 use Rattle.log_model.specs.declared.batch.Receipt.{Receipt}
 use Rattle.log_model.specs.Batches.{IsReceiptFor}
@@ -76,3 +76,10 @@ pub take_state : {E : Type 0} (old new : Parts) (result : Result (Option Batch) 
     → RepresentsSome old → RepresentsSome new
 take_state old new (Ok batch) carries stays some = (after some.0 events.Take, (carries some.0 some.1).1)
 take_state old new (Err fault) carries stays some = (some.0, stays some.0 some.1)
+
+-- what a request's own call says of it, of the request that was matched
+pub carried : {E : Type 0} (old new : Parts) (host : List ℕ) (now : ℕ) (request own : ARequest) (result : Result Said E) → request ≡ own
+    → ((link : ℕ) → IfOk result (λ what. Carries old (events.Asks (record { link = link; host = host; now = now; request = own })) (Says what) new))
+    → (link : ℕ) → IfOk result (λ what. Carries old (events.Asks (record { link = link; host = host; now = now; request = request })) (Says what) new)
+carried old new host now request own result same carries =
+    subst (λ (r : ARequest). (link : ℕ) → IfOk result (λ what. Carries old (events.Asks (record { link = link; host = host; now = now; request = r })) (Says what) new)) (sym same) carries

@@ -18,15 +18,31 @@ impl Parts {
         _alloc: Global,
         _host: &[u8; 8],
         _now: u64,
-        _request: &Request,
+        request: &Request,
     ) -> Result<Said, AllocError>
         requires some { RepresentsSome self.old }
-        requires now { _now < 2 ^ 62 }
-        requires served { is_served _request.now ≡ true }
+        requires time { _now < 2 ^ 62 }
+        requires served { is_served request.now ≡ true }
         ensures carries { (link : ℕ) → IfOk result (λ said.
-            Carries self.old (model.Asks (record { link = link; host = _host.now; now = _now; request = _request.now })) (Says said) self.new) }
+            Carries self.old (model.Asks (record { link = link; host = _host.now; now = _now; request = request.now })) (Says said) self.new) }
         ensures stays { OnErr result (Stays self.old self.new) }
     {
-        Err(AllocError)
+        match request {
+            Request::Send(_)
+            | Request::Pull(_)
+            | Request::MakeTopic(_)
+            | Request::Search(_)
+            | Request::MaxOffset(_)
+            | Request::MinOffset(_) => Err(AllocError),
+            Request::Query(_)
+            | Request::OffsetOf(_)
+            | Request::SetOffset(_)
+            | Request::ViewById(_)
+            | Request::Beat(_)
+            | Request::Unregister(_)
+            | Request::EndTransaction(_)
+            | Request::Lock(_)
+            | Request::Unlock(_) => unreachable!(),
+        }
     }
 }

@@ -89,4 +89,4 @@ returns-in-Request-clause-shown c =
     let i = c.in-Request in
     subst (λ (e : Event). shown_of c.request.new.self ≡ moved (shown_of c.args.self.now) e (said_in c.request.result)) (sym i.is)
     (request_shown c.self.inside.parts c.request.new.self i.link i.host i.now i.request c.request.result c.request.ensures.carries c.request.ensures.stays c.self.invariant
-      ∙ ap (λ (p : Parts). shown_of p) c.self.view_is)
+    ∙ ap (λ (p : Parts). shown_of p) c.self.view_is)
