@@ -1,5 +1,5 @@
 -- Each event as a step of the core, from what its call says.
-use Rattle.std.proofs.Common.{◌≡◌, refl, sym, ◌∙◌, ℕ, List, Option, Some, None, Result, Ok, Err, IfOk, OnErr}
+use Rattle.std.proofs.Common.{◌≡◌, subst, refl, sym, ◌∙◌, ℕ, List, Option, Some, None, Result, Ok, Err, IfOk, OnErr}
 use Rattle.log_model.specs.declared.batch.Batch.{Batch}
 use Rattle.log_model.specs.declared.batch.Receipt.{Receipt}
 use Rattle.log_model.specs.Batches.{IsReceiptFor}
