@@ -1,3 +1,4 @@
 pub mod FlushLemmas
+pub mod ReplyLemmas
 pub mod StateLemmasTurns
 pub mod TurnLemmas

@@ -1,2 +1,3 @@
 pub mod Carries
+pub mod Reads
 pub mod Represents

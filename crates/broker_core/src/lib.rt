@@ -3,5 +3,8 @@
 #![tactic(auto)]
 
 mod dispatch;
+mod offsets;
 mod parts;
+mod pull;
+mod replies;
 mod turns;
