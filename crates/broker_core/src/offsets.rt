@@ -24,7 +24,7 @@ use std::alloc::{AllocError, Global};
 impl Parts {
     // How many queues a topic has: those that the broker keeps for itself have fixed numbers.
     fn queue_count(&self, topic: &str) -> Option<u32>
-        ensures { (s : State) → Represents self.now s → result ≡ queue_count_of s topic.now }
+        ensures { (s : State) → Represents self.entry.now s → result ≡ queue_count_of s topic.now }
     {
         if topic == "SCHEDULE_TOPIC_XXXX" {
             Some(18)
@@ -37,7 +37,7 @@ impl Parts {
 
     /// Why a request for this queue is refused, if it is.
     pub(crate) fn refuses_queue(&self, topic: &str, queue: u32) -> Option<Refused>
-        ensures { (s : State) → Represents self.now s → queue_refusal s topic.now queue ≡ refusal_replies result }
+        ensures { (s : State) → Represents self.entry.now s → queue_refusal s topic.now queue ≡ refusal_replies result }
     {
         match self.queue_count(topic) {
             None => Some(Refused::NoTopic),
@@ -67,8 +67,7 @@ impl Parts {
 
     // The offset after the last record of a queue that consumers see.
     fn max_of(&self, topic: &str, queue: u32) -> u64
-        requires { RepresentsSome self.now }
-        ensures { (s : State) → Represents self.now s → result ≡ queue_max (seen s) topic.now queue }
+        ensures { (s : State) → Represents self.entry.now s → result ≡ queue_max (seen s) topic.now queue }
     {
         match self.queues.find(topic, queue) {
             Some(table) => self.queues.max(table),
@@ -78,8 +77,7 @@ impl Parts {
 
     // The offset of the first record of a queue that stands.
     fn min_of(&self, topic: &str, queue: u32) -> u64
-        requires { RepresentsSome self.now }
-        ensures { (s : State) → Represents self.now s → result ≡ queue_min (seen s) topic.now queue }
+        ensures { (s : State) → Represents self.entry.now s → result ≡ queue_min (seen s) topic.now queue }
     {
         match self.queues.find(topic, queue) {
             Some(table) => self.queues.min(table),
@@ -91,7 +89,7 @@ impl Parts {
     // the maximum.
     fn first_at(&self, topic: &str, queue: u32, time: i64) -> u64
         requires { RepresentsSome self.now }
-        ensures { (s : State) → Represents self.now s → result ≡ offset_at (seen s) topic.now queue time }
+        ensures { (s : State) → Represents self.entry.now s → result ≡ offset_at (seen s) topic.now queue time }
     {
         match self.queues.find(topic, queue) {
             Some(table) => self.queues.search(table, time),

@@ -92,7 +92,7 @@ fn slices_of(
 impl Parts {
     // Why a pull is refused, if it is.
     fn refuses_pull(&self, asked: &PullFields) -> Option<Refused>
-        ensures { (s : State) → Represents self.now s → pull_refusal s asked.now ≡ refusal_replies result }
+        ensures { (s : State) → Represents self.entry.now s → pull_refusal s asked.now ≡ refusal_replies result }
     {
         let topic = asked.topic.as_str();
         if is_closed(topic) {
@@ -116,7 +116,7 @@ impl Parts {
         tags: &Tags,
     ) -> Result<Pulled, AllocError>
         requires { RepresentsSome self.now }
-        ensures { (s : State) → Represents self.now s → IfOk result (λ a. Answers (pulled_of_queue this (queue_min (seen s) asked.now.topic asked.now.queue)
+        ensures { (s : State) → Represents self.entry.now s → IfOk result (λ a. Answers (pulled_of_queue this (queue_min (seen s) asked.now.topic asked.now.queue)
             (map unit_of (records_of (seen s) asked.now.topic asked.now.queue)) asked.now.from (asked_number 32 asked.now.most) (tags_take tags.now)) a) }
     {
         match self.queues.find(asked.topic.as_str(), asked.queue) {
@@ -134,7 +134,7 @@ impl Parts {
     // The reply to a pull that isn't refused.
     fn pulled(&self, alloc: Global, asked: &PullFields) -> Result<Reply, AllocError>
         requires { RepresentsSome self.now }
-        ensures { (s : State) → Represents self.now s → IfOk result (λ reply. IsReplyOf reply (pulled_reply (pull_of s asked.now))) }
+        ensures { (s : State) → Represents self.entry.now s → IfOk result (λ reply. IsReplyOf reply (pulled_reply (pull_of s asked.now))) }
     {
         let tags = tags_of(alloc, asked)?;
         let found = self.found(alloc, asked, &tags)?;

@@ -1,0 +1,242 @@
+-- The reply to a pull: which records it has, that they are on the disk, and that they are few bytes.
+use Rattle.std.proofs.Common.{◌≡◌, ◌⊎◌, ⊎_elim, inl, inr, refl, ap, sym, ◌∙◌, subst, arith, ℕ, zero, suc, ◌+◌, ◌-◌, ◌^◌, ◌<◌, ◌≤◌, ◌==◌, ◌&&◌, ◌||◌, not, nat_lt, nat_le, leb, Bool, true, false, cond, List, [], ◌∷◌, ◌++◌, length, take, drop, map, filter, count_by, sum_by, slice_get, bit_and, ℤ, pos, negsuc, FitsSigned, Option, Some, None, if◌then◌else◌}
+use Rattle.std.specs.Int.{w16, w32, cast_unsigned}
+use mathlib.Core.Bool.{true≢false}
+use Rattle.std.proofs.lemmas.Bool.{eqb-true, cases_Bool}
+use Rattle.std.proofs.lemmas.Bool.Decides.{leb_tells}
+use Rattle.std.proofs.lemmas.List.{length-append, append-nil}
+use Rattle.std.proofs.lemmas.List.Elements.{filter-append}
+use Rattle.std.proofs.lemmas.List.Sums.{sum_by-append, sum_by-cons, length-filter}
+use Rattle.mq_outside.specs.Covers.{HasRange}
+use Rattle.mq_outside.specs.declared.frozen_ranges.FrozenRanges.{FrozenRanges}
+use Rattle.record_codec.specs.declared.unit.Unit.{Unit as QueueUnit}
+use Rattle.record_codec.specs.Entry.{Entry}
+use Rattle.record_codec.specs.Layout.{size, layout}
+use Rattle.record_codec.specs.Units.{unit_of}
+use Rattle.record_codec.proofs.LayoutLengths.{length-layout}
+use Rattle.log_model.specs.Bases.{geometry}
+use Rattle.log_model.specs.Keys.{asked_number}
+use Rattle.log_model.specs.Numbered.{queue_min, records_of}
+use Rattle.log_model.specs.Pulls.{Pulled, pulled, pulled_from, pulled_as, nothing, after_looking, examined, goes_on, takes}
+use Rattle.log_model.proofs.PullLemmas.{pulled_map}
+use Rattle.reply_fields.specs.declared.slice.Slice.{Slice}
+use Rattle.reply_fields.specs.declared.slice.Slice.TheVariants.{Held, Kept}
+use Rattle.reply_fields.specs.Slices.{body_len, slice_len}
+use Rattle.request_fields.specs.Requests.{PullSaid}
+use Rattle.queue_view.specs.declared.pulled.Pulled.{Pulled as Answer}
+use Rattle.queue_view.specs.declared.tags.Tags.{Tags}
+use Rattle.queue_view.specs.Answers.{Answers, this, pulled_of}
+use Rattle.queue_view.specs.Subscriptions.{tags_take}
+use Rattle.queue_view.specs.Tables.{Table, seen_units, unit_in, number_of}
+use Rattle.queue_view.specs.declared.stored.StoredUnit.{StoredUnit}
+use Rattle.queue_view.proofs.Lists.{get_within, some_one}
+use Rattle.broker_model.specs.State.{State, seen}
+use Rattle.broker_model.specs.Clients.{ClientTable, heard_words}
+use Rattle.broker_model.specs.Answers.{pull_words, pull_of}
+use Rattle.broker_events.specs.Replies.{IsRangeOf, IsSliceOf, AreSlicesOf}
+use Rattle.broker_core.specs.declared.parts.Parts.{Parts}
+use Rattle.broker_core.specs.Reads.{IsSliceAt, AreSlicesAt, words_of}
+use Rattle.broker_core.specs.Represents.{Represents, IsCovered, AreCovered, stored_unit}
+use Rattle.broker_core.proofs.SeenLemmas.{found, unknown, IsSeen, IsUnknown}
+
+-- ---- each of a list
+
+-- each item is like this
+abbrev pub Each : {A : Type 0} → (A → Type 0) → List A → Type 0
+Each P [] = Unit {0}
+Each P (x ∷ xs) = P x × Each P xs
+
+each_append : {A : Type 0} (P : A → Type 0) (xs ys : List A) → Each P xs → Each P ys → Each P (xs ++ ys)
+each_append P [] ys all more = more
+each_append P (x ∷ xs) ys all more = (all.0, each_append P xs ys all.1 more)
+
+each_filter : {A : Type 0} (P : A → Type 0) (test : A → Bool) (xs : List A) → Each P xs → Each P (filter test xs)
+each_filter P test [] all = tt
+each_filter P test (x ∷ xs) all =
+    elim (test x) as (λ b. Each P (cond b (x ∷ filter test xs) (filter test xs))) [ true ↦ (all.0, each_filter P test xs all.1) | false ↦ each_filter P test xs all.1 ]
+
+each_drop : {A : Type 0} (P : A → Type 0) (n : ℕ) (xs : List A) → Each P xs → Each P (drop n xs)
+each_drop P zero xs all = all
+each_drop P (suc n) [] all = tt
+each_drop P (suc n) (x ∷ xs) all = each_drop P n xs all.1
+
+each_of : {A : Type 0} (P : A → Type 0) (xs : List A) → ((k : ℕ) (x : A) → slice_get xs k ≡ Some x → P x) → Each P xs
+each_of P [] is = tt
+each_of P (x ∷ xs) is = (is 0 x refl, each_of P xs (λ k y at. is (suc k) y at))
+
+get_take : {A : Type 0} (xs : List A) (n k : ℕ) (x : A) → slice_get (take n xs) k ≡ Some x → (k < n) × (slice_get xs k ≡ Some x)
+get_take xs zero k x at = cc at
+get_take [] (suc n) k x at = cc at
+get_take (y ∷ xs) (suc n) zero x at = (omega arith, at)
+get_take (y ∷ xs) (suc n) (suc k) x at = let more = get_take xs n k x at in (let low = more.0 in omega (arith, low), more.1)
+
+-- ---- what is pulled
+
+-- few bytes, or one record
+abbrev pub AreFew : List Entry → Type 0
+AreFew rs = (sum_by size rs ≤ 262144) ⊎ (length rs ≤ 1)
+
+-- the records that are taken are like this, and few, and the code is one of those of a pull
+pub record IsPulled (P : Entry → Type 0) (p : Pulled Entry) : Type 0 where
+  pub each : Each P p.taken
+  pub few : AreFew p.taken
+  pub code : p.code ≤ 21
+
+-- what is examined is like this
+each_examined : (P : Entry → Type 0) (most : ℕ) (test : QueueUnit → Bool) (before xs : List Entry) → Each P before → Each P xs → Each P (examined unit_of most test before xs)
+each_examined P most test before [] done rest = done
+each_examined P most test before (x ∷ xs) done rest =
+    elim (goes_on unit_of most test before x) as (λ b. Each P (if b then examined unit_of most test (before ++ x ∷ []) xs else before)) [
+      | true ↦ each_examined P most test (before ++ x ∷ []) xs (each_append P before (x ∷ []) done (rest.0, tt)) rest.1
+      | false ↦ done
+    ]
+
+-- the test of a record's unit
+abbrev is_taken : (QueueUnit → Bool) → Entry → Bool
+is_taken test r = test (unit_of r)
+
+and_right : (x y : Bool) → (x && y) ≡ true → y ≡ true
+and_right true y e = e
+and_right false y e = absurd (true≢false (sym e))
+
+or_cases : (x y : Bool) → (x || y) ≡ true → (x ≡ true) ⊎ (y ≡ true)
+or_cases true y e = inl refl
+or_cases false y e = inr e
+
+-- one record more, for which there is room
+few_more : (taken : List Entry) (x : Entry) → (((length taken == 0) || nat_le (sum_by size taken + size x) 262144) ≡ true) → AreFew (taken ++ x ∷ [])
+few_more taken x room =
+    ⊎_elim (λ (none : (length taken == 0) ≡ true).
+        let zero_long = eqb-true (length taken) 0 none in inr (let long = length-append taken (x ∷ []) in omega (arith, long, zero_long)))
+      (λ (fits : nat_le (sum_by size taken + size x) 262144 ≡ true).
+        ⊎_elim (λ (le : (leb (sum_by size taken + size x) 262144 ≡ true) × (sum_by size taken + size x ≤ 262144)).
+            let total = sum_by-append size taken (x ∷ []) ∙ ap (λ m. sum_by size taken + m) (sum_by-cons size x []) in
+            let low = le.1 in inl (omega (arith, total, low)))
+          (λ (other : (leb (sum_by size taken + size x) 262144 ≡ false) × (262144 < sum_by size taken + size x)). absurd (true≢false (sym fits ∙ other.0)))
+          (leb_tells (sum_by size taken + size x) 262144))
+      (or_cases (length taken == 0) (nat_le (sum_by size taken + size x) 262144) room)
+
+-- what is taken of what is examined stays few
+few_after : (most : ℕ) (test : QueueUnit → Bool) (before : List Entry) (x : Entry) → AreFew (filter (is_taken test) before) → goes_on unit_of most test before x ≡ true
+    → AreFew (filter (is_taken test) (before ++ x ∷ []))
+few_after most test before x few goes =
+    let before_taken = filter (is_taken test) before in
+    let parts : filter (is_taken test) (before ++ x ∷ []) ≡ before_taken ++ cond (is_taken test x) (x ∷ []) [] = filter-append (is_taken test) before (x ∷ []) in
+    subst (λ (rs : List Entry). AreFew rs) (sym parts)
+      (⊎_elim (λ (takes_it : is_taken test x ≡ true).
+          let room = and_right (nat_lt (count_by (is_taken test) before) most && nat_lt (length before) 800)
+            (not (test (unit_of x)) || (count_by (is_taken test) before == 0) || nat_le (sum_by size before_taken + size x) 262144) goes in
+          let told : ((count_by (is_taken test) before == 0) || nat_le (sum_by size before_taken + size x) 262144) ≡ true =
+            ap (λ b. (b || (count_by (is_taken test) before == 0)) || nat_le (sum_by size before_taken + size x) 262144) (sym (ap not takes_it)) ∙ room in
+          let counted : ((length before_taken == 0) || nat_le (sum_by size before_taken + size x) 262144) ≡ true =
+            ap (λ m. (m == 0) || nat_le (sum_by size before_taken + size x) 262144) (length-filter (is_taken test) before) ∙ told in
+          subst (λ b. AreFew (before_taken ++ cond b (x ∷ []) [])) (sym takes_it) (few_more before_taken x counted))
+        (λ (passes : is_taken test x ≡ false).
+          subst (λ b. AreFew (before_taken ++ cond b (x ∷ []) [])) (sym passes) (subst (λ (rs : List Entry). AreFew rs) (sym (append-nil before_taken)) few))
+        (cases_Bool (is_taken test x)))
+
+few_examined : (most : ℕ) (test : QueueUnit → Bool) (before xs : List Entry) → AreFew (filter (is_taken test) before) → AreFew (filter (is_taken test) (examined unit_of most test before xs))
+few_examined most test before [] few = few
+few_examined most test before (x ∷ xs) few =
+    ⊎_elim (λ (on : goes_on unit_of most test before x ≡ true).
+        subst (λ b. AreFew (filter (is_taken test) (if b then examined unit_of most test (before ++ x ∷ []) xs else before))) (sym on)
+          (few_examined most test (before ++ x ∷ []) xs (few_after most test before x few on)))
+      (λ (off : goes_on unit_of most test before x ≡ false).
+        subst (λ b. AreFew (filter (is_taken test) (if b then examined unit_of most test (before ++ x ∷ []) xs else before))) (sym off) few)
+      (cases_Bool (goes_on unit_of most test before x))
+
+-- nothing is taken
+pulled_nothing : (P : Entry → Type 0) (code next low high : ℕ) → code ≤ 21 → IsPulled P (nothing code next low high)
+pulled_nothing P code next low high small = record { each = tt; few = inl (omega arith); code = small }
+
+-- some were examined
+pulled_looking : (P : Entry → Type 0) (from low high most : ℕ) (test : QueueUnit → Bool) (queue : List Entry) → Each P queue
+    → IsPulled P (after_looking unit_of from low high test (examined unit_of most test [] queue))
+pulled_looking P from low high most test queue all = record {
+  each = each_filter P (is_taken test) (examined unit_of most test [] queue) (each_examined P most test [] queue tt all);
+  few = few_examined most test [] queue (inl (omega arith));
+  code = few_code (count_by (is_taken test) (examined unit_of most test [] queue) == 0);
+}
+  where
+  few_code : (b : Bool) → (if b then 20 else 0) ≤ 21
+  few_code true = omega arith
+  few_code false = omega arith
+
+by_case : (P : Entry → Type 0) (a b c d : Bool) (v w x y z : Pulled Entry) → IsPulled P v → IsPulled P w → IsPulled P x → IsPulled P y → IsPulled P z → IsPulled P (cond a v (cond b w (cond c x (cond d y z))))
+by_case P true b c d v w x y z v_is w_is x_is y_is z_is = v_is
+by_case P false true c d v w x y z v_is w_is x_is y_is z_is = w_is
+by_case P false false true d v w x y z v_is w_is x_is y_is z_is = x_is
+by_case P false false false true v w x y z v_is w_is x_is y_is z_is = y_is
+by_case P false false false false v w x y z v_is w_is x_is y_is z_is = z_is
+
+-- a pull takes records of the queue, and few of them
+pub pull_is : (P : Entry → Type 0) (low : ℕ) (queue : List Entry) (from : ℤ) (most : ℕ) (test : QueueUnit → Bool) → Each P queue → IsPulled P (pulled unit_of low queue from most test)
+pull_is P low queue (negsuc from) most test all = pulled_nothing P 21 low low (low + length queue) (omega arith)
+pull_is P low queue (pos from) most test all =
+    let high = low + length queue in
+    by_case P ((high == 0) && (from == 0)) (nat_lt from low) (from == high) (nat_lt high from)
+      (nothing 19 0 low high) (nothing 21 low low high) (nothing 19 high low high) (nothing 21 high low high)
+      (after_looking unit_of from low high test (examined unit_of most test [] (drop (from - low) queue)))
+      (pulled_nothing P 19 0 low high (omega arith)) (pulled_nothing P 21 low low high (omega arith)) (pulled_nothing P 19 high low high (omega arith)) (pulled_nothing P 21 high low high (omega arith))
+      (pulled_looking P from low high most test (drop (from - low) queue) (each_drop P (from - low) queue all))
+
+-- ---- where the records stand
+
+-- a record is on the disk, and can be read at once
+pub record IsTold (stored : FrozenRanges) (r : Entry) : Type 0 where
+  pub covered : IsCovered stored r
+  pub small : size r < 2 ^ 30
+
+pub queue_told : (core : Parts) (s : State) (topic : List ℕ) (queue : ℕ) → Represents core s → Each (IsTold core.stored) (records_of (seen s) topic queue)
+queue_told core s topic queue are =
+    let n = s.dispatched - s.log.base.records in
+    each_filter (IsTold core.stored) (λ r. bytes_eq r.topic topic && (r.queue == queue)) (take n s.log.records)
+      (each_of (IsTold core.stored) (take n s.log.records) (λ k r at.
+        let there = get_take s.log.records n k r at in
+        let dispatched = are.state.dispatched in
+        let below = there.0 in
+        let room = (are.state.log.each k r there.1).room in
+        let high = are.state.log.segment.high in
+        record { covered = are.stored.each k r (omega (arith, below, dispatched)) there.1; small = omega (arith, room, high) }))
+
+-- a slice of a unit is the slice of its record
+slice_is : (stored : FrozenRanges) (slice : Slice) (r : Entry) → IsSliceAt stored slice (unit_of r) → IsTold stored r → IsSliceOf slice r
+slice_is stored (Held bytes) r is told = is
+slice_is stored (Kept range) r is told = record { place = is.0; len = is.1; held = is.2 (layout r) (length-layout r) told.covered.held }
+
+slices_are : (stored : FrozenRanges) (slices : List Slice) (rs : List Entry) → AreSlicesAt stored slices (map unit_of rs) → Each (IsTold stored) rs → AreSlicesOf slices rs
+slices_are stored [] [] are told = tt
+slices_are stored [] (r ∷ rs) are told = are
+slices_are stored (slice ∷ slices) [] are told = are
+slices_are stored (slice ∷ slices) (r ∷ rs) are told = (slice_is stored slice r are.0 told.0, slices_are stored slices rs are.1 told.1)
+
+-- a slice has as many bytes as its record
+slice_size : (slice : Slice) (r : Entry) → IsSliceOf slice r → slice_len slice ≡ size r
+slice_size (Held bytes) r is = absurd is
+slice_size (Kept range) r is = is.len
+
+body_size : (slices : List Slice) (rs : List Entry) → AreSlicesOf slices rs → body_len slices ≡ sum_by size rs
+body_size [] [] are = refl
+body_size [] (r ∷ rs) are = absurd are
+body_size (slice ∷ slices) [] are = absurd are
+body_size (slice ∷ slices) (r ∷ rs) are =
+    sum_by-cons slice_len slice slices ∙ ap (λ m. m + body_len slices) (slice_size slice r are.0) ∙ ap (λ m. size r + m) (body_size slices rs are.1) ∙ sym (sum_by-cons size r rs)
+
+-- few bytes, where each record is small
+few_bytes : (stored : FrozenRanges) (rs : List Entry) → Each (IsTold stored) rs → AreFew rs → sum_by size rs < 2 ^ 30
+few_bytes stored [] told few = omega arith
+few_bytes stored (r ∷ []) told few = let one = sum_by-cons size r [] in let small = told.0.small in omega (arith, one, small)
+few_bytes stored (r ∷ q ∷ rs) told few =
+    ⊎_elim (λ (low : sum_by size (r ∷ q ∷ rs) ≤ 262144). omega (arith, low)) (λ (one : length (r ∷ q ∷ rs) ≤ 1). absurd (let none : ⊥ = omega (arith, one) in none)) few
+
+units_told : (stored : FrozenRanges) (units : List QueueUnit) (rs : List Entry) → units ≡ map unit_of rs → Each (IsTold stored) rs → Each (λ (u : QueueUnit). HasRange stored.pieces.items u.offset u.size) units
+units_told stored units rs is told = subst (λ (us : List QueueUnit). Each (λ (u : QueueUnit). HasRange stored.pieces.items u.offset u.size) us) (sym is) (ranges rs told)
+  where
+  ranges : (rs : List Entry) → Each (IsTold stored) rs → Each (λ (u : QueueUnit). HasRange stored.pieces.items u.offset u.size) (map unit_of rs)
+  ranges [] told = tt
+  ranges (r ∷ rs) told = (told.0.covered.range, ranges rs told.1)
+
+each_get : {A : Type 0} (P : A → Type 0) (xs : List A) → Each P xs → (k : ℕ) (x : A) → slice_get xs k ≡ Some x → P x
+each_get P [] all k x at = cc at
+each_get P (y ∷ xs) all zero x at = subst P (some_one at) all.0
+each_get P (y ∷ xs) all (suc k) x at = each_get P xs all.1 k x at
