@@ -176,3 +176,29 @@ pub reads_pull : (old : Parts) (link : ℕ) (host : List ℕ) (now : ℕ) (p : P
     → Reads old (asked_by link host now (Pull p)) (λ s. pulled_reply (pull_of s p)) (λ s. (stored s p.group p.topic p.queue (pull_offset p)).offsets)
 unfolding drafts_of request_answer changed request_changed refusal_of
 reads_pull old link host now p allowed = record { none = λ s. refl; answer = λ s. refl; change = λ s. stored_is s p.group p.topic p.queue (pull_offset p); allowed = allowed }
+
+-- the same of a queue that is named in another way
+pub queue_rows : (old : Parts) (topic other : List ℕ) (queue at : ℕ) (found : Option Refused) → topic ≡ other → queue ≡ at
+    → ((s : State) → Represents old s → queue_refusal s topic queue ≡ refusal_replies found) → (s : State) → Represents old s → queue_refusal s other at ≡ refusal_replies found
+queue_rows old topic other queue at found same_topic same_queue told s are =
+    sym (ap (λ (name : List ℕ). queue_refusal s name queue) same_topic ∙ ap (λ q. queue_refusal s other q) same_queue) ∙ told s are
+
+pub refusal_max_offset : (old : Parts) (q : QueueSaid) (refused : Refused) → ((s : State) → Represents old s → queue_refusal s q.topic q.queue ≡ Some (refusal_reply refused))
+    → (s : State) → Represents old s → refusal_of s (MaxOffset q) ≡ Some (refusal_reply refused)
+unfolding refusal_of
+refusal_max_offset old q refused told = told
+
+pub refusal_min_offset : (old : Parts) (q : QueueSaid) (refused : Refused) → ((s : State) → Represents old s → queue_refusal s q.topic q.queue ≡ Some (refusal_reply refused))
+    → (s : State) → Represents old s → refusal_of s (MinOffset q) ≡ Some (refusal_reply refused)
+unfolding refusal_of
+refusal_min_offset old q refused told = told
+
+pub refusal_search : (old : Parts) (q : SearchSaid) (refused : Refused) → ((s : State) → Represents old s → queue_refusal s q.topic q.queue ≡ Some (refusal_reply refused))
+    → (s : State) → Represents old s → refusal_of s (Search q) ≡ Some (refusal_reply refused)
+unfolding refusal_of
+refusal_search old q refused told = told
+
+pub refusal_pull : (old : Parts) (q : PullSaid) (refused : Refused) → ((s : State) → Represents old s → pull_refusal s q ≡ Some (refusal_reply refused))
+    → (s : State) → Represents old s → refusal_of s (Pull q) ≡ Some (refusal_reply refused)
+unfolding refusal_of
+refusal_pull old q refused told = told

@@ -139,6 +139,10 @@ max_unknown core s topic queue are e =
     let u = unknown core s topic queue are e in
     sym (ap (λ m. m + length (records_of (seen s) topic queue)) u.low ∙ ap (λ (rs : List Entry). 0 + length rs) u.records)
 
+pub min_found : (core : Parts) (s : State) (topic : List ℕ) (queue k result : ℕ) → Represents core s → number_of core.queues topic queue ≡ Some k
+    → ((t : Table) → slice_get core.queues k ≡ Some t → result ≡ t.low) → result ≡ queue_min (seen s) topic queue
+min_found core s topic queue k result are e told = let f = found core s topic queue k are e in told f.table f.at ∙ f.low
+
 -- ---- searches
 
 -- the default doesn't matter within a list

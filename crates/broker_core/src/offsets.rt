@@ -110,11 +110,13 @@ impl Parts {
         ensures stays { OnErr result (Stays self.old self.new) }
     {
         let topic = asked.topic.as_str();
-        if let Some(refused) = self.refuses_queue(topic, asked.queue) {
-            return refused.said(alloc);
+        match self.refuses_queue(topic, asked.queue) {
+            Some(refused) => refused.said(alloc),
+            None => {
+                let reply = offset_reply(alloc, self.max_of(topic, asked.queue));
+                self.tell(now, reply)
+            }
         }
-        let reply = offset_reply(alloc, self.max_of(topic, asked.queue));
-        self.tell(now, reply)
     }
 
     /// The offset of the first record of a queue that stands. At `Err` nothing changes.
@@ -130,11 +132,13 @@ impl Parts {
         ensures stays { OnErr result (Stays self.old self.new) }
     {
         let topic = asked.topic.as_str();
-        if let Some(refused) = self.refuses_queue(topic, asked.queue) {
-            return refused.said(alloc);
+        match self.refuses_queue(topic, asked.queue) {
+            Some(refused) => refused.said(alloc),
+            None => {
+                let reply = offset_reply(alloc, self.min_of(topic, asked.queue));
+                self.tell(now, reply)
+            }
         }
-        let reply = offset_reply(alloc, self.min_of(topic, asked.queue));
-        self.tell(now, reply)
     }
 
     /// The offset of the first record of a queue that was stored at a time, in milliseconds, or later. At `Err` nothing changes.
@@ -150,10 +154,12 @@ impl Parts {
         ensures stays { OnErr result (Stays self.old self.new) }
     {
         let topic = asked.topic.as_str();
-        if let Some(refused) = self.refuses_queue(topic, asked.queue) {
-            return refused.said(alloc);
+        match self.refuses_queue(topic, asked.queue) {
+            Some(refused) => refused.said(alloc),
+            None => {
+                let reply = offset_reply(alloc, self.first_at(topic, asked.queue, asked.time));
+                self.tell(now, reply)
+            }
         }
-        let reply = offset_reply(alloc, self.first_at(topic, asked.queue, asked.time));
-        self.tell(now, reply)
     }
 }

@@ -98,13 +98,10 @@ impl Parts {
         if is_closed(topic) {
             return Some(Refused::Closed);
         }
-        if let Some(refused) = self.refuses_queue(topic, asked.queue) {
-            return Some(refused);
-        }
-        if is_by_tags(asked.expression.as_str()) {
-            None
-        } else {
-            Some(Refused::Expression)
+        match self.refuses_queue(topic, asked.queue) {
+            Some(refused) => Some(refused),
+            None if is_by_tags(asked.expression.as_str()) => None,
+            None => Some(Refused::Expression),
         }
     }
 
@@ -155,10 +152,12 @@ impl Parts {
         ensures carries { (link : ℕ) (host : List ℕ) → IfOk result (λ said. Carries self.old (model.Asks (record { link = link; host = host; now = now; request = Pull asked.now })) (Says said) self.new) }
         ensures stays { OnErr result (Stays self.old self.new) }
     {
-        if let Some(refused) = self.refuses_pull(asked) {
-            return refused.said(alloc);
+        match self.refuses_pull(asked) {
+            Some(refused) => refused.said(alloc),
+            None => {
+                let reply = self.pulled(alloc, asked);
+                self.tell(now, reply)
+            }
         }
-        let reply = self.pulled(alloc, asked);
-        self.tell(now, reply)
     }
 }
