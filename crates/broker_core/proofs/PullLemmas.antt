@@ -1,9 +1,12 @@
 -- The reply to a pull: which records it has, that they are on the disk, and that they are few bytes.
-use Rattle.std.proofs.Common.{◌≡◌, ◌⊎◌, ⊎_elim, inl, inr, refl, ap, sym, ◌∙◌, subst, arith, ℕ, zero, suc, ◌+◌, ◌-◌, ◌^◌, ◌<◌, ◌≤◌, ◌==◌, ◌&&◌, ◌||◌, not, nat_lt, nat_le, leb, Bool, true, false, cond, List, [], ◌∷◌, ◌++◌, length, take, drop, map, filter, count_by, sum_by, slice_get, bit_and, ℤ, pos, negsuc, FitsSigned, Option, Some, None, if◌then◌else◌}
+use Rattle.std.proofs.Common.{◌≡◌, ◌⊎◌, ⊎_elim, inl, inr, refl, ap, sym, ◌∙◌, subst, arith, ℕ, zero, suc, ◌+◌, ◌-◌, ◌^◌, ◌<◌, ◌≤◌, ◌==◌, ◌&&◌, ◌||◌, not, nat_lt, nat_le, leb, Bool, true, false, cond, List, [], ◌∷◌, ◌++◌, length, take, drop, map, filter, count_by, sum_by, slice_get, bit_and, ℤ, pos, negsuc, FitsSigned, Option, Some, None, Result, IfOk, if◌then◌else◌}
 use Rattle.std.specs.Int.{w16, w32, cast_unsigned}
+use Rattle.std.specs.Ordering.{int_eq}
+use Rattle.std.specs.Str.{bytes_eq}
+use Rattle.std.specs.declared.alloc.AllocError.{AllocError}
 use mathlib.Core.Bool.{true≢false}
-use Rattle.std.proofs.lemmas.Bool.{eqb-true, cases_Bool}
-use Rattle.std.proofs.lemmas.Bool.Decides.{leb_tells}
+use Rattle.std.proofs.lemmas.Bool.{eqb-true, cases_Bool, false_from_ne_true}
+use Rattle.std.proofs.lemmas.Bool.Decides.{leb_tells, Decides-ltb, Decides-eqb}
 use Rattle.std.proofs.lemmas.List.{length-append, append-nil}
 use Rattle.std.proofs.lemmas.List.Elements.{filter-append}
 use Rattle.std.proofs.lemmas.List.Sums.{sum_by-append, sum_by-cons, length-filter}
@@ -204,7 +207,7 @@ slice_is : (stored : FrozenRanges) (slice : Slice) (r : Entry) → IsSliceAt sto
 slice_is stored (Held bytes) r is told = is
 slice_is stored (Kept range) r is told = record { place = is.0; len = is.1; held = is.2 (layout r) (length-layout r) told.covered.held }
 
-slices_are : (stored : FrozenRanges) (slices : List Slice) (rs : List Entry) → AreSlicesAt stored slices (map unit_of rs) → Each (IsTold stored) rs → AreSlicesOf slices rs
+pub slices_are : (stored : FrozenRanges) (slices : List Slice) (rs : List Entry) → AreSlicesAt stored slices (map unit_of rs) → Each (IsTold stored) rs → AreSlicesOf slices rs
 slices_are stored [] [] are told = tt
 slices_are stored [] (r ∷ rs) are told = are
 slices_are stored (slice ∷ slices) [] are told = are
@@ -215,7 +218,7 @@ slice_size : (slice : Slice) (r : Entry) → IsSliceOf slice r → slice_len sli
 slice_size (Held bytes) r is = absurd is
 slice_size (Kept range) r is = is.len
 
-body_size : (slices : List Slice) (rs : List Entry) → AreSlicesOf slices rs → body_len slices ≡ sum_by size rs
+pub body_size : (slices : List Slice) (rs : List Entry) → AreSlicesOf slices rs → body_len slices ≡ sum_by size rs
 body_size [] [] are = refl
 body_size [] (r ∷ rs) are = absurd are
 body_size (slice ∷ slices) [] are = absurd are
@@ -223,20 +226,140 @@ body_size (slice ∷ slices) (r ∷ rs) are =
     sum_by-cons slice_len slice slices ∙ ap (λ m. m + body_len slices) (slice_size slice r are.0) ∙ ap (λ m. size r + m) (body_size slices rs are.1) ∙ sym (sum_by-cons size r rs)
 
 -- few bytes, where each record is small
-few_bytes : (stored : FrozenRanges) (rs : List Entry) → Each (IsTold stored) rs → AreFew rs → sum_by size rs < 2 ^ 30
+pub few_bytes : (stored : FrozenRanges) (rs : List Entry) → Each (IsTold stored) rs → AreFew rs → sum_by size rs < 2 ^ 30
 few_bytes stored [] told few = omega arith
 few_bytes stored (r ∷ []) told few = let one = sum_by-cons size r [] in let small = told.0.small in omega (arith, one, small)
 few_bytes stored (r ∷ q ∷ rs) told few =
     ⊎_elim (λ (low : sum_by size (r ∷ q ∷ rs) ≤ 262144). omega (arith, low)) (λ (one : length (r ∷ q ∷ rs) ≤ 1). absurd (let none : ⊥ = omega (arith, one) in none)) few
 
-units_told : (stored : FrozenRanges) (units : List QueueUnit) (rs : List Entry) → units ≡ map unit_of rs → Each (IsTold stored) rs → Each (λ (u : QueueUnit). HasRange stored.pieces.items u.offset u.size) units
+pub units_told : (stored : FrozenRanges) (units : List QueueUnit) (rs : List Entry) → units ≡ map unit_of rs → Each (IsTold stored) rs → Each (λ (u : QueueUnit). HasRange stored.pieces.items u.offset u.size) units
 units_told stored units rs is told = subst (λ (us : List QueueUnit). Each (λ (u : QueueUnit). HasRange stored.pieces.items u.offset u.size) us) (sym is) (ranges rs told)
   where
   ranges : (rs : List Entry) → Each (IsTold stored) rs → Each (λ (u : QueueUnit). HasRange stored.pieces.items u.offset u.size) (map unit_of rs)
   ranges [] told = tt
   ranges (r ∷ rs) told = (told.0.covered.range, ranges rs told.1)
 
-each_get : {A : Type 0} (P : A → Type 0) (xs : List A) → Each P xs → (k : ℕ) (x : A) → slice_get xs k ≡ Some x → P x
+pub each_get : {A : Type 0} (P : A → Type 0) (xs : List A) → Each P xs → (k : ℕ) (x : A) → slice_get xs k ≡ Some x → P x
 each_get P [] all k x at = cc at
 each_get P (y ∷ xs) all zero x at = subst P (some_one at) all.0
 each_get P (y ∷ xs) all (suc k) x at = each_get P xs all.1 k x at
+
+-- one slice more
+pub slices_more : (stored : FrozenRanges) (slices : List Slice) (units : List QueueUnit) (slice : Slice) (unit : QueueUnit) → AreSlicesAt stored slices units → IsSliceAt stored slice unit
+    → AreSlicesAt stored (slices ++ slice ∷ []) (units ++ unit ∷ [])
+slices_more stored [] [] slice unit are is = (is, tt)
+slices_more stored [] (u ∷ units) slice unit are is = absurd are
+slices_more stored (x ∷ slices) [] slice unit are is = absurd are
+slices_more stored (x ∷ slices) (u ∷ units) slice unit are is = (are.0, slices_more stored slices units slice unit are.1 is)
+
+-- ---- the subscription
+
+pub own_words : (p : PullSaid) (own : Bool) (text : List ℕ) → own ≡ (bit_and (cast_unsigned w32 p.sysflag) 4 == 4) → own ≡ true → text ≡ p.subscription → text ≡ words_of p
+own_words p own text is yes_own same = same ∙ ap (λ (b : Bool). if b then p.subscription else []) (sym yes_own ∙ is)
+
+pub no_words : (p : PullSaid) (own : Bool) → own ≡ (bit_and (cast_unsigned w32 p.sysflag) 4 == 4) → own ≡ false → [] ≡ words_of p
+no_words p own is not_own = ap (λ (b : Bool). if b then p.subscription else []) (sym not_own ∙ is)
+
+-- nobody was heard
+words_are : (s : State) (core : Parts) (p : PullSaid) → Represents core s → pull_words s p ≡ words_of p
+words_are s core p are = ap (λ (t : ClientTable). if bit_and (cast_unsigned w32 p.sysflag) 4 == 4 then p.subscription else heard_words t p.group p.topic) are.clients
+
+-- ---- the table of a queue
+
+units_again : (rs : List Entry) → map unit_in (map stored_unit rs) ≡ map unit_of rs
+units_again [] = refl
+units_again (r ∷ rs) = ap (λ (us : List QueueUnit). unit_of r ∷ us) (units_again rs)
+
+-- what its units are pulled as
+abbrev pub pull_in : State → List ℕ → ℕ → ℤ → ℤ → Tags → Pulled QueueUnit
+pull_in s topic queue from most tags = pulled this (queue_min (seen s) topic queue) (map unit_of (records_of (seen s) topic queue)) from (asked_number 32 most) (tags_take tags)
+
+pub pulled_found : (core : Parts) (s : State) (topic : List ℕ) (queue k : ℕ) (from most : ℤ) (tags : Tags) (result : Result Answer AllocError) → Represents core s → number_of core.queues topic queue ≡ Some k
+    → ((t : Table) → slice_get core.queues k ≡ Some t → IfOk result (λ a. Answers (pulled_of t from most tags) a)) → IfOk result (λ a. Answers (pull_in s topic queue from most tags) a)
+pulled_found core s topic queue k from most tags result are e told =
+    let f = found core s topic queue k are e in
+    let rs = records_of (seen s) topic queue in
+    let same : pulled_of f.table from most tags ≡ pull_in s topic queue from most tags =
+      ap (λ m. pulled this m (seen_units f.table) from (asked_number 32 most) (tags_take tags)) f.low
+      ∙ ap (λ (us : List QueueUnit). pulled this (queue_min (seen s) topic queue) us from (asked_number 32 most) (tags_take tags)) (ap (λ (us : List StoredUnit). map unit_in us) f.units ∙ units_again rs) in
+    subst (λ (p : Pulled QueueUnit). IfOk result (λ a. Answers p a)) same (told f.table f.at)
+
+-- ---- a queue without records
+
+pick : (b less more : Bool) (v w x y z : Pulled QueueUnit) → less ≡ false → more ≡ not b → cond b v (cond less w (cond b x (cond more y z))) ≡ cond b v y
+pick true less more v w x y z is_less is_more = refl
+pick false less more v w x y z is_less is_more = ap (λ c. cond c w (cond more y z)) is_less ∙ ap (λ c. cond c y z) is_more
+
+empty_is : (from most : ℕ) (test : QueueUnit → Bool) → pulled_from this 0 [] from most test ≡ cond (from == 0) (nothing 19 0 0 0) (nothing 21 0 0 0)
+empty_is from most test =
+    pick (from == 0) (nat_lt from 0) (nat_lt 0 from) (nothing 19 0 0 0) (nothing 21 0 0 0) (nothing 19 0 0 0) (nothing 21 0 0 0)
+      (after_looking this from 0 0 test (examined this most test [] (drop (from - 0) []))) (below_none from) (above_zero from)
+  where
+  below_none : (n : ℕ) → nat_lt n 0 ≡ false
+  below_none n = false_from_ne_true (nat_lt n 0) (λ less. let h = (Decides-ltb n 0).0 less in let none : ⊥ = omega (arith, h) in none)
+  above_zero : (n : ℕ) → nat_lt 0 n ≡ not (n == 0)
+  above_zero zero = refl
+  above_zero (suc n) = (Decides-ltb 0 (suc n)).1 (omega arith) ∙ sym (ap not (false_from_ne_true (suc n == 0) (λ same. let h = (Decides-eqb (suc n) 0).0 same in let none : ⊥ = omega (arith, h) in none)))
+
+empty_answers : (b : Bool) (a : Answer) → a.code ≡ pos (if b then 19 else 21) → a.next ≡ 0 → a.min ≡ 0 → a.max ≡ 0 → a.units.items ≡ [] → Answers (cond b (nothing 19 0 0 0) (nothing 21 0 0 0)) a
+empty_answers true a code next low high none = record { code = code; next = next; min = low; max = high; units = none }
+empty_answers false a code next low high none = record { code = code; next = next; min = low; max = high; units = none }
+
+no_records : (from : ℤ) (most : ℕ) (test : QueueUnit → Bool) (a : Answer) → a.code ≡ pos (if int_eq from (pos 0) then 19 else 21) → a.next ≡ 0 → a.min ≡ 0 → a.max ≡ 0 → a.units.items ≡ [] → Answers (pulled this 0 [] from most test) a
+no_records (pos from) most test a code next low high none = subst (λ (p : Pulled QueueUnit). Answers p a) (sym (empty_is from most test)) (empty_answers (from == 0) a code next low high none)
+no_records (negsuc from) most test a code next low high none = record { code = code; next = next; min = low; max = high; units = none }
+
+pub pulled_unknown : (core : Parts) (s : State) (topic : List ℕ) (queue : ℕ) (from most : ℤ) (tags : Tags) (a : Answer) → Represents core s → number_of core.queues topic queue ≡ None
+    → a.code ≡ pos (if int_eq from (pos 0) then 19 else 21) → a.next ≡ 0 → a.min ≡ 0 → a.max ≡ 0 → a.units.items ≡ [] → Answers (pull_in s topic queue from most tags) a
+pulled_unknown core s topic queue from most tags a are e code next low high none =
+    let u = unknown core s topic queue are e in
+    subst (λ m. Answers (pulled this m (map unit_of (records_of (seen s) topic queue)) from (asked_number 32 most) (tags_take tags)) a) (sym u.low)
+      (subst (λ (rs : List Entry). Answers (pulled this 0 (map unit_of rs) from (asked_number 32 most) (tags_take tags)) a) (sym u.records)
+        (no_records from (asked_number 32 most) (tags_take tags) a code next low high none))
+
+-- ---- the reply
+
+-- the answer is that of the records
+pub answers_pull : (core : Parts) (s : State) (p : PullSaid) (tags : Tags) (a : Answer) → Represents core s → tags_take tags ≡ takes (words_of p)
+    → Answers (pull_in s p.topic p.queue p.from p.most tags) a → Answers (pulled_as unit_of (pull_of s p)) a
+answers_pull core s p tags a are takes_it answers =
+    let low = queue_min (seen s) p.topic p.queue in
+    let rs = records_of (seen s) p.topic p.queue in
+    let n = asked_number 32 p.most in
+    let same : pull_in s p.topic p.queue p.from p.most tags ≡ pulled_as unit_of (pull_of s p) =
+      ap (λ (test : QueueUnit → Bool). pulled this low (map unit_of rs) p.from n test) takes_it
+      ∙ (pulled_map unit_of low rs p.from n (takes (words_of p))
+      ∙ ap (λ (words : List ℕ). pulled_as unit_of (pulled unit_of low rs p.from n (takes words))) (sym (words_are s core p are))) in
+    subst (λ (q : Pulled QueueUnit). Answers q a) same answers
+
+pub pull_told : (core : Parts) (s : State) (p : PullSaid) → Represents core s → IsPulled (IsTold core.stored) (pull_of s p)
+pull_told core s p are =
+    pull_is (IsTold core.stored) (queue_min (seen s) p.topic p.queue) (records_of (seen s) p.topic p.queue) p.from (asked_number 32 p.most) (takes (pull_words s p)) (queue_told core s p.topic p.queue are)
+
+-- each unit has its range on the disk
+pub has_ranges : (core : Parts) (s : State) (p : PullSaid) (a : Answer) → Represents core s → Answers (pulled_as unit_of (pull_of s p)) a
+    → (k : ℕ) (unit : QueueUnit) → slice_get a.units.items k ≡ Some unit → HasRange core.stored.pieces.items unit.offset unit.size
+has_ranges core s p a are answers =
+    each_get (λ (u : QueueUnit). HasRange core.stored.pieces.items u.offset u.size) a.units.items
+      (units_told core.stored a.units.items (pull_of s p).taken answers.units (pull_told core s p are).each)
+
+-- the code is a code of replies
+pub code_fits : (core : Parts) (s : State) (p : PullSaid) (a : Answer) → Represents core s → Answers (pulled_as unit_of (pull_of s p)) a → FitsSigned w16 a.code
+code_fits core s p a are answers =
+    let low = (pull_told core s p are).code in
+    subst (λ (z : ℤ). FitsSigned w16 z) (sym answers.code) (record { sfits = omega (arith, low) })
+
+-- the slices are those of the records
+pub pull_slices : (core : Parts) (s : State) (p : PullSaid) (a : Answer) (slices : List Slice) → Represents core s → Answers (pulled_as unit_of (pull_of s p)) a → AreSlicesAt core.stored slices a.units.items
+    → AreSlicesOf slices (pull_of s p).taken
+pull_slices core s p a slices are answers at =
+    slices_are core.stored slices (pull_of s p).taken (subst (λ (us : List QueueUnit). AreSlicesAt core.stored slices us) answers.units at) (pull_told core s p are).each
+
+-- and few bytes
+pub pull_bytes : (core : Parts) (s : State) (p : PullSaid) (a : Answer) (slices : List Slice) → Represents core s → Answers (pulled_as unit_of (pull_of s p)) a → AreSlicesAt core.stored slices a.units.items
+    → body_len slices < 2 ^ 30
+pull_bytes core s p a slices are answers at =
+    let told = pull_told core s p are in
+    let total = body_size slices (pull_of s p).taken (pull_slices core s p a slices are answers at) in
+    let low = few_bytes core.stored (pull_of s p).taken told.each told.few in
+    omega (arith, total, low)

@@ -1,6 +1,8 @@
 //! A pull: which of a queue's records are told, and where they stand. No byte of a record is read for it.
 
-ghost use Rattle.std.specs.Prelude.{◌≡◌, ◌<◌, ◌≤◌, ◌^◌, ℕ, List, map, length, slice_get, IfOk, OnErr, Some};
+ghost use Rattle.std.specs.Prelude.{◌≡◌, ◌<◌, ◌≤◌, ◌^◌, ◌==◌, ℕ, pos, List, map, length, slice_get, bit_and, IfOk, OnErr, Some, if◌then◌else◌};
+ghost use Rattle.std.specs.Int.{w32, cast_unsigned};
+ghost use Rattle.std.specs.Ordering.{int_eq};
 ghost use Rattle.mq_outside.specs.Covers.{HasRange};
 ghost use Rattle.record_codec.specs.Entry.{Entry};
 ghost use Rattle.record_codec.specs.Units.{unit_of};
@@ -47,16 +49,30 @@ fn is_by_tags(expression: &str) -> bool
     expression.is_empty() || expression == "TAG"
 }
 
+// The flag of a pull says that its own subscription counts.
+fn has_subscription(asked: &PullFields) -> bool
+    ensures { result ≡ (bit_and (cast_unsigned w32 asked.now.sysflag) 4 == 4) }
+{
+    asked.sysflag.cast_unsigned() & 4 == 4
+}
+
 // The tags of a pull: those of its own subscription where bit 4 of its flag says so. No group was heard yet, so else it takes
 // all messages.
 fn tags_of(alloc: Global, asked: &PullFields) -> Result<Tags, AllocError>
     ensures { IfOk result (λ tags. tags_take tags ≡ takes (words_of asked.now)) }
 {
-    if asked.sysflag as u32 & 4 == 4 {
+    if has_subscription(asked) {
         Tags::read(alloc, asked.subscription.as_str())
     } else {
         Tags::read(alloc, "")
     }
+}
+
+// The code of a pull of a queue that has no records.
+fn empty_code(from: i64) -> i32
+    ensures { result ≡ pos (if int_eq from (pos 0) then 19 else 21) }
+{
+    if from == 0 { NOT_YET } else { OUTSIDE }
 }
 
 // The range where the record of a unit stands.
@@ -119,7 +135,7 @@ impl Parts {
         match self.queues.find(asked.topic.as_str(), asked.queue) {
             Some(table) => self.queues.pull(alloc, table, asked.from, asked.most, tags),
             None => Ok(Pulled {
-                code: if asked.from == 0 { NOT_YET } else { OUTSIDE },
+                code: empty_code(asked.from),
                 next: 0,
                 min: 0,
                 max: 0,
