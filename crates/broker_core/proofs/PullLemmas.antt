@@ -1,12 +1,13 @@
 -- The reply to a pull: which records it has, that they are on the disk, and that they are few bytes.
-use Rattle.std.proofs.Common.{◌≡◌, ◌⊎◌, ⊎_elim, inl, inr, refl, ap, sym, ◌∙◌, subst, arith, ℕ, zero, suc, ◌+◌, ◌-◌, ◌^◌, ◌<◌, ◌≤◌, ◌==◌, ◌&&◌, ◌||◌, not, nat_lt, nat_le, leb, Bool, true, false, cond, List, [], ◌∷◌, ◌++◌, length, take, drop, map, filter, count_by, sum_by, slice_get, bit_and, ℤ, pos, negsuc, FitsSigned, Option, Some, None, Result, IfOk, if◌then◌else◌}
+use Rattle.std.proofs.Common.{◌≡◌, ◌⊎◌, ⊎_elim, inl, inr, refl, ap, sym, ◌∙◌, subst, arith, ℕ, zero, suc, ◌+◌, ◌-◌, ◌^◌, ◌<◌, ◌≤◌, ◌==◌, ◌&&◌, ◌||◌, not, nat_lt, nat_le, leb, Bool, true, false, cond, List, [], ◌∷◌, ◌++◌, length, take, drop, map, filter, count_by, sum_by, slice_get, get_or, bit_and, ℤ, pos, negsuc, FitsSigned, Option, Some, None, Result, IfOk, if◌then◌else◌}
 use Rattle.std.specs.Int.{w16, w32, cast_unsigned}
 use Rattle.std.specs.Ordering.{int_eq}
 use Rattle.std.specs.Str.{bytes_eq}
 use Rattle.std.specs.declared.alloc.AllocError.{AllocError}
 use mathlib.Core.Bool.{true≢false}
 use Rattle.std.proofs.lemmas.Bool.{eqb-true, cases_Bool, false_from_ne_true}
-use Rattle.std.proofs.lemmas.Bool.Decides.{leb_tells, Decides-ltb, Decides-eqb}
+use Rattle.std.proofs.lemmas.Bool.Decides.{leb_tells, Decides-ltb, Decides-eqb, Decides-int_eq}
+use Rattle.std.proofs.lemmas.Grind.{take_at_read}
 use Rattle.std.proofs.lemmas.List.{length-append, append-nil}
 use Rattle.std.proofs.lemmas.List.Elements.{filter-append}
 use Rattle.std.proofs.lemmas.List.Sums.{sum_by-append, sum_by-cons, length-filter}
@@ -252,6 +253,13 @@ slices_more stored [] (u ∷ units) slice unit are is = absurd are
 slices_more stored (x ∷ slices) [] slice unit are is = absurd are
 slices_more stored (x ∷ slices) (u ∷ units) slice unit are is = (are.0, slices_more stored slices units slice unit are.1 is)
 
+-- the slices of one unit more of a list
+pub slices_next : (stored : FrozenRanges) (units : List QueueUnit) (slices new : List Slice) (i : ℕ) (slice : Slice) (d : QueueUnit) → i < length units → AreSlicesAt stored slices (take i units) → new ≡ slices ++ slice ∷ []
+    → IsSliceAt stored slice (get_or units i d) → AreSlicesAt stored new (take (i + 1) units)
+slices_next stored units slices new i slice d low are is_new is =
+    subst (λ (xs : List Slice). AreSlicesAt stored xs (take (i + 1) units)) (sym is_new)
+      (subst (λ (us : List QueueUnit). AreSlicesAt stored (slices ++ slice ∷ []) us) (sym (take_at_read units i d low).1) (slices_more stored slices (take i units) slice (get_or units i d) are is))
+
 -- ---- the subscription
 
 pub own_words : (p : PullSaid) (own : Bool) (text : List ℕ) → own ≡ (bit_and (cast_unsigned w32 p.sysflag) 4 == 4) → own ≡ true → text ≡ p.subscription → text ≡ words_of p
@@ -305,8 +313,19 @@ empty_answers : (b : Bool) (a : Answer) → a.code ≡ pos (if b then 19 else 21
 empty_answers true a code next low high none = record { code = code; next = next; min = low; max = high; units = none }
 empty_answers false a code next low high none = record { code = code; next = next; min = low; max = high; units = none }
 
+-- the test of signed numbers
+pos_eq : (n : ℕ) → int_eq (pos n) (pos 0) ≡ (n == 0)
+pos_eq n =
+    ⊎_elim (λ (is : (n == 0) ≡ true). (Decides-int_eq (pos n) (pos 0)).1 (ap pos ((Decides-eqb n 0).0 is)) ∙ sym is)
+      (λ (not_zero : (n == 0) ≡ false).
+        false_from_ne_true (int_eq (pos n) (pos 0)) (λ same.
+          let e : pos n ≡ pos 0 = (Decides-int_eq (pos n) (pos 0)).0 same in
+          let m : n ≡ 0 = cc e in
+          absurd (true≢false (sym ((Decides-eqb n 0).1 m) ∙ not_zero))) ∙ sym not_zero)
+      (cases_Bool (n == 0))
+
 no_records : (from : ℤ) (most : ℕ) (test : QueueUnit → Bool) (a : Answer) → a.code ≡ pos (if int_eq from (pos 0) then 19 else 21) → a.next ≡ 0 → a.min ≡ 0 → a.max ≡ 0 → a.units.items ≡ [] → Answers (pulled this 0 [] from most test) a
-no_records (pos from) most test a code next low high none = subst (λ (p : Pulled QueueUnit). Answers p a) (sym (empty_is from most test)) (empty_answers (from == 0) a code next low high none)
+no_records (pos from) most test a code next low high none = subst (λ (p : Pulled QueueUnit). Answers p a) (sym (empty_is from most test)) (empty_answers (from == 0) a (code ∙ ap (λ (b : Bool). pos (if b then 19 else 21)) (pos_eq from)) next low high none)
 no_records (negsuc from) most test a code next low high none = record { code = code; next = next; min = low; max = high; units = none }
 
 pub pulled_unknown : (core : Parts) (s : State) (topic : List ℕ) (queue : ℕ) (from most : ℤ) (tags : Tags) (a : Answer) → Represents core s → number_of core.queues topic queue ≡ None
