@@ -1,4 +1,5 @@
 use Rattle.std.proofs.Common.{◌≡◌, ◌∙◌, ap, sym, subst, ℕ, ℤ, pos, List, IfOk, Some, rules, refl, w64, w32, if◌then◌else◌}
+use mir.Val.{to_z, of_z}
 use Rattle.std.specs.Ordering.{int_eq}
 use Rattle.std.proofs.lemmas.Int.{to_z-of_z}
 use Rattle.record_codec.specs.declared.unit.Unit.{Unit as QueueUnit}
@@ -31,7 +32,8 @@ returns-in-None c s are =
     let q = c.args.asked.now in
     let name : c.as_str.result.now ≡ q.topic = c.as_str.ensures.value ∙ ap (λ (x : PullSaid). x.topic) c.asked.view_is in
     let at : c.asked.inside.queue ≡ q.queue = ap (λ (x : PullSaid). x.queue) c.asked.view_is in
-    pulled_unknown core s q.topic q.queue q.from q.most c.args.tags.now _ are
+    let a : Answer = record { code = to_z w32 (of_z w32 c.empty_code.result); next = 0; min = 0; max = 0; units = c.new.result } in
+    pulled_unknown core s q.topic q.queue q.from q.most c.args.tags.now a are
     (sym (c.find.ensures ∙ ap (λ (t : List ℕ). number_of core.queues t c.asked.inside.queue) name ∙ ap (λ (k : ℕ). number_of core.queues q.topic k) at) ∙ c.in-None.is)
-    (c.empty_code.ensures ∙ ap (λ (z : ℤ). pos (if int_eq z (pos 0) then 19 else 21)) (to_z-of_z w64 c.asked.inside.from (search rules) ∙ ap (λ (x : PullSaid). x.from) c.asked.view_is))
+    (to_z-of_z w32 c.empty_code.result (search rules) ∙ c.empty_code.ensures ∙ ap (λ (z : ℤ). pos (if int_eq z (pos 0) then 19 else 21)) (to_z-of_z w64 c.asked.inside.from (search rules) ∙ ap (λ (x : PullSaid). x.from) c.asked.view_is))
     refl refl refl c.new.ensures.items
