@@ -1,5 +1,5 @@
 -- The reply to a pull: which records it has, that they are on the disk, and that they are few bytes.
-use Rattle.std.proofs.Common.{◌≡◌, ◌⊎◌, ⊎_elim, inl, inr, refl, ap, sym, ◌∙◌, subst, arith, ℕ, zero, suc, ◌+◌, ◌-◌, ◌^◌, ◌<◌, ◌≤◌, ◌==◌, ◌&&◌, ◌||◌, not, nat_lt, nat_le, leb, Bool, true, false, cond, List, [], ◌∷◌, ◌++◌, length, take, drop, map, filter, count_by, sum_by, slice_get, get_or, bit_and, ℤ, pos, negsuc, FitsSigned, Option, Some, None, Result, IfOk, if◌then◌else◌}
+use Rattle.std.proofs.Common.{◌≡◌, ◌⊎◌, ⊎_elim, inl, inr, refl, ap, sym, ◌∙◌, subst, arith, ℕ, zero, suc, ◌+◌, ◌-◌, ◌^◌, ◌<◌, ◌≤◌, ◌==◌, ◌&&◌, ◌||◌, not, nat_lt, nat_le, leb, Bool, true, false, cond, List, [], ◌∷◌, ◌++◌, length, take, drop, map, filter, count_by, sum_by, slice_get, get_or, bit_and, ℤ, pos, negsuc, FitsSigned, Some, None, Result, IfOk, if◌then◌else◌}
 use Rattle.std.specs.Int.{w16, w32, cast_unsigned}
 use Rattle.std.specs.Ordering.{int_eq}
 use Rattle.std.specs.Str.{bytes_eq}
@@ -18,7 +18,6 @@ use Rattle.record_codec.specs.Entry.{Entry}
 use Rattle.record_codec.specs.Layout.{size, layout}
 use Rattle.record_codec.specs.Units.{unit_of}
 use Rattle.record_codec.proofs.LayoutLengths.{length-layout}
-use Rattle.log_model.specs.Bases.{geometry}
 use Rattle.log_model.specs.Keys.{asked_number}
 use Rattle.log_model.specs.Numbered.{queue_min, records_of}
 use Rattle.log_model.specs.Pulls.{Pulled, pulled, pulled_from, pulled_as, nothing, after_looking, examined, goes_on, takes}
@@ -33,15 +32,15 @@ use Rattle.queue_view.specs.Answers.{Answers, this, pulled_of}
 use Rattle.queue_view.specs.Subscriptions.{tags_take}
 use Rattle.queue_view.specs.Tables.{Table, seen_units, unit_in, number_of}
 use Rattle.queue_view.specs.declared.stored.StoredUnit.{StoredUnit}
-use Rattle.queue_view.proofs.Lists.{get_within, some_one}
+use Rattle.queue_view.proofs.Lists.{some_one}
 use Rattle.broker_model.specs.State.{State, seen}
 use Rattle.broker_model.specs.Clients.{ClientTable, heard_words}
 use Rattle.broker_model.specs.Answers.{pull_words, pull_of}
-use Rattle.broker_events.specs.Replies.{IsRangeOf, IsSliceOf, AreSlicesOf}
+use Rattle.broker_events.specs.Replies.{IsSliceOf, AreSlicesOf}
 use Rattle.broker_core.specs.declared.parts.Parts.{Parts}
 use Rattle.broker_core.specs.Reads.{IsSliceAt, AreSlicesAt, words_of}
-use Rattle.broker_core.specs.Represents.{Represents, IsCovered, AreCovered, stored_unit}
-use Rattle.broker_core.proofs.SeenLemmas.{found, unknown, IsSeen, IsUnknown}
+use Rattle.broker_core.specs.Represents.{Represents, IsCovered, stored_unit}
+use Rattle.broker_core.proofs.SeenLemmas.{found, unknown}
 
 -- ---- each of a list
 
@@ -111,14 +110,14 @@ or_cases false y e = inr e
 few_more : (taken : List Entry) (x : Entry) → (((length taken == 0) || nat_le (sum_by size taken + size x) 262144) ≡ true) → AreFew (taken ++ x ∷ [])
 few_more taken x room =
     ⊎_elim (λ (none : (length taken == 0) ≡ true).
-        let zero_long = eqb-true (length taken) 0 none in inr (let long = length-append taken (x ∷ []) in omega (arith, long, zero_long)))
-      (λ (fits : nat_le (sum_by size taken + size x) 262144 ≡ true).
-        ⊎_elim (λ (le : (leb (sum_by size taken + size x) 262144 ≡ true) × (sum_by size taken + size x ≤ 262144)).
-            let total = sum_by-append size taken (x ∷ []) ∙ ap (λ m. sum_by size taken + m) (sum_by-cons size x []) in
-            let low = le.1 in inl (omega (arith, total, low)))
-          (λ (other : (leb (sum_by size taken + size x) 262144 ≡ false) × (262144 < sum_by size taken + size x)). absurd (true≢false (sym fits ∙ other.0)))
-          (leb_tells (sum_by size taken + size x) 262144))
-      (or_cases (length taken == 0) (nat_le (sum_by size taken + size x) 262144) room)
+    let zero_long = eqb-true (length taken) 0 none in inr (let long = length-append taken (x ∷ []) in omega (arith, long, zero_long)))
+    (λ (fits : nat_le (sum_by size taken + size x) 262144 ≡ true).
+    ⊎_elim (λ (le : (leb (sum_by size taken + size x) 262144 ≡ true) × (sum_by size taken + size x ≤ 262144)).
+    let total = sum_by-append size taken (x ∷ []) ∙ ap (λ m. sum_by size taken + m) (sum_by-cons size x []) in
+    let low = le.1 in inl (omega (arith, total, low)))
+    (λ (other : (leb (sum_by size taken + size x) 262144 ≡ false) × (262144 < sum_by size taken + size x)). absurd (true≢false (sym fits ∙ other.0)))
+    (leb_tells (sum_by size taken + size x) 262144))
+    (or_cases (length taken == 0) (nat_le (sum_by size taken + size x) 262144) room)
 
 -- what is taken of what is examined stays few
 few_after : (most : ℕ) (test : QueueUnit → Bool) (before : List Entry) (x : Entry) → AreFew (filter (is_taken test) before) → goes_on unit_of most test before x ≡ true
@@ -127,27 +126,27 @@ few_after most test before x few goes =
     let before_taken = filter (is_taken test) before in
     let parts : filter (is_taken test) (before ++ x ∷ []) ≡ before_taken ++ cond (is_taken test x) (x ∷ []) [] = filter-append (is_taken test) before (x ∷ []) in
     subst (λ (rs : List Entry). AreFew rs) (sym parts)
-      (⊎_elim (λ (takes_it : is_taken test x ≡ true).
-          let room = and_right (nat_lt (count_by (is_taken test) before) most && nat_lt (length before) 800)
-            (not (test (unit_of x)) || (count_by (is_taken test) before == 0) || nat_le (sum_by size before_taken + size x) 262144) goes in
-          let told : ((count_by (is_taken test) before == 0) || nat_le (sum_by size before_taken + size x) 262144) ≡ true =
-            ap (λ b. (b || (count_by (is_taken test) before == 0)) || nat_le (sum_by size before_taken + size x) 262144) (sym (ap not takes_it)) ∙ room in
-          let counted : ((length before_taken == 0) || nat_le (sum_by size before_taken + size x) 262144) ≡ true =
-            ap (λ m. (m == 0) || nat_le (sum_by size before_taken + size x) 262144) (length-filter (is_taken test) before) ∙ told in
-          subst (λ b. AreFew (before_taken ++ cond b (x ∷ []) [])) (sym takes_it) (few_more before_taken x counted))
-        (λ (passes : is_taken test x ≡ false).
-          subst (λ b. AreFew (before_taken ++ cond b (x ∷ []) [])) (sym passes) (subst (λ (rs : List Entry). AreFew rs) (sym (append-nil before_taken)) few))
-        (cases_Bool (is_taken test x)))
+    (⊎_elim (λ (takes_it : is_taken test x ≡ true).
+    let room = and_right (nat_lt (count_by (is_taken test) before) most && nat_lt (length before) 800)
+    (not (test (unit_of x)) || (count_by (is_taken test) before == 0) || nat_le (sum_by size before_taken + size x) 262144) goes in
+    let told : ((count_by (is_taken test) before == 0) || nat_le (sum_by size before_taken + size x) 262144) ≡ true =
+    ap (λ b. (b || (count_by (is_taken test) before == 0)) || nat_le (sum_by size before_taken + size x) 262144) (sym (ap not takes_it)) ∙ room in
+    let counted : ((length before_taken == 0) || nat_le (sum_by size before_taken + size x) 262144) ≡ true =
+    ap (λ m. (m == 0) || nat_le (sum_by size before_taken + size x) 262144) (length-filter (is_taken test) before) ∙ told in
+    subst (λ b. AreFew (before_taken ++ cond b (x ∷ []) [])) (sym takes_it) (few_more before_taken x counted))
+    (λ (passes : is_taken test x ≡ false).
+    subst (λ b. AreFew (before_taken ++ cond b (x ∷ []) [])) (sym passes) (subst (λ (rs : List Entry). AreFew rs) (sym (append-nil before_taken)) few))
+    (cases_Bool (is_taken test x)))
 
 few_examined : (most : ℕ) (test : QueueUnit → Bool) (before xs : List Entry) → AreFew (filter (is_taken test) before) → AreFew (filter (is_taken test) (examined unit_of most test before xs))
 few_examined most test before [] few = few
 few_examined most test before (x ∷ xs) few =
     ⊎_elim (λ (on : goes_on unit_of most test before x ≡ true).
-        subst (λ b. AreFew (filter (is_taken test) (if b then examined unit_of most test (before ++ x ∷ []) xs else before))) (sym on)
-          (few_examined most test (before ++ x ∷ []) xs (few_after most test before x few on)))
-      (λ (off : goes_on unit_of most test before x ≡ false).
-        subst (λ b. AreFew (filter (is_taken test) (if b then examined unit_of most test (before ++ x ∷ []) xs else before))) (sym off) few)
-      (cases_Bool (goes_on unit_of most test before x))
+    subst (λ b. AreFew (filter (is_taken test) (if b then examined unit_of most test (before ++ x ∷ []) xs else before))) (sym on)
+    (few_examined most test (before ++ x ∷ []) xs (few_after most test before x few on)))
+    (λ (off : goes_on unit_of most test before x ≡ false).
+    subst (λ b. AreFew (filter (is_taken test) (if b then examined unit_of most test (before ++ x ∷ []) xs else before))) (sym off) few)
+    (cases_Bool (goes_on unit_of most test before x))
 
 -- nothing is taken
 pulled_nothing : (P : Entry → Type 0) (code next low high : ℕ) → code ≤ 21 → IsPulled P (nothing code next low high)
@@ -162,9 +161,9 @@ pulled_looking P from low high most test queue all = record {
   code = few_code (count_by (is_taken test) (examined unit_of most test [] queue) == 0);
 }
   where
-  few_code : (b : Bool) → (if b then 20 else 0) ≤ 21
-  few_code true = omega arith
-  few_code false = omega arith
+    few_code : (b : Bool) → (if b then 20 else 0) ≤ 21
+    few_code true = omega arith
+    few_code false = omega arith
 
 by_case : (P : Entry → Type 0) (a b c d : Bool) (v w x y z : Pulled Entry) → IsPulled P v → IsPulled P w → IsPulled P x → IsPulled P y → IsPulled P z → IsPulled P (cond a v (cond b w (cond c x (cond d y z))))
 by_case P true b c d v w x y z v_is w_is x_is y_is z_is = v_is
@@ -179,10 +178,10 @@ pull_is P low queue (negsuc from) most test all = pulled_nothing P 21 low low (l
 pull_is P low queue (pos from) most test all =
     let high = low + length queue in
     by_case P ((high == 0) && (from == 0)) (nat_lt from low) (from == high) (nat_lt high from)
-      (nothing 19 0 low high) (nothing 21 low low high) (nothing 19 high low high) (nothing 21 high low high)
-      (after_looking unit_of from low high test (examined unit_of most test [] (drop (from - low) queue)))
-      (pulled_nothing P 19 0 low high (omega arith)) (pulled_nothing P 21 low low high (omega arith)) (pulled_nothing P 19 high low high (omega arith)) (pulled_nothing P 21 high low high (omega arith))
-      (pulled_looking P from low high most test (drop (from - low) queue) (each_drop P (from - low) queue all))
+    (nothing 19 0 low high) (nothing 21 low low high) (nothing 19 high low high) (nothing 21 high low high)
+    (after_looking unit_of from low high test (examined unit_of most test [] (drop (from - low) queue)))
+    (pulled_nothing P 19 0 low high (omega arith)) (pulled_nothing P 21 low low high (omega arith)) (pulled_nothing P 19 high low high (omega arith)) (pulled_nothing P 21 high low high (omega arith))
+    (pulled_looking P from low high most test (drop (from - low) queue) (each_drop P (from - low) queue all))
 
 -- ---- where the records stand
 
@@ -195,13 +194,13 @@ pub queue_told : (core : Parts) (s : State) (topic : List ℕ) (queue : ℕ) →
 queue_told core s topic queue are =
     let n = s.dispatched - s.log.base.records in
     each_filter (IsTold core.stored) (λ r. bytes_eq r.topic topic && (r.queue == queue)) (take n s.log.records)
-      (each_of (IsTold core.stored) (take n s.log.records) (λ k r at.
-        let there = get_take s.log.records n k r at in
-        let dispatched = are.state.dispatched in
-        let below = there.0 in
-        let room = (are.state.log.each k r there.1).room in
-        let high = are.state.log.segment.high in
-        record { covered = are.stored.each k r (omega (arith, below, dispatched)) there.1; small = omega (arith, room, high) }))
+    (each_of (IsTold core.stored) (take n s.log.records) (λ k r at.
+    let there = get_take s.log.records n k r at in
+    let dispatched = are.state.dispatched in
+    let below = there.0 in
+    let room = (are.state.log.each k r there.1).room in
+    let high = are.state.log.segment.high in
+    record { covered = are.stored.each k r (omega (arith, below, dispatched)) there.1; small = omega (arith, room, high) }))
 
 -- a slice of a unit is the slice of its record
 slice_is : (stored : FrozenRanges) (slice : Slice) (r : Entry) → IsSliceAt stored slice (unit_of r) → IsTold stored r → IsSliceOf slice r
@@ -236,9 +235,9 @@ few_bytes stored (r ∷ q ∷ rs) told few =
 pub units_told : (stored : FrozenRanges) (units : List QueueUnit) (rs : List Entry) → units ≡ map unit_of rs → Each (IsTold stored) rs → Each (λ (u : QueueUnit). HasRange stored.pieces.items u.offset u.size) units
 units_told stored units rs is told = subst (λ (us : List QueueUnit). Each (λ (u : QueueUnit). HasRange stored.pieces.items u.offset u.size) us) (sym is) (ranges rs told)
   where
-  ranges : (rs : List Entry) → Each (IsTold stored) rs → Each (λ (u : QueueUnit). HasRange stored.pieces.items u.offset u.size) (map unit_of rs)
-  ranges [] told = tt
-  ranges (r ∷ rs) told = (told.0.covered.range, ranges rs told.1)
+    ranges : (rs : List Entry) → Each (IsTold stored) rs → Each (λ (u : QueueUnit). HasRange stored.pieces.items u.offset u.size) (map unit_of rs)
+    ranges [] told = tt
+    ranges (r ∷ rs) told = (told.0.covered.range, ranges rs told.1)
 
 pub each_get : {A : Type 0} (P : A → Type 0) (xs : List A) → Each P xs → (k : ℕ) (x : A) → slice_get xs k ≡ Some x → P x
 each_get P [] all k x at = cc at
@@ -258,7 +257,7 @@ pub slices_next : (stored : FrozenRanges) (units : List QueueUnit) (slices new :
     → IsSliceAt stored slice (get_or units i d) → AreSlicesAt stored new (take (i + 1) units)
 slices_next stored units slices new i slice d low are is_new is =
     subst (λ (xs : List Slice). AreSlicesAt stored xs (take (i + 1) units)) (sym is_new)
-      (subst (λ (us : List QueueUnit). AreSlicesAt stored (slices ++ slice ∷ []) us) (sym (take_at_read units i d low).1) (slices_more stored slices (take i units) slice (get_or units i d) are is))
+    (subst (λ (us : List QueueUnit). AreSlicesAt stored (slices ++ slice ∷ []) us) (sym (take_at_read units i d low).1) (slices_more stored slices (take i units) slice (get_or units i d) are is))
 
 -- ---- the subscription
 
@@ -288,8 +287,8 @@ pulled_found core s topic queue k from most tags result are e told =
     let f = found core s topic queue k are e in
     let rs = records_of (seen s) topic queue in
     let same : pulled_of f.table from most tags ≡ pull_in s topic queue from most tags =
-      ap (λ m. pulled this m (seen_units f.table) from (asked_number 32 most) (tags_take tags)) f.low
-      ∙ ap (λ (us : List QueueUnit). pulled this (queue_min (seen s) topic queue) us from (asked_number 32 most) (tags_take tags)) (ap (λ (us : List StoredUnit). map unit_in us) f.units ∙ units_again rs) in
+    ap (λ m. pulled this m (seen_units f.table) from (asked_number 32 most) (tags_take tags)) f.low
+    ∙ ap (λ (us : List QueueUnit). pulled this (queue_min (seen s) topic queue) us from (asked_number 32 most) (tags_take tags)) (ap (λ (us : List StoredUnit). map unit_in us) f.units ∙ units_again rs) in
     subst (λ (p : Pulled QueueUnit). IfOk result (λ a. Answers p a)) same (told f.table f.at)
 
 -- ---- a queue without records
@@ -301,13 +300,14 @@ pick false less more v w x y z is_less is_more = ap (λ c. cond c w (cond more y
 empty_is : (from most : ℕ) (test : QueueUnit → Bool) → pulled_from this 0 [] from most test ≡ cond (from == 0) (nothing 19 0 0 0) (nothing 21 0 0 0)
 empty_is from most test =
     pick (from == 0) (nat_lt from 0) (nat_lt 0 from) (nothing 19 0 0 0) (nothing 21 0 0 0) (nothing 19 0 0 0) (nothing 21 0 0 0)
-      (after_looking this from 0 0 test (examined this most test [] (drop (from - 0) []))) (below_none from) (above_zero from)
+    (after_looking this from 0 0 test (examined this most test [] (drop (from - 0) []))) (below_none from) (above_zero from)
   where
-  below_none : (n : ℕ) → nat_lt n 0 ≡ false
-  below_none n = false_from_ne_true (nat_lt n 0) (λ less. let h = (Decides-ltb n 0).0 less in let none : ⊥ = omega (arith, h) in none)
-  above_zero : (n : ℕ) → nat_lt 0 n ≡ not (n == 0)
-  above_zero zero = refl
-  above_zero (suc n) = (Decides-ltb 0 (suc n)).1 (omega arith) ∙ sym (ap not (false_from_ne_true (suc n == 0) (λ same. let h = (Decides-eqb (suc n) 0).0 same in let none : ⊥ = omega (arith, h) in none)))
+    below_none : (n : ℕ) → nat_lt n 0 ≡ false
+    below_none n = false_from_ne_true (nat_lt n 0) (λ less. let h = (Decides-ltb n 0).0 less in let none : ⊥ = omega (arith, h) in none)
+
+    above_zero : (n : ℕ) → nat_lt 0 n ≡ not (n == 0)
+    above_zero zero = refl
+    above_zero (suc n) = (Decides-ltb 0 (suc n)).1 (omega arith) ∙ sym (ap not (false_from_ne_true (suc n == 0) (λ same. let h = (Decides-eqb (suc n) 0).0 same in let none : ⊥ = omega (arith, h) in none)))
 
 empty_answers : (b : Bool) (a : Answer) → a.code ≡ pos (if b then 19 else 21) → a.next ≡ 0 → a.min ≡ 0 → a.max ≡ 0 → a.units.items ≡ [] → Answers (cond b (nothing 19 0 0 0) (nothing 21 0 0 0)) a
 empty_answers true a code next low high none = record { code = code; next = next; min = low; max = high; units = none }
@@ -317,12 +317,12 @@ empty_answers false a code next low high none = record { code = code; next = nex
 pos_eq : (n : ℕ) → int_eq (pos n) (pos 0) ≡ (n == 0)
 pos_eq n =
     ⊎_elim (λ (is : (n == 0) ≡ true). (Decides-int_eq (pos n) (pos 0)).1 (ap pos ((Decides-eqb n 0).0 is)) ∙ sym is)
-      (λ (not_zero : (n == 0) ≡ false).
-        false_from_ne_true (int_eq (pos n) (pos 0)) (λ same.
-          let e : pos n ≡ pos 0 = (Decides-int_eq (pos n) (pos 0)).0 same in
-          let m : n ≡ 0 = cc e in
-          absurd (true≢false (sym ((Decides-eqb n 0).1 m) ∙ not_zero))) ∙ sym not_zero)
-      (cases_Bool (n == 0))
+    (λ (not_zero : (n == 0) ≡ false).
+    false_from_ne_true (int_eq (pos n) (pos 0)) (λ same.
+    let e : pos n ≡ pos 0 = (Decides-int_eq (pos n) (pos 0)).0 same in
+    let m : n ≡ 0 = cc e in
+    absurd (true≢false (sym ((Decides-eqb n 0).1 m) ∙ not_zero))) ∙ sym not_zero)
+    (cases_Bool (n == 0))
 
 no_records : (from : ℤ) (most : ℕ) (test : QueueUnit → Bool) (a : Answer) → a.code ≡ pos (if int_eq from (pos 0) then 19 else 21) → a.next ≡ 0 → a.min ≡ 0 → a.max ≡ 0 → a.units.items ≡ [] → Answers (pulled this 0 [] from most test) a
 no_records (pos from) most test a code next low high none = subst (λ (p : Pulled QueueUnit). Answers p a) (sym (empty_is from most test)) (empty_answers (from == 0) a (code ∙ ap (λ (b : Bool). pos (if b then 19 else 21)) (pos_eq from)) next low high none)
@@ -333,8 +333,8 @@ pub pulled_unknown : (core : Parts) (s : State) (topic : List ℕ) (queue : ℕ)
 pulled_unknown core s topic queue from most tags a are e code next low high none =
     let u = unknown core s topic queue are e in
     subst (λ m. Answers (pulled this m (map unit_of (records_of (seen s) topic queue)) from (asked_number 32 most) (tags_take tags)) a) (sym u.low)
-      (subst (λ (rs : List Entry). Answers (pulled this 0 (map unit_of rs) from (asked_number 32 most) (tags_take tags)) a) (sym u.records)
-        (no_records from (asked_number 32 most) (tags_take tags) a code next low high none))
+    (subst (λ (rs : List Entry). Answers (pulled this 0 (map unit_of rs) from (asked_number 32 most) (tags_take tags)) a) (sym u.records)
+    (no_records from (asked_number 32 most) (tags_take tags) a code next low high none))
 
 -- ---- the reply
 
@@ -346,9 +346,9 @@ answers_pull core s p tags a are takes_it answers =
     let rs = records_of (seen s) p.topic p.queue in
     let n = asked_number 32 p.most in
     let same : pull_in s p.topic p.queue p.from p.most tags ≡ pulled_as unit_of (pull_of s p) =
-      ap (λ (test : QueueUnit → Bool). pulled this low (map unit_of rs) p.from n test) takes_it
-      ∙ (pulled_map unit_of low rs p.from n (takes (words_of p))
-      ∙ ap (λ (words : List ℕ). pulled_as unit_of (pulled unit_of low rs p.from n (takes words))) (sym (words_are s core p are))) in
+    ap (λ (test : QueueUnit → Bool). pulled this low (map unit_of rs) p.from n test) takes_it
+    ∙ (pulled_map unit_of low rs p.from n (takes (words_of p))
+    ∙ ap (λ (words : List ℕ). pulled_as unit_of (pulled unit_of low rs p.from n (takes words))) (sym (words_are s core p are))) in
     subst (λ (q : Pulled QueueUnit). Answers q a) same answers
 
 pub pull_told : (core : Parts) (s : State) (p : PullSaid) → Represents core s → IsPulled (IsTold core.stored) (pull_of s p)
@@ -360,7 +360,7 @@ pub has_ranges : (core : Parts) (s : State) (p : PullSaid) (a : Answer) → Repr
     → (k : ℕ) (unit : QueueUnit) → slice_get a.units.items k ≡ Some unit → HasRange core.stored.pieces.items unit.offset unit.size
 has_ranges core s p a are answers =
     each_get (λ (u : QueueUnit). HasRange core.stored.pieces.items u.offset u.size) a.units.items
-      (units_told core.stored a.units.items (pull_of s p).taken answers.units (pull_told core s p are).each)
+    (units_told core.stored a.units.items (pull_of s p).taken answers.units (pull_told core s p are).each)
 
 -- the code is a code of replies
 pub code_fits : (core : Parts) (s : State) (p : PullSaid) (a : Answer) → Represents core s → Answers (pulled_as unit_of (pull_of s p)) a → FitsSigned w16 a.code

@@ -1,9 +1,8 @@
 -- A request that reads: it is refused by a row, or told at a later time, and makes no record.
-use Rattle.std.proofs.Common.{◌≡◌, refl, ap, sym, ◌∙◌, subst, arith, ℕ, ◌+◌, ◌^◌, ◌<◌, ◌≤◌, ◌||◌, ◌&&◌, max, nat_lt, List, [], ◌∷◌, length, sum_by, is_some, Bool, true, false, Option, Some, None, Result, Ok, Err, IfOk, OnOk, OnErr, if◌then◌else◌}
+use Rattle.std.proofs.Common.{◌≡◌, refl, ap, sym, ◌∙◌, subst, arith, ℕ, ◌+◌, ◌^◌, ◌<◌, ◌||◌, ◌&&◌, max, nat_lt, List, [], length, sum_by, is_some, Bool, false, Option, Some, None, Result, Ok, Err, IfOk, OnOk, OnErr, if◌then◌else◌}
 use Rattle.std.specs.List.{list_any}
 use Rattle.std.proofs.lemmas.Result.{IfOk-weaker}
 use Rattle.std.specs.declared.alloc.AllocError.{AllocError}
-use Rattle.record_codec.specs.Entry.{Entry}
 use Rattle.record_codec.specs.Layout.{size}
 use Rattle.record_codec.specs.declared.draft.Draft.{Draft}
 use Rattle.log_model.specs.Numbered.{next_records, queue_max, queue_min}
@@ -14,7 +13,7 @@ use Rattle.broker_model.specs.Tables.{OffsetRow}
 use Rattle.broker_model.specs.State.{State, seen, pending_bytes}
 use Rattle.broker_model.specs.Events as model
 use Rattle.broker_model.specs.Refusals.{refusal_of, queue_refusal, pull_refusal}
-use Rattle.broker_model.specs.Appended.{moment, drafts_of, made_by, is_past_end, is_full, is_refused, appended}
+use Rattle.broker_model.specs.Appended.{drafts_of, made_by, is_past_end, is_full, is_refused, appended}
 use Rattle.broker_model.specs.Answers.{answer_of, or_refused, refused_answer, carried_out_answer, request_answer, offset_reply, offset_at, pulled_reply, pull_of}
 use Rattle.broker_model.specs.Step.{after, changed, request_changed, with_records, stored, pull_offset}
 use Rattle.broker_events.specs.declared.said.Said.{Said}
@@ -107,9 +106,10 @@ represents_read old new s offsets now are is low =
 pub carries_refusal : (old : Parts) (a : model.Asked) (refused : Refused) (said : Result Said AllocError) → ((s : State) → Represents old s → refusal_of s a.request ≡ Some (refusal_reply refused))
     → IfOk said (λ x. Says x (model.Replies (refusal_reply refused))) → IfOk said (λ x. Carries old (model.Asks a) (Says x) old)
 carries_refusal old a refused said is told =
-    IfOk-weaker said (λ x. Says x (model.Replies (refusal_reply refused))) (λ x. Carries old (model.Asks a) (Says x) old) (λ x says s are.
-      (subst (λ (w : model.Answer). Says x w) (sym (answer_refusal s a (refusal_reply refused) (is s are))) says,
-       subst (λ (t : State). Represents old t) (sym (after_refusal s a (refusal_reply refused) (is s are))) are)) told
+    IfOk-weaker said (λ x. Says x (model.Replies (refusal_reply refused))) (λ x. Carries old (model.Asks a) (Says x) old) (λ x says s are. (
+      subst (λ (w : model.Answer). Says x w) (sym (answer_refusal s a (refusal_reply refused) (is s are))) says,
+      subst (λ (t : State). Represents old t) (sym (after_refusal s a (refusal_reply refused) (is s are))) are,
+    )) told
 
 -- what is asked of each state: no record, this reply, and no change but in the stored offsets
 pub record Reads (old : Parts) (a : model.Asked) (told : State → model.Reply) (offsets : State → List OffsetRow) : Type 0 where
@@ -122,10 +122,11 @@ pub record Reads (old : Parts) (a : model.Asked) (told : State → model.Reply) 
 pub carries_reply : (old new : Parts) (a : model.Asked) (told : State → model.Reply) (offsets : State → List OffsetRow) (said : Result Said AllocError) → Reads old a told offsets → a.now < 2 ^ 62
     → OnOk said (new ≡ record old { now = max a.now old.now }) → ((s : State) → Represents old s → IfOk said (λ x. Says x (model.Replies (told s)))) → IfOk said (λ x. Carries old (model.Asks a) (Says x) new)
 carries_reply old new a told offsets (Err fault) reads low moved says = tt
-carries_reply old new a told offsets (Ok x) reads low moved says = λ s are.
-    (subst (λ (w : model.Answer). Says x w) (sym (answer_read s a (reads.none s) (reads.allowed s are) ∙ reads.answer s)) (says s are),
-     subst (λ (t : State). Represents new t) (sym (after_read s (record s { offsets = offsets s }) a (reads.none s) (reads.allowed s are) (reads.change s)))
-       (represents_read old new s (offsets s) a.now are moved low))
+carries_reply old new a told offsets (Ok x) reads low moved says = λ s are. (
+  subst (λ (w : model.Answer). Says x w) (sym (answer_read s a (reads.none s) (reads.allowed s are) ∙ reads.answer s)) (says s are),
+  subst (λ (t : State). Represents new t) (sym (after_read s (record s { offsets = offsets s }) a (reads.none s) (reads.allowed s are) (reads.change s)))
+      (represents_read old new s (offsets s) a.now are moved low),
+)
 
 -- where nothing was told nothing changed
 pub stays_same : (old new : Parts) (said : Result Said AllocError) → OnErr said (new ≡ old) → OnErr said (Stays old new)

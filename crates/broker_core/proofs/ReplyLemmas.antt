@@ -1,5 +1,5 @@
 -- The fields of replies to requests that read are in order, and short.
-use Rattle.std.proofs.Common.{◌≡◌, ℕ, ◌^◌, ◌<◌, ◌≤◌, List, [], ◌∷◌, length, refl, arith}
+use Rattle.std.proofs.Common.{ℕ, ◌^◌, ◌<◌, ◌≤◌, length, refl, arith}
 use Rattle.std.proofs.lemmas.Fmt.{length-decimal-le}
 use Rattle.std.specs.List.Sorted.{IsStrictlySortedBy}
 use Rattle.mq_bytes.specs.Decimal.{digits_of}

@@ -1,12 +1,12 @@
 -- The table of a queue, and the records of the queue that consumers see.
-use Rattle.std.proofs.Common.{◌≡◌, ◌⊎◌, ⊎_elim, refl, ap, sym, ◌∙◌, subst, arith, ℕ, zero, suc, ◌+◌, ◌-◌, ◌^◌, ◌<◌, ◌≤◌, ◌==◌, ◌&&◌, not, nat_lt, ltb, leb, Bool, true, false, cond, List, [], ◌∷◌, ◌++◌, length, take, drop, map, filter, slice_get, get_or, ℤ, pos, negsuc, int_lt, int_le, Option, Some, None}
-use Rattle.std.specs.List.{prefix_len, position, position_or_len, take_while}
+use Rattle.std.proofs.Common.{◌≡◌, ◌⊎◌, ⊎_elim, refl, ap, sym, ◌∙◌, subst, arith, ℕ, suc, ◌+◌, ◌-◌, ◌<◌, ◌≤◌, ◌==◌, ◌&&◌, not, ltb, leb, Bool, true, false, cond, List, [], ◌∷◌, ◌++◌, length, take, drop, map, slice_get, get_or, ℤ, pos, negsuc, int_lt, int_le, Some, None}
+use Rattle.std.specs.List.{prefix_len, position_or_len, take_while}
 use Rattle.std.specs.List.Sorted.{IsNonDecreasingBy}
 use Rattle.std.specs.Str.{bytes_eq}
 use Rattle.std.proofs.Math.Nat.{eq-or-lt_of_le}
 use Rattle.std.proofs.lemmas.Bool.{and_parts, false_from_ne_true}
 use Rattle.std.proofs.lemmas.Bool.Decides.{Decides-eqb, Decides-ltb, leb_tells}
-use Rattle.std.proofs.lemmas.List.{length-append, length-map, map-append, take-append-drop, get_or-map}
+use Rattle.std.proofs.lemmas.List.{length-map, map-append, take-append-drop, get_or-map}
 use Rattle.std.proofs.lemmas.List.Elements.{filter-append}
 use Rattle.std.proofs.lemmas.List.Folds.{length-prefix_len}
 use Rattle.std.proofs.lemmas.List.Kept.{IsNonDecreasingBy-filter}
@@ -24,12 +24,12 @@ use Rattle.pending_log.specs.Rows.{AreAlike}
 use Rattle.queue_view.specs.declared.stored.StoredUnit.{StoredUnit}
 use Rattle.queue_view.specs.Tables.{Table, is_of, number_of, max_of}
 use Rattle.queue_view.specs.Searches.{store_in, first_from}
-use Rattle.queue_view.proofs.Lists.{get_within, take_get, some_one}
+use Rattle.queue_view.proofs.Lists.{take_get, some_one}
 use Rattle.pending_log.proofs.Lists.{get_there}
 use Rattle.broker_model.specs.State.{State, seen}
 use Rattle.broker_model.specs.Answers.{offset_at}
 use Rattle.broker_core.specs.declared.parts.Parts.{Parts}
-use Rattle.broker_core.specs.Represents.{Represents, AreTabled, AreTablesOf, IsTableOf, stored_unit}
+use Rattle.broker_core.specs.Represents.{Represents, AreTabled, IsTableOf, stored_unit}
 
 -- ---- queues
 
@@ -56,7 +56,7 @@ seen_front base records n t is =
     let front = queue_of (take n records) t.topic t.queue in
     let rest = queue_of (drop n records) t.topic t.queue in
     let units : t.units ≡ map stored_unit front ++ map stored_unit rest =
-      is.units ∙ ap (λ (rs : List Entry). map stored_unit rs) (queue_parts records n t.topic t.queue) ∙ map-append stored_unit front rest in
+    is.units ∙ ap (λ (rs : List Entry). map stored_unit rs) (queue_parts records n t.topic t.queue) ∙ map-append stored_unit front rest in
     let many : t.seen ≡ length (map stored_unit front) = is.seen ∙ sym (length-map front stored_unit) in
     ap (λ m. take m t.units) many ∙ ap (λ (us : List StoredUnit). take (length (map stored_unit front)) us) units ∙ take_front (map stored_unit front) (map stored_unit rest)
 
@@ -67,11 +67,11 @@ none_of tables (r ∷ records) [] topic queue alike tabled none = absurd alike
 none_of tables (r ∷ records) (row ∷ rows) topic queue alike tabled none =
     let head = tabled 0 r row refl refl in
     let off : is_in topic queue r ≡ false = false_from_ne_true (is_in topic queue r) (λ both.
-      let parts = and_parts (bytes_eq r.topic topic) (r.queue == queue) both in
-      let same_topic = (bytes_eq-Decides r.topic topic).0 parts.0 in
-      let same_queue = (Decides-eqb r.queue queue).0 parts.1 in
-      let bad : Some row.table ≡ None = sym head ∙ ap (λ (name : List ℕ). number_of tables name r.queue) same_topic ∙ ap (λ m. number_of tables topic m) same_queue ∙ none in
-      cc bad) in
+    let parts = and_parts (bytes_eq r.topic topic) (r.queue == queue) both in
+    let same_topic = (bytes_eq-Decides r.topic topic).0 parts.0 in
+    let same_queue = (Decides-eqb r.queue queue).0 parts.1 in
+    let bad : Some row.table ≡ None = sym head ∙ ap (λ (name : List ℕ). number_of tables name r.queue) same_topic ∙ ap (λ m. number_of tables topic m) same_queue ∙ none in
+    cc bad) in
     ap (λ b. cond b (r ∷ queue_of records topic queue) (queue_of records topic queue)) off
     ∙ none_of tables records rows topic queue alike.2 (λ k q other at there. tabled (suc k) q other at there) none
 
@@ -103,7 +103,7 @@ found core s topic queue k are e =
     let n = s.dispatched - s.log.base.records in
     let is = are.queues.each k t there.1 in
     let same : (rs : List Entry) → queue_of rs t.topic t.queue ≡ queue_of rs topic queue = λ rs.
-      ap (λ (name : List ℕ). queue_of rs name t.queue) there.2 ∙ ap (λ m. queue_of rs topic m) there.3 in
+    ap (λ (name : List ℕ). queue_of rs name t.queue) there.2 ∙ ap (λ m. queue_of rs topic m) there.3 in
     record {
       table = t;
       at = there.1;
@@ -145,10 +145,6 @@ min_found core s topic queue k result are e told = let f = found core s topic qu
 
 -- ---- searches
 
--- the default doesn't matter within a list
-default_same : {A : Type 0} (xs : List A) (i : ℕ) (x d : A) → slice_get xs i ≡ Some x → get_or xs i d ≡ x
-default_same xs i x d at = get_or_from_slice_get xs i x d at
-
 -- store times never fall
 log_rises : (S : Geometry) (records : List Entry) → IsWellFormed S records → IsNonDecreasingBy (λ (r : Entry). r.store) records
 log_rises S records well i j d low high =
@@ -157,11 +153,11 @@ log_rises S records well i j d low high =
     let q = before.0 in
     let r = there.0 in
     let rise : q.store ≤ r.store =
-      ⊎_elim (λ (same : i ≡ j). let e : q ≡ r = some_one (sym before.1 ∙ ap (λ m. slice_get records m) same ∙ there.1) in let f : q.store ≡ r.store = ap (λ (x : Entry). x.store) e in omega (arith, f))
-        (λ (less : i < j). (well.each j r there.1).store i q (take_get records j i q less before.1))
-        (eq-or-lt_of_le low) in
-    let a : get_or records i d ≡ q = default_same records i q d before.1 in
-    let b : get_or records j d ≡ r = default_same records j r d there.1 in
+    ⊎_elim (λ (same : i ≡ j). let e : q ≡ r = some_one (sym before.1 ∙ ap (λ m. slice_get records m) same ∙ there.1) in let f : q.store ≡ r.store = ap (λ (x : Entry). x.store) e in omega (arith, f))
+    (λ (less : i < j). (well.each j r there.1).store i q (take_get records j i q less before.1))
+    (eq-or-lt_of_le low) in
+    let a : get_or records i d ≡ q = get_or_from_slice_get records i q d before.1 in
+    let b : get_or records j d ≡ r = get_or_from_slice_get records j r d there.1 in
     subst (λ (x : Entry). x.store ≤ (get_or records j d).store) (sym a) (subst (λ (y : Entry). q.store ≤ y.store) (sym b) rise)
 
 -- so do those of units
@@ -182,17 +178,17 @@ rising core s topic queue k are e t at =
     let n = s.dispatched - s.log.base.records in
     let same : f.table ≡ t = some_one (sym f.at ∙ at) in
     let records : IsNonDecreasingBy (λ (r : Entry). r.store) (queue_of (take n s.log.records) topic queue) =
-      IsNonDecreasingBy-filter (λ (r : Entry). r.store) (is_in topic queue) (take n s.log.records)
-      (IsNonDecreasingBy-take (λ (r : Entry). r.store) n s.log.records (log_rises (geometry s.setup.segment s.log.base) s.log.records are.state.log)) in
+    IsNonDecreasingBy-filter (λ (r : Entry). r.store) (is_in topic queue) (take n s.log.records)
+    (IsNonDecreasingBy-take (λ (r : Entry). r.store) n s.log.records (log_rises (geometry s.setup.segment s.log.base) s.log.records are.state.log)) in
     subst (λ (u : Table). IsNonDecreasingBy store_in (take u.seen u.units)) same
-      (subst (λ (us : List StoredUnit). IsNonDecreasingBy store_in us) (sym f.units) (stored_rises (records_of (seen s) topic queue) records))
+    (subst (λ (us : List StoredUnit). IsNonDecreasingBy store_in us) (sym f.units) (stored_rises (records_of (seen s) topic queue) records))
 
 not_leb : (t store : ℕ) → not (leb t store) ≡ ltb store t
 not_leb t store =
     ⊎_elim (λ (late : (leb t store ≡ true) × (t ≤ store)).
-        ap not late.0 ∙ sym (false_from_ne_true (ltb store t) (λ less. let below = (Decides-ltb store t).0 less in let le = late.1 in let none : ⊥ = omega (arith, below, le) in none)))
-      (λ (early : (leb t store ≡ false) × (store < t)). ap not early.0 ∙ sym ((Decides-ltb store t).1 early.1))
-      (leb_tells t store)
+    ap not late.0 ∙ sym (false_from_ne_true (ltb store t) (λ less. let below = (Decides-ltb store t).0 less in let le = late.1 in let none : ⊥ = omega (arith, below, le) in none)))
+    (λ (early : (leb t store ≡ false) × (store < t)). ap not early.0 ∙ sym ((Decides-ltb store t).1 early.1))
+    (leb_tells t store)
 
 -- a record is earlier than a time where the time isn't at most its store time
 earlier : (time : ℤ) (store : ℕ) → not (int_le time (pos store)) ≡ int_lt (pos store) time
@@ -219,4 +215,4 @@ pub first_unknown : (core : Parts) (s : State) (topic : List ℕ) (queue : ℕ) 
 first_unknown core s topic queue time are e =
     let u = unknown core s topic queue are e in
     sym (ap (λ m. m + length (take_while (λ (r : Entry). int_lt (pos r.store) time) (records_of (seen s) topic queue))) u.low
-      ∙ ap (λ (rs : List Entry). 0 + length (take_while (λ (r : Entry). int_lt (pos r.store) time) rs)) u.records)
+    ∙ ap (λ (rs : List Entry). 0 + length (take_while (λ (r : Entry). int_lt (pos r.store) time) rs)) u.records)

@@ -1,5 +1,5 @@
 -- Which states requests that read leave: a later time, and other stored offsets.
-use Rattle.std.proofs.Common.{◌≡◌, arith, ℕ, ◌^◌, ◌<◌, ◌≤◌, List, Option, Some, None}
+use Rattle.std.proofs.Common.{arith, ℕ, ◌^◌, ◌<◌, ◌≤◌, List, Option, Some, None}
 use Rattle.broker_model.specs.Tables.{OffsetRow}
 use Rattle.broker_model.specs.Lawful.{IsState, IsTurn, IfOut}
 use Rattle.broker_model.specs.State.{State, Out}

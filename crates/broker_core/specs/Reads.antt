@@ -51,7 +51,8 @@ abbrev pub IsSliceAt : FrozenRanges → Slice → QueueUnit → Type 0
 IsSliceAt stored (Held bytes) unit = ⊥
 IsSliceAt stored (Kept range) unit =
     (piece_start range.piece + range.at ≡ unit.offset) × (range.len ≡ unit.size)
-    × ((bytes : List ℕ) → length bytes ≡ unit.size → HoldsRange stored.pieces.items unit.offset bytes → HasAt range.piece.held range.at bytes)
+    × ((bytes : List ℕ) → length bytes ≡ unit.size → HoldsRange stored.pieces.items unit.offset bytes
+    → HasAt range.piece.held range.at bytes)
 
 -- each slice is that of its unit, in order
 abbrev pub AreSlicesAt : FrozenRanges → List Slice → List QueueUnit → Type 0

@@ -52,7 +52,8 @@ impl Parts {
         now: u64,
         reply: Result<Reply, AllocError>,
     ) -> Result<Said, AllocError>
-        ensures told { (told : model.Reply) → IfOk reply (λ made. IsReplyOf made told) → IfOk result (λ said. Says said (model.Replies told)) }
+        ensures told { (told : model.Reply) → IfOk reply (λ made. IsReplyOf made told)
+            → IfOk result (λ said. Says said (model.Replies told)) }
         ensures moved { OnOk result (self.new ≡ record self.old { now = max now self.old.now }) }
         ensures same { OnErr result (self.new ≡ self.old) }
     {
@@ -106,7 +107,8 @@ impl Parts {
     ) -> Result<Said, AllocError>
         requires some { RepresentsSome self.old }
         requires time { now < 2 ^ 62 }
-        ensures carries { (link : ℕ) (host : List ℕ) → IfOk result (λ said. Carries self.old (model.Asks (record { link = link; host = host; now = now; request = MaxOffset asked.now })) (Says said) self.new) }
+        ensures carries { (link : ℕ) (host : List ℕ) → IfOk result (λ said. Carries self.old
+            (model.Asks (record { link = link; host = host; now = now; request = MaxOffset asked.now })) (Says said) self.new) }
         ensures stays { OnErr result (Stays self.old self.new) }
     {
         let topic = asked.topic.as_str();
@@ -128,7 +130,8 @@ impl Parts {
     ) -> Result<Said, AllocError>
         requires some { RepresentsSome self.old }
         requires time { now < 2 ^ 62 }
-        ensures carries { (link : ℕ) (host : List ℕ) → IfOk result (λ said. Carries self.old (model.Asks (record { link = link; host = host; now = now; request = MinOffset asked.now })) (Says said) self.new) }
+        ensures carries { (link : ℕ) (host : List ℕ) → IfOk result (λ said. Carries self.old
+            (model.Asks (record { link = link; host = host; now = now; request = MinOffset asked.now })) (Says said) self.new) }
         ensures stays { OnErr result (Stays self.old self.new) }
     {
         let topic = asked.topic.as_str();
@@ -150,7 +153,8 @@ impl Parts {
     ) -> Result<Said, AllocError>
         requires some { RepresentsSome self.old }
         requires time { now < 2 ^ 62 }
-        ensures carries { (link : ℕ) (host : List ℕ) → IfOk result (λ said. Carries self.old (model.Asks (record { link = link; host = host; now = now; request = Search asked.now })) (Says said) self.new) }
+        ensures carries { (link : ℕ) (host : List ℕ) → IfOk result (λ said. Carries self.old
+            (model.Asks (record { link = link; host = host; now = now; request = Search asked.now })) (Says said) self.new) }
         ensures stays { OnErr result (Stays self.old self.new) }
     {
         let topic = asked.topic.as_str();

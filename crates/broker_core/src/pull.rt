@@ -1,10 +1,9 @@
 //! A pull: which of a queue's records are told, and where they stand. No byte of a record is read for it.
 
-ghost use Rattle.std.specs.Prelude.{◌≡◌, ◌<◌, ◌≤◌, ◌^◌, ◌==◌, ℕ, pos, List, map, length, slice_get, bit_and, IfOk, OnErr, Some, if◌then◌else◌};
+ghost use Rattle.std.specs.Prelude.{◌≡◌, ◌<◌, ◌^◌, ◌==◌, ℕ, pos, List, map, slice_get, bit_and, IfOk, OnErr, Some, if◌then◌else◌};
 ghost use Rattle.std.specs.Int.{w32, cast_unsigned};
 ghost use Rattle.std.specs.Ordering.{int_eq};
 ghost use Rattle.mq_outside.specs.Covers.{HasRange};
-ghost use Rattle.record_codec.specs.Entry.{Entry};
 ghost use Rattle.record_codec.specs.Units.{unit_of};
 ghost use Rattle.record_codec.specs.declared.unit.Unit.{Unit as QueueUnit};
 ghost use Rattle.log_model.specs.Keys.{asked_number};
@@ -90,12 +89,9 @@ fn slice_of(stored: &FrozenRanges, unit: Unit) -> Result<Slice, AllocError>
 }
 
 // The ranges where the records of these units stand.
-fn slices_of(
-    alloc: Global,
-    stored: &FrozenRanges,
-    units: &[Unit],
-) -> Result<Vec<Slice>, AllocError>
-    requires { (k : ℕ) (unit : QueueUnit) → slice_get units.now k ≡ Some unit → HasRange stored.now.pieces.items unit.offset unit.size }
+fn slices_of(alloc: Global, stored: &FrozenRanges, units: &[Unit]) -> Result<Vec<Slice>, AllocError>
+    requires { (k : ℕ) (unit : QueueUnit) → slice_get units.now k ≡ Some unit
+        → HasRange stored.now.pieces.items unit.offset unit.size }
     ensures { IfOk result (λ slices. AreSlicesAt stored.now slices.items units.now) }
 {
     let mut slices = Vec::with_capacity(alloc, units.len())?;
@@ -122,15 +118,10 @@ impl Parts {
     }
 
     // What a pull with these tags finds of a queue, as consumers see it.
-    fn found(
-        &self,
-        alloc: Global,
-        asked: &PullFields,
-        tags: &Tags,
-    ) -> Result<Pulled, AllocError>
-        requires { RepresentsSome self.now }
-        ensures { (s : State) → Represents self.entry.now s → IfOk result (λ a. Answers (pulled_of_queue this (queue_min (seen s) asked.now.topic asked.now.queue)
-            (map unit_of (records_of (seen s) asked.now.topic asked.now.queue)) asked.now.from (asked_number 32 asked.now.most) (tags_take tags.now)) a) }
+    fn found(&self, alloc: Global, asked: &PullFields, tags: &Tags) -> Result<Pulled, AllocError>
+        ensures { (s : State) → Represents self.entry.now s → IfOk result (λ a. Answers (pulled_of_queue this
+            (queue_min (seen s) asked.now.topic asked.now.queue) (map unit_of (records_of (seen s) asked.now.topic asked.now.queue))
+            asked.now.from (asked_number 32 asked.now.most) (tags_take tags.now)) a) }
     {
         match self.queues.find(asked.topic.as_str(), asked.queue) {
             Some(table) => self.queues.pull(alloc, table, asked.from, asked.most, tags),
@@ -147,7 +138,8 @@ impl Parts {
     // The reply to a pull that isn't refused.
     fn pulled(&self, alloc: Global, asked: &PullFields) -> Result<Reply, AllocError>
         requires { RepresentsSome self.now }
-        ensures { (s : State) → Represents self.entry.now s → IfOk result (λ reply. IsReplyOf reply (pulled_reply (pull_of s asked.now))) }
+        ensures { (s : State) → Represents self.entry.now s
+            → IfOk result (λ reply. IsReplyOf reply (pulled_reply (pull_of s asked.now))) }
     {
         let tags = tags_of(alloc, asked)?;
         let found = self.found(alloc, asked, &tags)?;
@@ -165,7 +157,8 @@ impl Parts {
     ) -> Result<Said, AllocError>
         requires some { RepresentsSome self.old }
         requires time { now < 2 ^ 62 }
-        ensures carries { (link : ℕ) (host : List ℕ) → IfOk result (λ said. Carries self.old (model.Asks (record { link = link; host = host; now = now; request = Pull asked.now })) (Says said) self.new) }
+        ensures carries { (link : ℕ) (host : List ℕ) → IfOk result (λ said. Carries self.old
+            (model.Asks (record { link = link; host = host; now = now; request = Pull asked.now })) (Says said) self.new) }
         ensures stays { OnErr result (Stays self.old self.new) }
     {
         match self.refuses_pull(asked) {

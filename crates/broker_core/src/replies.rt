@@ -1,18 +1,20 @@
 //! The replies to requests that read.
 //!
-//! | code | remark         | fields                                                                    | when                                    |
-//! |-----:|----------------|---------------------------------------------------------------------------|-----------------------------------------|
-//! |    0 |                | `offset`                                                                  | an offset was asked for                 |
-//! |    0 |                | `maxOffset`, `minOffset`, `nextBeginOffset`, `suggestWhichBrokerId`       | a pull found records                    |
-//! |   19 |                | the same                                                                  | nothing stands at the asked offset yet  |
-//! |   20 |                | the same                                                                  | the subscription takes none of those    |
-//! |   21 |                | the same                                                                  | the asked offset lies outside the queue |
-//! |   16 | `system topic` |                                                                           | nobody may pull from this topic         |
-//! |   17 | `no topic`     |                                                                           | the topic isn't known                   |
-//! |    1 | `queue`        |                                                                           | the topic has no such queue             |
-//! |    1 | `expression`   |                                                                           | messages are chosen by tags only        |
+//! | code | remark         | fields | when                                    |
+//! |-----:|----------------|--------|-----------------------------------------|
+//! |    0 |                | offset | an offset was asked for                 |
+//! |    0 |                | pull   | a pull found records                    |
+//! |   19 |                | pull   | nothing stands at the asked offset yet  |
+//! |   20 |                | pull   | the subscription takes none of those    |
+//! |   21 |                | pull   | the asked offset lies outside the queue |
+//! |   16 | `system topic` |        | nobody may pull from this topic         |
+//! |   17 | `no topic`     |        | the topic isn't known                   |
+//! |    1 | `queue`        |        | the topic has no such queue             |
+//! |    1 | `expression`   |        | messages are chosen by tags only        |
+//!
+//! An offset is the field `offset`; a pull has `maxOffset`, `minOffset`, `nextBeginOffset` and `suggestWhichBrokerId`, in decimal.
 
-ghost use Rattle.std.specs.Prelude.{◌≡◌, ◌≤◌, ◌<◌, ◌^◌, List, [], IfOk, FitsSigned};
+ghost use Rattle.std.specs.Prelude.{◌≡◌, ◌≤◌, ◌<◌, ◌^◌, IfOk, FitsSigned};
 ghost use Rattle.std.specs.Int.{w16};
 ghost use Rattle.mq_bytes.specs.Decimal.{digits_of};
 ghost use Rattle.record_codec.specs.Entry.{Entry};
@@ -94,7 +96,12 @@ pub(crate) fn offset_reply(alloc: Global, offset: u64) -> Result<Reply, AllocErr
     })
 }
 
-fn pull_fields(alloc: Global, max: u64, min: u64, next: u64) -> Result<Rows<(Text, Text)>, AllocError>
+fn pull_fields(
+    alloc: Global,
+    max: u64,
+    min: u64,
+    next: u64,
+) -> Result<Rows<(Text, Text)>, AllocError>
     ensures fields { IfOk result (λ fields. fields ≡ pull_ext max min next) }
     ensures ordered { IfOk result IsInOrder }
     ensures short { IfOk result (λ fields. pairs_size fields ≤ 200) }

@@ -1,4 +1,4 @@
-use Rattle.std.proofs.Common.{◌≡◌, ◌∙◌, sym, ap, ℤ, rules, w64}
+use Rattle.std.proofs.Common.{◌∙◌, sym, ap, ℤ, rules, w64}
 use Rattle.std.proofs.lemmas.Int.{to_z-of_z}
 use Rattle.queue_view.specs.Searches.{first_from}
 use Rattle.broker_core.proofs.SeenLemmas.{rising, first_found, first_unknown}

@@ -1,4 +1,4 @@
-use Rattle.std.proofs.Common.{◌≡◌, ◌∙◌, ap, sym, subst, ℕ, ℤ, pos, List, IfOk, Some, rules, refl, w64, w32, if◌then◌else◌}
+use Rattle.std.proofs.Common.{◌≡◌, ◌∙◌, ap, sym, subst, ℕ, ℤ, pos, List, IfOk, rules, refl, w64, w32, if◌then◌else◌}
 use mir.Val.{to_z, of_z}
 use Rattle.std.specs.Ordering.{int_eq}
 use Rattle.std.proofs.lemmas.Int.{to_z-of_z}
@@ -21,10 +21,10 @@ returns-in-Some c s are =
     pulled_found core s q.topic q.queue c.in-Some.table q.from q.most c.args.tags.now c.pull.result are
     (sym (c.find.ensures ∙ ap (λ (t : List ℕ). number_of core.queues t c.asked.inside.queue) name ∙ ap (λ (k : ℕ). number_of core.queues q.topic k) at) ∙ c.in-Some.is)
     (λ t there. subst (λ (p : Pulled QueueUnit). IfOk c.pull.result (λ (a : Answer). Answers p a))
-      (same_pull t t _ q.from _ q.most c.args.tags.now refl
-        (to_z-of_z w64 c.asked.inside.from (search rules) ∙ ap (λ (x : PullSaid). x.from) c.asked.view_is)
-        (to_z-of_z w32 c.asked.inside.most (search rules) ∙ ap (λ (x : PullSaid). x.most) c.asked.view_is))
-      (c.pull.ensures.table t there))
+    (same_pull t t _ q.from _ q.most c.args.tags.now refl
+    (to_z-of_z w64 c.asked.inside.from (search rules) ∙ ap (λ (x : PullSaid). x.from) c.asked.view_is)
+    (to_z-of_z w32 c.asked.inside.most (search rules) ∙ ap (λ (x : PullSaid). x.most) c.asked.view_is))
+    (c.pull.ensures.table t there))
 
 pub returns-in-None : goal.returns-in-None
 returns-in-None c s are =

@@ -1,4 +1,4 @@
-use Rattle.std.proofs.Common.{◌≡◌, ◌∙◌, sym}
+use Rattle.std.proofs.Common.{◌∙◌, sym}
 use Rattle.broker_core.proofs.SeenLemmas.{max_found, max_unknown}
 use Rattle.broker_core.proofs.parts.Parts.max_of.Goals as goal
 

@@ -1,11 +1,11 @@
-use Rattle.std.proofs.Common.{◌≡◌, ◌∙◌, ap, sym, subst, ℕ, List, IfOk}
+use Rattle.std.proofs.Common.{◌≡◌, ◌∙◌, ap, subst, ℕ, List, IfOk}
 use Rattle.reply_fields.specs.Parts.{ReplyParts}
 use Rattle.request_fields.specs.Requests.{QueueSaid}
 use Rattle.request_fields.specs.declared.request.Request.TheVariants.{MaxOffset}
-use Rattle.log_model.specs.Numbered.{queue_max, queue_min}
+use Rattle.log_model.specs.Numbered.{queue_max}
 use Rattle.broker_model.specs.State.{State, seen}
 use Rattle.broker_model.specs.Refusals.{queue_refusal}
-use Rattle.broker_model.specs.Answers.{offset_reply, offset_at}
+use Rattle.broker_model.specs.Answers.{offset_reply}
 use Rattle.broker_events.specs.Replies.{IsReplyOf}
 use Rattle.broker_core.proofs.ReadLemmas.{carries_refusal, carries_reply, reads_max, queue_rows, is_refused_as, is_allowed, refusal_max_offset, asked_by}
 use Rattle.broker_core.proofs.parts.Parts.max_offset.Goals as goal
@@ -30,6 +30,6 @@ returns-in-None-clause-carries c link host =
     (reads_max old link host c.args.now q (is_allowed old (λ (s : State). queue_refusal s q.topic q.queue) c.refuses_queue.result rows c.in-None.is))
     c.requires.time c.tell.ensures.moved
     (λ s are. c.tell.ensures.told (offset_reply (queue_max (seen s) q.topic q.queue))
-      (subst (λ (n : ℕ). IfOk c.offset_reply-reply.result (λ (made : ReplyParts). IsReplyOf made (offset_reply n)))
-        (c.max_of.ensures s are ∙ ap (λ (name : List ℕ). queue_max (seen s) name c.asked.inside.queue) topic ∙ ap (λ (at : ℕ). queue_max (seen s) q.topic at) queue)
-        c.offset_reply-reply.ensures))
+    (subst (λ (n : ℕ). IfOk c.offset_reply-reply.result (λ (made : ReplyParts). IsReplyOf made (offset_reply n)))
+    (c.max_of.ensures s are ∙ ap (λ (name : List ℕ). queue_max (seen s) name c.asked.inside.queue) topic ∙ ap (λ (at : ℕ). queue_max (seen s) q.topic at) queue)
+    c.offset_reply-reply.ensures))

@@ -1,4 +1,4 @@
-use Rattle.std.proofs.Common.{◌≡◌, ◌∙◌, sym}
+use Rattle.std.proofs.Common.{◌∙◌, sym}
 use Rattle.broker_core.proofs.SeenLemmas.{min_found}
 use Rattle.broker_core.proofs.parts.Parts.min_of.Goals as goal
 

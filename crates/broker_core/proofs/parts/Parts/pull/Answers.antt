@@ -1,4 +1,3 @@
-use Rattle.std.proofs.Common.{◌≡◌, ℕ, List}
 use Rattle.request_fields.specs.declared.request.Request.TheVariants.{Pull}
 use Rattle.broker_model.specs.State.{State}
 use Rattle.broker_model.specs.Refusals.{pull_refusal}

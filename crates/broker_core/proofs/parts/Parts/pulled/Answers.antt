@@ -1,4 +1,4 @@
-use Rattle.std.proofs.Common.{◌≡◌, sym, subst, ℕ, List, slice_get, Some}
+use Rattle.std.proofs.Common.{◌≡◌, subst, List, slice_get, Some}
 use Rattle.record_codec.specs.declared.unit.Unit.{Unit as QueueUnit}
 use Rattle.broker_model.specs.Answers.{pull_of}
 use Rattle.broker_core.specs.Reads.{AreSlicesAt}
@@ -31,4 +31,4 @@ returns c s are =
     let answers = answers_pull core s q c.in_ok-tags.tags c.in_ok-found.found are c.in_ok-tags.ensures (c.in_ok-found.ensures s are) in
     c.pull_reply.ensures (pull_of s q) answers
     (pull_slices core s q c.in_ok-found.found c.in_ok-slices.slices.items are answers
-      (subst (λ (us : List QueueUnit). AreSlicesAt core.stored c.in_ok-slices.slices.items us) c.as_slice.ensures.value c.in_ok-slices.ensures))
+    (subst (λ (us : List QueueUnit). AreSlicesAt core.stored c.in_ok-slices.slices.items us) c.as_slice.ensures.value c.in_ok-slices.ensures))

@@ -1,9 +1,8 @@
-use Rattle.std.proofs.Common.{◌≡◌, ◌∙◌, ap, sym, subst, ℕ, List, IfOk, ℤ, rules, w64}
+use Rattle.std.proofs.Common.{◌≡◌, ◌∙◌, ap, subst, ℕ, List, IfOk, ℤ, rules, w64}
 use Rattle.std.proofs.lemmas.Int.{to_z-of_z}
 use Rattle.reply_fields.specs.Parts.{ReplyParts}
 use Rattle.request_fields.specs.Requests.{SearchSaid}
 use Rattle.request_fields.specs.declared.request.Request.TheVariants.{Search}
-use Rattle.log_model.specs.Numbered.{queue_max, queue_min}
 use Rattle.broker_model.specs.State.{State, seen}
 use Rattle.broker_model.specs.Refusals.{queue_refusal}
 use Rattle.broker_model.specs.Answers.{offset_reply, offset_at}
@@ -31,6 +30,6 @@ returns-in-None-clause-carries c link host =
     (reads_search old link host c.args.now q (is_allowed old (λ (s : State). queue_refusal s q.topic q.queue) c.refuses_queue.result rows c.in-None.is))
     c.requires.time c.tell.ensures.moved
     (λ s are. c.tell.ensures.told (offset_reply (offset_at (seen s) q.topic q.queue q.time))
-      (subst (λ (n : ℕ). IfOk c.offset_reply-reply.result (λ (made : ReplyParts). IsReplyOf made (offset_reply n)))
-        (c.first_at.ensures s are ∙ ap (λ (z : ℤ). offset_at (seen s) c.as_str-topic.result.now c.asked.inside.queue z) (to_z-of_z w64 c.asked.inside.time (search rules)) ∙ ap (λ (name : List ℕ). offset_at (seen s) name c.asked.inside.queue c.asked.inside.time) topic ∙ ap (λ (at : ℕ). offset_at (seen s) q.topic at c.asked.inside.time) queue ∙ ap (λ (x : SearchSaid). offset_at (seen s) q.topic q.queue x.time) c.asked.view_is)
-        c.offset_reply-reply.ensures))
+    (subst (λ (n : ℕ). IfOk c.offset_reply-reply.result (λ (made : ReplyParts). IsReplyOf made (offset_reply n)))
+    (c.first_at.ensures s are ∙ ap (λ (z : ℤ). offset_at (seen s) c.as_str-topic.result.now c.asked.inside.queue z) (to_z-of_z w64 c.asked.inside.time (search rules)) ∙ ap (λ (name : List ℕ). offset_at (seen s) name c.asked.inside.queue c.asked.inside.time) topic ∙ ap (λ (at : ℕ). offset_at (seen s) q.topic at c.asked.inside.time) queue ∙ ap (λ (x : SearchSaid). offset_at (seen s) q.topic q.queue x.time) c.asked.view_is)
+    c.offset_reply-reply.ensures))
