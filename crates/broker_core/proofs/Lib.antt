@@ -1,6 +1,11 @@
 pub mod FlushLemmas
 pub mod SeeLemmas
 pub mod ShownLemmas
+pub mod PullLemmas
+pub mod ReadLemmas
+pub mod ReplyLemmas
+pub mod SeenLemmas
+pub mod StateLemmasReads
 pub mod StateLemmasTurns
 pub mod StepLemmas
 pub mod TurnLemmas

@@ -1,3 +1,4 @@
 pub mod Carries
 pub mod Makes
+pub mod Reads
 pub mod Represents

@@ -5,8 +5,11 @@
 mod alone;
 mod broker;
 mod dispatch;
+mod offsets;
 mod parts;
 mod request;
+mod pull;
+mod replies;
 mod turns;
 
 pub use alone::Alone;
