@@ -15,25 +15,25 @@ impl Parts {
     /// A request that is served, from this host, at this reading of the clock in milliseconds. At `Err` nothing changes.
     pub(crate) fn request(
         &mut self,
-        _alloc: Global,
-        _host: &[u8; 8],
-        _now: u64,
+        alloc: Global,
+        host: &[u8; 8],
+        now: u64,
         request: &Request,
     ) -> Result<Said, AllocError>
         requires some { RepresentsSome self.old }
-        requires time { _now < 2 ^ 62 }
+        requires time { now < 2 ^ 62 }
         requires served { is_served request.now ≡ true }
         ensures carries { (link : ℕ) → IfOk result (λ said.
-            Carries self.old (model.Asks (record { link = link; host = _host.now; now = _now; request = request.now })) (Says said) self.new) }
+            Carries self.old (model.Asks (record { link = link; host = host.now; now = now; request = request.now })) (Says said) self.new) }
         ensures stays { OnErr result (Stays self.old self.new) }
     {
         match request {
-            Request::Send(_)
-            | Request::Pull(_)
-            | Request::MakeTopic(_)
-            | Request::Search(_)
-            | Request::MaxOffset(_)
-            | Request::MinOffset(_) => Err(AllocError),
+            Request::Send(send) => self.send(alloc, *host, now, send),
+            Request::Pull(asked) => self.pull(alloc, now, asked),
+            Request::MakeTopic(fields) => self.make_topic(alloc, *host, now, fields),
+            Request::Search(asked) => self.search(alloc, now, asked),
+            Request::MaxOffset(asked) => self.max_offset(alloc, now, asked),
+            Request::MinOffset(asked) => self.min_offset(alloc, now, asked),
             Request::Query(_)
             | Request::OffsetOf(_)
             | Request::SetOffset(_)
