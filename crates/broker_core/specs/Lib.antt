@@ -1,2 +1,3 @@
+pub mod Appends
 pub mod Carries
 pub mod Represents

@@ -38,6 +38,7 @@ pub record HasNumbers (core : Parts) (s : State) : Type 0 where
   pub flushed : core.pending.flushed ≡ s.flushed
   pub dispatched : core.dispatched ≡ s.dispatched
   pub turns : core.pending.turns ≡ s.turns
+  pub bounded : s.turns < 2 ^ 64
   pub now : core.now ≡ s.now
   pub few : 91 * count_of s.log ≤ place_end s.log
   pub low : place_end s.log ≤ 2 ^ 62

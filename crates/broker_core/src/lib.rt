@@ -2,6 +2,7 @@
 //! is not yet on the disk, and the tables.
 #![tactic(auto)]
 
+mod append;
 mod dispatch;
 mod parts;
 mod turns;
