@@ -4,6 +4,7 @@ use Rattle.std.proofs.lemmas.List.{length-append, take-append-le, length-map}
 use Rattle.record_codec.specs.Entry.{Entry}
 use Rattle.record_codec.specs.Layout.{size, IsRecord}
 use Rattle.record_codec.specs.Units.{unit_of}
+use Rattle.record_codec.specs.declared.unit.Unit.{Unit as QueueUnit}
 use Rattle.record_codec.specs.Drafts.{entry_of, draft_size}
 use Rattle.record_codec.specs.declared.draft.Draft.{Draft}
 use Rattle.record_codec.specs.declared.draft.Place.{Place}
@@ -14,7 +15,7 @@ use Rattle.log_model.proofs.Places.{end_of-append}
 use Rattle.broker_model.specs.State.{State}
 use Rattle.broker_model.specs.Step.{with_records}
 use Rattle.queue_view.specs.Tables.{Table, number_of, with_unit}
-use Rattle.queue_view.proofs.NumberedLemmas.{number_of-set}
+use Rattle.queue_view.proofs.NumberedLemmas.{number_of-set, number_within}
 use Rattle.queue_view.specs.Added as view
 use Rattle.queue_view.specs.Added.{Added, added_to}
 use Rattle.pending_log.specs.Parts.{PendingPart, appended}
@@ -27,7 +28,7 @@ use Rattle.pending_log.proofs.LogLemmas.{place_past}
 use Rattle.broker_core.specs.declared.parts.Parts.{Parts}
 use Rattle.broker_core.specs.Represents.{Represents, HasNumbers, AreOut, AreTabled, AreTablesOf, AreCovered, IsCovered, HasRoom, turn_of}
 use Rattle.broker_core.specs.Appends.{HasRoomFor, MayStand}
-use Rattle.broker_core.proofs.TableLemmas.{MoreRoom, NewTable, room_made, as_added, is_its_table, to_view, from_view, map_push, tabled_kept, tabled_push}
+use Rattle.broker_core.proofs.TableLemmas.{MoreRoom, NewTable, room_made, there_is, as_added, is_its_table, to_view, from_view, map_push, tabled_kept, tabled_push}
 use Rattle.broker_core.proofs.StateLemmasB.{get_push, count_with, follows, state_with}
 
 -- the parts with other rows and tables, that represent the same
@@ -71,6 +72,39 @@ pub record HasUnit (old : List Table) (table : ℕ) (r : Entry) (new : List Tabl
   pub is : new ≡ slice_set old table (with_unit t (unit_of r) r.store spare)
   pub records : (low : List ℕ → ℕ → ℕ) (added : List Added) (n : ℕ) → view.AreTablesOf low added n old → n ≤ length added
       → view.AreTablesOf low (added ++ added_to t (unit_of r) r.store ∷ []) n new
+
+-- a unit was added to the queue's table
+pub has_unit : (old new : List Table) (table : ℕ) (topic : List ℕ) (queue : ℕ) (u : QueueUnit) (r : Entry) → u ≡ unit_of r → number_of old topic queue ≡ Some table
+    → ((t : Table) → slice_get old table ≡ Some t → (spare : ℕ) × (t.spare ≤ spare + 1) × (new ≡ slice_set old table (with_unit t u r.store spare)))
+    → ((low : List ℕ → ℕ → ℕ) (added : List Added) (n : ℕ) (t : Table) → view.AreTablesOf low added n old → n ≤ length added → slice_get old table ≡ Some t
+      → view.AreTablesOf low (added ++ added_to t u r.store ∷ []) n new)
+    → HasUnit old table r new
+has_unit old new table topic queue u r is mine put records =
+    let t = there_is old table (number_within old topic queue table mine) in
+    let done = put t.0 t.1 in
+    record {
+      t = t.0;
+      at = t.1;
+      spare = done.0;
+      is = done.2 ∙ ap (λ (v : QueueUnit). slice_set old table (with_unit t.0 v r.store done.0)) is;
+      records = λ low added n are long.
+        subst (λ (v : QueueUnit). view.AreTablesOf low (added ++ added_to t.0 v r.store ∷ []) n new) is (records low added n t.0 are long t.1);
+    }
+
+alike_length : (rows : List Row) (records : List Entry) → AreAlike rows records → length rows ≡ length records
+alike_length [] [] alike = refl
+alike_length [] (r ∷ records) alike = absurd alike
+alike_length (row ∷ rows) [] alike = absurd alike
+alike_length (row ∷ rows) (r ∷ records) alike = ap (λ n. suc n) (alike_length rows records alike.2)
+
+-- there are few rows
+pub rows_few : (core : Parts) (s : State) → Represents core s → core.rows.first + length core.rows.items < 2 ^ 62
+rows_few core s are =
+    let long = alike_length core.rows.items s.log.records are.rows.items in
+    let first = are.rows.first in
+    let few = are.numbers.few in
+    let low = are.numbers.low in
+    omega (arith, long, first, few, low)
 
 -- the tables stay those of their queues
 unit_kept : (old new : List Table) (table : ℕ) (r : Entry) → HasUnit old table r new → (topic : List ℕ) (queue k : ℕ) → number_of old topic queue ≡ Some k → number_of new topic queue ≡ Some k
