@@ -1,3 +1,4 @@
 pub mod Appends
 pub mod Carries
 pub mod Represents
+pub mod SendRows

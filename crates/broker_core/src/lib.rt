@@ -5,4 +5,6 @@
 mod append;
 mod dispatch;
 mod parts;
+mod send_draft;
+mod send_rows;
 mod turns;
