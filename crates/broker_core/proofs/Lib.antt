@@ -1,3 +1,5 @@
 pub mod TableLemmas
 pub mod StateLemmasB
 pub mod AppendLemmas
+pub mod TopicLemmas
+pub mod AnswerLemmas

@@ -1,4 +1,5 @@
 pub mod Appends
+pub mod Asked
 pub mod Carries
 pub mod Represents
 pub mod SendRows

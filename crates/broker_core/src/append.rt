@@ -1,9 +1,10 @@
 //! An append, in two steps: first all that may take memory but the encoding, and then the record with its unit and its row.
 
-ghost use Rattle.std.specs.Prelude.{◌≡◌, ◌<◌, ◌≤◌, ◌+◌, ◌^◌, ◌∷◌, [], length, Some, IfOk, OnOk, OnErr};
+ghost use Rattle.std.specs.Prelude.{◌≡◌, ◌<◌, ◌≤◌, ◌+◌, ◌^◌, ◌∷◌, [], length, slice_get, Some, IfOk, OnOk, OnErr};
 ghost use Rattle.record_codec.specs.Drafts.{draft_size, entry_of, IsEncodable};
 ghost use Rattle.record_codec.specs.Units.{unit_of};
-ghost use Rattle.queue_view.specs.Tables.{number_of};
+ghost use Rattle.log_model.specs.Log.{place_after};
+ghost use Rattle.queue_view.specs.Tables.{Table, added_of, number_of};
 ghost use Rattle.broker_model.specs.State.{State};
 ghost use Rattle.broker_model.specs.Step.{with_records};
 ghost use Rattle.broker_core.specs.Carries.{Stays, RepresentsSome};
@@ -45,6 +46,20 @@ impl Parts {
     {
         self.rows.reserve(alloc, 1)?;
         self.queues.reserve(alloc, topic, queue, 1)
+    }
+
+    /// Where the next record of a queue with this table stands, which has so many bytes and this store time.
+    pub(crate) fn next_place(&self, table: u32, size: u32, store: u64) -> Place
+        requires { table < length self.now.queues }
+        ensures queue_offset { (t : Table) → slice_get self.entry.now.queues table ≡ Some t → result.queue_offset ≡ added_of t }
+        ensures offset { result.offset ≡ place_after self.entry.now.pending.segment self.entry.now.pending.end size }
+        ensures store { result.store ≡ store }
+    {
+        Place {
+            queue_offset: self.queues.added(table),
+            offset: self.pending.next_place(size),
+            store,
+        }
     }
 
     /// Appends the record of this draft at this place, the next one, of a queue that has this table. At `Err` nothing changes.

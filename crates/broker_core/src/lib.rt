@@ -7,4 +7,5 @@ mod dispatch;
 mod parts;
 mod send_draft;
 mod send_rows;
+mod topic;
 mod turns;
