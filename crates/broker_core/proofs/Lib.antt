@@ -3,3 +3,5 @@ pub mod StateLemmasB
 pub mod AppendLemmas
 pub mod TopicLemmas
 pub mod AnswerLemmas
+pub mod ReplyLemmas
+pub mod StoreLemmas

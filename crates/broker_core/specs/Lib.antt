@@ -3,3 +3,4 @@ pub mod Asked
 pub mod Carries
 pub mod Represents
 pub mod SendRows
+pub mod Stores

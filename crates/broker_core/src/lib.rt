@@ -7,5 +7,6 @@ mod dispatch;
 mod parts;
 mod send_draft;
 mod send_rows;
+mod store;
 mod topic;
 mod turns;
