@@ -91,7 +91,7 @@ has_unit old new table topic queue u r is mine put records =
         subst (λ (v : QueueUnit). view.AreTablesOf low (added ++ added_to t.0 v r.store ∷ []) n new) is (records low added n t.0 are long t.1);
     }
 
-alike_length : (rows : List Row) (records : List Entry) → AreAlike rows records → length rows ≡ length records
+pub alike_length : (rows : List Row) (records : List Entry) → AreAlike rows records → length rows ≡ length records
 alike_length [] [] alike = refl
 alike_length [] (r ∷ records) alike = absurd alike
 alike_length (row ∷ rows) [] alike = absurd alike

@@ -1,5 +1,5 @@
 -- A plain message that is stored.
-use Rattle.std.proofs.Common.{◌≡◌, ◌⊎◌, ⊎_elim, refl, ap, sym, ◌∙◌, subst, arith, ℕ, zero, suc, ◌+◌, ◌-◌, ◌*◌, ◌^◌, ◌<◌, ◌≤◌, ◌==◌, ◌&&◌, max, Bool, true, false, List, [], ◌∷◌, ◌++◌, length, slice_get, codes, pos, Option, Some, None, All}
+use Rattle.std.proofs.Common.{◌≡◌, ◌⊎◌, ⊎_elim, refl, ap, sym, ◌∙◌, subst, arith, ℕ, zero, suc, ◌+◌, ◌-◌, ◌*◌, ◌^◌, ◌<◌, ◌≤◌, ◌==◌, ◌&&◌, max, Bool, true, false, List, [], ◌∷◌, ◌++◌, length, slice_get, codes, pos, Option, Some, None, All, is_some, Result, Ok, Err, OnOk, OnErr, if◌then◌else◌}
 use Rattle.std.specs.Prelude.{bit_and}
 use Rattle.std.specs.Option.{unwrap_or}
 use Rattle.std.specs.Str.{bytes_eq}
@@ -18,7 +18,9 @@ use Rattle.log_model.specs.Numbered.{Log, count_of, place_end, queue_max, next_r
 use Rattle.log_model.specs.Queues.{queue_of}
 use Rattle.log_model.proofs.AdmissibleLemmas.{plain_shaped, plain_names}
 use Rattle.broker_model.specs.Tables.{TopicRow, queues_in}
-use Rattle.broker_model.specs.State.{State}
+use Rattle.broker_model.specs.State.{State, Setup}
+use Rattle.broker_model.specs.Events as model
+use Rattle.broker_model.specs.Answers.{append_answer}
 use Rattle.broker_model.specs.Step.{with_made, with_records}
 use Rattle.broker_model.specs.Lawful.{IsTopic}
 use Rattle.queue_view.specs.Tables.{Table, number_of, added_of}
@@ -31,6 +33,7 @@ use Rattle.broker_core.specs.Represents.{Represents, stored_unit}
 use Rattle.broker_core.specs.Appends.{IsNextPlace, MayStand}
 use Rattle.broker_core.specs.Stores.{IsPlainDraft}
 use Rattle.broker_core.proofs.TableLemmas.{there_is, is_its_table}
+use Rattle.broker_core.proofs.AppendLemmas.{alike_length}
 use Rattle.broker_core.proofs.TopicLemmas.{made_count, represents_made}
 
 -- ---- a topic that is known
@@ -146,3 +149,33 @@ keeps_count core topic other n known = ⊎_elim
 pub represents_known : (core : Parts) (s : State) (topic : List ℕ) (n : ℕ) → Represents core s → queues_of core.topics topic ≡ Some n → Represents core (with_made s topic n)
 represents_known core s topic n are known =
     represents_made core core.topics s topic n are (found_topic s.topics topic n are.state.topics (sym (are.topics topic) ∙ known)) (λ other. keeps_count core topic other n known)
+
+pub stored_known : (core : Parts) (topics : Topics) (s : State) (topic : List ℕ) (o : Option ℕ) (made : ℕ) → is_some o ≡ true → o ≡ queues_of topics topic → core.topics ≡ topics → Represents core s
+    → Represents core (with_made s topic (unwrap_or o made))
+stored_known core topics s topic None made some known same are = cc some
+stored_known core topics s topic (Some n) made some known same are = represents_known core s topic n are (ap (λ (t : Topics). queues_of t topic) same ∙ sym known)
+
+pub none_made : (o : Option ℕ) (made : ℕ) → is_some o ≡ false → made ≡ unwrap_or o made
+none_made None made none = refl
+none_made (Some n) made none = cc none
+
+pub on_err : {A E P : Type 0} (r : Result A E) → P → OnErr r P
+on_err (Ok a) p = tt
+on_err (Err e) p = p
+
+pub on_ok : {A E P Q : Type 0} (r : Result A E) → OnOk r P → (P → Q) → OnOk r Q
+on_ok (Ok a) p f = f p
+on_ok (Err e) p f = tt
+
+-- the reply waits for the record with the next number
+pub waits_for : (core : Parts) (s : State) (awaited : Bool) (told : model.Reply) (number turn : ℕ) → Represents core s → core.setup.sync ≡ true → awaited ≡ true → number ≡ core.rows.first + length core.rows.items → turn ≡ core.pending.turns
+    → append_answer s awaited told 1 ≡ model.After told number turn
+waits_for core s awaited told number turn are sync wait number_is turn_is =
+    let long = alike_length core.rows.items s.log.records are.rows.items in
+    let first = are.rows.first in
+    let same_sync : s.setup.sync ≡ true = ap (λ (x : Setup). x.sync) (sym are.numbers.setup) ∙ sync in
+    let last : count_of s.log + 1 - 1 ≡ number = omega (arith, number_is, long, first) in
+    let turns : s.turns ≡ turn = sym are.numbers.turns ∙ sym turn_is in
+    ap (λ (b : Bool). if b && awaited then model.After told (count_of s.log + 1 - 1) s.turns else model.Replies told) same_sync
+    ∙ ap (λ (b : Bool). if b then model.After told (count_of s.log + 1 - 1) s.turns else model.Replies told) wait
+    ∙ ap (λ (n : ℕ). model.After told n s.turns) last ∙ ap (λ (t : ℕ). model.After told number t) turns

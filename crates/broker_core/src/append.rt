@@ -78,6 +78,7 @@ impl Parts {
         requires short { length self.old.pending.bytes + size ≤ 67108864 }
         ensures appended { OnOk result ((s : State) → Represents self.old s → MayStand s draft.now place.now
             → Represents self.new (with_records s place.now.store (entry_of draft.now place.now ∷ []))) }
+        ensures topics { self.new.topics ≡ self.old.topics }
         ensures same { OnErr result (self.new ≡ self.old) }
     {
         self.pending.append(draft, place)?;
