@@ -32,6 +32,8 @@ use Rattle.broker_core.specs.declared.parts.Parts.{Parts}
 use Rattle.broker_core.specs.Represents.{Represents, stored_unit}
 use Rattle.broker_core.specs.Appends.{IsNextPlace, MayStand}
 use Rattle.broker_core.specs.Stores.{IsPlainDraft}
+use Rattle.broker_events.specs.declared.event.Setup.{Setup as BootSetup}
+use Rattle.pending_log.specs.Parts.{PendingPart}
 use Rattle.broker_core.proofs.TableLemmas.{there_is, is_its_table}
 use Rattle.broker_core.proofs.AppendLemmas.{alike_length}
 use Rattle.broker_core.proofs.TopicLemmas.{made_count, represents_made}
@@ -179,3 +181,18 @@ waits_for core s awaited told number turn are sync wait number_is turn_is =
     ap (λ (b : Bool). if b && awaited then model.After told (count_of s.log + 1 - 1) s.turns else model.Replies told) same_sync
     ∙ ap (λ (b : Bool). if b then model.After told (count_of s.log + 1 - 1) s.turns else model.Replies told) wait
     ∙ ap (λ (n : ℕ). model.After told n s.turns) last ∙ ap (λ (t : ℕ). model.After told number t) turns
+
+-- ---- what the parts find for a record
+
+-- all that a place owes, where the parts found it
+pub found_place : (old core : Parts) (s : State) (d : Draft) (p : Place) (table size now : ℕ) → Represents core s → core.setup ≡ old.setup → core.pending ≡ old.pending → core.now ≡ old.now → IsPlainDraft old.setup.segment d
+    → number_of core.queues d.topic d.queue ≡ Some table → ((t : Table) → slice_get core.queues table ≡ Some t → p.queue_offset ≡ added_of t) → p.offset ≡ place_after core.pending.segment core.pending.end size
+    → p.store ≡ max now core.now → size ≡ draft_size d → place_after old.pending.segment old.pending.end size + size ≤ 2 ^ 62 → now < 2 ^ 62 → (IsEncodable d p) × MayStand s d p × (p.store ≡ max now s.now)
+found_place old core s d p table size now are setup pending clock plain mine offset place store size_is low time =
+    let segment : old.setup.segment ≡ s.setup.segment = ap (λ (x : BootSetup). x.segment) (sym setup) ∙ ap (λ (x : Setup). x.segment) are.numbers.setup in
+    let plain_here = subst (λ (n : ℕ). IsPlainDraft n d) segment plain in
+    let next = is_next core s d p table size now are mine offset place size_is store time in
+    let here : p.offset ≡ place_after old.pending.segment old.pending.end size = place ∙ ap (λ (x : PendingPart). place_after x.segment x.end size) pending in
+    let may = may_stand s d p plain_here next (omega (arith, low, here, size_is)) in
+    let same = are.numbers.now in
+    (can_be_written core s d p are plain_here may, may, omega (arith, store, same))
