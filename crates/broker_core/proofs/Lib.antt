@@ -5,3 +5,5 @@ pub mod TopicLemmas
 pub mod AnswerLemmas
 pub mod ReplyLemmas
 pub mod StoreLemmas
+pub mod SendLemmas
+pub mod SendDraftLemmas

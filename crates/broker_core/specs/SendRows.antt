@@ -1,5 +1,5 @@
 -- Why a send is refused, by what it says, the bytes of a segment, and how many queues its topic has.
-use Rattle.std.specs.Prelude.{◌≡◌, ℕ, ◌+◌, ◌==◌, ◌&&◌, not, nat_lt, [], ◌∷◌, length, codes, is_none, Option, Some, None, unwrap_or}
+use Rattle.std.specs.Prelude.{ℕ, ◌+◌, ◌==◌, ◌&&◌, not, nat_lt, Bool, List, [], ◌∷◌, length, codes, is_none, Option, Some, None, unwrap_or}
 use Rattle.record_codec.specs.Layout.{is_legal, are_hosts_short}
 use Rattle.record_codec.specs.Drafts.{first_that_holds}
 use Rattle.log_model.specs.Admissible.{is_system_topic}
@@ -10,9 +10,9 @@ use Rattle.broker_model.specs.Refusals.{plain_reply, made_queues}
 use Rattle.broker_core.specs.declared.send_rows.Refusal.{Refusal}
 use Rattle.broker_core.specs.declared.send_rows.Refusal.TheVariants.{Topic, SysFlag, Body, Properties, Record, SystemTopic, NoTopic, Queue}
 
--- the first refusal that holds
-unfoldable pub refusal_by : ℕ → Option ℕ → SendSaid → Option Refusal
-refusal_by segment known send = first_that_holds (
+-- the rows, in their order
+abbrev pub rows_of : ℕ → Option ℕ → SendSaid → List (Bool × Refusal)
+rows_of segment known send =
     (not (is_legal send.topic), Topic)
     ∷ (not (are_hosts_short (flag_of send)), SysFlag)
     ∷ (nat_lt 4194304 (length send.body), Body)
@@ -21,7 +21,11 @@ refusal_by segment known send = first_that_holds (
     ∷ (is_system_topic send.topic, SystemTopic)
     ∷ (is_none known && (length send.default_topic == 0), NoTopic)
     ∷ (not (nat_lt (queue_named send.queue) (unwrap_or known (made_queues send.default_queues))), Queue)
-    ∷ [])
+    ∷ []
+
+-- the first refusal that holds
+unfoldable pub refusal_by : ℕ → Option ℕ → SendSaid → Option Refusal
+refusal_by segment known send = first_that_holds (rows_of segment known send)
 
 -- what is answered
 abbrev pub refused : Refusal → model.Reply
