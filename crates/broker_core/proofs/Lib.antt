@@ -7,3 +7,4 @@ pub mod ReplyLemmas
 pub mod StoreLemmas
 pub mod SendLemmas
 pub mod SendDraftLemmas
+pub mod EventLemmas
