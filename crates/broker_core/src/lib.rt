@@ -5,6 +5,7 @@
 mod append;
 mod dispatch;
 mod parts;
+mod send;
 mod send_draft;
 mod send_rows;
 mod store;
