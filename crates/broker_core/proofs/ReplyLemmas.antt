@@ -14,7 +14,7 @@ pub pull_in_order : (high low next : ℕ) → IsInOrder (pull_ext high low next)
 unfolding IsStrictlySortedBy
 pull_in_order high low next = ((refl, (refl, (refl, tt))), ((refl, (refl, tt)), ((refl, tt), (tt, tt))))
 
-length-digits_of : (n : ℕ) → n < 2 ^ 64 → length (digits_of n) ≤ 20
+pub length-digits_of : (n : ℕ) → n < 2 ^ 64 → length (digits_of n) ≤ 20
 length-digits_of n small = length-decimal-le 20 n (omega arith) (omega (arith, small)) small
 
 pub offset_is_short : (n : ℕ) → n < 2 ^ 64 → pairs_size (offset_ext n) ≤ 200

@@ -1,4 +1,8 @@
+pub mod Appends
+pub mod Asked
 pub mod Carries
 pub mod Makes
 pub mod Reads
 pub mod Represents
+pub mod SendRows
+pub mod Stores

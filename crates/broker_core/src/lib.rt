@@ -3,13 +3,19 @@
 #![tactic(auto)]
 
 mod alone;
+mod append;
 mod broker;
 mod dispatch;
 mod offsets;
 mod parts;
-mod request;
 mod pull;
 mod replies;
+mod request;
+mod send;
+mod send_draft;
+mod send_rows;
+mod store;
+mod topic;
 mod turns;
 
 pub use alone::Alone;
