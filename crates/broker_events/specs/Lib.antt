@@ -1,4 +1,5 @@
 pub mod Makes
 pub mod Replies
+pub mod Served
 pub mod Shown
 pub mod Steps

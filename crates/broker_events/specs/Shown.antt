@@ -1,7 +1,8 @@
 -- What the owner of the key sees: the end of the flushed records and the batch that is out, and how steps move them.
-use Rattle.std.specs.Prelude.{ℕ, ◌+◌, ◌^◌, ◌<◌, length, Option, Some, None}
+use Rattle.std.specs.Prelude.{◌≡◌, true, ℕ, ◌+◌, ◌^◌, ◌<◌, List, length, Option, Some, None, IfSome}
 use Rattle.log_model.specs.declared.batch.Batch.{Batch}
 use Rattle.log_model.specs.Batches.{IsReceiptFor}
+use Rattle.broker_events.specs.Served.{is_served}
 use Rattle.broker_events.specs.declared.event.Event.{Event}
 use Rattle.broker_events.specs.declared.event.Event.TheVariants.{Request, Take, Flushed, FlushFailed, Look, Dispatch, Leave}
 use Rattle.broker_events.specs.declared.said.Said.{Said}
@@ -18,9 +19,10 @@ abbrev pub IsOut : Option Batch → (Batch → Type 0) → Type 0
 IsOut None P = ⊥
 IsOut (Some batch) P = P batch
 
--- The event may be given: a reading of the clock is below 2^62, and a flush turn ends with the batch that is out.
+-- The event may be given: a request is served, a reading of the clock is below 2^62, and a flush turn ends with the batch that is
+-- out.
 abbrev pub Accepts : Shown → Event → Type 0
-Accepts shown (Request link host now request) = now < 2 ^ 62
+Accepts shown (Request link host now request) = (now < 2 ^ 62) × (is_served request ≡ true)
 Accepts shown Take = Unit {0}
 Accepts shown (Flushed receipt) = IsOut shown.out (λ batch. IsReceiptFor batch receipt)
 Accepts shown (FlushFailed count) = IsOut shown.out (λ batch. Unit {0})

@@ -4,7 +4,9 @@
 mod calls;
 mod event;
 mod said;
+mod served;
 
 pub use calls::Calls;
 pub use event::{Event, Setup};
 pub use said::{Awaited, Said};
+pub use served::is_served;

@@ -33,7 +33,7 @@ abbrev pub has_queue : List Entry → List ℕ → ℕ → Bool
 has_queue records topic queue = list_any (λ r. bytes_eq r.topic topic && (r.queue == queue)) records
 
 -- The log may be cut at the base, behind its first n records: the base counts these and names their queues, a segment begins at
--- its place, and that lies between them and the next record.
+-- its place, and that lies between them and the next record, and not behind the end of the log.
 pub record IsCutAt (segment : ℕ) (log : Log) (n : ℕ) (base : Base) : Type 0 where
   pub long : n ≤ length log.records
   pub counts : IsBaseAfter log.base (take n log.records) base
@@ -42,6 +42,7 @@ pub record IsCutAt (segment : ℕ) (log : Log) (n : ℕ) (base : Base) : Type 0 
   pub begins : base.place ≡ base.place / segment * segment
   pub behind : end_from log.base.place (take n log.records) ≤ base.place
   pub before : (r : Entry) → slice_get log.records n ≡ Some r → base.place ≤ r.offset
+  pub within : base.place ≤ place_end log
 
 -- ---- what is done
 

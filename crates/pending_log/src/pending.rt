@@ -3,7 +3,7 @@
 //! the disk between `take` and the call that ends the turn.
 
 ghost use Rattle.std.specs.Prelude.{◌≡◌, ◌↔◌, ◌<◌, ◌≤◌, ◌+◌, ◌*◌, ◌^◌, ◌∷◌, [], List, length, nat_lt, if◌then◌else◌};
-ghost use Rattle.std.specs.Prelude.{IsSome, IsNone, IfSome, IfOk, OnOk, OnErr};
+ghost use Rattle.std.specs.Prelude.{IsSome, IsNone, IfSome, IfOk, OnOk, OnErr, is_some};
 ghost use Rattle.record_codec.specs.Drafts.{entry_of, draft_size, IsEncodable};
 ghost use Rattle.record_codec.specs.Layout.{IsRecord};
 ghost use Rattle.log_model.specs.Log.{place_after};
@@ -99,6 +99,13 @@ impl Pending {
         ensures { result ≡ self.now.turns }
     {
         self.turns
+    }
+
+    /// Whether a flush turn is out.
+    pub fn is_out(&self) -> bool
+        ensures { result ≡ is_some self.now.out }
+    {
+        self.out.is_some()
     }
 
     /// How many bytes are pending.

@@ -1,0 +1,28 @@
+-- Which requests the core answers; its caller tells the others that they are not served.
+use Rattle.std.specs.Prelude.{◌&&◌, not, Bool, true, false, is_some}
+use Rattle.request_fields.specs.Requests.{SendSaid}
+use Rattle.request_fields.specs.declared.request.Request.{Request}
+use Rattle.request_fields.specs.declared.request.Request.TheVariants.{Send, Pull, Query, OffsetOf, SetOffset, MakeTopic, Search, MaxOffset, MinOffset, ViewById, Beat, Unregister, EndTransaction, Lock, Unlock}
+use Rattle.broker_model.specs.Sends.{is_half_send, level_of}
+
+-- the message is neither a half message nor a delayed one
+abbrev pub is_plain_send : SendSaid → Bool
+is_plain_send send = not (is_half_send send) && not (is_some (level_of send))
+
+-- the request is of a kind that is answered
+abbrev pub is_served : Request → Bool
+is_served (Send send) = is_plain_send send
+is_served (Pull p) = true
+is_served (Query q) = false
+is_served (OffsetOf q) = false
+is_served (SetOffset q) = false
+is_served (MakeTopic t) = true
+is_served (Search q) = true
+is_served (MaxOffset q) = true
+is_served (MinOffset q) = true
+is_served (ViewById v) = false
+is_served (Beat b) = false
+is_served (Unregister u) = false
+is_served (EndTransaction end) = false
+is_served (Lock l) = false
+is_served (Unlock l) = false
