@@ -7,7 +7,7 @@ use Rattle.log_model.specs.Log.{IsSegmentSize}
 use Rattle.store_open.specs.Formats.{format_text, IsFormatFor, NEW_SEGMENT, NEW_SLOTS, NEW_ENTRIES}
 use Rattle.store_open.specs.Openings.{FORMAT, IsOpened, IsSegmentOf, PutsOnly, format_after, own_format}
 use Rattle.store_open.specs.Words.{IsCommand}
-use Rattle.mq_broker.specs.Left.{HasFormat, IsNoneOrFormat, IsNothing, IsStoreOrNothing}
+use Rattle.mq_broker.specs.Left.{HasFormat, IsNoneOrFormat, IsStoreOrNothing}
 
 -- the format of a new store is one
 new_format : (segment : ℕ) → IsSegmentSize segment → IsFormatFor (format_text segment NEW_SLOTS NEW_ENTRIES) None segment
@@ -57,7 +57,7 @@ left_by_opening words asked segment m files texts disk keep keep_then disk_left 
 left_by_opening words asked segment m files texts disk keep keep_then disk_left keep_left command reads_is_image (inr nothing) puts on_disk low high in_keep disk_is keep_is =
     let image = puts.at_each.each m texts low high in_keep in
     let now = none_or_format words asked (keep.reads FORMAT) (image.0 FORMAT) (texts FORMAT) command (nothing.no_other.at keep.reads reads_is_image)
-            (nothing.no_other.at image.0 image.1) image.2.here in
+    (nothing.no_other.at image.0 image.1) image.2.here in
     inr (record {
       no_file = record { at = λ left is_left. subst HasNoFile (sym (disk_is.at left is_left)) (nothing.no_file.at files on_disk) };
       no_other = record { at = λ left is_left. subst (λ (t : Files). IsNoneOrFormat (t FORMAT)) (sym (keep_is.at left is_left)) now };
@@ -80,6 +80,8 @@ left_open words asked segment disk files texts tells keep keep_then keep_left co
     record {
       text = format_after (keep.reads FORMAT) segment;
       is = is_format_after asked segment (keep.reads FORMAT) (segment_size words asked segment (keep.reads FORMAT) command size) size;
-      stays = record { at = λ left is_left.
-          subst (λ (t : Files). t FORMAT ≡ Some (format_after (keep.reads FORMAT) segment)) (sym (keep_is.at left is_left)) (opened.stays told texts in_keep ∙ opened.stands told) };
+      stays = record {
+        at = λ left is_left.
+            subst (λ (t : Files). t FORMAT ≡ Some (format_after (keep.reads FORMAT) segment)) (sym (keep_is.at left is_left)) (opened.stays told texts in_keep ∙ opened.stands told);
+      };
     }
