@@ -7,7 +7,7 @@ use Rattle.log_model.specs.Log.{IsSegmentSize}
 use Rattle.store_open.specs.Formats.{format_text, IsFormatFor, NEW_SEGMENT, NEW_SLOTS, NEW_ENTRIES}
 use Rattle.store_open.specs.Openings.{FORMAT, IsOpened, IsSegmentOf, PutsOnly, format_after, own_format}
 use Rattle.store_open.specs.Words.{IsCommand}
-use Rattle.mq_broker.specs.Left.{HasFormat, IsNoneOrFormat, IsStoreOrNothing}
+use Rattle.mq_broker.specs.Left.{HasFormat, IsNoneOrFormat, IsNothing, IsStoreOrNothing}
 
 -- the format of a new store is one
 new_format : (segment : ℕ) → IsSegmentSize segment → IsFormatFor (format_text segment NEW_SLOTS NEW_ENTRIES) None segment
