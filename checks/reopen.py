@@ -82,7 +82,7 @@ def _(folder):
             child.stdin.flush()
         except BrokenPipeError:
             pass
-        time.sleep(chance.random() * 0.03)
+        time.sleep(chance.random() * 0.1)  # an opening takes some syncs before it serves
         child.send_signal(signal.SIGKILL)
         out = child.stdout.read()
         child.wait()
