@@ -1,0 +1,1 @@
+//! What no clause says: a whole query beside the worked one.
