@@ -26,11 +26,13 @@ covers_same hash rows others passed other same there covers =
 -- a row that is linked to the newest one of its chain
 pub covers_linked : (hash : ℕ) (row : KeyRow) (rows : List KeyRow) (passed : ℕ) → row.back ≡ min (suc passed) (2 ^ 32 - 1) → length rows ≤ 2 ^ 32 - 2
     → Covers hash rows passed → Covers hash (row ∷ rows) 0
-covers_linked hash row rows passed back few covers =
-    (omega (arith, back), elim (cases_lt passed (2 ^ 32 - 2)) [
+covers_linked hash row rows passed back few covers = (
+  omega (arith, back),
+  elim (cases_lt passed (2 ^ 32 - 2)) [
     | inl near ↦ covers_same hash rows rows passed (row.back - 1) refl (omega (arith, back, near)) covers
     | inr far ↦ past_end hash rows passed (row.back - 1) (omega (arith, few, far)) (omega (arith, few, far, back)) covers
-    ])
+  ],
+)
 
 -- a hash in the slot that was set
 pub newest_in-set_same : (slots : List ℕ) (slot number hash : ℕ) → slot < length slots → hash % length slots ≡ slot → newest_in (set slots slot number) hash ≡ number
@@ -69,11 +71,11 @@ newest_in-twice slots hash some =
     let r = hash % (n + n) in
     ap (λ (m : ℕ). get_or (slots ++ slots) (hash % m) 0) (length-append slots slots)
     ∙ elim (cases_lt r n) [
-    | inl low ↦ get_or_append_left slots slots 0 r low ∙ ap (λ (k : ℕ). get_or slots k 0) (sym (rest_low hash n some low))
-    | inr high ↦
-        ap (λ (k : ℕ). get_or (slots ++ slots) k 0) (let e : r ≡ n + (r - n) = omega (arith, high) in e)
-        ∙ get_or-append-add slots slots (r - n) 0
-        ∙ ap (λ (k : ℕ). get_or slots k 0) (sym (rest_high hash n some high))
+      | inl low ↦ get_or_append_left slots slots 0 r low ∙ ap (λ (k : ℕ). get_or slots k 0) (sym (rest_low hash n some low))
+      | inr high ↦
+          ap (λ (k : ℕ). get_or (slots ++ slots) k 0) (let e : r ≡ n + (r - n) = omega (arith, high) in e)
+          ∙ get_or-append-add slots slots (r - n) 0
+          ∙ ap (λ (k : ℕ). get_or slots k 0) (sym (rest_high hash n some high))
     ]
 
 -- the table with one row more, which is linked to the newest one in its slot and takes its place
@@ -88,16 +90,16 @@ kept_added rows gone slots row kept some back few small =
     let size = length_push rows row in
     let within : slot < n = omega (arith, some) in
     let newest : (hash : ℕ) → hash % n ≡ slot → newest_in (set slots slot number) hash ≡ number
-        = λ hash here. newest_in-set_same slots slot number hash within here in
+    = λ hash here. newest_in-set_same slots slot number hash within here in
     let others : (hash : ℕ) → hash % n ≢ slot → newest_in (set slots slot number) hash ≡ newest_in slots hash
-        = λ hash other. newest_in-set_other slots slot number hash other in
+    = λ hash other. newest_in-set_other slots slot number hash other in
     record {
       few = omega (arith, size, few);
       small = omega (arith, size, small);
       below = λ hash. elim (cases_eq (hash % n) slot) [
         | inl here ↦ (let e = newest hash here in omega (arith, e, size))
         | inr other ↦ (let e = others hash other in let low = kept.below hash in omega (arith, e, size, low))
-        ];
+      ];
       chains = λ hash. elim (cases_eq (hash % n) slot) [
         | inl here ↦
             (let e = newest hash here in
@@ -115,7 +117,7 @@ kept_added rows gone slots row kept some back few small =
             covers_same hash (row ∷ reverse rows) (reverse (rows ++ row ∷ [])) (suc passed) (gone + length (rows ++ row ∷ []) - newest_in (set slots slot number) hash)
             (reverse-append rows (row ∷ [])) (omega (arith, e, size, low))
             (differs, kept.chains hash))
-        ];
+      ];
     }
 
 -- the slots are twice as many, or as they were
@@ -130,5 +132,5 @@ pub has_room : (rows : Roomy KeyRow) (gone : ℕ) (slots : List ℕ) → 0 < spa
 has_room rows gone [] room = absurd (omega (arith, room))
 has_room rows gone (newest ∷ slots) room =
     let some : 0 < min rows.spare (min (2 ^ 32 - 2 - length rows.items) (2 ^ 62 - (gone + length rows.items)))
-        = subst (λ (b : Bool). 0 < cond b 0 (min rows.spare (min (2 ^ 32 - 2 - length rows.items) (2 ^ 62 - (gone + length rows.items))))) (eqb-suc-zero (length slots)) room in
+    = subst (λ (b : Bool). 0 < cond b 0 (min rows.spare (min (2 ^ 32 - 2 - length rows.items) (2 ^ 62 - (gone + length rows.items))))) (eqb-suc-zero (length slots)) room in
     (omega arith, omega (arith, some), omega (arith, some))

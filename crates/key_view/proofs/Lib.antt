@@ -2,3 +2,4 @@ pub mod ChainLemmas
 pub mod PlaceLemmas
 pub mod QueryLemmas
 pub mod RecordLemmas
+pub mod CutLemmas

@@ -47,7 +47,7 @@ chain_at : (hash : ℕ) (rows : List KeyRow) (passed : ℕ) (row : KeyRow) → p
     → (drop passed rows ≡ row ∷ drop (passed + 1) rows) × (1 ≤ row.back) × Covers hash (drop (passed + 1) rows) (row.back - 1)
 chain_at hash rows passed row within is covers =
     let here : drop passed rows ≡ row ∷ drop (passed + 1) rows
-        = drop_more rows passed row within ∙ ap (λ (r : KeyRow). r ∷ drop (passed + 1) rows) (sym is) in
+    = drop_more rows passed row within ∙ ap (λ (r : KeyRow). r ∷ drop (passed + 1) rows) (sym is) in
     let at = subst (λ (rs : List KeyRow). Covers hash rs 0) here covers in
     (here, at.0, at.1)
 
@@ -57,9 +57,11 @@ pub chain_next : (hash : ℕ) (rows : List KeyRow) (passed : ℕ) (row : KeyRow)
 chain_next hash rows passed row within is covers =
     let at = chain_at hash rows passed row within is covers in
     let some = at.1 in
-    let next = next_in hash (drop (passed + 1) rows) (row.back - 1) at.2 in
-    (some, subst (λ (rs : List KeyRow). Covers hash rs 0)
-        (drop-drop (row.back - 1) (passed + 1) rows ∙ ap (λ (n : ℕ). drop n rows) (let e : passed + 1 + (row.back - 1) ≡ passed + row.back = omega (arith, some) in e)) next)
+    let next = next_in hash (drop (passed + 1) rows) (row.back - 1) at.2 in (
+      some,
+      subst (λ (rs : List KeyRow). Covers hash rs 0)
+          (drop-drop (row.back - 1) (passed + 1) rows ∙ ap (λ (n : ℕ). drop n rows) (let e : passed + 1 + (row.back - 1) ≡ passed + row.back = omega (arith, some) in e)) next,
+    )
 
 -- what was found with the rows that the chain passes, but for those behind the row that it is at
 pub found_next : (hash : ℕ) (from to : ℤ) (end : ℕ) (rows : List KeyRow) (passed : ℕ) (row : KeyRow) → passed < length rows → row ≡ get_or rows passed row
@@ -73,7 +75,7 @@ found_next hash from to end rows passed row within is covers =
     let rest = drop (passed + 1) rows in
     let back : row.back ≡ suc (row.back - 1) = omega (arith, some) in
     let taken : take row.back (drop passed rows) ≡ row ∷ take (row.back - 1) rest
-        = ap (λ (rs : List KeyRow). take row.back rs) at.0 ∙ ap (λ (n : ℕ). take n (row ∷ rest)) back in
+    = ap (λ (rs : List KeyRow). take row.back rs) at.0 ∙ ap (λ (n : ℕ). take n (row ∷ rest)) back in
     ap (places_in test) (take-add passed row.back rows ∙ ap (λ (rs : List KeyRow). take passed rows ++ rs) taken)
     ∙ places_in-append test (take passed rows) (row ∷ take (row.back - 1) rest)
     ∙ ap (λ (ps : List ℕ). places_in test (take passed rows) ++ ps)
@@ -105,16 +107,16 @@ pub found_all : (test : KeyEntry → Bool) (rows : List KeyRow) (passed most : �
     → length places ≤ most → (passed < length rows → most ≤ length places) → places ≡ take most (once (places_in test rows))
 found_all test rows passed most places are few over =
     elim (cases_lt passed (length rows)) [
-    | inl within ↦
-        (let full : length places ≡ most = (let many = over within in omega (arith, many, few)) in
-        let front = once-front (places_in test (take passed rows)) (places_in test (drop passed rows)) in
-        let all : places_in test rows ≡ places_in test (take passed rows) ++ places_in test (drop passed rows)
-            = ap (places_in test) (sym (take-append-drop passed rows)) ∙ places_in-append test (take passed rows) (drop passed rows) in
-        are ∙ sym front ∙ ap (λ (n : ℕ). take n (once (places_in test (take passed rows) ++ places_in test (drop passed rows)))) (sym (ap length are) ∙ full)
-        ∙ ap (λ (ps : List ℕ). take most (once ps)) (sym all))
-    | inr past ↦
-        (let all : places ≡ once (places_in test rows) = are ∙ ap (λ (rs : List KeyRow). once (places_in test rs)) (take_all passed rows past) in
-        all ∙ sym (take_all most (once (places_in test rows)) (subst (λ (ps : List ℕ). length ps ≤ most) all few)))
+      | inl within ↦
+          (let full : length places ≡ most = (let many = over within in omega (arith, many, few)) in
+          let front = once-front (places_in test (take passed rows)) (places_in test (drop passed rows)) in
+          let all : places_in test rows ≡ places_in test (take passed rows) ++ places_in test (drop passed rows)
+          = ap (places_in test) (sym (take-append-drop passed rows)) ∙ places_in-append test (take passed rows) (drop passed rows) in
+          are ∙ sym front ∙ ap (λ (n : ℕ). take n (once (places_in test (take passed rows) ++ places_in test (drop passed rows)))) (sym (ap length are) ∙ full)
+          ∙ ap (λ (ps : List ℕ). take most (once ps)) (sym all))
+      | inr past ↦
+          (let all : places ≡ once (places_in test rows) = are ∙ ap (λ (rs : List KeyRow). once (places_in test rs)) (take_all passed rows past) in
+          all ∙ sym (take_all most (once (places_in test rows)) (subst (λ (ps : List ℕ). length ps ≤ most) all few)))
     ]
 
 -- the mirror of what was made of each

@@ -14,7 +14,7 @@ invariant_of-self c =
     let room = has_room c.self.inside.rows gone slots (subst (λ (n : _). 0 < n) (sym (ap (λ (t : KeyTable). t.spare) c.self.view_is)) c.requires) in
     let size = c.len.ensures.value in
     let back : c.distance-back.result ≡ min (gone + length rows + 1 - newest_in slots c.args.hash) (2 ^ 32 - 1)
-        = c.distance-back.ensures ∙ ap (λ (n : _). min (gone + n + 1 - c.newest.result) (2 ^ 32 - 1)) size ∙ ap (λ (n : _). min (gone + length rows + 1 - n) (2 ^ 32 - 1)) c.newest.ensures in
+    = c.distance-back.ensures ∙ ap (λ (n : _). min (gone + n + 1 - c.newest.result) (2 ^ 32 - 1)) size ∙ ap (λ (n : _). min (gone + length rows + 1 - n) (2 ^ 32 - 1)) c.newest.ensures in
     let kept = kept_added rows gone slots row c.self.invariant room.0 back room.1 room.2 in
     let set_is = c.set_newest.ensures ∙ ap (λ (n : _). set slots (c.args.hash % length slots) (gone + n + 1)) size in
     subst (λ (rs : List KeyRow). IsKept rs gone c.set_newest.new.slots.items) (sym c.push.ensures.items)
