@@ -72,7 +72,7 @@ due_in log d now n (l ∷ ls) [] same from each = absurd (omega (arith, same))
 due_in log d now n (l ∷ ls) (v ∷ vs) same from each =
     let is : IsLevelOf log d n l = subst (λ (m : ℕ). IsLevelOf log d m l) (let e : n + 0 ≡ n = omega arith in e) (each 0 l refl) in
     let rest = due_in log d now (n + 1) ls vs (omega (arith, same)) from.1
-        (λ k x at. subst (λ (m : ℕ). IsLevelOf log d m x) (let e : n + suc k ≡ n + 1 + k = omega arith in e) (each (suc k) x at)) in
+    (λ k x at. subst (λ (m : ℕ). IsLevelOf log d m x) (let e : n + suc k ≡ n + 1 + k = omega arith in e) (each (suc k) x at)) in
     ap (λ (o : Option ℕ). cond (has_come now o) (Some (n, l.copied)) (due_from now (n + 1) ls)) (next_is log d n l is)
     ∙ ap (λ (m : ℕ). cond (has_come now (option_map (delivery_time n) (next_delayed log d n))) (Some (n, m)) (due_from now (n + 1) ls)) is.copied
     ∙ ap (λ (o : Option (ℕ × ℕ)). cond (has_come now (option_map (delivery_time n) (next_delayed log d n))) (Some (n, progress log n)) o) rest

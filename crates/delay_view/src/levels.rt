@@ -7,7 +7,11 @@ use crate::level::LevelTable;
 use std::alloc::{AllocError, Global};
 
 // Makes room for a message more in this level.
-pub(crate) fn make_room(levels: &mut Vec<LevelTable>, alloc: Global, k: usize) -> Result<(), AllocError>
+pub(crate) fn make_room(
+    levels: &mut Vec<LevelTable>,
+    alloc: Global,
+    k: usize,
+) -> Result<(), AllocError>
     requires { k < vec_len levels.old }
     ensures all { length levels.new.items ≡ length levels.old.items }
     ensures level { (l : Level) → slice_get levels.old.items k ≡ Some l

@@ -1,10 +1,11 @@
 //! The table of the delay levels. Which level is due is found in eighteen steps, however many messages wait.
 
-ghost use Rattle.std.specs.Prelude.{◌≡◌, ◌<◌, ◌≤◌, ◌+◌, ◌-◌, ◌^◌, ℕ, length, slice_get, slice_set, Some, OnOk, IfOk, option_map};
-ghost use Rattle.log_model.specs.Numbered.{Log};
+ghost use Rattle.std.specs.Prelude.{◌≡◌, ◌<◌, ◌≤◌, ◌+◌, ◌-◌, ◌^◌, ◌∷◌, [], ℕ, length, slice_get, slice_set, Some, OnOk, IfOk, option_map};
+ghost use Rattle.record_codec.specs.Entry.{Entry};
+ghost use Rattle.log_model.specs.Numbered.{Log, count_of, record_at, with_appended};
 ghost use Rattle.log_model.specs.Delays.{progress as progress_of, due_delayed};
 ghost use Rattle.delay_view.specs.Levels.{Level, empty_level, started, with_room, with_time, with_next_seen, with_next_copied, due_of};
-ghost use Rattle.delay_view.specs.OfLog.{AreLevelsOf};
+ghost use Rattle.delay_view.specs.OfLog.{AreLevelsOf, IsMessageOf, IsCopyOf, delivery_time};
 
 use crate::level::LevelTable;
 use crate::levels::{add_time, copy_one, make_room, see_one, start_one};
@@ -62,7 +63,9 @@ impl DelayView {
     pub fn reserve(&mut self, alloc: Global, level: u8) -> Result<(), AllocError>
         requires low { 1 ≤ level }
         requires high { level ≤ 18 }
-        ensures { (l : Level) → slice_get self.old (level - 1) ≡ Some l
+        ensures room { OnOk result ((l : Level) → slice_get self.new (level - 1) ≡ Some l → 0 < l.spare) }
+        ensures records { (log : Log) (d : ℕ) → AreLevelsOf log d self.old → AreLevelsOf log d self.new }
+        ensures level { (l : Level) → slice_get self.old (level - 1) ≡ Some l
             → (s : ℕ) × (l.spare ≤ s) × (OnOk result (0 < s)) × (self.new ≡ slice_set self.old (level - 1) (with_room l s)) }
     {
         make_room(&mut self.levels, alloc, level as usize - 1)
@@ -74,7 +77,9 @@ impl DelayView {
         requires low { 1 ≤ level }
         requires high { level ≤ 18 }
         requires room { (l : Level) → slice_get self.old (level - 1) ≡ Some l → 0 < l.spare }
-        ensures { (l : Level) → slice_get self.old (level - 1) ≡ Some l
+        ensures records { (log : Log) (d : ℕ) (r : Entry) → AreLevelsOf log d self.old → d ≤ count_of log → IsMessageOf level r
+            → time ≡ delivery_time level r → AreLevelsOf (with_appended log (r ∷ [])) d self.new }
+        ensures level { (l : Level) → slice_get self.old (level - 1) ≡ Some l
             → (s : ℕ) × (l.spare ≤ s + 1) × (self.new ≡ slice_set self.old (level - 1) (with_time l time s)) }
     {
         add_time(&mut self.levels, level as usize - 1, time);
@@ -85,7 +90,9 @@ impl DelayView {
         requires low { 1 ≤ level }
         requires high { level ≤ 18 }
         requires some { (l : Level) → slice_get self.old (level - 1) ≡ Some l → l.seen < length l.times }
-        ensures { (l : Level) → slice_get self.old (level - 1) ≡ Some l
+        ensures records { (log : Log) (d : ℕ) (r : Entry) → AreLevelsOf log d self.old → record_at log d ≡ Some r → IsMessageOf level r
+            → AreLevelsOf log (d + 1) self.new }
+        ensures level { (l : Level) → slice_get self.old (level - 1) ≡ Some l
             → self.new ≡ slice_set self.old (level - 1) (with_next_seen l) }
     {
         see_one(&mut self.levels, level as usize - 1);
@@ -96,7 +103,9 @@ impl DelayView {
         requires low { 1 ≤ level }
         requires high { level ≤ 18 }
         requires few { (l : Level) → slice_get self.old (level - 1) ≡ Some l → l.copied < 2 ^ 62 }
-        ensures { (l : Level) → slice_get self.old (level - 1) ≡ Some l
+        ensures records { (log : Log) (d : ℕ) (r : Entry) → AreLevelsOf log d self.old → d ≤ count_of log → IsCopyOf level r
+            → AreLevelsOf (with_appended log (r ∷ [])) d self.new }
+        ensures level { (l : Level) → slice_get self.old (level - 1) ≡ Some l
             → self.new ≡ slice_set self.old (level - 1) (with_next_copied l) }
     {
         copy_one(&mut self.levels, level as usize - 1);
