@@ -1,0 +1,147 @@
+//! The table of the delay levels. Which level is due is found in eighteen steps, however many messages wait.
+
+ghost use Rattle.std.specs.Prelude.{◌≡◌, ◌<◌, ◌≤◌, ◌+◌, ◌-◌, ◌^◌, ◌∷◌, [], ℕ, length, slice_get, slice_set, Some, OnOk, IfOk, option_map};
+ghost use Rattle.record_codec.specs.Entry.{Entry};
+ghost use Rattle.log_model.specs.Numbered.{Log, count_of, record_at, with_appended};
+ghost use Rattle.log_model.specs.Delays.{progress as progress_of, due_delayed};
+ghost use Rattle.delay_view.specs.Levels.{Level, empty_level, started, with_room, with_time, with_next_seen, with_next_copied, due_of};
+ghost use Rattle.delay_view.specs.OfLog.{AreLevelsOf, IsMessageOf, IsCopyOf, delivery_time};
+
+use crate::level::LevelTable;
+use crate::levels::{add_time, copy_one, make_room, see_one, start_one};
+use std::alloc::{AllocError, Global};
+use std::marker::Model;
+
+/// How many levels there are: they have the numbers 1 to 18.
+pub const LEVELS: u8 = 18;
+
+/// The delay levels. Contracts see the list of them, the level 1 first.
+#[derive(Drop)]
+pub struct DelayView {
+    levels: Vec<LevelTable>,
+}
+
+impl Model for DelayView {
+    ghost use Rattle.std.specs.Prelude.{List};
+    ghost use Rattle.delay_view.specs.Levels.{Level};
+
+    ghost Value = { List Level };
+
+    ghost use Rattle.delay_view.specs.Rooms.{AreAll};
+
+    ghost view = { λ v. v.levels.items };
+
+    ghost invariant = { λ v. AreAll v.levels.items };
+}
+
+impl DelayView {
+    /// No messages, and none delivered.
+    pub fn new(alloc: Global) -> Result<DelayView, AllocError>
+        ensures { IfOk result (λ view. (k : ℕ) (l : Level) → slice_get view k ≡ Some l → l ≡ empty_level l.spare) }
+    {
+        let mut levels = Vec::new(alloc);
+        for _ in 0..LEVELS {
+            levels.push(LevelTable::new(alloc))?;
+        }
+        Ok(DelayView { levels })
+    }
+
+    /// The next message of a level has the offset `items`, and `copies` were delivered: of a log of which records were removed.
+    pub fn start(&mut self, level: u8, items: u64, copies: u64)
+        requires low { 1 ≤ level }
+        requires high { level ≤ 18 }
+        requires none { (l : Level) → slice_get self.old (level - 1) ≡ Some l → length l.times ≡ 0 }
+        requires items { items ≤ 2 ^ 62 }
+        requires copies { copies ≤ 2 ^ 62 }
+        ensures { (l : Level) → slice_get self.old (level - 1) ≡ Some l
+            → (s : ℕ) × (self.new ≡ slice_set self.old (level - 1) (started l items copies s)) }
+    {
+        start_one(&mut self.levels, level as usize - 1, items, copies);
+    }
+
+    /// Makes room for a message more of a level. At `Err` there may be more room, and nothing else has changed.
+    pub fn reserve(&mut self, alloc: Global, level: u8) -> Result<(), AllocError>
+        requires low { 1 ≤ level }
+        requires high { level ≤ 18 }
+        ensures room { OnOk result ((l : Level) → slice_get self.new (level - 1) ≡ Some l → 0 < l.spare) }
+        ensures records { (log : Log) (d : ℕ) → AreLevelsOf log d self.old → AreLevelsOf log d self.new }
+        ensures level { (l : Level) → slice_get self.old (level - 1) ≡ Some l
+            → (s : ℕ) × (l.spare ≤ s) × (OnOk result (0 < s)) × (self.new ≡ slice_set self.old (level - 1) (with_room l s)) }
+    {
+        make_room(&mut self.levels, alloc, level as usize - 1)
+    }
+
+    /// Adds a message of a level that has room for it, to be delivered at `time`, in milliseconds; takes no memory. It is not
+    /// due before it is seen.
+    pub fn add(&mut self, level: u8, time: u64)
+        requires low { 1 ≤ level }
+        requires high { level ≤ 18 }
+        requires room { (l : Level) → slice_get self.old (level - 1) ≡ Some l → 0 < l.spare }
+        ensures records { (log : Log) (d : ℕ) (r : Entry) → AreLevelsOf log d self.old → d ≤ count_of log → IsMessageOf level r
+            → time ≡ delivery_time level r → AreLevelsOf (with_appended log (r ∷ [])) d self.new }
+        ensures level { (l : Level) → slice_get self.old (level - 1) ≡ Some l
+            → (s : ℕ) × (l.spare ≤ s + 1) × (self.new ≡ slice_set self.old (level - 1) (with_time l time s)) }
+    {
+        add_time(&mut self.levels, level as usize - 1, time);
+    }
+
+    /// The first message of a level that isn't seen is dispatched; takes no memory.
+    pub fn see(&mut self, level: u8)
+        requires low { 1 ≤ level }
+        requires high { level ≤ 18 }
+        requires some { (l : Level) → slice_get self.old (level - 1) ≡ Some l → l.seen < length l.times }
+        ensures records { (log : Log) (d : ℕ) (r : Entry) → AreLevelsOf log d self.old → record_at log d ≡ Some r → IsMessageOf level r
+            → AreLevelsOf log (d + 1) self.new }
+        ensures level { (l : Level) → slice_get self.old (level - 1) ≡ Some l
+            → self.new ≡ slice_set self.old (level - 1) (with_next_seen l) }
+    {
+        see_one(&mut self.levels, level as usize - 1);
+    }
+
+    /// A message of a level was delivered: its copy is appended; takes no memory.
+    pub fn copied(&mut self, level: u8)
+        requires low { 1 ≤ level }
+        requires high { level ≤ 18 }
+        requires few { (l : Level) → slice_get self.old (level - 1) ≡ Some l → l.copied < 2 ^ 62 }
+        ensures records { (log : Log) (d : ℕ) (r : Entry) → AreLevelsOf log d self.old → d ≤ count_of log → IsCopyOf level r
+            → AreLevelsOf (with_appended log (r ∷ [])) d self.new }
+        ensures level { (l : Level) → slice_get self.old (level - 1) ≡ Some l
+            → self.new ≡ slice_set self.old (level - 1) (with_next_copied l) }
+    {
+        copy_one(&mut self.levels, level as usize - 1);
+    }
+
+    /// How many messages of a level were delivered.
+    pub fn progress(&self, level: u8) -> u64
+        requires low { 1 ≤ level }
+        requires high { level ≤ 18 }
+        ensures level { (l : Level) → slice_get self.now (level - 1) ≡ Some l → result ≡ l.copied }
+        ensures records { (log : Log) (d : ℕ) → AreLevelsOf log d self.now → result ≡ progress_of log level }
+    {
+        self.levels[level as usize - 1].progress()
+    }
+
+    // The lowest level that is due.
+    fn lowest_due(&self, now: u64) -> Option<(u8, u64)>
+        ensures { result ≡ due_of now self.now }
+    {
+        let mut number = 1;
+        for level in &self.levels {
+            if level.is_due(now) {
+                return Some((number, level.progress()));
+            }
+            number += 1;
+        }
+        None
+    }
+
+    /// The lowest level whose next message is seen and is to be delivered at `now` or before, in milliseconds, and the queue
+    /// offset of that message in the level.
+    pub fn due(&self, now: u64) -> Option<(u8, u64)>
+        ensures levels { result ≡ due_of now self.now }
+        ensures records { (log : Log) (d : ℕ) → AreLevelsOf log d self.now
+            → result ≡ option_map (λ next. (next.0, progress_of log next.0)) (due_delayed log d now) }
+    {
+        self.lowest_due(now)
+    }
+}

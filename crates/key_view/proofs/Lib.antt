@@ -1,0 +1,5 @@
+pub mod ChainLemmas
+pub mod PlaceLemmas
+pub mod QueryLemmas
+pub mod RecordLemmas
+pub mod CutLemmas
