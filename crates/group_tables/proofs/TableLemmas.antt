@@ -2,7 +2,7 @@
 use Rattle.std.proofs.Common.{◌≡◌, ◌∙◌, ℕ, List, Bool, true, false, cond, ◌&&◌, refl, ap, sym, String, Option, Some, None, Result, Ok, Err, OnOk, OnErr}
 use Rattle.std.proofs.lemmas.Slice.Eq.{bytes_eq-Decides}
 use Rattle.std.specs.Str.{bytes_eq}
-use Rattle.std.specs.Option.{option_and_then}
+use Rattle.std.specs.Option.{option_and, option_and_then}
 use Rattle.std.specs.HashMap.{HashMap, get_by_text}
 use Rattle.std.specs.Map.{update}
 
@@ -58,3 +58,14 @@ after_set see old new name was now hit value updates was_is set other k =
 pub on_ok : {A E : Type 0} {P Q : Type 0} (result : Result A E) → (P → Q) → OnOk result P → OnOk result Q
 on_ok (Ok value) then holds = then holds
 on_ok (Err fault) then holds = tt
+
+-- where what is there at the name and some place becomes another value, or none
+pub after_and : {A S W K Y : Type 0} (see : W → K → Option Y) (old new : HashMap (String A) W S) (name : List ℕ) (was : Option W) (now : W) (hit : K → Bool) (value : Option Y)
+    → ((other : List ℕ) → get_by_text new other ≡ update bytes_eq (get_by_text old) name (Some now) other) → get_by_text old name ≡ was
+    → ((k : K) → see now k ≡ cond (hit k) (option_and (option_and_then (λ w. see w k) was) value) (option_and_then (λ w. see w k) was))
+    → (other : List ℕ) (k : K) → option_and_then (λ w. see w k) (get_by_text new other)
+    ≡ cond (bytes_eq name other && hit k) (option_and (option_and_then (λ w. see w k) (get_by_text old other)) value) (option_and_then (λ w. see w k) (get_by_text old other))
+after_and see old new name was now hit value updates was_is set other k =
+    let seen = option_and_then (λ w. see w k) (get_by_text old other) in
+    after_change see old new name was now (λ k o. cond (hit k) (option_and o value) o) updates was_is set other k
+    ∙ both (bytes_eq name other) (hit k) (option_and seen value) seen

@@ -1,6 +1,7 @@
 //! A value for each queue of each group: by the group, in it by the topic, and there by the queue's number. A look-up makes no text.
 
 ghost use Rattle.std.specs.Prelude.{◌≡◌, ◌==◌, ◌&&◌, ℕ, List, Some, option_copied, if◌then◌else◌, OnOk, OnErr};
+ghost use Rattle.std.specs.Option.{option_and};
 ghost use Rattle.std.specs.Str.{bytes_eq};
 ghost use Rattle.group_tables.specs.Table.{in_queues, in_topics, in_groups};
 
@@ -83,4 +84,48 @@ pub(crate) fn set_value<V: Drop>(
     let name = String::from_str(alloc, group)?;
     groups.insert(name, topics)?;
     Ok(())
+}
+
+// Where the queue has a value, it has this one then, or none.
+fn change_in_queues<V: Drop>(queues: &mut ByQueue<V>, queue: u32, value: Option<V>)
+    ensures { (other : ℕ) → in_queues queues.new other
+        ≡ (if queue == other then option_and (in_queues queues.old other) value else in_queues queues.old other) }
+{
+    match value {
+        Some(value) => {
+            if let Some(kept) = queues.get_mut(&queue) {
+                *kept = value;
+            }
+        }
+        None => {
+            queues.remove(&queue);
+        }
+    }
+}
+
+// Where the queue of the topic has a value, it has this one then, or none.
+fn change_in_topics<V: Drop>(topics: &mut ByTopic<V>, topic: &str, queue: u32, value: Option<V>)
+    ensures { (other : List ℕ) (at : ℕ) → in_topics topics.new other at
+        ≡ (if bytes_eq topic.now other && (queue == at) then option_and (in_topics topics.old other at) value else in_topics topics.old other at) }
+{
+    if let Some(queues) = topics.get_mut(topic) {
+        change_in_queues(queues, queue, value);
+    }
+}
+
+/// Where the queue of the group has a value, it has this one then, or none. Takes no memory.
+pub(crate) fn change_value<V: Drop>(
+    groups: &mut ByGroup<V>,
+    group: &str,
+    topic: &str,
+    queue: u32,
+    value: Option<V>,
+)
+    ensures { (g t : List ℕ) (q : ℕ) → in_groups groups.new g t q
+        ≡ (if bytes_eq group.now g && (bytes_eq topic.now t && (queue == q)) then option_and (in_groups groups.old g t q) value
+            else in_groups groups.old g t q) }
+{
+    if let Some(topics) = groups.get_mut(group) {
+        change_in_topics(topics, topic, queue, value);
+    }
 }
