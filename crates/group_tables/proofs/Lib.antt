@@ -1,2 +1,3 @@
 pub mod TableLemmas
 pub mod OffsetLemmas
+pub mod LoopLemmas

@@ -2,6 +2,7 @@
 #![tactic(auto)]
 
 mod groups;
+mod locks;
 mod table;
 
 pub use groups::Groups;
