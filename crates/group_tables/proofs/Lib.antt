@@ -1,3 +1,4 @@
 pub mod TableLemmas
 pub mod OffsetLemmas
+pub mod LockLemmas
 pub mod LoopLemmas

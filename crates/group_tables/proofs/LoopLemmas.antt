@@ -5,6 +5,7 @@ use Rattle.std.proofs.lemmas.List.Elements.{filter-append}
 use Rattle.std.proofs.lemmas.List.Folds.{list_any_more}
 use Rattle.std.specs.Cmp.Lexicographic.{nat_list_eq_equiv}
 use Rattle.std.specs.List.{list_any}
+use Rattle.std.specs.Option.{option_and}
 use Rattle.std.specs.Str.{bytes_eq}
 use Rattle.mq_bytes.specs.declared.clients.QueueName.{QueueName}
 use Rattle.broker_model.specs.Tables.{is_same_queue, distinct_queues}
@@ -79,3 +80,21 @@ without_own_twice client (Some lock) = by (bytes_eq lock.client client) refl
     by : (own : Bool) → bytes_eq lock.client client ≡ own → without_own client (cond own None (Some lock)) ≡ cond own None (Some lock)
     by true is = refl
     by false is = λ i. cond (is i) None (Some lock)
+
+-- what stands where something stood goes there once
+pub option_and_twice : {Y : Type 0} (value : Y) (o : Option Y) → option_and (option_and o (Some value)) (Some value) ≡ option_and o (Some value)
+option_and_twice value None = refl
+option_and_twice value (Some y) = refl
+
+-- a key more
+pub with_key : (hit held any named : Bool) → hit ≡ named → held ≡ any → cond hit true held ≡ (any || named)
+with_key true held any named is was = (λ i. true || any) ∙ either any ∙ (λ i. any || is i)
+  where
+    either : (any : Bool) → true ≡ (any || true)
+    either true = refl
+    either false = refl
+with_key false held any named is was = was ∙ either any ∙ (λ i. any || is i)
+  where
+    either : (any : Bool) → any ≡ (any || false)
+    either true = refl
+    either false = refl

@@ -193,8 +193,8 @@ fn unlock(slots: &mut Slots, group: &str, client: &str, queue: &QueueName)
     }
 }
 
-// Each of these queues that the client has is free then. Takes no memory.
-fn unlock_all(slots: &mut Slots, group: &str, client: &str, queues: &[QueueName])
+/// Each of these queues that the client has is free then. Takes no memory.
+pub(crate) fn unlock_all(slots: &mut Slots, group: &str, client: &str, queues: &[QueueName])
     ensures { (g t : List ℕ) (q : ℕ) → lock_in slots.new g t q
         ≡ (if bytes_eq group.now g && list_any (names_queue t q) queues.now then without_own client.now (lock_in slots.old g t q)
             else lock_in slots.old g t q) }
@@ -202,4 +202,26 @@ fn unlock_all(slots: &mut Slots, group: &str, client: &str, queues: &[QueueName]
     for queue in queues {
         unlock(slots, group, client, queue);
     }
+}
+
+/// Those of the queues that the client gets, each once. At `Err` each lock is as before.
+pub(crate) fn lock_queues(
+    alloc: Global,
+    slots: &mut Slots,
+    group: &str,
+    client: &str,
+    queues: &[QueueName],
+    now: u64,
+) -> Result<Vec<QueueName>, AllocError>
+    ensures granted { IfOk result (λ granted. granted.items
+        ≡ filter (λ q. not (keeps_off now client.now (lock_in slots.old group.now q.topic q.queue))) (distinct_queues queues.now)) }
+    ensures locked { IfOk result (λ granted. (g t : List ℕ) (q : ℕ) → lock_in slots.new g t q
+        ≡ (if bytes_eq group.now g && list_any (names_queue t q) granted.items then Some (lock_from client.now now) else lock_in slots.old g t q)) }
+    ensures same { OnErr result ((g t : List ℕ) (q : ℕ) → lock_in slots.new g t q ≡ lock_in slots.old g t q) }
+{
+    let granted = grant(alloc, slots, group, client, queues, now)?;
+    let locks = locks_for(alloc, client, now, granted.len())?;
+    make_slots(alloc, slots, group, granted.as_slice())?;
+    put_locks(slots, group, granted.as_slice(), locks);
+    Ok(granted)
 }
