@@ -90,7 +90,7 @@ and_any true f xs = refl
 and_any false f [] = refl
 and_any false f (x ∷ xs) = and_any false f xs
 
-in_turn : (a b c : Bool) → (a && b && c) ≡ (a && (b && c))
+pub in_turn : (a b c : Bool) → (a && b && c) ≡ (a && (b && c))
 in_turn true b c = refl
 in_turn false b c = refl
 

@@ -6,3 +6,6 @@ mod locks;
 mod table;
 
 pub use groups::Groups;
+
+#[cfg(test)]
+mod tests;
