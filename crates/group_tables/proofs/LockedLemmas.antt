@@ -49,9 +49,9 @@ apart_filter p (x ∷ xs) apart = by (p x) (any_fewer (is_same_queue x) p xs apa
 pub apart_distinct : (xs : List QueueName) → IsApart (distinct_queues xs)
 apart_distinct [] = tt
 apart_distinct (x ∷ xs) = (
-    any-filter_same (is_same_queue x) (λ other. not (is_same_queue x other)) false (λ other same. ap not same) (distinct_queues xs),
-    apart_filter (λ other. not (is_same_queue x other)) (distinct_queues xs) (apart_distinct xs),
-  )
+  any-filter_same (is_same_queue x) (λ other. not (is_same_queue x other)) false (λ other same. ap not same) (distinct_queues xs),
+  apart_filter (λ other. not (is_same_queue x other)) (distinct_queues xs) (apart_distinct xs),
+)
 
 -- ---- lock
 

@@ -22,9 +22,9 @@ take_or {A = A} (x ∷ xs) (suc i) d low = let one : suc i + 1 ≡ suc (i + 1) =
 -- what holds of each of a list holds of each but the last, and of the last
 pub popped : {X : Type 0} (P : X → Type 0) (old new : List X) (x : X) → old ≡ new ++ x ∷ [] → All P old → All P new × P x
 popped {X = X} P old new x is all = (
-    λ k d low. let at : slice_index_or old k d ≡ slice_index_or new k d = grind (arith, common_steps) in subst P at (all k d (grind (arith, common_steps))),
-    let at : slice_index_or old (length new) x ≡ x = grind (arith, common_steps) in subst P at (all (length new) x (grind (arith, common_steps))),
-  )
+  λ k d low. let at : slice_index_or old k d ≡ slice_index_or new k d = grind (arith, common_steps) in subst P at (all k d (grind (arith, common_steps))),
+  let at : slice_index_or old (length new) x ≡ x = grind (arith, common_steps) in subst P at (all (length new) x (grind (arith, common_steps))),
+)
 
 -- a change that is made once for all, made again for one more
 pub changed_again : {Y : Type 0} (change : Y → Y) → ((y : Y) → change (change y) ≡ change y) → (here any hit : Bool) (y : Y)

@@ -19,7 +19,6 @@ both false b x y = refl
 module _ {A S W K Y : Type 0} (see : W → K → Option Y) (old new : HashMap (String A) W S) (name : List ℕ) (was : Option W) (now : W) (change : K → Option Y → Option Y)
     (updates : (other : List ℕ) → get_by_text new other ≡ update bytes_eq (get_by_text old) name (Some now) other) (was_is : get_by_text old name ≡ was)
     (changed : (k : K) → see now k ≡ change k (option_and_then (λ w. see w k) was)) where
-
   by_name : (other : List ℕ) (k : K) (b : Bool) → (b ≡ true → name ≡ other) → (found : Option W) → found ≡ cond b (Some now) (get_by_text old other)
       → option_and_then (λ w. see w k) found ≡ cond b (change k (option_and_then (λ w. see w k) (get_by_text old other))) (option_and_then (λ w. see w k) (get_by_text old other))
   by_name other k true same found is =
@@ -40,10 +39,10 @@ pub after_none : {A S W K Y : Type 0} (see : W → K → Option Y) (old new : Ha
     → (other : List ℕ) (k : K) → option_and_then (λ w. see w k) (get_by_text new other) ≡ option_and_then (λ w. see w k) (get_by_text old other)
 after_none see old new name was now updates was_is same other k =
     after_change see old new name was now (λ k o. o) updates was_is same other k ∙ one (bytes_eq name other) (option_and_then (λ w. see w k) (get_by_text old other))
-    where
-      one : {X : Type 0} (b : Bool) (x : X) → cond b x x ≡ x
-      one true x = refl
-      one false x = refl
+  where
+    one : {X : Type 0} (b : Bool) (x : X) → cond b x x ≡ x
+    one true x = refl
+    one false x = refl
 
 -- where a value is set at the name and some place
 pub after_set : {A S W K Y : Type 0} (see : W → K → Option Y) (old new : HashMap (String A) W S) (name : List ℕ) (was : Option W) (now : W) (hit : K → Bool) (value : Option Y)

@@ -59,14 +59,7 @@ impl Groups {
 
         ensures locks { (g t : List ℕ) (q : ℕ) → lock_of self.new g t q ≡ lock_of self.old g t q }
     {
-        set_value(
-            self.alloc,
-            &mut self.offsets,
-            group,
-            topic,
-            queue,
-            offset,
-        )
+        set_value(self.alloc, &mut self.offsets, group, topic, queue, offset)
     }
     /// The client gets those of the queues that are free, its own, or whose lock was last renewed more than 60,000 ms before
     /// `now`: each once, in the order of the request, under the name of its first broker. At `Err` each lock is as before.
@@ -84,14 +77,7 @@ impl Groups {
         ensures same { OnErr result ((g t : List ℕ) (q : ℕ) → lock_of self.new g t q ≡ lock_of self.old g t q) }
         ensures offsets { (g t : List ℕ) (q : ℕ) → offset_of self.new g t q ≡ offset_of self.old g t q }
     {
-        let given = lock_queues(
-            self.alloc,
-            &mut self.slots,
-            group,
-            client,
-            queues,
-            now,
-        )?;
+        let given = lock_queues(self.alloc, &mut self.slots, group, client, queues, now)?;
         Ok(given)
     }
 

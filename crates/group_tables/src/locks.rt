@@ -129,12 +129,7 @@ fn make_slots(
 }
 
 // So many locks of the client.
-fn locks_for(
-    alloc: Global,
-    client: &str,
-    now: u64,
-    count: usize,
-) -> Result<Vec<Lock>, AllocError>
+fn locks_for(alloc: Global, client: &str, now: u64, count: usize) -> Result<Vec<Lock>, AllocError>
     ensures count { IfOk result (λ locks. length locks.items ≡ count) }
     ensures each { IfOk result (λ locks. All (λ lock. lock ≡ lock_from client.now now) locks.items) }
 {
@@ -153,7 +148,7 @@ fn put_locks(slots: &mut Slots, group: &str, queues: &[QueueName], locks: Vec<Lo
     requires { length locks.items ≡ length queues.now }
     ensures { (held : Lock) → All (λ lock. lock ≡ held) locks.items → (g t : List ℕ) (q : ℕ) → in_groups slots.new g t q
         ≡ (if bytes_eq group.now g && list_any (names_queue t q) queues.now then option_and (in_groups slots.old g t q) (Some (Some held))
-            else in_groups slots.old g t q) }
+        else in_groups slots.old g t q) }
 {
     let mut left = locks;
     for queue in queues {
@@ -168,7 +163,7 @@ fn put_locks(slots: &mut Slots, group: &str, queues: &[QueueName], locks: Vec<Lo
 fn put_lock(slots: &mut Slots, group: &str, queue: &QueueName, lock: Lock)
     ensures { (g t : List ℕ) (q : ℕ) → in_groups slots.new g t q
         ≡ (if bytes_eq group.now g && names_queue t q queue.now then option_and (in_groups slots.old g t q) (Some (Some lock))
-            else in_groups slots.old g t q) }
+        else in_groups slots.old g t q) }
 {
     change_value(
         slots,
@@ -197,7 +192,7 @@ fn unlock(slots: &mut Slots, group: &str, client: &str, queue: &QueueName)
 pub(crate) fn unlock_all(slots: &mut Slots, group: &str, client: &str, queues: &[QueueName])
     ensures { (g t : List ℕ) (q : ℕ) → lock_in slots.new g t q
         ≡ (if bytes_eq group.now g && list_any (names_queue t q) queues.now then without_own client.now (lock_in slots.old g t q)
-            else lock_in slots.old g t q) }
+        else lock_in slots.old g t q) }
 {
     for queue in queues {
         unlock(slots, group, client, queue);

@@ -123,7 +123,7 @@ pub(crate) fn change_value<V: Drop>(
 )
     ensures { (g t : List ℕ) (q : ℕ) → in_groups groups.new g t q
         ≡ (if bytes_eq group.now g && (bytes_eq topic.now t && (queue == q)) then option_and (in_groups groups.old g t q) value
-            else in_groups groups.old g t q) }
+        else in_groups groups.old g t q) }
 {
     if let Some(topics) = groups.get_mut(group) {
         change_in_topics(topics, topic, queue, value);

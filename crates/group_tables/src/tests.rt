@@ -54,7 +54,21 @@ fn each_queue_is_granted_once_under_its_first_name(rt: HostRuntime) -> Result<()
     ];
     let given = groups.lock_batch("G", "A", &wanted, 0)?;
     assert_eq!(rt; given.len(), 2);
-    assert_eq!(rt; (given[0].topic.as_str(), given[0].broker.as_str(), given[0].queue), ("T", "b", 1));
-    assert_eq!(rt; (given[1].topic.as_str(), given[1].broker.as_str(), given[1].queue), ("U", "b", 0));
+    assert_eq!(rt;
+        (
+            given[0].topic.as_str(),
+            given[0].broker.as_str(),
+            given[0].queue
+        ),
+        ("T", "b", 1)
+    );
+    assert_eq!(rt;
+        (
+            given[1].topic.as_str(),
+            given[1].broker.as_str(),
+            given[1].queue
+        ),
+        ("U", "b", 0)
+    );
     Ok(())
 }

@@ -22,10 +22,10 @@ loop-queue-preserved c =
     let is_new : c.in_ok-is_new.is_new ≡ not (list_any (names_queue queue.topic queue.queue) done) =
     c.in_ok-is_new.ensures.added ∙ ap not (seen (c.as_str.result, queue.queue) ∙ ap (λ (t : List ℕ). list_any (names_queue t queue.queue) done) c.as_str.ensures.value) in (
       λ k.
-      let more : list_any (names_queue k.0.now k.1) (take (i + 1) c.args.queues.now) ≡ (list_any (names_queue k.0.now k.1) done || names_queue k.0.now k.1 queue) =
-      list_any_more (names_queue k.0.now k.1) c.args.queues.now i queue c.loop-queue-test.true ∙ ap (λ x. list_any (names_queue k.0.now k.1) done || names_queue k.0.now k.1 x) (sym c.queue-item.is) in
-      c.in_ok-is_new.ensures.updates.0 k ∙ with_key (bytes_eq c.as_str.result.now k.0.now && (queue.queue == k.1)) _ _ (names_queue k.0.now k.1 queue) (ap (λ (t : List ℕ). bytes_eq t k.0.now && (queue.queue == k.1)) c.as_str.ensures.value) (seen k) ∙ sym more,
+          let more : list_any (names_queue k.0.now k.1) (take (i + 1) c.args.queues.now) ≡ (list_any (names_queue k.0.now k.1) done || names_queue k.0.now k.1 queue) =
+          list_any_more (names_queue k.0.now k.1) c.args.queues.now i queue c.loop-queue-test.true ∙ ap (λ x. list_any (names_queue k.0.now k.1) done || names_queue k.0.now k.1 x) (sym c.queue-item.is) in
+          c.in_ok-is_new.ensures.updates.0 k ∙ with_key (bytes_eq c.as_str.result.now k.0.now && (queue.queue == k.1)) _ _ (names_queue k.0.now k.1 queue) (ap (λ (t : List ℕ). bytes_eq t k.0.now && (queue.queue == k.1)) c.as_str.ensures.value) (seen k) ∙ sym more,
       c.in_ok-grant_next.ensures
-      ∙ (λ j. c.loop-queue.invariant.1 j ++ cond (is_new j && not (c.is_kept_off-is_free.ensures j)) (queue ∷ []) [])
-      ∙ sym (free_queues-push queue free done) ∙ ap (λ (l : List QueueName). filter free (distinct_queues l)) (sym longer),
+          ∙ (λ j. c.loop-queue.invariant.1 j ++ cond (is_new j && not (c.is_kept_off-is_free.ensures j)) (queue ∷ []) [])
+          ∙ sym (free_queues-push queue free done) ∙ ap (λ (l : List QueueName). filter free (distinct_queues l)) (sym longer),
     )
