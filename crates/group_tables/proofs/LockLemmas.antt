@@ -1,18 +1,16 @@
 -- The locks of a table and the rows that they equal, as clients ask for queues and free them.
-use Rattle.std.proofs.Common.{◌≡◌, ◌∙◌, ℕ, ◌+◌, ◌<◌, ◌++◌, List, [], ◌∷◌, length, slice_index_or, Bool, true, false, cond, ◌&&◌, ◌||◌, ◌==◌, not, nat_le, map, filter, refl, ap, sym, subst, true≢false, arith, All, Any, is_some, Option, Some, None}
+use Rattle.std.proofs.Common.{◌≡◌, ◌∙◌, ℕ, List, [], ◌∷◌, Bool, true, false, cond, ◌&&◌, ◌||◌, ◌==◌, not, filter, refl, ap, sym, subst, true≢false, arith, All, is_some, Option, Some, None}
 use Rattle.std.proofs.lemmas.Bool.{and_parts}
 use Rattle.std.proofs.lemmas.Bool.Decides.{Decides-eqb}
 use Rattle.std.proofs.lemmas.Slice.Eq.{bytes_eq-Decides}
-use Rattle.std.proofs.lemmas.List.Elements.{filter-append}
 use Rattle.std.proofs.lemmas.List.Folds.{Any-from_list_any}
-use Rattle.std.proofs.lemmas.Map.Views.{any-filter_same}
 use Rattle.std.specs.Cmp.Lexicographic.{nat_list_eq_equiv}
 use Rattle.std.specs.List.{list_any}
 use Rattle.std.specs.Option.{option_and, option_flatten, option_map, option_to_list}
 use Rattle.std.specs.Str.{bytes_eq}
 use Rattle.mq_bytes.specs.declared.clients.QueueName.{QueueName}
-use Rattle.broker_model.specs.Tables.{LockRow, is_lock_of, is_foreign, is_held_by_other, is_same_queue, distinct_queues, granted, lock_at, without_queues, with_locks, without_locks}
-use Rattle.group_tables.specs.Locks.{lock_in, keeps_off, without_own, lock_from, names_queue, lock_row}
+use Rattle.broker_model.specs.Tables.{LockRow, is_lock_of, is_foreign, is_held_by_other, without_locks}
+use Rattle.group_tables.specs.Locks.{keeps_off, without_own, names_queue, lock_row}
 use Rattle.group_tables.specs.declared.locks.Lock.{Lock}
 
 -- what holds of each queue of a list holds of one that is named

@@ -1,8 +1,7 @@
 -- One queue more, of those that a loop goes over.
-use Rattle.std.proofs.Common.{◌≡◌, ◌∙◌, ℕ, zero, suc, ◌+◌, ◌<◌, ◌++◌, List, [], ◌∷◌, take, get_or, length, slice_index_or, Bool, true, false, cond, ◌&&◌, ◌||◌, ◌==◌, not, filter, refl, ap, sym, subst, arith, All, Option, Some, None}
+use Rattle.std.proofs.Common.{◌≡◌, ◌∙◌, ℕ, zero, suc, ◌+◌, ◌<◌, ◌++◌, List, [], ◌∷◌, take, get_or, length, slice_index_or, Bool, true, false, cond, ◌&&◌, ◌||◌, ◌==◌, not, filter, refl, ap, subst, arith, All, Option, Some, None}
 use Rattle.std.proofs.lemmas.Grind.{common_steps}
 use Rattle.std.proofs.lemmas.List.Elements.{filter-append}
-use Rattle.std.proofs.lemmas.List.Folds.{list_any_more}
 use Rattle.std.specs.Cmp.Lexicographic.{nat_list_eq_equiv}
 use Rattle.std.specs.List.{list_any}
 use Rattle.std.specs.Option.{option_and}

@@ -1,5 +1,5 @@
 -- What is looked up in a table of tables, after a change of one of these.
-use Rattle.std.proofs.Common.{◌≡◌, ◌∙◌, ℕ, List, Bool, true, false, cond, ◌&&◌, refl, ap, sym, String, Option, Some, None, Result, Ok, Err, OnOk, OnErr}
+use Rattle.std.proofs.Common.{◌≡◌, ◌∙◌, ℕ, List, Bool, true, false, cond, ◌&&◌, refl, ap, sym, String, Option, Some, Result, Ok, Err, OnOk, OnErr}
 use Rattle.std.proofs.lemmas.Slice.Eq.{bytes_eq-Decides}
 use Rattle.std.specs.Str.{bytes_eq}
 use Rattle.std.specs.Option.{option_and, option_and_then}

@@ -1,7 +1,6 @@
-use Rattle.std.proofs.Common.{◌==◌, ◌&&◌, sym, rules, List, ℕ, Some}
-use Rattle.std.specs.Str.{bytes_eq}
+use Rattle.std.proofs.Common.{◌==◌, sym, rules, Some}
 use Rattle.std.proofs.lemmas.Map.Text.{hash_map_updates_text}
-use Rattle.group_tables.specs.Table.{in_queues, in_topics}
+use Rattle.group_tables.specs.Table.{in_queues}
 use Rattle.group_tables.proofs.TableLemmas.{after_and}
 use Rattle.group_tables.proofs.table.change_in_topics.Goals as goal
 

@@ -1,7 +1,7 @@
 use Rattle.std.proofs.Common.{◌==◌, ◌&&◌, sym, rules, List, ℕ, Some}
 use Rattle.std.specs.Str.{bytes_eq}
 use Rattle.std.proofs.lemmas.Map.Text.{hash_map_updates_text}
-use Rattle.group_tables.specs.Table.{in_queues, in_topics}
+use Rattle.group_tables.specs.Table.{in_topics}
 use Rattle.group_tables.proofs.TableLemmas.{after_and}
 use Rattle.group_tables.proofs.table.change_value.Goals as goal
 

@@ -1,4 +1,4 @@
-use Rattle.std.proofs.Common.{◌∙◌, ◌==◌, ap, sym, rules, List, ℕ, Option, Some, string_bytes, cond, nat_eq}
+use Rattle.std.proofs.Common.{◌∙◌, ◌==◌, sym, rules, Some, string_bytes, cond, nat_eq}
 use Rattle.std.specs.Str.{bytes_eq}
 use Rattle.std.specs.HashMap.{get_by_text}
 use Rattle.std.specs.Map.{update, lookup}

@@ -1,7 +1,7 @@
 use Rattle.std.proofs.Common.{◌≡◌, ◌∙◌, ◌==◌, ◌&&◌, sym, List, ℕ, Some, cond}
 use Rattle.std.specs.Str.{bytes_eq}
-use Rattle.broker_model.specs.Tables.{OffsetRow, with_offset}
-use Rattle.group_tables.specs.Offsets.{offset_of, offset_row, HasOffsets}
+use Rattle.broker_model.specs.Tables.{OffsetRow}
+use Rattle.group_tables.specs.Offsets.{offset_row, HasOffsets}
 use Rattle.group_tables.specs.Table.{in_groups}
 use Rattle.group_tables.proofs.TableLemmas.{on_ok}
 use Rattle.group_tables.proofs.OffsetLemmas.{in_turn, offset_in-with_offset}
