@@ -1,0 +1,5 @@
+pub mod TableLemmas
+pub mod OffsetLemmas
+pub mod LockLemmas
+pub mod LockedLemmas
+pub mod LoopLemmas

@@ -1,0 +1,4 @@
+pub mod Held
+pub mod Locks
+pub mod Offsets
+pub mod Table

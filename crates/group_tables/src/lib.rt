@@ -1,0 +1,11 @@
+//! What consumer groups keep: the offset of each queue, and which client has a queue for itself.
+#![tactic(auto)]
+
+mod groups;
+mod locks;
+mod table;
+
+pub use groups::Groups;
+
+#[cfg(test)]
+mod tests;
