@@ -1,5 +1,5 @@
 -- How bases count records, one list behind another.
-use Rattle.std.proofs.Common.{◌≡◌, refl, ap, sym, ◌∙◌, subst, arith, ℕ, zero, suc, ◌+◌, ◌-◌, List, [], ◌∷◌, ◌++◌, length, take, drop, cond, ◌==◌, length-append}
+use Rattle.std.proofs.Common.{◌≡◌, refl, ap, sym, ◌∙◌, subst, arith, ℕ, zero, suc, ◌+◌, ◌-◌, ◌<◌, ◌≤◌, true, slice_get, Some, List, [], ◌∷◌, ◌++◌, length, take, drop, cond, ◌==◌, length-append}
 use Rattle.std.proofs.lemmas.List.Sums.{sum_by-append, length-filter}
 use Rattle.std.specs.List.{count_by}
 use Rattle.std.specs.Prelude.{◌&&◌}
@@ -9,7 +9,8 @@ use Rattle.log_model.specs.Bases.{Base}
 use Rattle.log_model.specs.Kinds.{is_delivery}
 use Rattle.log_model.specs.Queues.{queue_of}
 use Rattle.broker_model.specs.Removal.{IsBaseAfter}
-use Rattle.core_laws.proofs.Lists.{drop_drop_less}
+use Rattle.core_laws.proofs.Lists.{drop_drop_less, take_take_less}
+use Rattle.core_laws.proofs.Counts.{count_take, count_before}
 
 pub take_plus : {A : Type 0} (a b : ℕ) (xs : List A) → take (a + b) xs ≡ take a xs ++ take b (drop a xs)
 take_plus {A = A} zero b xs = let same : 0 + b ≡ b = omega arith in ap (λ (n : ℕ). take n xs) same
@@ -33,7 +34,26 @@ count_queue xs ys t q = omega (
   sum_by-append (λ (r : Entry). cond (bytes_eq r.topic t && (r.queue == q)) 1 0) xs ys,
 )
 
-count_level : (xs ys : List Entry) (v : ℕ) → count_by (is_delivery v) (xs ++ ys) ≡ count_by (is_delivery v) xs + count_by (is_delivery v) ys
+-- more records have no fewer of a queue, and with one of this queue they have more
+pub longer_queue : (a b : ℕ) (log : List Entry) (t : List ℕ) (q : ℕ) → a ≤ b → length (queue_of (take a log) t q) ≤ length (queue_of (take b log) t q)
+longer_queue a b log t q low = omega (
+  arith,
+  length-filter (λ (r : Entry). bytes_eq r.topic t && (r.queue == q)) (take a log),
+  length-filter (λ (r : Entry). bytes_eq r.topic t && (r.queue == q)) (take b log),
+  count_take (λ (r : Entry). bytes_eq r.topic t && (r.queue == q)) a (take b log),
+  ap (λ (l : List Entry). count_by (λ (r : Entry). bytes_eq r.topic t && (r.queue == q)) l) (take_take_less a b log low),
+)
+
+pub queue_before : (k : ℕ) (log : List Entry) (r : Entry) (t : List ℕ) (q : ℕ) → slice_get log k ≡ Some r → (bytes_eq r.topic t && (r.queue == q)) ≡ true
+    → length (queue_of (take k log) t q) < length (queue_of log t q)
+queue_before k log r t q at is = omega (
+  arith,
+  length-filter (λ (x : Entry). bytes_eq x.topic t && (x.queue == q)) (take k log),
+  length-filter (λ (x : Entry). bytes_eq x.topic t && (x.queue == q)) log,
+  count_before (λ (x : Entry). bytes_eq x.topic t && (x.queue == q)) log k r at is,
+)
+
+pub count_level : (xs ys : List Entry) (v : ℕ) → count_by (is_delivery v) (xs ++ ys) ≡ count_by (is_delivery v) xs + count_by (is_delivery v) ys
 count_level xs ys v = sum_by-append (λ (r : Entry). cond (is_delivery v r) 1 0) xs ys
 
 pub base_same : (base later : Base) (xs ys : List Entry) → xs ≡ ys → IsBaseAfter base xs later → IsBaseAfter base ys later

@@ -44,7 +44,7 @@ verdict_writes s a end half origin state is eight named judged become =
     ∙ ap (λ (n : ℕ). first_verdict state (open_verdict s (max a.now s.now) n half origin)) eight)))
 
 -- the log behind it
-verdict_log : (s t : State) (a : Events.Asked) (answer : Events.Answer) → is_refused s (Events.Asks a) ≡ false → Step s (Events.Asks a) (Some answer) t
+pub verdict_log : (s t : State) (a : Events.Asked) (answer : Events.Answer) → is_refused s (Events.Asks a) ≡ false → Step s (Events.Asks a) (Some answer) t
     → t.log ≡ with_appended s.log (made_by s (Events.Asks a))
 unfolding appended
 verdict_log s t a answer fine step =

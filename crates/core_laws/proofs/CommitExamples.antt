@@ -5,7 +5,7 @@ use Rattle.mq_bytes.specs.Decimal.{decimal_value}
 use Rattle.record_codec.specs.LaxProps.{read_props, pieces}
 use Rattle.record_codec.specs.Props.{pair_in, until}
 use Rattle.log_model.specs.Numbered.{count_of}
-use Rattle.log_model.specs.Transactions.{copies}
+use Rattle.log_model.specs.Transactions.{Committed, copies, transaction_state}
 use Rattle.broker_model.specs.Events
 use Rattle.broker_model.specs.Refusals.{refusal_of}
 use Rattle.broker_model.specs.Appended.{appended, is_refused, drafts_of}
@@ -80,6 +80,16 @@ pub still_one_copy : copies at_again.now.log.records 0 ≡ 1
 unfolding read_props pieces pair_in until decimal_value digits after changed request_changed is_refused drafts_of refusal_of answer_of
     carried_out_answer request_answer appended
 still_one_copy = refl
+
+pub told_committed : transaction_state at_told.now.log.records 0 ≡ Committed
+unfolding read_props pieces pair_in until decimal_value digits after changed request_changed is_refused drafts_of refusal_of answer_of
+    carried_out_answer request_answer appended
+told_committed = refl
+
+pub again_committed : transaction_state at_again.now.log.records 0 ≡ Committed
+unfolding read_props pieces pair_in until decimal_value digits after changed request_changed is_refused drafts_of refusal_of answer_of
+    carried_out_answer request_answer appended
+again_committed = refl
 
 -- ---- the moves
 

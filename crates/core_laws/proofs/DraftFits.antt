@@ -1,7 +1,8 @@
 -- What the broker appends fits its log.
 use Rattle.std.proofs.Common.{◌≡◌, ◌≢◌, refl, ap, sym, ◌∙◌, subst, arith, ℕ, ◌<◌, List, [], slice_get, Bool, true, false, Option, Some, None, if◌then◌else◌}
-use Rattle.std.specs.Prelude.{bit_and, codes, ◌||◌, ◌==◌, unwrap_or}
+use Rattle.std.specs.Prelude.{bit_and, codes, ◌||◌, ◌&&◌, ◌==◌, unwrap_or}
 use Rattle.std.specs.Str.{bytes_eq}
+use Rattle.std.proofs.lemmas.Bool.{and_from, eq-eqb}
 use Rattle.mq_bytes.specs.Decimal.{digits_of}
 use Rattle.record_codec.specs.Entry.{Entry}
 use Rattle.record_codec.specs.Props.{value_of, with_prop, without, has_name}
@@ -9,15 +10,16 @@ use Rattle.record_codec.specs.LaxProps.{read_props}
 use Rattle.record_codec.specs.declared.draft.Draft.{Draft}
 use Rattle.record_codec.proofs.LastLemmas.{value_of-put, value_of-other, value_of-dropped, value_of-kept}
 use Rattle.log_model.specs.Admissible.{half_topic, level_topic, op_topic, discard_topic, is_system_topic}
-use Rattle.log_model.specs.Kinds.{is_half, is_delayed}
+use Rattle.log_model.specs.Kinds.{is_half, is_delayed, is_text}
 use Rattle.log_model.specs.Drafts.{text_in, plain_flag, copy_draft, op_draft, renewal_draft, renewed_props, discard_draft, delivery_draft}
 use Rattle.log_model.specs.Numbered.{Log, place_end}
 use Rattle.request_fields.specs.Requests.{SendSaid}
 use Rattle.broker_model.specs.Sends.{send_draft, half_draft, delayed_or_plain, plain_draft, kept_props, with_real, with_group, is_half_send, level_of, flag_of, queue_named}
 use Rattle.core_laws.specs.Kept.{IsKept, IsNumberText}
 use Rattle.core_laws.specs.KeptDrafts.{IsFitDraft}
+use Rattle.core_laws.proofs.Bases.{queue_before}
 use Rattle.core_laws.proofs.Kept.{ends_behind}
-use Rattle.core_laws.proofs.Texts.{same_text, text_equal, plain_bits}
+use Rattle.core_laws.proofs.Texts.{same_text, text_equal, plain_bits, number_once}
 
 -- texts that are told apart differ
 pub differ : (a b : List ℕ) → bytes_eq a b ≡ false → a ≢ b
@@ -64,6 +66,9 @@ plain_fits log d plain bits =
       bits = neither _ _ apart.half apart.level;
       real = neither _ _ apart.half apart.level;
       text = never _ apart.half;
+      queue = never _ apart.half;
+      names = never _ apart.half;
+      undelivered = neither _ _ apart.half apart.level;
     }
 
 -- ---- what is made of a record of the log
@@ -89,6 +94,9 @@ copy_fits log host half k kept at is =
       bits = neither _ _ apart.half apart.level;
       real = neither _ _ apart.half apart.level;
       text = never _ apart.half;
+      queue = never _ apart.half;
+      names = never _ apart.half;
+      undelivered = neither _ _ apart.half apart.level;
     }
 
 pub op_fits : (log : Log) (host : List ℕ) (now origin : ℕ) → IsFitDraft log (op_draft host now origin)
@@ -97,6 +105,9 @@ op_fits log host now origin = record {
   bits = neither _ _ refl refl;
   real = neither _ _ refl refl;
   text = never _ refl;
+  queue = never _ refl;
+  names = never _ refl;
+  undelivered = neither _ _ refl refl;
 }
 
 pub discard_fits : (log : Log) (host : List ℕ) (half : Entry) (k : ℕ) → IsKept log → slice_get log.records k ≡ Some half → IsFitDraft log (discard_draft host half)
@@ -105,6 +116,9 @@ discard_fits log host half k kept at = record {
   bits = neither _ _ refl refl;
   real = neither _ _ refl refl;
   text = never _ refl;
+  queue = never _ refl;
+  names = never _ refl;
+  undelivered = neither _ _ refl refl;
 }
 
 pub delivery_fits : (log : Log) (host : List ℕ) (level number : ℕ) (item : Entry) (k : ℕ) → IsKept log → slice_get log.records k ≡ Some item → is_delayed item ≡ true
@@ -114,8 +128,13 @@ delivery_fits log host level number item k kept at is =
     plain_fits log (delivery_draft host level number item) ((kept.each k item at).real waits) ((kept.each k item at).bits waits)
 
 -- a half message is in no other topic
-half_apart : (topic other : List ℕ) → topic ≡ half_topic → bytes_eq half_topic other ≡ false → bytes_eq topic other ≡ false
+pub half_apart : (topic other : List ℕ) → topic ≡ half_topic → bytes_eq half_topic other ≡ false → bytes_eq topic other ≡ false
 half_apart topic other is not = ap (λ (t : List ℕ). bytes_eq t other) is ∙ not
+
+pub renewed_unmarked : (n : ℕ) (origin : Entry) → value_of (codes "DELAY_FROM") origin.props ≡ None → value_of (codes "DELAY_FROM") (renewed_props n origin) ≡ None
+renewed_unmarked n origin none =
+    value_of-other (codes "DELAY_FROM") (codes "TRANSACTION_CHECK_TIMES") (digits_of n) (with_prop (codes "TRAN_PREPARED_QUEUE_OFFSET") (digits_of origin.queue_offset) origin.props) (differ _ _ refl)
+    ∙ (value_of-other (codes "DELAY_FROM") (codes "TRAN_PREPARED_QUEUE_OFFSET") (digits_of origin.queue_offset) origin.props (differ _ _ refl) ∙ none)
 
 pub renewal_fits : (log : Log) (host : List ℕ) (n : ℕ) (origin : Entry) (k : ℕ) → IsKept log → slice_get log.records k ≡ Some origin → is_half origin ≡ true
     → IsFitDraft log (renewal_draft host n origin)
@@ -133,6 +152,18 @@ renewal_fits log host n origin k kept at is =
       bits = λ any. before.bits waits;
       real = λ any. ap (λ (o : Option (List ℕ)). is_system_topic (unwrap_or o [])) real ∙ before.real waits;
       text = λ any. subst IsNumberText (sym text) (origin.queue_offset, before.low is, refl);
+      undelivered = λ any. renewed_unmarked n origin (before.undelivered waits);
+      queue = λ any. (kept.halves k origin at is).queue;
+      names = λ any h low named.
+          let same = same_text (digits_of origin.queue_offset) (digits_of h) (subst (λ (o : Option (List ℕ)). is_text (digits_of h) o ≡ true) text named) in
+          let one : origin.queue_offset ≡ h = number_once origin.queue_offset h (before.low is) low same in
+          let half = kept.halves k origin at is in
+          omega (
+            arith,
+            one,
+            half.queue_offset,
+            queue_before k log.records origin half_topic 0 at (and_from (is_half origin) (origin.queue == 0) is (eq-eqb origin.queue 0 half.queue)),
+          );
     }
 
 -- ---- sends
@@ -165,6 +196,36 @@ half_text group topic queue text =
     ∙ (value_of-other (codes "TRAN_PREPARED_QUEUE_OFFSET") (codes "REAL_TOPIC") topic (without (codes "DELAY") (kept_props text)) (differ _ _ refl)
     ∙ (value_of-kept (codes "TRAN_PREPARED_QUEUE_OFFSET") (codes "DELAY") (kept_props text) (differ _ _ refl) ∙ kept_without text)))
 
+-- ---- no delivery
+
+sent_unmarked : (text : List ℕ) → value_of (codes "DELAY_FROM") (kept_props text) ≡ None
+sent_unmarked text =
+    value_of-kept (codes "DELAY_FROM") (codes "SEAL") (without (codes "REAL_TOPIC") (without (codes "REAL_QID") (without (codes "DELAY_FROM") (without (codes "TRAN_PREPARED_QUEUE_OFFSET") (without (codes "TRANSACTION_CHECK_TIMES") (read_props text)))))) (differ _ _ refl)
+    ∙ (value_of-kept (codes "DELAY_FROM") (codes "REAL_TOPIC") (without (codes "REAL_QID") (without (codes "DELAY_FROM") (without (codes "TRAN_PREPARED_QUEUE_OFFSET") (without (codes "TRANSACTION_CHECK_TIMES") (read_props text))))) (differ _ _ refl)
+    ∙ (value_of-kept (codes "DELAY_FROM") (codes "REAL_QID") (without (codes "DELAY_FROM") (without (codes "TRAN_PREPARED_QUEUE_OFFSET") (without (codes "TRANSACTION_CHECK_TIMES") (read_props text)))) (differ _ _ refl)
+    ∙ value_of-dropped (codes "DELAY_FROM") (without (codes "TRAN_PREPARED_QUEUE_OFFSET") (without (codes "TRANSACTION_CHECK_TIMES") (read_props text)))))
+
+real_unmarked : (topic : List ℕ) (queue : ℕ) (props : List (List ℕ × List ℕ)) → value_of (codes "DELAY_FROM") props ≡ None → value_of (codes "DELAY_FROM") (with_real topic queue props) ≡ None
+real_unmarked topic queue props none = value_of-other (codes "DELAY_FROM") (codes "REAL_QID") (digits_of queue) (with_prop (codes "REAL_TOPIC") topic props) (differ _ _ refl)
+    ∙ (value_of-other (codes "DELAY_FROM") (codes "REAL_TOPIC") topic props (differ _ _ refl) ∙ none)
+
+half_unmarked : (send : SendSaid) → value_of (codes "DELAY_FROM") (with_group send.group (with_real send.topic (queue_named send.queue) (without (codes "DELAY") (kept_props send.props)))) ≡ None
+half_unmarked send =
+    group_other (codes "DELAY_FROM") send.group (with_real send.topic (queue_named send.queue) (without (codes "DELAY") (kept_props send.props))) (differ _ _ refl)
+    ∙ real_unmarked send.topic (queue_named send.queue) (without (codes "DELAY") (kept_props send.props))
+    (value_of-kept (codes "DELAY_FROM") (codes "DELAY") (kept_props send.props) (differ _ _ refl) ∙ sent_unmarked send.props)
+
+-- no send is one
+pub send_unmarked : (host born : List ℕ) (send : SendSaid) → value_of (codes "DELAY_FROM") (send_draft host born send).props ≡ None
+send_unmarked host born send =
+    elim (is_half_send send) as (λ b. value_of (codes "DELAY_FROM") (if b then half_draft send.group (plain_draft host born send) else delayed_or_plain (level_of send) (plain_draft host born send)).props ≡ None) [
+      | true ↦ half_unmarked send
+      | false ↦ elim (level_of send) as (λ level. value_of (codes "DELAY_FROM") (delayed_or_plain level (plain_draft host born send)).props ≡ None) [
+        | None ↦ sent_unmarked send.props
+        | Some level ↦ real_unmarked send.topic (queue_named send.queue) (kept_props send.props) (sent_unmarked send.props)
+      ]
+    ]
+
 pub send_fits : (log : Log) (host born : List ℕ) (send : SendSaid) → is_system_topic send.topic ≡ false → IsFitDraft log (send_draft host born send)
 send_fits log host born send plain =
     elim (is_half_send send) as (λ b. IsFitDraft log (if b then half_draft send.group (plain_draft host born send) else delayed_or_plain (level_of send) (plain_draft host born send))) [
@@ -174,6 +235,10 @@ send_fits log host born send plain =
         real = λ any. ap (λ (o : Option (List ℕ)). is_system_topic (unwrap_or o []))
             (group_other (codes "REAL_TOPIC") send.group (with_real send.topic (queue_named send.queue) (without (codes "DELAY") (kept_props send.props))) (differ _ _ refl) ∙ real_topic send.topic (queue_named send.queue) (without (codes "DELAY") (kept_props send.props))) ∙ plain;
         text = λ any. subst IsNumberText (sym (half_text send.group send.topic (queue_named send.queue) send.props)) tt;
+        undelivered = λ any. half_unmarked send;
+        queue = λ any. refl;
+        names = λ any h low named. absurd (let no = subst (λ (o : Option (List ℕ)). is_text (digits_of h) o ≡ true)
+            (half_text send.group send.topic (queue_named send.queue) send.props) named in cc);
       }
       | false ↦ elim (level_of send) as (λ level. IsFitDraft log (delayed_or_plain level (plain_draft host born send))) [
         | None ↦ plain_fits log (plain_draft host born send) plain bits
@@ -182,6 +247,9 @@ send_fits log host born send plain =
           bits = λ any. bits;
           real = λ any. ap (λ (o : Option (List ℕ)). is_system_topic (unwrap_or o [])) (real_topic send.topic (queue_named send.queue) (kept_props send.props)) ∙ plain;
           text = never _ refl;
+          queue = never _ refl;
+          names = never _ refl;
+          undelivered = λ any. real_unmarked send.topic (queue_named send.queue) (kept_props send.props) (sent_unmarked send.props);
         }
       ]
     ]

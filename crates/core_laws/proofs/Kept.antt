@@ -7,13 +7,15 @@ use Rattle.std.proofs.lemmas.Option.{same_Some}
 use Rattle.std.proofs.lemmas.Bool.{cases_lt}
 use Rattle.record_codec.specs.Entry.{Entry}
 use Rattle.record_codec.specs.Layout.{size}
+use Rattle.log_model.specs.Admissible.{half_topic}
 use Rattle.log_model.specs.Bases.{Base}
 use Rattle.log_model.specs.Log.{end_from}
 use Rattle.log_model.specs.Numbered.{Log, with_appended, above, below, place_end}
-use Rattle.log_model.specs.Queues.{queue_of}
+use Rattle.log_model.specs.Kinds.{is_half}
+use Rattle.log_model.specs.Queues.{queue_of, queue_end}
 use Rattle.log_model.proofs.Places.{end_of-append}
 use Rattle.broker_model.specs.Removal.{IsBaseAfter}
-use Rattle.core_laws.specs.Kept.{IsKept, IsKeptBehind}
+use Rattle.core_laws.specs.Kept.{IsKept, IsKeptBehind, IsHalfBehind}
 use Rattle.core_laws.proofs.Lists.{get_append, get_take, take_get, drop_get, take_left, take_take_less, length_take, within}
 use Rattle.core_laws.proofs.Bases.{count_queue, take_plus}
 
@@ -40,24 +42,31 @@ ends_behind log i x kept at = end_behind log.base.place log.records i x (λ k r 
 -- ---- a longer log
 
 -- one more record
-pub kept_one : (log : Log) (r : Entry) → IsKept log → IsKeptBehind log.records r → place_end log ≤ r.offset → IsKept (with_appended log (r ∷ []))
-kept_one log r kept behind place = record { each = each; counted = counted }
+pub kept_one : (log : Log) (r : Entry) → IsKept log → IsKeptBehind log.records r → (is_half r ≡ true → IsHalfBehind log.base log.records r)
+    → place_end log ≤ r.offset → IsKept (with_appended log (r ∷ []))
+kept_one log r kept behind half place = record {
+  each = each IsKeptBehind kept.each behind;
+  halves = each (λ l x. is_half x ≡ true → IsHalfBehind log.base l x) kept.halves half;
+  counted = counted;
+}
   where
     old : (i : ℕ) → i ≤ length log.records → take i log.records ≡ take i (log.records ++ r ∷ [])
     old i low = sym (take_left i log.records (r ∷ []) low)
 
-    last : (i j : ℕ) (x : Entry) → i ≡ length log.records + j → slice_get (r ∷ []) j ≡ Some x → IsKeptBehind (take i (log.records ++ r ∷ [])) x
-    last i zero x at got =
+    last : (P : List Entry → Entry → Type 0) → P log.records r → (i j : ℕ) (x : Entry) → i ≡ length log.records + j → slice_get (r ∷ []) j ≡ Some x
+        → P (take i (log.records ++ r ∷ [])) x
+    last P new i zero x at got =
         let is : i ≡ length log.records = omega (arith, at) in
         let all : take i (log.records ++ r ∷ []) ≡ log.records = ap (λ (n : ℕ). take n (log.records ++ r ∷ [])) is
         ∙ (take_left (length log.records) log.records (r ∷ []) (omega arith) ∙ take_all (length log.records) log.records (omega arith)) in
-        subst (λ (l : List Entry). IsKeptBehind l x) (sym all) (subst (λ (y : Entry). IsKeptBehind log.records y) (same_Some r x got) behind)
-    last i (suc j) x at got = absurd (cc)
+        subst (λ (l : List Entry). P l x) (sym all) (subst (λ (y : Entry). P log.records y) (same_Some r x got) new)
+    last P new i (suc j) x at got = absurd (cc)
 
-    each : (i : ℕ) (x : Entry) → slice_get (log.records ++ r ∷ []) i ≡ Some x → IsKeptBehind (take i (log.records ++ r ∷ [])) x
-    each i x got = elim (get_append log.records (r ∷ []) i x got) [
-      | inl h ↦ subst (λ (l : List Entry). IsKeptBehind l x) (old i (omega (arith, within log.records i x h))) (kept.each i x h)
-      | inr h ↦ last i h.0 x h.1 h.2
+    each : (P : List Entry → Entry → Type 0) → ((i : ℕ) (x : Entry) → slice_get log.records i ≡ Some x → P (take i log.records) x) → P log.records r
+        → (i : ℕ) (x : Entry) → slice_get (log.records ++ r ∷ []) i ≡ Some x → P (take i (log.records ++ r ∷ [])) x
+    each P before new i x got = elim (get_append log.records (r ∷ []) i x got) [
+      | inl h ↦ subst (λ (l : List Entry). P l x) (old i (omega (arith, within log.records i x h))) (before i x h)
+      | inr h ↦ last P new i h.0 x h.1 h.2
     ]
 
     one_more : (topic : List ℕ) (queue : ℕ) → length (queue_of (r ∷ []) topic queue) ≤ 1
@@ -100,6 +109,10 @@ kept_below log n kept = record {
   each = λ i r at.
       let h = get_take (n - log.base.records) i log.records r at in
       subst (λ (l : List Entry). IsKeptBehind l r) (sym (take_take_less i (n - log.base.records) log.records (omega (arith, h.1)))) (kept.each i r h.0);
+  halves = λ i r at.
+      let h = get_take (n - log.base.records) i log.records r at in
+      subst (λ (l : List Entry). is_half r ≡ true → IsHalfBehind log.base l r) (sym (take_take_less i (n - log.base.records) log.records (omega (arith, h.1))))
+      (kept.halves i r h.0);
   counted = λ k topic queue. elim (cases_lt (n - log.base.records) k) [
     | inl high ↦ subst (λ (l : List Entry). log.base.queues topic queue + length (queue_of l topic queue) ≤ end_from log.base.place l)
         (sym (take_all k (take (n - log.base.records) log.records) (omega (arith, high, length-take (n - log.base.records) log.records))))
@@ -135,7 +148,24 @@ behind_left log n i r kept = record {
   real = kept.real;
   low = kept.low;
   text = kept.text;
+  undelivered = kept.undelivered;
 }
+
+-- and it counts the same half messages, with those that are gone
+half_left : (base later : Base) (log : List Entry) (n i : ℕ) (r : Entry) → IsBaseAfter base (take n log) later → IsHalfBehind base (take (n + i) log) r
+    → IsHalfBehind later (take i (drop n log)) r
+half_left base later log n i r counts half =
+    let same : queue_end base (take (n + i) log) half_topic 0 ≡ queue_end later (take i (drop n log)) half_topic 0 = omega (
+      arith,
+      counts.queues half_topic 0,
+      count_queue (take n log) (take i (drop n log)) half_topic 0,
+      ap (λ (l : List Entry). length (queue_of l half_topic 0)) (take_plus n i log),
+    ) in
+    record {
+      queue = half.queue;
+      queue_offset = half.queue_offset ∙ same;
+      names = λ h low is. omega (arith, half.names h low is, same);
+    }
 
 pub kept_above : (log : Log) (later : Base) (n : ℕ) → n ≤ length log.records → IsBaseAfter log.base (take n log.records) later
     → ((topic : List ℕ) (queue : ℕ) → later.queues topic queue ≤ later.place) → IsKept log → IsKept (above log later)
@@ -143,6 +173,7 @@ kept_above log later n long counts low kept =
     let number : later.records - log.base.records ≡ n = omega (arith, counts.records, length_take n log.records long) in
     subst (λ (m : ℕ). IsKept (record { base = later; records = drop m log.records })) (sym number) (record {
       each = λ i r at. behind_left log.records n i r (kept.each (n + i) r (drop_get n i log.records r at));
+      halves = λ i r at is. half_left log.base later log.records n i r counts (kept.halves (n + i) r (drop_get n i log.records r at) is);
       counted = λ k topic queue. rest_counted log.base later (take n log.records) (take k (drop n log.records)) topic queue (counts.queues topic queue) (low topic queue)
           (subst (λ (l : List Entry). log.base.queues topic queue + length (queue_of l topic queue) ≤ end_from log.base.place l)
           (take_plus n k log.records) (kept.counted (n + k) topic queue));

@@ -1,10 +1,13 @@
 -- The next record of a draft that fits keeps the log.
-use Rattle.std.proofs.Common.{◌≡◌, subst, arith, ℕ, ◌+◌, ◌<◌, ◌≤◌, ◌^◌, List, [], ◌∷◌, length, take}
+use Rattle.std.proofs.Common.{◌≡◌, ap, ◌∙◌, subst, arith, ℕ, ◌+◌, ◌<◌, ◌≤◌, ◌^◌, List, [], ◌∷◌, length, take}
+use Rattle.std.specs.Str.{bytes_eq}
+use Rattle.std.proofs.lemmas.Bool.{and_parts}
 use Rattle.std.proofs.lemmas.List.{take_all}
 use Rattle.record_codec.specs.Entry.{Entry}
 use Rattle.record_codec.specs.Layout.{size}
 use Rattle.record_codec.specs.Drafts.{draft_size}
 use Rattle.record_codec.specs.declared.draft.Draft.{Draft}
+use Rattle.log_model.specs.Admissible.{half_topic}
 use Rattle.log_model.specs.Log.{end_from}
 use Rattle.log_model.specs.Numbered.{Log, with_appended, next_record, queue_max, place_end}
 use Rattle.log_model.specs.Queues.{queue_of}
@@ -12,6 +15,7 @@ use Rattle.log_model.proofs.FirstFits.{place_behind}
 use Rattle.core_laws.specs.Kept.{IsKept}
 use Rattle.core_laws.specs.KeptDrafts.{IsFitDraft}
 use Rattle.core_laws.proofs.Kept.{kept_one, ends_behind}
+use Rattle.core_laws.proofs.Texts.{same_text}
 
 -- a queue has no more records than there are places
 pub queue_low : (log : Log) (topic : List ℕ) (queue : ℕ) → IsKept log → queue_max log topic queue ≤ place_end log
@@ -31,4 +35,9 @@ kept_next S now log d some kept fit high =
       real = fit.real;
       low = λ is. omega (arith, queue_low log d.topic d.queue kept, behind, high);
       text = fit.text;
+      undelivered = fit.undelivered;
+    }) (λ is. record {
+      queue = fit.queue is;
+      queue_offset = ap (λ (t : List ℕ). queue_max log t d.queue) (same_text d.topic half_topic is) ∙ ap (λ (q : ℕ). queue_max log half_topic q) (fit.queue is);
+      names = λ h low renewal. fit.names is h low (and_parts (bytes_eq d.topic half_topic) _ renewal).1;
     }) behind

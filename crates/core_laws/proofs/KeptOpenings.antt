@@ -1,29 +1,32 @@
 -- A lawful log is kept, so a run begins with a kept one.
-use Rattle.std.proofs.Common.{◌≡◌, inl, inr, refl, ap, sym, subst, arith, ℕ, zero, suc, ◌+◌, ◌<◌, ◌≤◌, List, [], ◌∷◌, ◌++◌, length, take, slice_get, true, false, Option, Some, None}
+use Rattle.std.proofs.Common.{◌≡◌, inl, inr, refl, ap, sym, ◌∙◌, subst, arith, ℕ, zero, suc, ◌+◌, ◌<◌, ◌≤◌, ◌^◌, if◌then◌else◌, List, [], ◌∷◌, ◌++◌, length, take, slice_get, Bool, true, false, Option, Some, None}
 use Rattle.std.specs.Prelude.{codes, bit_and, ◌||◌, IsSome, IfSome, unwrap_or}
-use Rattle.std.proofs.lemmas.Bool.{or_cases, eqb-true}
+use Rattle.std.specs.Str.{bytes_eq}
+use Rattle.std.specs.Str.Parse.{digits_value}
+use Rattle.mq_bytes.specs.Decimal.{digits_of}
+use Rattle.std.proofs.lemmas.Bool.{or_cases, and_parts, eqb-true}
 use Rattle.std.proofs.lemmas.List.{take_all}
 use Rattle.record_codec.specs.Entry.{Entry}
 use Rattle.record_codec.specs.Layout.{size}
 use Rattle.record_codec.specs.Props.{value_of}
-use Rattle.log_model.specs.Admissible.{IsAdmissible, Waits, IsPlainTopic, is_system_topic, number_in}
+use Rattle.log_model.specs.Admissible.{IsAdmissible, Waits, IsPlainTopic, is_system_topic, most_queues, half_topic, op_topic, discard_topic, number_in, number_of, number_at}
 use Rattle.log_model.specs.Bases.{Base, geometry}
-use Rattle.log_model.specs.Kinds.{is_half, is_delayed, is_copy, is_discard}
+use Rattle.log_model.specs.Kinds.{is_half, is_delayed, is_copy, is_discard, is_text, origin_text}
 use Rattle.log_model.specs.Log.{IsGeometry, IsWellFormed, Follows, end_from, end_of}
 use Rattle.log_model.specs.Numbered.{Log, IsLawful}
-use Rattle.log_model.specs.Queues.{queue_of}
+use Rattle.log_model.specs.Queues.{queue_of, queue_end}
 use Rattle.log_model.proofs.FirstFits.{place_behind}
 use Rattle.broker_model.specs.State.{State}
 use Rattle.broker_model.specs.Run.{Boot, IsAmong, IsOpening}
-use Rattle.core_laws.specs.Kept.{IsKept, IsKeptBoot, IsNumberText}
+use Rattle.core_laws.specs.Kept.{IsKept, IsKeptBoot, IsNumberText, IsHalfBehind}
 use Rattle.core_laws.proofs.Kept.{kept_one, ends_behind}
 use Rattle.core_laws.proofs.KeptDrafts.{queue_low}
 use Rattle.core_laws.proofs.Runs.{opening_sound}
-use Rattle.core_laws.proofs.Texts.{number_text}
+use Rattle.core_laws.proofs.Texts.{number_text, number_is, number_value, same_text}
 
 -- no record is a kept log
 none_kept : (S : ℕ) (base : Base) → IsGeometry (geometry S base) → IsKept (record { base = base; records = [] })
-none_kept S base site = record { each = λ i r at. absurd (cc); counted = counted }
+none_kept S base site = record { each = λ i r at. absurd (cc); halves = λ i r at. absurd (cc); counted = counted }
   where
     low : (topic : List ℕ) (queue : ℕ) → base.queues topic queue + 0 ≤ base.place
     low topic queue = omega (arith, site.counted topic queue, site.some)
@@ -52,21 +55,52 @@ plain_real : (o : Option (List ℕ)) → IsSome o × IfSome o IsPlainTopic → i
 plain_real None has = absurd (let h = has.0 in cc)
 plain_real (Some topic) has = has.1.1
 
-half_or_delayed : (r : Entry) → IsAdmissible r → (is_half r || is_delayed r) ≡ true → Waits r
-half_or_delayed r shaped is = elim (or_cases (is_half r) (is_delayed r) is) [
-  | inl half ↦ (shaped.half half).0
-  | inr delayed ↦ shaped.level delayed
+half_or_delayed : (S : ℕ) (r : Entry) → IsAdmissible S r → (is_half r || is_delayed r) ≡ true → Waits r
+half_or_delayed S r may is = elim (or_cases (is_half r) (is_delayed r) is) [
+  | inl half ↦ (may.half half).waits
+  | inr delayed ↦ (may.level delayed).waits
 ]
 
-copy_or_discard : (r : Entry) → IsAdmissible r → (is_copy r || is_discard r) ≡ true → r.prepared < r.offset
-copy_or_discard r shaped is = elim (or_cases (is_copy r) (is_discard r) is) [
-  | inl copy ↦ shaped.copy (eqb-true (bit_and r.sysflag 12) 8 copy)
-  | inr discard ↦ shaped.checked discard
+copy_or_discard : (S : ℕ) (r : Entry) → IsAdmissible S r → (is_copy r || is_discard r) ≡ true → r.prepared < r.offset
+copy_or_discard S r may is = elim (or_cases (is_copy r) (is_discard r) is) [
+  | inl copy ↦ may.copy (eqb-true (bit_and r.sysflag 12) 8 copy)
+  | inr discard ↦ may.discard discard
 ]
 
 renewal_text : (o : Option (List ℕ)) → IfSome o (λ text. IsSome (number_in text)) → IsNumberText o
 renewal_text None has = tt
 renewal_text (Some text) has = number_text text has
+
+-- a message that waits is in a topic of the broker
+system_topic : (r : Entry) → (is_half r || is_delayed r) ≡ true → is_system_topic r.topic ≡ true
+system_topic r is = either (is_half r) (is_delayed r) (bytes_eq r.topic op_topic) (bytes_eq r.topic discard_topic) is
+  where
+    either : (half level op discard : Bool) → (half || level) ≡ true → (level || half || op || discard) ≡ true
+    either half true op discard e = refl
+    either true false op discard e = refl
+    either false false op discard e = absurd (cc)
+
+-- the number that a renewal names is the one of its text
+named_text : (o : Option (List ℕ)) (halves h : ℕ) → h < 2 ^ 64 → IfSome o (λ text. IsSome (number_in text)) → IfSome (number_at o) (λ n. n < halves)
+    → is_text (digits_of h) o ≡ true → h < halves
+named_text None halves h low has below is = absurd (cc)
+named_text (Some text) halves h low has below is =
+    let value : digits_value 10 text ≡ h = ap (digits_value 10) (same_text text (digits_of h) is) ∙ number_value h low in
+    subst (λ (n : ℕ). n < halves) value (subst (λ (o : Option ℕ). IfSome o (λ n. n < halves)) (number_is text has) below)
+
+half_behind : (S : ℕ) (base : Base) (log : List Entry) (r : Entry) → is_half r ≡ true → Follows (geometry S base) log r → IsHalfBehind base log r
+half_behind S base log r is follows =
+    let topic : r.topic ≡ half_topic = same_text r.topic half_topic is in
+    let most : r.queue < 1 = subst (λ (t : List ℕ). r.queue < most_queues t) topic follows.admissible.queue in
+    let queue : r.queue ≡ 0 = omega (arith, most) in
+    record {
+      queue = queue;
+      queue_offset = follows.queue_offset ∙ (ap (λ (t : List ℕ). queue_end base log t r.queue) topic ∙ ap (λ (q : ℕ). queue_end base log half_topic q) queue);
+      names = λ h low named. named_text (origin_text r) (queue_end base log half_topic 0) h low follows.admissible.renewal
+          (subst (λ (t : List ℕ). IfSome (if bytes_eq t op_topic then number_of r.body else (if bytes_eq t half_topic then number_at (origin_text r) else None))
+          (λ n. n < queue_end base log half_topic 0)) topic follows.names)
+          (and_parts (is_half r) (is_text (digits_of h) (origin_text r)) named).1;
+    }
 
 follows_kept : (S : ℕ) (base : Base) (log : List Entry) (r : Entry) → 0 < S → IsKept (record { base = base; records = log })
     → Follows (geometry S base) log r → IsKept (record { base = base; records = log ++ r ∷ [] })
@@ -74,12 +108,13 @@ follows_kept S base log r some kept follows =
     let place : end_of base log ≤ r.offset = omega (arith, follows.place, place_behind S (end_of base log) (size r) some) in
     kept_one (record { base = base; records = log }) r kept (record {
       place = λ i x at. omega (arith, ends_behind (record { base = base; records = log }) i x kept at, place);
-      prepared = copy_or_discard r follows.shaped;
-      bits = λ is. (half_or_delayed r follows.shaped is).bits;
-      real = λ is. plain_real (value_of (codes "REAL_TOPIC") r.props) (half_or_delayed r follows.shaped is).topic;
+      prepared = copy_or_discard S r follows.admissible;
+      bits = λ is. (half_or_delayed S r follows.admissible is).bits;
+      real = λ is. plain_real (value_of (codes "REAL_TOPIC") r.props) (half_or_delayed S r follows.admissible is).topic;
       low = λ is. omega (arith, follows.queue_offset, queue_low (record { base = base; records = log }) r.topic r.queue kept, place, follows.low);
-      text = λ is. renewal_text (value_of (codes "TRAN_PREPARED_QUEUE_OFFSET") r.props) follows.shaped.renewal;
-    }) place
+      text = λ is. renewal_text (value_of (codes "TRAN_PREPARED_QUEUE_OFFSET") r.props) follows.admissible.renewal;
+      undelivered = λ is. follows.admissible.undelivered (system_topic r is);
+    }) (λ is. half_behind S base log r is follows) place
 
 -- ---- a whole log
 

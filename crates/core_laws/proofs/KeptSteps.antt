@@ -70,7 +70,7 @@ sixth_fails false false false false false true u v w x y z more none = absurd (c
 sixth_fails false false false false false false u v w x y z more none = refl
 
 -- a send that isn't refused is for a topic of clients
-send_plain : (s : State) (send : SendSaid) → send_refusal s send ≡ None → is_system_topic send.topic ≡ false
+pub send_plain : (s : State) (send : SendSaid) → send_refusal s send ≡ None → is_system_topic send.topic ≡ false
 send_plain s send none = sixth_fails (not (is_legal send.topic)) (not (are_hosts_short (flag_of send))) (nat_lt 4194304 (length send.body))
     (nat_lt 31999 (length send.props)) (nat_lt s.setup.segment (length send.body + length send.props + 1024)) (is_system_topic send.topic)
     (plain_reply 13 (codes "topic")) (plain_reply 13 (codes "sysFlag")) (plain_reply 13 (codes "body")) (plain_reply 13 (codes "properties"))
@@ -120,7 +120,7 @@ request_fits s S now time host (EndTransaction end) kept none =
 request_fits s S now time host _ kept none = tt
 
 -- the last of some records is one of them
-last_there : (records : List Entry) (r : Entry) → last_of records ≡ Some r → (k : ℕ) × (slice_get records k ≡ Some r)
+pub last_there : (records : List Entry) (r : Entry) → last_of records ≡ Some r → (k : ℕ) × (slice_get records k ≡ Some r)
 last_there [] r is = absurd (cc)
 last_there (x ∷ []) r is = (0, is)
 last_there (x ∷ y ∷ more) r is = let there = last_there (y ∷ more) r is in (suc there.0, there.1)

@@ -1,5 +1,5 @@
 -- Number texts, flags, and what is found in lists.
-use Rattle.std.proofs.Common.{◌≡◌, refl, sym, subst, arith, ℕ, suc, ◌-◌, ◌<◌, ◌^◌, List, [], ◌∷◌, Bool, true, false, Option, Some, None, find, slice_get, if◌then◌else◌, cond}
+use Rattle.std.proofs.Common.{◌≡◌, refl, ap, sym, ◌∙◌, subst, arith, ℕ, suc, ◌-◌, ◌<◌, ◌^◌, List, [], ◌∷◌, Bool, true, false, Option, Some, None, find, slice_get, if◌then◌else◌, cond}
 use Rattle.std.specs.Prelude.{bit_and, ℤ, pos, neg_ℤ, nat_lt, nat_le, ◌&&◌, not, ◌==◌, IsSome, length, drop, slice_index, ◌||◌}
 use Rattle.std.specs.Str.{bytes_eq, all_ascii_digits}
 use Rattle.std.specs.Str.Parse.{digits_value, starts_with_minus}
@@ -44,8 +44,12 @@ plain_bits flag = omega (arith, and_assoc 12 flag 0xFFFF_FFF3, and_le_r flag 0)
 pub number_value : (k : ℕ) → k < 2 ^ 64 → digits_value 10 (digits_of k) ≡ k
 number_value k low = (digits_of_are_plain k low).1
 
+-- one text writes one number
+pub number_once : (j k : ℕ) → j < 2 ^ 64 → k < 2 ^ 64 → digits_of j ≡ digits_of k → j ≡ k
+number_once j k low also same = sym (number_value j low) ∙ (ap (digits_value 10) same ∙ number_value k also)
+
 -- a number below 2^62 that a bare text writes has that text
-model : IsNumeralModel (λ ds. all_ascii_digits ds ≡ true) (digits_value 10)
+pub model : IsNumeralModel (λ ds. all_ascii_digits ds ≡ true) (digits_value 10)
 model = numerals_by_value (λ ds. all_ascii_digits ds ≡ true) tells_all_ascii_digits
 
 something : (a : Bool) (o : Option ℕ) → IsSome (if a then o else None) → a ≡ true
@@ -58,6 +62,19 @@ by_parts a true c x n plain is = absurd (cc)
 by_parts true false true x n plain is = refl
 by_parts true false false x n plain is = absurd (cc)
 by_parts false false c x n plain is = absurd (cc)
+
+-- and that number is the value
+by_value : (a b c : Bool) (x : Option ℤ) (n : ℕ) → b ≡ false
+    → IsSome (if a then low_number (if b then x else option_map pos (if c then Some n else None)) else None)
+    → (if a then low_number (if b then x else option_map pos (if c then Some n else None)) else None) ≡ Some n
+by_value a true c x n plain is = absurd (cc)
+by_value true false true x n plain is = low (nat_lt n (2 ^ 62)) is
+  where
+    low : (b : Bool) → IsSome (if b then Some n else None) → (if b then Some n else None) ≡ Some n
+    low true some = refl
+    low false some = absurd (cc)
+by_value true false false x n plain is = absurd (cc)
+by_value false false c x n plain is = absurd (cc)
 
 -- a bare text of one byte, if it begins with 0, and never with a minus
 bare_parts : (a b c d : Bool) → (a && not b && (not c || d)) ≡ true → (a ≡ true) × (b ≡ false) × (c ≡ true → d ≡ true)
@@ -83,3 +100,12 @@ number_text text is =
       small,
       sym (decimal-digits_value model text digits (ltb-true 0 (length text) bare.0) (λ e. eqb-true (length text) 1 (bare.2 (eq-eqb (slice_index text 0) 48 e))) small),
     )
+
+pub number_is : (text : List ℕ) → IsSome (number_in text) → number_in text ≡ Some (digits_value 10 text)
+unfolding decimal_value
+number_is text is =
+    let bare = bare_parts (nat_lt 0 (length text)) (slice_index text 0 == 45) (slice_index text 0 == 48) (length text == 1)
+    (something (is_bare text) (low_number (decimal_value text)) is) in
+    by_value (is_bare text) (starts_with_minus text)
+    (nat_lt 0 (length text) && all_ascii_digits text && nat_le (digits_value 10 text) (2 ^ 63 - 1))
+    (option_map (λ n. neg_ℤ (pos n)) (number_up_to (2 ^ 63) (drop 1 text))) (digits_value 10 text) bare.1 is

@@ -54,7 +54,7 @@ not_some None fine = refl
 not_some (Some r) fine = absurd (cc)
 
 -- no row refuses an event that is carried out
-no_row : (s : State) (a : Events.Asked) → is_refused s (Events.Asks a) ≡ false → refusal_of s a.request ≡ None
+pub no_row : (s : State) (a : Events.Asked) → is_refused s (Events.Asks a) ≡ false → refusal_of s a.request ≡ None
 unfolding is_refused
 no_row s a fine =
     let outer = or_parts (is_refused_request s (Events.Asks a) || is_past_end s (Events.Asks a)) (is_full s (Events.Asks a)) fine in

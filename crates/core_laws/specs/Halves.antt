@@ -1,9 +1,9 @@
 -- Halves, their copies, and the Commits that make them.
-use Rattle.std.specs.Prelude.{◌≡◌, ℕ, ◌||◌, Bool, true, false, Some}
+use Rattle.std.specs.Prelude.{◌≡◌, ◌⊎◌, ℕ, ◌<◌, ◌||◌, Bool, true, false, Some}
 use Rattle.record_codec.specs.Entry.{Entry}
 use Rattle.log_model.specs.Drafts.{copy_draft}
 use Rattle.log_model.specs.Numbered.{next_record}
-use Rattle.log_model.specs.Transactions.{Open, transaction_state, is_origin, is_renewal, copies_it}
+use Rattle.log_model.specs.Transactions.{Open, Committed, transaction_state, is_origin, is_renewal, copies_it}
 use Rattle.request_fields.specs.Requests.{EndSaid}
 use Rattle.request_fields.specs.declared.request.Request.TheVariants.{EndTransaction}
 use Rattle.broker_model.specs.State.{State}
@@ -49,3 +49,7 @@ NoCommitOn h b (Crashes k setup) c = Unit {0}
 pub record IsCopyAt (s : State) (h n : ℕ) (copy : Entry) : Type 0 where
   pub stands : StandsAt s n copy
   pub copies : copies_it s.log.records h copy ≡ true
+
+-- the origin with this queue offset and this number is committed, or was removed with its segment
+abbrev pub IsCommittedOrRemoved : State → ℕ → ℕ → Type 0
+IsCommittedOrRemoved s h i = (i < s.log.base.records) ⊎ (transaction_state s.log.records h ≡ Committed)

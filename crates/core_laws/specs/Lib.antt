@@ -1,4 +1,6 @@
 pub mod CommitExamples
+pub mod Delays
+pub mod DeliveryExamples
 pub mod Examples
 pub mod Halves
 pub mod Kept

@@ -1,10 +1,12 @@
 //! What holds of every run of steps, savings and crashes from an opening. No call is made: the clauses speak of the definitions.
 
-ghost use Rattle.std.specs.Prelude.{◌≡◌, ◌+◌, ◌-◌, ◌^◌, ◌<◌, ◌≤◌, ℕ, max, List, [], ◌∷◌, take, drop, map, slice_get, Bool, true, Option, Some};
+ghost use Rattle.std.specs.Prelude.{◌≡◌, ◌⊎◌, ◌+◌, ◌-◌, ◌^◌, ◌<◌, ◌≤◌, ℕ, max, List, [], ◌∷◌, take, drop, map, slice_get, Bool, true, codes, Option, Some, None};
 ghost use Rattle.record_codec.specs.Entry.{Entry};
+ghost use Rattle.record_codec.specs.Props.{value_of};
+ghost use Rattle.log_model.specs.Drafts.{delivery_text};
 ghost use Rattle.log_model.specs.Numbered.{count_of, records_of};
 ghost use Rattle.log_model.specs.Kinds.{is_copy};
-ghost use Rattle.log_model.specs.Transactions.{copies};
+ghost use Rattle.log_model.specs.Transactions.{Committed, copies, is_origin, transaction_state};
 ghost use Rattle.request_fields.specs.Requests.{PullSaid, EndSaid};
 ghost use Rattle.request_fields.specs.declared.request.Request.TheVariants.{Pull, EndTransaction};
 ghost use Rattle.broker_model.specs.Tables.{OffsetRow};
@@ -15,8 +17,10 @@ ghost use Rattle.broker_model.specs.Refusals.{named_half};
 ghost use Rattle.broker_model.specs.Run.{Boot, Move, Steps, Crashes, Goes, Run, RunWith, IsOpening};
 ghost use Rattle.broker_model.specs.Acknowledged.{AnswersAfter, AnswersAtOnce, IsAcknowledged, StandsAt, StandsOrRemoved, is_verdict_on};
 ghost use Rattle.core_laws.specs.CommitExamples as commits;
+ghost use Rattle.core_laws.specs.Delays.{Delivers, InOrder};
+ghost use Rattle.core_laws.specs.DeliveryExamples as deliveries;
 ghost use Rattle.core_laws.specs.Examples as examples;
-ghost use Rattle.core_laws.specs.Halves.{IsMadeByCommit, NoCommitOn, IsCopyAt};
+ghost use Rattle.core_laws.specs.Halves.{IsMadeByCommit, NoCommitOn, IsCopyAt, IsCommittedOrRemoved};
 ghost use Rattle.core_laws.specs.Offsets.{AllRows, IsAllowed, IsWithin, StoresOnly};
 ghost use Rattle.core_laws.specs.Pulls.{IsSliceOf};
 ghost use Rattle.core_laws.specs.Replay.{Tables, StandsFor, IsReplayOf};
@@ -88,6 +92,32 @@ pub fn halves_hold()
         → (n : ℕ) × (copy : Entry) × IsCopyAt answers.heard.now h n copy × (n < c.now.flushed) × StandsOrRemoved c.now n copy }
 {}
 
+/// Where a Commit is answered, its origin stood when it came, and is committed in every later state of the run, whatever crashes and
+/// whoever says a verdict on it again, until it is removed.
+pub fn commits_stay()
+    ensures stays { (b c : Boot) (moves : List Move) (e : events.Event) (reply : events.Reply) (number h : ℕ) → IsOpening b
+        → (answers : AnswersAfter b moves c e reply number) → is_verdict_on answers.asked.now h 8 e ≡ true
+        → (i : ℕ) × (origin : Entry) × StandsAt answers.asked.now i origin × (is_origin h origin ≡ true) × IsCommittedOrRemoved c.now h i }
+    // At once: in sync mode, of a half message that waits, such a Commit was said before.
+    ensures stays_at_once { (b c : Boot) (moves : List Move) (a : events.Asked) (end : EndSaid) (reply : events.Reply) (h : ℕ) → IsOpening b
+        → a.request ≡ EndTransaction end → (answers : AnswersAtOnce b moves c (events.Asks a) reply)
+        → is_verdict_on answers.asked.now h 8 (events.Asks a) ≡ true → answers.asked.now.setup.sync ≡ true
+        → half_waits (named_half answers.asked.now end) ≡ true
+        → (i : ℕ) × (origin : Entry) × StandsAt answers.asked.now i origin × (is_origin h origin ≡ true) × IsCommittedOrRemoved c.now h i }
+{}
+
+/// The deliveries of each level are numbered one after another, each is that of the message with its number, and none comes twice,
+/// whatever crashes: where one was on the disk, and there is one later, they are one record, or the first was removed.
+pub fn delays_once()
+    ensures order { (b c : Boot) (moves : List Move) → IsOpening b → InOrder b.now.log → Run b moves c → InOrder c.now.log }
+    ensures once { (b c : Boot) (moves : List Move) (i k level number : ℕ) (x y : Entry) → IsOpening b → b.now.log.records ≡ []
+        → Run b moves c → 1 ≤ level → level ≤ 18 → number < 2 ^ 64 → slice_get c.now.log.records i ≡ Some x
+        → slice_get c.now.log.records k ≡ Some y → Delivers level number x → Delivers level number y → i ≡ k }
+    ensures ever { (b c d : Boot) (moves more : List Move) (n k level number : ℕ) (x y : Entry) → IsOpening b → InOrder b.now.log
+        → Run b moves c → Run c more d → 1 ≤ level → level ≤ 18 → number < 2 ^ 64 → n < c.now.flushed → StandsAt c.now n x
+        → StandsAt d.now k y → Delivers level number x → Delivers level number y → (n < d.now.log.base.records) ⊎ (n ≡ k) }
+{}
+
 /// The laws speak of something: `hi` is sent to an empty store, acknowledged, dispatched and pulled; the offset 9 is stored as 1, the
 /// end of its queue, and saved; then all crashes, and the record and the offset are kept. A saved offset past its queue is cut.
 pub fn a_run_happens()
@@ -114,4 +144,15 @@ pub fn a_commit_happens()
     ensures again { AnswersAtOnce examples.at_opening commits.until_again commits.at_again commits.commits done_reply }
     ensures again_verdict { is_verdict_on commits.at_kept_copy.now 0 8 commits.commits ≡ true }
     ensures once { copies commits.at_again.now.log.records 0 ≡ 1 }
+    ensures committed { (transaction_state commits.at_told.now.log.records 0 ≡ Committed)
+        × (transaction_state commits.at_again.now.log.records 0 ≡ Committed) }
+{}
+
+/// The law on delays speaks of something: `hi` is sent with the delay level 1 to an empty store, flushed and dispatched, and delivered
+/// once its time has come. The delivery, with the number 0 of its level, is flushed too.
+pub fn a_delivery_happens()
+    ensures run { Run examples.at_opening deliveries.until_delivered deliveries.at_delivered }
+    ensures delivered { map (λ r. value_of (codes "DELAY_FROM") r.props) deliveries.at_delivered.now.log.records
+        ≡ None ∷ Some (delivery_text 1 0) ∷ [] }
+    ensures flushed { deliveries.at_delivered.now.flushed ≡ 2 }
 {}

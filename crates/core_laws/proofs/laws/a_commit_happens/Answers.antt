@@ -1,4 +1,4 @@
-use Rattle.core_laws.proofs.CommitExamples.{commit_is_answered, commit_is_verdict, one_copy, commit_is_answered_again, again_is_verdict, still_one_copy}
+use Rattle.core_laws.proofs.CommitExamples.{commit_is_answered, commit_is_verdict, one_copy, commit_is_answered_again, again_is_verdict, still_one_copy, told_committed, again_committed}
 use Rattle.core_laws.proofs.laws.a_commit_happens.Goals as goal
 
 pub returns-clause-answered : goal.returns-clause-answered
@@ -18,3 +18,6 @@ returns-clause-again_verdict c = again_is_verdict
 
 pub returns-clause-once : goal.returns-clause-once
 returns-clause-once c = still_one_copy
+
+pub returns-clause-committed : goal.returns-clause-committed
+returns-clause-committed c = (told_committed, again_committed)
