@@ -1,5 +1,5 @@
 -- Behind an accepted Commit its origin is committed, with the copy that the Commit made or found.
-use Rattle.std.proofs.Common.{◌≡◌, ◌⊎◌, inl, inr, refl, ap, sym, ◌∙◌, subst, arith, ℕ, ◌+◌, ◌<◌, ◌≤◌, ◌^◌, List, ◌++◌, take, length, slice_get, Bool, true, false, Option, Some, None, if◌then◌else◌}
+use Rattle.std.proofs.Common.{◌≡◌, inl, inr, refl, ap, sym, ◌∙◌, subst, arith, ℕ, ◌+◌, ◌<◌, ◌≤◌, ◌^◌, List, take, length, slice_get, Bool, true, false, Option, Some, None, if◌then◌else◌}
 use Rattle.std.specs.Prelude.{◌&&◌, ◌||◌, ◌==◌, not, is_none}
 use Rattle.std.specs.List.{list_any}
 use Rattle.std.specs.Str.Parse.{digits_value}
@@ -10,7 +10,7 @@ use Rattle.log_model.specs.Admissible.{half_topic}
 use Rattle.log_model.specs.Kinds.{is_half, is_copy, is_discard, origin_text}
 use Rattle.log_model.specs.Numbered.{Log, with_appended}
 use Rattle.log_model.specs.Queues.{queue_of}
-use Rattle.log_model.specs.Transactions.{TransactionState, Open, Committed, RolledBack, Discarded, transaction_state, is_origin, is_renewal, is_of_family, copies_it, discards_it, names_it, settles, is_settled, named_origin, origin_of}
+use Rattle.log_model.specs.Transactions.{Open, Committed, RolledBack, Discarded, transaction_state, is_origin, is_renewal, is_of_family, copies_it, discards_it, names_it, settles, is_settled, named_origin, origin_of}
 use Rattle.broker_model.specs.State.{State}
 use Rattle.broker_model.specs.Events
 use Rattle.broker_model.specs.Refusals.{judged_origin, is_by_its_group}

@@ -3,32 +3,28 @@ use Rattle.std.proofs.Common.{◌≡◌, ◌⊎◌, inl, inr, refl, ap, sym, ◌
 use Rattle.std.specs.Prelude.{◌&&◌, ◌||◌, ◌==◌, not, is_none}
 use Rattle.std.specs.List.{list_any}
 use Rattle.std.specs.Str.{bytes_eq}
-use Rattle.std.specs.Str.Parse.{digits_value}
-use Rattle.std.proofs.lemmas.Bool.{cases_Bool, cases_lt, and_parts, and_from, or_cases, eqb-true, eq-eqb}
+use Rattle.std.proofs.lemmas.Bool.{cases_Bool, cases_lt, and_parts, and_from, or_cases}
 use Rattle.std.proofs.lemmas.Option.{same_Some}
 use Rattle.mq_bytes.specs.Decimal.{digits_of}
 use Rattle.record_codec.specs.Entry.{Entry}
-use Rattle.log_model.specs.Admissible.{half_topic, discard_topic}
+use Rattle.log_model.specs.Admissible.{discard_topic}
 use Rattle.log_model.specs.Bases.{Base}
 use Rattle.log_model.specs.Drafts.{discard_draft, op_draft}
 use Rattle.log_model.specs.Kinds.{is_half, is_copy, is_discard, is_text, origin_text}
-use Rattle.log_model.specs.Numbered.{Log, with_appended, above, below, next_records, next_record}
-use Rattle.log_model.specs.Queues.{queue_end}
-use Rattle.log_model.specs.Transactions.{TransactionState, Open, Committed, RolledBack, Discarded, transaction_state, is_origin, is_renewal, is_of_family, copies_it, discards_it, names_it, settles, is_settled, named_origin, origin_of}
+use Rattle.log_model.specs.Numbered.{Log, with_appended, above, below, next_records}
+use Rattle.log_model.specs.Transactions.{Open, Committed, RolledBack, Discarded, transaction_state, is_origin, is_renewal, is_of_family, copies_it, discards_it, settles, is_settled}
 use Rattle.broker_model.specs.State.{State}
 use Rattle.broker_model.specs.Events
-use Rattle.broker_model.specs.Appended.{made_by, drafts_of, is_refused, moment}
-use Rattle.broker_model.specs.Run.{Boot, Move, Steps, SavesOffsets, SavesTopics, SavesBase, Crashes, Goes, RunWith, IsCrash, IsOneBoot, kept_log}
-use Rattle.broker_model.specs.Acknowledged.{StandsAt}
+use Rattle.broker_model.specs.Appended.{made_by, drafts_of, moment}
+use Rattle.broker_model.specs.Run.{Boot, Move, Steps, SavesOffsets, SavesTopics, SavesBase, Crashes, Goes, RunWith, IsCrash, IsOneBoot}
 use Rattle.core_laws.specs.Sound.{IsSound}
 use Rattle.core_laws.specs.Kept.{IsKept, IsKeptBoot}
-use Rattle.core_laws.specs.Halves.{in_family, IsCopyAt, IsCommittedOrRemoved}
+use Rattle.core_laws.specs.Halves.{in_family, IsCommittedOrRemoved}
 use Rattle.core_laws.specs.LogSteps.{LogStep}
-use Rattle.core_laws.proofs.Lists.{get_append, get_left, get_take, take_get, get_drop, drop_get, take_take_less, within}
-use Rattle.core_laws.proofs.Bases.{longer_queue, queue_before}
-use Rattle.core_laws.proofs.Counts.{any_at, any_found, any_none}
-use Rattle.core_laws.proofs.Families.{places_rise, one_place, family_found, family_at, copy_settles, open_unsettled}
-use Rattle.core_laws.proofs.Texts.{same_text, number_once, found_at}
+use Rattle.core_laws.proofs.Lists.{get_append, get_left, get_take, take_get, get_drop, drop_get}
+use Rattle.core_laws.proofs.Counts.{any_at, any_found}
+use Rattle.core_laws.proofs.Families.{one_place, family_found, old_family, family_at, copy_settles}
+use Rattle.core_laws.proofs.Texts.{same_text, number_once}
 use Rattle.core_laws.proofs.KeptRuns.{step_log, made_kept, goes_kept}
 use Rattle.core_laws.proofs.Runs.{goes_good}
 use Rattle.core_laws.proofs.Discards.{NoDiscards, GivesUp, event_discards, none_discarded}
@@ -97,11 +93,11 @@ part_none : (log part : List Entry) (r h : ℕ) → ((k : ℕ) (x : Entry) → s
     → NoneGivesUp log h → NoneGivesUp part h
 part_none log part r h back none = λ k x at. elim (cases_Bool (discards_it part h x)) [
   | inl given ↦ absurd (
-    let parts = and_parts (is_discard x) (is_of_family part h x.prepared) given in
-    let found = family_found part h x.prepared parts.1 in
-    let there = family_at log h x.prepared (r + found.0) found.1 (back found.0 found.1 found.2) found.3 found.4 in
-    let a = and_from (is_discard x) (is_of_family log h x.prepared) parts.0 there in
-    let e : true ≡ false = sym a ∙ none (r + k) x (back k x at) in cc)
+      let parts = and_parts (is_discard x) (is_of_family part h x.prepared) given in
+      let found = family_found part h x.prepared parts.1 in
+      let there = family_at log h x.prepared (r + found.0) found.1 (back found.0 found.1 found.2) found.3 found.4 in
+      let a = and_from (is_discard x) (is_of_family log h x.prepared) parts.0 there in
+      let e : true ≡ false = sym a ∙ none (r + k) x (back k x at) in cc)
   | inr not ↦ not
 ]
 
@@ -132,8 +128,11 @@ part_committed log part h i n r keeps back later (inr c) = elim (cases_lt i part
 
 above_committed : (log : Log) (later : Base) (h i n : ℕ) → log.base.records ≤ later.records → StaysCommitted log h i n → StaysCommitted (above log later) h i n
 above_committed log later h i n low stays = part_committed log (above log later) h i n (later.records - log.base.records)
-    (λ k x less from at. (at.0 - (later.records - log.base.records), omega (arith, at.1, from, low),
-    get_drop (later.records - log.base.records) at.0 log.records x (omega (arith, at.1, from)) at.2))
+    (λ k x less from at. (
+      at.0 - (later.records - log.base.records),
+      omega (arith, at.1, from, low),
+      get_drop (later.records - log.base.records) at.0 log.records x (omega (arith, at.1, from)) at.2,
+    ))
     (λ k x at. drop_get (later.records - log.base.records) k log.records x at) low stays
 
 below_committed : (log : Log) (m h i n : ℕ) → n < m → StaysCommitted log h i n → StaysCommitted (below log m) h i n
@@ -143,18 +142,6 @@ below_committed log m h i n low stays = part_committed log (below log m) h i n 0
     (omega arith) stays
 
 -- ---- a longer log
-
--- what stands before a record that names an earlier place
-pub old_family : (log : Log) (new : List Entry) (h k : ℕ) (r : Entry) → IsKept (with_appended log new) → slice_get log.records k ≡ Some r
-    → r.prepared < r.offset → is_of_family (log.records ++ new) h r.prepared ≡ true → is_of_family log.records h r.prepared ≡ true
-old_family log new h k r kept at low is =
-    let found = family_found (log.records ++ new) h r.prepared is in
-    let r_at : slice_get (log.records ++ new) k ≡ Some r = get_left log.records new k r at in
-    elim (get_append log.records new found.0 found.1 found.2) [
-      | inl there ↦ family_at log.records h r.prepared found.0 found.1 there found.3 found.4
-      | inr later ↦ absurd (let less : k < found.0 = omega (arith, within log.records k r at, later.1) in
-          omega (arith, places_rise (with_appended log new) k found.0 r found.1 kept r_at found.2 less, low, found.4))
-    ]
 
 second : (a b : Bool) → b ≡ true → (a || b) ≡ true
 second true b e = refl

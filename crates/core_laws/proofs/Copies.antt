@@ -19,9 +19,9 @@ use Rattle.broker_model.specs.Acknowledged.{is_verdict_on, is_request_on, is_tha
 use Rattle.core_laws.specs.Kept.{IsKept, IsKeptBoot}
 use Rattle.core_laws.specs.Halves.{in_family, IsCommitOf, NoCommitOn}
 use Rattle.core_laws.specs.LogSteps.{LogStep}
-use Rattle.core_laws.proofs.Lists.{get_append, get_left, within}
+use Rattle.core_laws.proofs.Lists.{get_left}
 use Rattle.core_laws.proofs.Counts.{count_append, count_cons, count_le}
-use Rattle.core_laws.proofs.Families.{places_rise, one_place, family_found, family_at, copies_take, copies_drop, open_no_copy, family_origin}
+use Rattle.core_laws.proofs.Families.{one_place, family_found, old_family, copies_take, copies_drop, open_no_copy, family_origin}
 use Rattle.core_laws.proofs.KeptSteps.{named_there}
 use Rattle.core_laws.proofs.KeptRuns.{step_log, made_kept, goes_kept}
 use Rattle.core_laws.proofs.Commits.{NoCopies, Copies, event_copies}
@@ -33,14 +33,8 @@ old_copy : (log : Log) (new : List Entry) (h k : ℕ) (r : Entry) → IsKept (wi
     → copies_it (log.records ++ new) h r ≡ true → copies_it log.records h r ≡ true
 old_copy log new h k r kept at is =
     let parts = and_parts (is_copy r) (is_of_family (log.records ++ new) h r.prepared) is in
-    let found = family_found (log.records ++ new) h r.prepared parts.1 in
-    let r_at : slice_get (log.records ++ new) k ≡ Some r = get_left log.records new k r at in
-    let low : r.prepared < r.offset = (kept.each k r r_at).prepared (first (is_copy r) (is_discard r) parts.0) in
-    elim (get_append log.records new found.0 found.1 found.2) [
-      | inl there ↦ and_from (is_copy r) (is_of_family log.records h r.prepared) parts.0 (family_at log.records h r.prepared found.0 found.1 there found.3 found.4)
-      | inr later ↦ absurd (let less : k < found.0 = omega (arith, within log.records k r at, later.1) in
-          omega (arith, places_rise (with_appended log new) k found.0 r found.1 kept r_at found.2 less, low, found.4))
-    ]
+    let low : r.prepared < r.offset = (kept.each k r (get_left log.records new k r at)).prepared (first (is_copy r) (is_discard r) parts.0) in
+    and_from (is_copy r) (is_of_family log.records h r.prepared) parts.0 (old_family log new h k r kept at low parts.1)
   where
     first : (a b : Bool) → a ≡ true → (a || b) ≡ true
     first true b e = refl

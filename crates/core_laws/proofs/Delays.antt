@@ -1,9 +1,8 @@
 -- Delayed messages are delivered in order, each once.
-use Rattle.std.proofs.Common.{◌≡◌, ◌⊎◌, inl, inr, refl, ap, sym, ◌∙◌, subst, arith, ℕ, zero, suc, ◌+◌, ◌-◌, ◌<◌, ◌≤◌, ◌^◌, List, [], ◌∷◌, ◌++◌, length, take, drop, filter, slice_get, Bool, true, false, cond, Option, Some, None, option_map}
-use Rattle.std.specs.Prelude.{◌&&◌, ◌==◌, nat_lt, codes}
+use Rattle.std.proofs.Common.{◌≡◌, ◌⊎◌, inl, inr, refl, ap, sym, ◌∙◌, subst, arith, ℕ, zero, suc, ◌+◌, ◌-◌, ◌<◌, ◌≤◌, ◌^◌, List, [], ◌∷◌, ◌++◌, length, take, drop, slice_get, true, Option, Some, None, option_map}
+use Rattle.std.specs.Prelude.{codes}
 use Rattle.std.specs.List.{count_by}
-use Rattle.std.specs.Str.{bytes_eq}
-use Rattle.std.proofs.lemmas.Bool.{cases_Bool, cases_order, ltb-true, ltb-false, cond-true, cond-false}
+use Rattle.std.proofs.lemmas.Bool.{cases_order}
 use Rattle.std.proofs.lemmas.List.{take_all}
 use Rattle.std.proofs.lemmas.Option.{same_Some}
 use Rattle.mq_bytes.specs.Decimal.{digits_of}
@@ -14,11 +13,11 @@ use Rattle.log_model.specs.Bases.{Base}
 use Rattle.log_model.specs.Delays.{progress}
 use Rattle.log_model.specs.Drafts.{delivery_text}
 use Rattle.log_model.specs.Kinds.{is_delivery, is_text, level_part}
-use Rattle.log_model.specs.Numbered.{Log, with_appended, above, below, item_at, queue_min, records_of}
+use Rattle.log_model.specs.Numbered.{Log, with_appended, above, below, item_at, queue_min}
 use Rattle.log_model.specs.Queues.{queue_of}
 use Rattle.broker_model.specs.State.{State}
 use Rattle.broker_model.specs.Events
-use Rattle.broker_model.specs.Appended.{made_by, is_refused}
+use Rattle.broker_model.specs.Appended.{made_by}
 use Rattle.broker_model.specs.Removal.{IsBaseAfter}
 use Rattle.broker_model.specs.Run.{Boot, Move, Steps, SavesOffsets, SavesTopics, SavesBase, Crashes, Goes, RunWith}
 use Rattle.core_laws.specs.Sound.{IsSound}
@@ -29,9 +28,9 @@ use Rattle.core_laws.proofs.Bases.{take_plus, base_same, count_level}
 use Rattle.core_laws.proofs.Counts.{count_before}
 use Rattle.core_laws.proofs.DeliveryTexts.{text_parts, same_delivery}
 use Rattle.core_laws.proofs.Items.{queue_on, item_slice, slice_item, item_later}
-use Rattle.core_laws.proofs.Lists.{get_append, get_left, get_take, take_get, drop_get, get_drop, within, take_left, take_take_less, length_take}
+use Rattle.core_laws.proofs.Lists.{get_append, get_take, take_get, drop_get, within, take_left, take_take_less, length_take}
 use Rattle.core_laws.proofs.Marks.{NoMarks, IsDelivered, event_marks, none_marked}
-use Rattle.core_laws.proofs.KeptRuns.{step_log, made_kept, goes_kept}
+use Rattle.core_laws.proofs.KeptRuns.{step_log, goes_kept}
 use Rattle.core_laws.proofs.Texts.{text_equal}
 
 -- ---- the order
@@ -95,8 +94,12 @@ order_above log later n long counts order =
           | inl before ↦ inl (omega (arith, within gone (number - log.base.queues level_topic q) item before, h.0, counts.queues level_topic q))
           | inr behind ↦
               let index : number - later.queues level_topic q ≡ behind.0 = omega (arith, behind.1, h.0, counts.queues level_topic q) in
-              inr (item, slice_item (rest i) level_topic q number item (omega (arith, behind.1, h.0, counts.queues level_topic q))
-              (subst (λ (k : ℕ). slice_get here k ≡ Some item) (sym index) behind.2), of)
+              inr (
+                item,
+                slice_item (rest i) level_topic q number item (omega (arith, behind.1, h.0, counts.queues level_topic q))
+                    (subst (λ (k : ℕ). slice_get here k ≡ Some item) (sym index) behind.2),
+                of,
+              )
         ]
 
 -- ---- steps
@@ -115,11 +118,13 @@ fresh_order s e d i level number r at high small is = first i (subst (λ (l : Li
         let item = item_later s.log (s.dispatched - s.log.base.records) level_topic (d.level - 1) (progress s.log d.level) d.item d.seen in (
           refl,
           sym both.1 ∙ ap (λ (v : ℕ). progress s.log v) both.0,
-          (d.item,
-          subst (λ (n : ℕ). item_at s.log level_topic (level - 1) n ≡ Some d.item) both.1
-              (subst (λ (v : ℕ). item_at s.log level_topic (v - 1) (progress s.log d.level) ≡ Some d.item) both.0 item),
-          subst (λ (x : Entry). IsDeliveryOf level number d.item x) same (subst (λ (n : ℕ). IsDeliveryOf level n d.item d.copy) both.1
-              (subst (λ (v : ℕ). IsDeliveryOf v (progress s.log d.level) d.item d.copy) both.0 d.of))),
+          (
+            d.item,
+            subst (λ (n : ℕ). item_at s.log level_topic (level - 1) n ≡ Some d.item) both.1
+                (subst (λ (v : ℕ). item_at s.log level_topic (v - 1) (progress s.log d.level) ≡ Some d.item) both.0 item),
+            subst (λ (x : Entry). IsDeliveryOf level number d.item x) same (subst (λ (n : ℕ). IsDeliveryOf level n d.item d.copy) both.1
+                (subst (λ (v : ℕ). IsDeliveryOf v (progress s.log d.level) d.item d.copy) both.0 d.of)),
+          ),
         )
     first (suc n) got = absurd (cc)
 

@@ -1,5 +1,5 @@
 -- The run of a delayed message is one.
-use Rattle.std.proofs.Common.{◌≡◌, refl, ℕ, List, [], ◌∷◌, map, Option, Some, None}
+use Rattle.std.proofs.Common.{◌≡◌, refl, [], ◌∷◌, map, Some, None}
 use Rattle.std.specs.Prelude.{codes}
 use Rattle.std.specs.Fmt.{digits}
 use Rattle.mq_bytes.specs.Decimal.{decimal_value}
@@ -13,7 +13,7 @@ use Rattle.broker_model.specs.Appended.{appended, is_refused, drafts_of}
 use Rattle.broker_model.specs.Answers.{answer_of, carried_out_answer, request_answer}
 use Rattle.broker_model.specs.Step.{after, changed, request_changed, IsPossible}
 use Rattle.broker_model.specs.Run.{Run}
-use Rattle.core_laws.specs.Examples.{at_opening, stepped, answered}
+use Rattle.core_laws.specs.Examples.{at_opening}
 use Rattle.core_laws.specs.DeliveryExamples.{sends_delayed, at_delayed, at_batch, at_stored, at_seen, at_delivery, at_second_batch, at_delivered, until_delivered}
 use Rattle.core_laws.proofs.Examples.{goes}
 
@@ -38,7 +38,34 @@ unfolding read_props pieces pair_in until decimal_value digits after changed req
 flushed_is_2 = refl
 
 pub delivery_runs : Run at_opening until_delivered at_delivered
-delivery_runs = (at_delayed, goes at_opening sends_delayed tt, tt, (at_batch, goes at_delayed Events.Take tt, tt,
-    (at_stored, goes at_batch (Events.Flushed 1) first_flush, tt, (at_seen, goes at_stored (Events.Dispatch 1) tt, tt,
-    (at_delivery, goes at_seen (Events.Deliver 2000) tt, tt, (at_second_batch, goes at_delivery Events.Take tt, tt,
-    (at_delivered, goes at_second_batch (Events.Flushed 1) second_flush, tt, refl)))))))
+delivery_runs = (
+  at_delayed,
+  goes at_opening sends_delayed tt,
+  tt,
+  (
+    at_batch,
+    goes at_delayed Events.Take tt,
+    tt,
+    (
+      at_stored,
+      goes at_batch (Events.Flushed 1) first_flush,
+      tt,
+      (
+        at_seen,
+        goes at_stored (Events.Dispatch 1) tt,
+        tt,
+        (
+          at_delivery,
+          goes at_seen (Events.Deliver 2000) tt,
+          tt,
+          (
+            at_second_batch,
+            goes at_delivery Events.Take tt,
+            tt,
+            (at_delivered, goes at_second_batch (Events.Flushed 1) second_flush, tt, refl),
+          ),
+        ),
+      ),
+    ),
+  ),
+)

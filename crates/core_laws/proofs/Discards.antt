@@ -1,8 +1,7 @@
 -- Which events give a half message up: only a check-back of an open origin.
-use Rattle.std.proofs.Common.{◌≡◌, ◌⊎◌, inl, inr, refl, ap, sym, ◌∙◌, subst, ℕ, zero, suc, ◌+◌, ◌<◌, ◌^◌, max, List, [], ◌∷◌, length, slice_get, Bool, true, false, Option, Some, None, if◌then◌else◌}
-use Rattle.std.specs.Prelude.{codes, ◌||◌, ◌&&◌, ◌==◌, not, nat_lt, is_some}
+use Rattle.std.proofs.Common.{◌≡◌, ◌⊎◌, inl, inr, refl, ap, sym, ◌∙◌, ℕ, zero, suc, ◌+◌, max, List, [], ◌∷◌, length, slice_get, Bool, true, false, Option, Some, None, if◌then◌else◌}
+use Rattle.std.specs.Prelude.{codes, ◌||◌, ◌&&◌, ◌==◌, not, nat_lt}
 use Rattle.std.specs.Str.{bytes_eq}
-use Rattle.std.proofs.lemmas.Bool.{and_parts, or_parts}
 use Rattle.std.proofs.lemmas.Option.{same_Some}
 use Rattle.record_codec.specs.Entry.{Entry}
 use Rattle.record_codec.specs.declared.draft.Draft.{Draft}
@@ -12,14 +11,14 @@ use Rattle.log_model.specs.Drafts.{copy_draft, op_draft, renewal_draft, discard_
 use Rattle.log_model.specs.Kinds.{is_half, is_delayed, is_discard}
 use Rattle.log_model.specs.Numbered.{Log, with_appended, next_record, next_records}
 use Rattle.log_model.specs.Transactions.{TransactionState, Open, Committed, RolledBack, Discarded, transaction_state, last_of, renewals, is_renewal, is_settled}
-use Rattle.request_fields.specs.Requests.{SendSaid, EndSaid}
+use Rattle.request_fields.specs.Requests.{SendSaid}
 use Rattle.request_fields.specs.declared.request.Request.{Request}
 use Rattle.request_fields.specs.declared.request.Request.TheVariants.{Send, EndTransaction}
 use Rattle.broker_model.specs.State.{State}
 use Rattle.broker_model.specs.Sends.{send_draft, half_draft, delayed_or_plain, plain_draft, is_half_send, level_of}
 use Rattle.broker_model.specs.Events
 use Rattle.broker_model.specs.Refusals.{refusal_of, named_half, verdict_origin}
-use Rattle.broker_model.specs.Appended.{request_drafts, verdict_drafts, open_verdict, first_verdict, check_drafts, next_check, due_origin, is_asked_at, delivery_drafts, drafts_of, made_by, is_refused, is_refused_request, is_past_end, is_full, moment}
+use Rattle.broker_model.specs.Appended.{request_drafts, verdict_drafts, open_verdict, first_verdict, check_drafts, next_check, due_origin, is_asked_at, delivery_drafts, drafts_of, is_refused, moment}
 use Rattle.core_laws.specs.Kept.{IsKept}
 use Rattle.core_laws.proofs.DraftFits.{topic_apart, half_apart}
 use Rattle.core_laws.proofs.KeptSteps.{named_there, due_there, among_there, last_there, send_plain}

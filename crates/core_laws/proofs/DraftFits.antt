@@ -1,6 +1,6 @@
 -- What the broker appends fits its log.
 use Rattle.std.proofs.Common.{◌≡◌, ◌≢◌, refl, ap, sym, ◌∙◌, subst, arith, ℕ, ◌<◌, List, [], slice_get, Bool, true, false, Option, Some, None, if◌then◌else◌}
-use Rattle.std.specs.Prelude.{bit_and, codes, ◌||◌, ◌&&◌, ◌==◌, unwrap_or}
+use Rattle.std.specs.Prelude.{bit_and, codes, ◌||◌, ◌==◌, unwrap_or}
 use Rattle.std.specs.Str.{bytes_eq}
 use Rattle.std.proofs.lemmas.Bool.{and_from, eq-eqb}
 use Rattle.mq_bytes.specs.Decimal.{digits_of}

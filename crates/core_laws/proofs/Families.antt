@@ -1,5 +1,5 @@
 -- Families of halves, and the copies of them.
-use Rattle.std.proofs.Common.{◌≡◌, ◌⊎◌, inl, inr, refl, ap, sym, ◌∙◌, subst, arith, ℕ, zero, suc, ◌+◌, ◌<◌, ◌≤◌, ◌^◌, List, [], ◌∷◌, take, drop, filter, slice_get, Bool, true, false, Option, Some, None, cond, if◌then◌else◌}
+use Rattle.std.proofs.Common.{◌≡◌, ◌⊎◌, inl, inr, refl, ap, sym, ◌∙◌, subst, arith, ℕ, zero, suc, ◌+◌, ◌<◌, ◌≤◌, ◌^◌, List, [], ◌∷◌, ◌++◌, take, drop, filter, slice_get, Bool, true, false, Option, Some, None, cond, if◌then◌else◌}
 use Rattle.std.specs.Prelude.{◌&&◌, ◌||◌, ◌==◌, not, is_none}
 use Rattle.std.specs.List.{list_any}
 use Rattle.std.specs.Str.Parse.{digits_value}
@@ -8,11 +8,11 @@ use Rattle.std.proofs.lemmas.Option.{same_Some}
 use Rattle.mq_bytes.specs.Decimal.{digits_of}
 use Rattle.record_codec.specs.Entry.{Entry}
 use Rattle.log_model.specs.Kinds.{is_half, is_copy, is_text, origin_text}
-use Rattle.log_model.specs.Numbered.{Log}
+use Rattle.log_model.specs.Numbered.{Log, with_appended}
 use Rattle.log_model.specs.Transactions.{is_origin, family, is_of_family, copies_it, discards_it, names_it, settles, is_settled, copies, Open, Committed, RolledBack, Discarded, transaction_state, named_origin, origin_of}
 use Rattle.core_laws.specs.Kept.{IsKept, IsNumberText}
 use Rattle.core_laws.specs.Halves.{in_family}
-use Rattle.core_laws.proofs.Lists.{get_take, take_get, drop_get}
+use Rattle.core_laws.proofs.Lists.{get_append, get_left, get_take, take_get, drop_get, within}
 use Rattle.core_laws.proofs.Counts.{count_le, count_none, count_take, count_drop, any_at, any_found}
 use Rattle.core_laws.proofs.Pulls.{kept_was_there, kept_passes}
 use Rattle.core_laws.proofs.Texts.{same_text, text_equal, number_value, found_at}
@@ -59,6 +59,18 @@ pub family_at : (log : List Entry) (h place k : ℕ) (x : Entry) → slice_get l
 family_at log h place k x at is same =
     let there = passes_kept (in_family h) log k x at is in
     any_at (λ r. r.offset == place) (family log h) there.0 x there.1 (eq-eqb x.offset place same)
+
+-- behind a record that names an earlier place no half message has that place
+pub old_family : (log : Log) (new : List Entry) (h k : ℕ) (r : Entry) → IsKept (with_appended log new) → slice_get log.records k ≡ Some r
+    → r.prepared < r.offset → is_of_family (log.records ++ new) h r.prepared ≡ true → is_of_family log.records h r.prepared ≡ true
+old_family log new h k r kept at low is =
+    let found = family_found (log.records ++ new) h r.prepared is in
+    let r_at : slice_get (log.records ++ new) k ≡ Some r = get_left log.records new k r at in
+    elim (get_append log.records new found.0 found.1 found.2) [
+      | inl there ↦ family_at log.records h r.prepared found.0 found.1 there found.3 found.4
+      | inr later ↦ absurd (let less : k < found.0 = omega (arith, within log.records k r at, later.1) in
+          omega (arith, places_rise (with_appended log new) k found.0 r found.1 kept r_at found.2 less, low, found.4))
+    ]
 
 -- a part of the log has no copy that the log hasn't
 pub copies_part : (log part : List Entry) (h : ℕ) → ((j : ℕ) (x : Entry) → slice_get part j ≡ Some x → (k : ℕ) × (slice_get log k ≡ Some x))

@@ -1,30 +1,27 @@
 -- Which events append a delivery: only one that delivers, and then it is that of the next message of its level.
-use Rattle.std.proofs.Common.{◌≡◌, ◌≢◌, ◌⊎◌, inl, inr, refl, ap, sym, ◌∙◌, subst, arith, ℕ, zero, suc, ◌+◌, ◌-◌, ◌<◌, ◌≤◌, ◌^◌, max, List, [], ◌∷◌, ◌++◌, length, slice_get, Bool, true, false, cond, Option, Some, None, if◌then◌else◌}
-use Rattle.std.specs.Prelude.{◌||◌, ◌&&◌, ◌==◌, codes, nat_lt, nat_le}
+use Rattle.std.proofs.Common.{◌≡◌, ◌≢◌, ◌⊎◌, inl, inr, refl, ap, sym, ◌∙◌, subst, arith, ℕ, zero, suc, ◌+◌, ◌-◌, ◌<◌, ◌≤◌, ◌^◌, max, List, [], ◌∷◌, length, slice_get, Bool, true, false, Option, Some, None, if◌then◌else◌}
+use Rattle.std.specs.Prelude.{◌||◌, ◌==◌, codes, nat_lt, nat_le}
 use Rattle.std.specs.List.{list_any}
 use Rattle.std.proofs.lemmas.Bool.{or_parts, ltb-false, leb-true}
 use Rattle.std.proofs.lemmas.Option.{same_Some}
 use Rattle.mq_bytes.specs.Delays.{level_delay}
-use Rattle.mq_bytes.specs.Decimal.{digits_of}
 use Rattle.record_codec.specs.Entry.{Entry}
 use Rattle.record_codec.specs.Layout.{size}
 use Rattle.record_codec.specs.Drafts.{draft_size}
-use Rattle.record_codec.specs.Props.{value_of, without, with_prop}
+use Rattle.record_codec.specs.Props.{value_of, without}
 use Rattle.record_codec.specs.declared.draft.Draft.{Draft}
-use Rattle.record_codec.proofs.LastLemmas.{value_of-kept, value_of-other}
+use Rattle.record_codec.proofs.LastLemmas.{value_of-kept}
 use Rattle.log_model.specs.Admissible.{level_topic}
 use Rattle.log_model.specs.Delays.{next_delayed, due_here, due_among, due_delayed, levels, progress}
 use Rattle.log_model.specs.Drafts.{copy_draft, op_draft, renewal_draft, discard_draft, delivery_draft, delivery_text, without_real, without_transaction}
 use Rattle.log_model.specs.Kinds.{is_half, is_delayed}
-use Rattle.log_model.specs.Numbered.{Log, with_appended, next_record, next_records, item_at, queue_max, queue_min, place_end}
+use Rattle.log_model.specs.Numbered.{Log, with_appended, next_record, next_records, item_at, queue_min, place_end}
 use Rattle.log_model.specs.Transactions.{TransactionState, Open, Committed, RolledBack, Discarded, transaction_state, last_of, renewals, is_renewal}
 use Rattle.log_model.specs.Queues.{queue_of}
 use Rattle.log_model.proofs.FirstFits.{place_behind}
-use Rattle.request_fields.specs.Requests.{SendSaid, EndSaid}
 use Rattle.request_fields.specs.declared.request.Request.{Request}
 use Rattle.request_fields.specs.declared.request.Request.TheVariants.{Send, EndTransaction}
 use Rattle.broker_model.specs.State.{State}
-use Rattle.broker_model.specs.Sends.{send_draft, half_draft, delayed_or_plain, plain_draft, is_half_send, level_of}
 use Rattle.broker_model.specs.Events
 use Rattle.broker_model.specs.Refusals.{named_half, verdict_origin}
 use Rattle.broker_model.specs.Appended.{request_drafts, verdict_drafts, open_verdict, first_verdict, check_drafts, next_check, due_origin, delivery_drafts, drafts_of, made_by, is_refused, is_refused_request, is_past_end, is_full, moment}

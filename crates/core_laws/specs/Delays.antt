@@ -1,5 +1,5 @@
 -- Deliveries of delayed messages, in order.
-use Rattle.std.specs.Prelude.{◌≡◌, ◌⊎◌, ℕ, ◌+◌, ◌-◌, ◌<◌, ◌≤◌, ◌^◌, ◌++◌, List, [], ◌∷◌, take, slice_get, codes, Some}
+use Rattle.std.specs.Prelude.{◌≡◌, ◌⊎◌, ℕ, ◌+◌, ◌-◌, ◌<◌, ◌≤◌, ◌^◌, ◌++◌, [], ◌∷◌, take, slice_get, codes, Some}
 use Rattle.std.specs.Str.Parse.{digits_value}
 use Rattle.mq_bytes.specs.Delays.{level_delay}
 use Rattle.record_codec.specs.Entry.{Entry}

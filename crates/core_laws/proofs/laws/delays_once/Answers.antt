@@ -1,6 +1,5 @@
-use Rattle.std.proofs.Common.{◌≡◌, inl, inr, sym, subst, arith, List}
+use Rattle.std.proofs.Common.{inl, inr, sym, subst, arith, List}
 use Rattle.record_codec.specs.Entry.{Entry}
-use Rattle.log_model.specs.Numbered.{Log}
 use Rattle.broker_model.specs.Run.{Anything}
 use Rattle.core_laws.specs.Delays.{InOrder}
 use Rattle.core_laws.proofs.Delays.{run_order, one_delivery}
