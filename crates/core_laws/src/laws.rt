@@ -4,7 +4,7 @@ ghost use Rattle.std.specs.Prelude.{◌≡◌, ◌⊎◌, ◌+◌, ◌-◌, ◌^
 ghost use Rattle.record_codec.specs.Entry.{Entry};
 ghost use Rattle.record_codec.specs.Props.{value_of};
 ghost use Rattle.log_model.specs.Drafts.{delivery_text};
-ghost use Rattle.log_model.specs.Numbered.{count_of, records_of};
+ghost use Rattle.log_model.specs.Numbered.{Log, count_of, records_of};
 ghost use Rattle.log_model.specs.Kinds.{is_copy};
 ghost use Rattle.log_model.specs.Transactions.{Committed, copies, is_origin, transaction_state};
 ghost use Rattle.request_fields.specs.Requests.{PullSaid, EndSaid};
@@ -109,8 +109,9 @@ pub fn commits_stay()
 /// The deliveries of each level are numbered one after another, each is that of the message with its number, and none comes twice,
 /// whatever crashes: where one was on the disk, and there is one later, they are one record, or the first was removed.
 pub fn delays_once()
+    ensures empty { (log : Log) → log.records ≡ [] → InOrder log }
     ensures order { (b c : Boot) (moves : List Move) → IsOpening b → InOrder b.now.log → Run b moves c → InOrder c.now.log }
-    ensures once { (b c : Boot) (moves : List Move) (i k level number : ℕ) (x y : Entry) → IsOpening b → b.now.log.records ≡ []
+    ensures once { (b c : Boot) (moves : List Move) (i k level number : ℕ) (x y : Entry) → IsOpening b → InOrder b.now.log
         → Run b moves c → 1 ≤ level → level ≤ 18 → number < 2 ^ 64 → slice_get c.now.log.records i ≡ Some x
         → slice_get c.now.log.records k ≡ Some y → Delivers level number x → Delivers level number y → i ≡ k }
     ensures ever { (b c d : Boot) (moves more : List Move) (n k level number : ℕ) (x y : Entry) → IsOpening b → InOrder b.now.log

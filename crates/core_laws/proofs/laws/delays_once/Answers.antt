@@ -11,10 +11,13 @@ use Rattle.core_laws.proofs.laws.delays_once.Goals as goal
 pub returns-clause-order : goal.returns-clause-order
 returns-clause-order x b c moves opening order run = run_order Anything b moves c (opening_kept b opening) run order
 
+pub returns-clause-empty : goal.returns-clause-empty
+returns-clause-empty c log none = subst (λ (l : List Entry). InOrder (record { base = log.base; records = l })) (sym none)
+    (λ i level number r at low high small is. absurd (cc))
+
 pub returns-clause-once : goal.returns-clause-once
-returns-clause-once z b c moves i k level number x y opening empty run low high small at_i at_k x_is y_is =
-    let start : InOrder b.now.log = subst (λ (l : List Entry). InOrder (record { base = b.now.log.base; records = l })) (sym empty) (λ i level number r at low high small is. absurd (cc)) in
-    one_delivery c.now.log i k level number x y (run_order Anything b moves c (opening_kept b opening) run start) at_i at_k low high small x_is y_is
+returns-clause-once z b c moves i k level number x y opening order run low high small at_i at_k x_is y_is =
+    one_delivery c.now.log i k level number x y (run_order Anything b moves c (opening_kept b opening) run order) at_i at_k low high small x_is y_is
 
 pub returns-clause-ever : goal.returns-clause-ever
 returns-clause-ever z b c d moves more n k level number x y opening order run later low high small flushed at_n at_k x_is y_is =
