@@ -1,0 +1,169 @@
+-- One record more is loaded.
+use Rattle.std.proofs.Common.{◌≡◌, ⊎_elim, refl, ap, sym, ◌∙◌, subst, arith, ℕ, zero, suc, ◌+◌, ◌<◌, ◌≤◌, ◌^◌, max, true, false, List, [], ◌∷◌, ◌++◌, length, map, codes, slice_get, slice_set, All, Option, Some, None}
+use Rattle.std.specs.Str.{bytes_eq}
+use Rattle.std.proofs.lemmas.Bool.{cases_Bool, false_from_ne_true}
+use Rattle.std.proofs.lemmas.List.Elements.{All-nil, All-cons, All-head, All-tail}
+use Rattle.std.proofs.lemmas.Slice.Eq.{bytes_eq-Decides}
+use Rattle.record_codec.specs.Entry.{Entry}
+use Rattle.record_codec.specs.Layout.{size}
+use Rattle.record_codec.specs.Props.{value_of}
+use Rattle.record_codec.specs.Units.{unit_of}
+use Rattle.record_codec.specs.declared.unit.Unit.{Unit as QueueUnit}
+use Rattle.log_model.specs.Admissible.{is_system_topic}
+use Rattle.log_model.specs.Bases.{no_base}
+use Rattle.log_model.specs.Transactions.{last_of}
+use Rattle.log_model.proofs.Places.{end_of-append}
+use Rattle.pending_log.specs.Rows.{AreAlike, AreRowsOf}
+use Rattle.pending_log.specs.declared.rows.Row.{Row}
+use Rattle.queue_view.specs.Added as view
+use Rattle.queue_view.specs.Added.{Added, added_to}
+use Rattle.queue_view.specs.Tables.{Table, number_of, with_unit}
+use Rattle.queue_view.proofs.Lists.{some_one}
+use Rattle.queue_view.proofs.NumberedLemmas.{number_of-set, number_within}
+use Rattle.broker_model.specs.Tables.{TopicRow, queues_in, with_topic}
+use Rattle.broker_model.specs.Lawful.{IsTopic}
+use Rattle.broker_model.specs.Run.{store_time, with_queue, with_own_queue, with_real_queue, with_topics_of}
+use Rattle.client_tables.specs.Counts.{queues_of}
+use Rattle.broker_core.specs.declared.loaded.Loaded.{Loaded}
+use Rattle.broker_core.specs.Represents.{AreTabled, AreTablesOf}
+use Rattle.broker_core.specs.Loads.{whole_log, known_with, own_with, AreForOwnTopics, IsLoadedFrom}
+use Rattle.broker_core.proofs.TableLemmas.{there_is, as_added, is_its_table, to_view, from_view, map_push, tabled_kept, tabled_push}
+use Rattle.broker_core.proofs.TopicLemmas.{made_count, queues_with}
+
+-- ---- topics
+
+-- a topic has one queue more
+pub queues_with_queue : (topic : List ℕ) (queue : ℕ) (rows : List TopicRow) (other : List ℕ) → queues_in (with_queue topic queue rows) other ≡ known_with (queues_in rows) topic queue other
+queues_with_queue topic queue [] other = ⊎_elim
+    (λ (its : bytes_eq topic other ≡ true). rw its refl)
+    (λ (not_its : bytes_eq topic other ≡ false). rw not_its refl)
+    (cases_Bool (bytes_eq topic other))
+queues_with_queue topic queue (row ∷ rows) other = ⊎_elim
+    (λ (mine : bytes_eq row.topic topic ≡ true).
+    let same : row.topic ≡ topic = (bytes_eq-Decides row.topic topic).0 mine in
+    let tests : bytes_eq topic other ≡ bytes_eq row.topic other = ap (λ (t : List ℕ). bytes_eq t other) (sym same) in
+    ⊎_elim
+    (λ (its : bytes_eq row.topic other ≡ true). rw (mine, tests, its) refl)
+    (λ (not_its : bytes_eq row.topic other ≡ false). rw (mine, tests, not_its) refl)
+    (cases_Bool (bytes_eq row.topic other)))
+    (λ (another : bytes_eq row.topic topic ≡ false). ⊎_elim
+    (λ (its : bytes_eq row.topic other ≡ true).
+    let at : row.topic ≡ other = (bytes_eq-Decides row.topic other).0 its in
+    let differs : bytes_eq topic other ≡ false = false_from_ne_true (bytes_eq topic other) (λ eq.
+    let bad : false ≡ true = sym another ∙ (bytes_eq-Decides row.topic topic).1 (at ∙ sym ((bytes_eq-Decides topic other).0 eq)) in cc bad) in
+    rw (another, differs, its) refl)
+    (λ (not_its : bytes_eq row.topic other ≡ false). rw (another, not_its) (queues_with_queue topic queue rows other))
+    (cases_Bool (bytes_eq row.topic other)))
+    (cases_Bool (bytes_eq row.topic topic))
+
+queues_with_own : (topic : List ℕ) (queue : ℕ) (rows : List TopicRow) (other : List ℕ) → queues_in (with_own_queue topic queue rows) other ≡ own_with (queues_in rows) topic queue other
+queues_with_own topic queue rows other = ⊎_elim
+    (λ (own : is_system_topic topic ≡ true). rw own refl)
+    (λ (plain : is_system_topic topic ≡ false). rw plain (queues_with_queue topic queue rows other))
+    (cases_Bool (is_system_topic topic))
+
+-- the topics of one record more
+pub topics_push : (records : List Entry) (r : Entry) (rows : List TopicRow) → value_of (codes "REAL_TOPIC") r.props ≡ None
+    → with_topics_of (records ++ r ∷ []) rows ≡ with_own_queue r.topic r.queue (with_topics_of records rows)
+topics_push [] r rows own = ap (λ (o : Option (List ℕ)). with_real_queue o r (with_own_queue r.topic r.queue rows)) own
+topics_push (q ∷ records) r rows own = topics_push records r (with_real_queue (value_of (codes "REAL_TOPIC") q.props) q (with_own_queue q.topic q.queue rows)) own
+
+-- two tables of topics that say the same say the same with a queue more
+own_same : (some other : List ℕ → Option ℕ) → ((topic : List ℕ) → some topic ≡ other topic) → (topic : List ℕ) (queue : ℕ) (at : List ℕ) → own_with some topic queue at ≡ own_with other topic queue at
+own_same some other same topic queue at = rw (same topic, same at) refl
+
+-- ---- lists
+
+pub last_push : (records : List Entry) (r : Entry) → last_of (records ++ r ∷ []) ≡ Some r
+last_push [] r = refl
+last_push (q ∷ []) r = refl
+last_push (q ∷ s ∷ records) r = last_push (s ∷ records) r
+
+own_push : (records : List Entry) (r : Entry) → AreForOwnTopics records → value_of (codes "REAL_TOPIC") r.props ≡ None → AreForOwnTopics (records ++ r ∷ [])
+own_push [] r are own zero q at = let same : r ≡ q = some_one at in subst (λ (e : Entry). value_of (codes "REAL_TOPIC") e.props ≡ None) same own
+own_push [] r are own (suc k) q at = cc at
+own_push (p ∷ records) r are own zero q at = are zero q at
+own_push (p ∷ records) r are own (suc k) q at = own_push records r (λ j s there. are (suc j) s there) own k q at
+
+-- ---- tables
+
+-- a record's unit is added to the table of its queue
+pub unit_added : (records : List Entry) (rows : List Row) (r : Entry) (row : Row) (mid new : List Table) (u : QueueUnit) (store : ℕ) → u ≡ unit_of r → store ≡ r.store
+    → AreAlike rows records → AreTabled mid records rows → AreTablesOf no_base records 0 mid → number_of mid r.topic r.queue ≡ Some row.table
+    → ((t : Table) → slice_get mid row.table ≡ Some t → (s : ℕ) × (t.spare ≤ s + 1) × (new ≡ slice_set mid row.table (with_unit t u store s)))
+    → ((low : List ℕ → ℕ → ℕ) (added : List Added) (n : ℕ) (t : Table) → view.AreTablesOf low added n mid → n ≤ length added → slice_get mid row.table ≡ Some t
+    → view.AreTablesOf low (added ++ added_to t u store ∷ []) n new)
+    → AreTabled new (records ++ r ∷ []) (rows ++ row ∷ []) × AreTablesOf no_base (records ++ r ∷ []) 0 new
+unit_added records rows r row mid new u store is_unit is_store alike tabled tables mine put added =
+    let t = there_is mid row.table (number_within mid r.topic r.queue row.table mine) in
+    let done = put t.0 t.1 in
+    let its = is_its_table mid r.topic r.queue row.table t.0 mine t.1 in
+    let kept : (topic : List ℕ) (queue k : ℕ) → number_of mid topic queue ≡ Some k → number_of new topic queue ≡ Some k = λ topic queue k is.
+    ap (λ (ts : List Table). number_of ts topic queue) done.2 ∙ number_of-set mid row.table t.0 (with_unit t.0 u store done.0) t.1 refl refl topic queue ∙ is in
+    let same : added_to t.0 u store ≡ as_added r =
+    ap (λ (name : List ℕ). record { topic = name; queue = t.0.queue; unit = u; store = store }) its.0
+    ∙ ap (λ (q : ℕ). record { topic = r.topic; queue = q; unit = u; store = store }) its.1
+    ∙ ap (λ (v : QueueUnit). record { topic = r.topic; queue = r.queue; unit = v; store = store }) is_unit
+    ∙ ap (λ (n : ℕ). record { topic = r.topic; queue = r.queue; unit = unit_of r; store = n }) is_store in
+    let before = to_view no_base records 0 mid rows alike tabled tables in
+    let none : 0 ≤ length (map as_added records) = omega arith in
+    let after = added no_base.queues (map as_added records) 0 t.0 before none t.1 in (
+      tabled_push new records rows r row alike (tabled_kept mid new records rows kept tabled) (kept r.topic r.queue row.table mine),
+      from_view no_base (records ++ r ∷ []) 0 new
+          (subst (λ (xs : List Added). view.AreTablesOf no_base.queues xs 0 new) (sym (map_push as_added records r))
+          (subst (λ (a : Added). view.AreTablesOf no_base.queues (map as_added records ++ a ∷ []) 0 new) same after)),
+    )
+
+-- ---- all of it
+
+-- what a load of a record did
+pub loads : (saved : List TopicRow) (records : List Entry) (r : Entry) (old new : Loaded) (row : Row) → IsLoadedFrom saved records old → value_of (codes "REAL_TOPIC") r.props ≡ None
+    → AreRowsOf (whole_log (records ++ r ∷ [])) new.rows → new.rows.items ≡ old.rows.items ++ row ∷ []
+    → AreTabled new.queues (records ++ r ∷ []) (old.rows.items ++ row ∷ []) × AreTablesOf no_base (records ++ r ∷ []) 0 new.queues
+    → ((other : List ℕ) → queues_of new.topics other ≡ own_with (queues_of old.topics) r.topic r.queue other)
+    → new.end ≡ r.offset + size r → new.store ≡ r.store → new.store < 2 ^ 62
+    → IsLoadedFrom saved (records ++ r ∷ []) new
+loads saved records r old new row is own rows items tables topics end store low = record {
+  rows = rows;
+  tabled = subst (λ (xs : List Row). AreTabled new.queues (records ++ r ∷ []) xs) (sym items) tables.0;
+  queues = tables.1;
+  topics = λ other. topics other ∙ own_same (queues_of old.topics) (queues_in (with_topics_of records saved)) is.topics r.topic r.queue other
+      ∙ sym (queues_with_own r.topic r.queue (with_topics_of records saved) other) ∙ ap (λ (ts : List TopicRow). queues_in ts other) (sym (topics_push records r saved own));
+  plain = is.plain;
+  own = own_push records r is.own own;
+  end = end ∙ sym (end_of-append no_base records r);
+  store = store ∙ ap store_time (sym (last_push records r));
+  low = low;
+}
+
+-- ---- topics of the kept file
+
+-- a topic with at least so many queues is one
+grown : (row : TopicRow) (n : ℕ) → IsTopic row → n ≤ 1024 → IsTopic (record { topic = row.topic; queues = max row.queues n })
+grown row n is low = let some = is.some in let few = is.few in record { some = omega (arith, some); few = omega (arith, few, low); plain = is.plain }
+
+are_topics : (topic : List ℕ) (n : ℕ) (rows : List TopicRow) → IsTopic (record { topic = topic; queues = n }) → All IsTopic rows → All IsTopic (with_topic topic n rows)
+are_topics topic n [] is all = All-cons IsTopic (record { topic = topic; queues = n }) [] is (All-nil IsTopic)
+are_topics topic n (row ∷ rows) is all = ⊎_elim
+    (λ (mine : bytes_eq row.topic topic ≡ true). rw mine (All-cons IsTopic (record { topic = row.topic; queues = max row.queues n }) rows (grown row n (All-head IsTopic row rows all) is.few) (All-tail IsTopic row rows all)))
+    (λ (another : bytes_eq row.topic topic ≡ false). rw another (All-cons IsTopic row (with_topic topic n rows) (All-head IsTopic row rows all) (are_topics topic n rows is (All-tail IsTopic row rows all))))
+    (cases_Bool (bytes_eq row.topic topic))
+
+-- a topic was loaded
+pub loads_topic : (saved : List TopicRow) (old new : Loaded) (topic : List ℕ) (n : ℕ) → IsLoadedFrom saved [] old → IsTopic (record { topic = topic; queues = n })
+    → new ≡ record old { topics = new.topics } → ((other : List ℕ) → queues_of new.topics other ≡ made_count (bytes_eq topic other) (queues_of old.topics topic) n (queues_of old.topics other))
+    → IsLoadedFrom (with_topic topic n saved) [] new
+loads_topic saved old new topic n is plain others made = subst (λ (l : Loaded). IsLoadedFrom (with_topic topic n saved) [] l) (sym others) (record {
+  rows = is.rows;
+  tabled = is.tabled;
+  queues = is.queues;
+  topics = λ other. made other
+      ∙ ap (λ had. made_count (bytes_eq topic other) had n (queues_of old.topics other)) (is.topics topic)
+      ∙ ap (λ rest. made_count (bytes_eq topic other) (queues_in saved topic) n rest) (is.topics other)
+      ∙ sym (queues_with topic n saved other);
+  plain = are_topics topic n saved plain is.plain;
+  own = is.own;
+  end = is.end;
+  store = is.store;
+  low = is.low;
+})

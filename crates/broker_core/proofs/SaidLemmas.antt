@@ -1,0 +1,86 @@
+-- What may be said to a request that is served: a reply, one that waits, or that the buffer is full.
+use Rattle.std.proofs.Common.{◌≡◌, subst, ℕ, ◌+◌, ◌-◌, ◌&&◌, Bool, true, false, List, [], max, Option, Some, None, Result, Ok, Err, IfOk, if◌then◌else◌}
+use Rattle.record_codec.specs.Entry.{Entry}
+use Rattle.log_model.specs.Numbered.{count_of}
+use Rattle.request_fields.specs.declared.request.Request.{Request as ARequest}
+use Rattle.request_fields.specs.declared.request.Request.TheVariants.{Send, Pull, Query, OffsetOf, SetOffset, MakeTopic, Search, MaxOffset, MinOffset, ViewById, Beat, Unregister, EndTransaction, Lock, Unlock}
+use Rattle.broker_model.specs.State.{State}
+use Rattle.broker_model.specs.Events as events
+use Rattle.broker_model.specs.Sends.{waits, kept_props}
+use Rattle.broker_model.specs.Refusals.{refusal_of}
+use Rattle.broker_model.specs.Appended.{is_refused, is_past_end, appended}
+use Rattle.broker_model.specs.Answers.{answer_of, append_answer, reply_with, send_ext, request_answer, carried_out_answer, refused_answer, end_of_log, or_refused}
+use Rattle.broker_events.specs.Served.{is_served}
+use Rattle.broker_events.specs.declared.said.Said.{Said}
+use Rattle.broker_events.specs.declared.said.Said.TheVariants as said
+use Rattle.broker_events.specs.Steps.{IsOfRequest, Says}
+use Rattle.broker_core.specs.declared.parts.Parts.{Parts}
+use Rattle.broker_core.specs.Carries.{Carries, RepresentsSome}
+
+-- the model answers a request so
+abbrev IsRequestAnswer : events.Answer → Type 0
+IsRequestAnswer (events.Replies reply) = Unit {0}
+IsRequestAnswer (events.After reply number turn) = Unit {0}
+IsRequestAnswer (events.Locked queues) = Unit {0}
+IsRequestAnswer (events.Full pending) = Unit {0}
+IsRequestAnswer events.LogEnd = ⊥
+IsRequestAnswer (events.Batch batch) = ⊥
+IsRequestAnswer events.Done = ⊥
+IsRequestAnswer (events.Looked what) = ⊥
+IsRequestAnswer (events.Moved number) = ⊥
+IsRequestAnswer (events.Delivered what) = ⊥
+IsRequestAnswer (events.Checked what) = ⊥
+
+either : (b : Bool) (x y : events.Answer) → IsRequestAnswer x → IsRequestAnswer y → IsRequestAnswer (if b then x else y)
+either true x y first second = first
+either false x y first second = second
+
+or_reply : (o : Option events.Reply) (x : events.Answer) → IsRequestAnswer x → IsRequestAnswer (or_refused o x)
+or_reply None x is = is
+or_reply (Some reply) x is = tt
+
+append_says : (s : State) (awaited : Bool) (reply : events.Reply) (n : ℕ) → IsRequestAnswer (append_answer s awaited reply n)
+append_says s awaited reply n = either (s.setup.sync && awaited) (events.After reply (count_of s.log + n - 1) s.turns) (events.Replies reply) tt tt
+
+served_answer : (s : State) (now : ℕ) (request : ARequest) (records : List Entry) → is_served request ≡ true → IsRequestAnswer (request_answer s now request records)
+unfolding request_answer
+served_answer s now (Send send) records served = append_says s (waits (kept_props send.props)) (reply_with (send_ext send records) []) 1
+served_answer s now (Pull p) records served = tt
+served_answer s now (Query q) records served = cc served
+served_answer s now (OffsetOf q) records served = cc served
+served_answer s now (SetOffset q) records served = cc served
+served_answer s now (MakeTopic t) records served = tt
+served_answer s now (Search q) records served = tt
+served_answer s now (MaxOffset q) records served = tt
+served_answer s now (MinOffset q) records served = tt
+served_answer s now (ViewById v) records served = cc served
+served_answer s now (Beat b) records served = cc served
+served_answer s now (Unregister u) records served = cc served
+served_answer s now (EndTransaction end) records served = cc served
+served_answer s now (Lock l) records served = cc served
+served_answer s now (Unlock l) records served = cc served
+
+asked_answer : (s : State) (a : events.Asked) → is_served a.request ≡ true → IsRequestAnswer (answer_of s (events.Asks a))
+unfolding answer_of carried_out_answer
+asked_answer s a served =
+    let e = events.Asks a in
+    or_reply (refusal_of s a.request) (if is_refused s e then refused_answer s e else carried_out_answer s e (appended s e))
+    (either (is_refused s e) (refused_answer s e) (carried_out_answer s e (appended s e))
+    (either (is_past_end s e) (end_of_log e) (events.Full s.flushed) tt tt)
+    (served_answer s (max a.now s.now) a.request (appended s e) served))
+
+is_of_request : (what : Said) (answer : events.Answer) → Says what answer → IsRequestAnswer answer → IsOfRequest what
+is_of_request (said.Reply reply) answer says is = tt
+is_of_request (said.After reply number turn) answer says is = tt
+is_of_request (said.Full pending) answer says is = tt
+is_of_request (said.Batch batch) answer says is = absurd (subst (λ (a : events.Answer). IsRequestAnswer a) says.1 is)
+is_of_request said.Done answer says is = absurd (subst (λ (a : events.Answer). IsRequestAnswer a) says is)
+is_of_request (said.Awaited what) answer says is = absurd (subst (λ (a : events.Answer). IsRequestAnswer a) says is)
+is_of_request (said.Moved number) answer says is = absurd (subst (λ (a : events.Answer). IsRequestAnswer a) says is)
+
+-- a request's call says what may be said to it
+pub request_says : {E : Type 0} (old new : Parts) (link : ℕ) (host : List ℕ) (now : ℕ) (request : ARequest) (result : Result Said E) → is_served request ≡ true
+    → ((link : ℕ) → IfOk result (λ what. Carries old (events.Asks (record { link = link; host = host; now = now; request = request })) (Says what) new)) → RepresentsSome old → IfOk result IsOfRequest
+request_says old new link host now request (Ok what) served carries some =
+    is_of_request what _ (carries link some.0 some.1).0 (asked_answer some.0 (record { link = link; host = host; now = now; request = request }) served)
+request_says old new link host now request (Err fault) served carries some = tt

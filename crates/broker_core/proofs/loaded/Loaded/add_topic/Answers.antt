@@ -1,0 +1,19 @@
+use Rattle.std.proofs.Common.{rules, ◌≡◌, ◌∙◌, refl, ap, ℕ, List, string_bytes}
+use Rattle.std.specs.Str.{bytes_eq}
+use Rattle.client_tables.specs.Counts.{queues_of}
+use Rattle.broker_core.proofs.LoadLemmas.{loads_topic}
+use Rattle.broker_core.proofs.TopicLemmas.{made_count}
+use Rattle.broker_core.proofs.loaded.Loaded.add_topic.Goals as goal
+
+pub returns : goal.returns
+returns c saved is =
+    let old = c.args.self.now in
+    let topic = c.args.topic.now in
+    let n = c.args.queues in
+    let R = c.reserve.new.self in
+    let name : string_bytes c.in_ok-name.name ≡ topic = search rules in
+    loads_topic saved old (record old { topics = c.make.new.self }) topic n is (record { some = c.requires.some; few = c.requires.few; plain = c.requires.plain }) refl
+    (λ other. c.make.ensures other
+    ∙ ap (λ (t : List ℕ). made_count (bytes_eq t other) (queues_of R t) n (queues_of R other)) name
+    ∙ ap (λ had. made_count (bytes_eq topic other) had n (queues_of R other)) (c.reserve.ensures.same topic)
+    ∙ ap (λ rest. made_count (bytes_eq topic other) (queues_of old.topics topic) n rest) (c.reserve.ensures.same other))

@@ -1,0 +1,10 @@
+use Rattle.std.proofs.Common.{rules, ◌≡◌, ap, sym, ◌∙◌, subst, refl, arith, ◌+◌, ◌-◌, ℕ, length, true, Bool, ◌&&◌, if◌then◌else◌}
+use Rattle.log_model.specs.Numbered.{count_of}
+use Rattle.broker_model.specs.Events as model
+use Rattle.broker_core.proofs.StoreLemmas.{waits_for}
+use Rattle.broker_core.specs.Represents.{setup_of}
+use Rattle.broker_core.proofs.parts.Parts.answer.Goals as goal
+
+pub returns-then-waits : goal.returns-then-waits
+returns-then-waits c s told are is =
+    (told, waits_for c.args.self.now s c.args.waits told c.end.result c.turns.result are c.if-self.true c.if-waits.true c.end.ensures.value c.turns.ensures, is)

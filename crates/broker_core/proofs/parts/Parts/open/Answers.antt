@@ -1,0 +1,31 @@
+use Rattle.std.proofs.Common.{◌∙◌, ap, ℕ, None}
+use Rattle.record_codec.specs.Layout.{IsHost}
+use Rattle.pending_log.specs.Parts.{PendingPart}
+use Rattle.log_model.specs.Numbered.{count_of}
+use Rattle.broker_core.specs.Loads.{whole_log}
+use Rattle.broker_core.specs.Makes.{shown_in}
+use Rattle.broker_core.proofs.OpenLemmas.{has_loaded, count_is, represents_opened}
+use Rattle.broker_core.proofs.parts.Parts.open.Goals as goal
+
+pub new-pending-requires-clause-few : goal.new-pending-requires-clause-few
+new-pending-requires-clause-few c =
+    let some = c.requires.some in
+    (has_loaded c.args.setup some.0 some.1 c.args.loaded c.args.stored c.end-count.result some.2 c.end-count.ensures.value).few
+
+pub new-pending-requires-clause-low : goal.new-pending-requires-clause-low
+new-pending-requires-clause-low c =
+    let some = c.requires.some in
+    (has_loaded c.args.setup some.0 some.1 c.args.loaded c.args.stored c.end-count.result some.2 c.end-count.ensures.value).low
+
+pub returns-clause-represents : goal.returns-clause-represents
+returns-clause-represents c saved records may =
+    let host : IsHost c.args.setup.host = c.host_number-number.ensures.host in
+    represents_opened c.args.setup saved records c.args.loaded c.args.stored c.new-pending.result c.see.new.queues c.end-count.result may host c.end-count.ensures.value
+    c.new-pending.ensures.value c.new-pending.ensures.log (c.see.ensures (whole_log records) may.of_log.rows may.of_log.tabled may.of_log.queues)
+
+pub returns-clause-shown : goal.returns-clause-shown
+returns-clause-shown c saved records may =
+    let same = count_is c.args.setup saved records c.args.loaded c.args.stored c.end-count.result may c.end-count.ensures.value in
+    ap (λ (p : PendingPart). shown_in p) c.new-pending.ensures.value
+    ∙ ap (λ (n : ℕ). record { flushed = n; end = c.args.loaded.end; out = None }) same
+    ∙ ap (λ (n : ℕ). record { flushed = count_of (whole_log records); end = n; out = None }) may.of_log.end

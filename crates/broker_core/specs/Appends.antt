@@ -1,0 +1,31 @@
+-- When a record may be appended, and that there is room for it.
+use Rattle.std.specs.Prelude.{◌≡◌, ℕ, ◌+◌, ◌^◌, ◌<◌, ◌≤◌, slice_get, Some}
+use Rattle.record_codec.specs.Drafts.{entry_of, draft_size}
+use Rattle.record_codec.specs.declared.draft.Draft.{Draft}
+use Rattle.record_codec.specs.declared.draft.Place.{Place}
+use Rattle.log_model.specs.Admissible.{half_topic, IsAdmissible, NamesEarlier}
+use Rattle.log_model.specs.Log.{place_after}
+use Rattle.log_model.specs.Numbered.{place_end, queue_max}
+use Rattle.broker_model.specs.State.{State}
+use Rattle.queue_view.specs.Tables.{Table}
+use Rattle.broker_core.specs.declared.parts.Parts.{Parts}
+
+-- there is room for one record more in the rows, and for its unit in this table
+pub record HasRoomFor (core : Parts) (table : ℕ) : Type 0 where
+  pub row : 0 < core.rows.spare
+  pub unit : (t : Table) → slice_get core.queues table ≡ Some t → 0 < t.spare
+
+-- this is the next place in the state's log for a record of this draft, at a time that isn't before now
+pub record IsNextPlace (s : State) (d : Draft) (p : Place) : Type 0 where
+  pub queue_offset : p.queue_offset ≡ queue_max s.log d.topic d.queue
+  pub offset : p.offset ≡ place_after s.setup.segment (place_end s.log) (draft_size d)
+  pub store : s.now ≤ p.store
+  pub time : p.store < 2 ^ 62
+
+-- the draft's record may stand there: there is room in a segment and below the end of all places, and its kind may stand in the log
+pub record MayStand (s : State) (d : Draft) (p : Place) : Type 0 where
+  pub next : IsNextPlace s d p
+  pub room : draft_size d + 8 ≤ s.setup.segment
+  pub low : p.offset + draft_size d ≤ 2 ^ 62
+  pub admissible : IsAdmissible s.setup.segment (entry_of d p)
+  pub names : NamesEarlier (queue_max s.log half_topic 0) (entry_of d p)

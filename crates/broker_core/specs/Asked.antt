@@ -1,0 +1,13 @@
+-- A request that came on some link, and what a call of the core does with it.
+use Rattle.std.specs.Prelude.{◌≡◌, ℕ, List}
+use Rattle.request_fields.specs.declared.request.Request.{Request}
+use Rattle.broker_model.specs.Events as model
+use Rattle.broker_events.specs.declared.said.Said.{Said}
+use Rattle.broker_events.specs.Steps.{Says}
+use Rattle.broker_core.specs.declared.parts.Parts.{Parts}
+use Rattle.broker_core.specs.Carries.{Carries}
+
+-- whatever the link, the request is answered by what was said
+abbrev pub CarriesRequest : Parts → List ℕ → ℕ → Request → Said → Parts → Type 0
+CarriesRequest old host now request said new =
+    (link : ℕ) → Carries old (model.Asks (record { link = link; host = host; now = now; request = request })) (Says said) new

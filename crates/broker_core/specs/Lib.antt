@@ -1,0 +1,10 @@
+pub mod Appends
+pub mod Asked
+pub mod Carries
+pub mod Loads
+pub mod Makes
+pub mod Pieces
+pub mod Reads
+pub mod Represents
+pub mod SendRows
+pub mod Stores

@@ -1,0 +1,67 @@
+-- What was loaded of a log, told by its records, and when the broker may open over it.
+use Rattle.std.specs.Prelude.{◌≡◌, ℕ, ◌+◌, ◌<◌, ◌^◌, max, List, codes, slice_get, All, Option, Some, None, if◌then◌else◌}
+use Rattle.std.specs.Str.{bytes_eq}
+use Rattle.mq_outside.specs.declared.frozen_ranges.FrozenRanges.{FrozenRanges}
+use Rattle.record_codec.specs.Entry.{Entry}
+use Rattle.record_codec.specs.Props.{value_of}
+use Rattle.log_model.specs.Admissible.{is_system_topic}
+use Rattle.log_model.specs.Bases.{no_base}
+use Rattle.log_model.specs.Log.{end_of}
+use Rattle.log_model.specs.Numbered.{Log, IsLawful, count_of}
+use Rattle.log_model.specs.Transactions.{last_of}
+use Rattle.pending_log.specs.Rows.{AreRowsOf}
+use Rattle.broker_model.specs.State.{Saved}
+use Rattle.broker_model.specs.Tables.{TopicRow, queues_in}
+use Rattle.broker_model.specs.Lawful.{IsTopic}
+use Rattle.broker_model.specs.Run.{store_time, with_topics_of}
+use Rattle.broker_events.specs.declared.event.Setup.{Setup}
+use Rattle.client_tables.specs.Counts.{queues_of}
+use Rattle.broker_core.specs.declared.loaded.Loaded.{Loaded}
+use Rattle.broker_core.specs.Represents.{AreTabled, AreTablesOf, AreCovered}
+
+-- the log that has these records and begins at place 0
+abbrev pub whole_log : List Entry → Log
+whole_log records = record { base = no_base; records = records }
+
+-- ---- topics
+
+-- how many queues a topic has once it has this one: one that wasn't known has 4 or more
+abbrev pub count_with : Option ℕ → ℕ → ℕ
+count_with None queue = max 4 (queue + 1)
+count_with (Some n) queue = max n (queue + 1)
+
+-- the numbers of queues of all topics once this one has this queue
+abbrev pub known_with : (List ℕ → Option ℕ) → List ℕ → ℕ → List ℕ → Option ℕ
+known_with counts topic queue other = if bytes_eq topic other then Some (count_with (counts topic) queue) else counts other
+
+-- the same, where the broker's own topics are left out
+abbrev pub own_with : (List ℕ → Option ℕ) → List ℕ → ℕ → List ℕ → Option ℕ
+own_with counts topic queue other = if is_system_topic topic then counts other else known_with counts topic queue other
+
+-- ---- what was loaded
+
+-- each record is kept for its own topic alone: none of them is a half or delayed message
+abbrev pub AreForOwnTopics : List Entry → Type 0
+AreForOwnTopics records = (k : ℕ) (r : Entry) → slice_get records k ≡ Some r → value_of (codes "REAL_TOPIC") r.props ≡ None
+
+-- These records were loaded, and before them these topics, of clients. Consumers see none of the records yet.
+pub record IsLoadedFrom (saved : List TopicRow) (records : List Entry) (loaded : Loaded) : Type 0 where
+  pub rows : AreRowsOf (whole_log records) loaded.rows
+  pub tabled : AreTabled loaded.queues records loaded.rows.items
+  pub queues : AreTablesOf no_base records 0 loaded.queues
+  pub topics : (topic : List ℕ) → queues_of loaded.topics topic ≡ queues_in (with_topics_of records saved) topic
+  pub plain : All IsTopic saved
+  pub own : AreForOwnTopics records
+  pub end : loaded.end ≡ end_of no_base records
+  pub store : loaded.store ≡ store_time (last_of records)
+  pub low : loaded.store < 2 ^ 62
+
+-- ---- when the broker may open
+
+-- The broker may open with these kept files over these records: they are a lawful log, which was loaded, and the pieces cover it;
+-- nothing was removed.
+pub record MayOpen (setup : Setup) (saved : Saved) (records : List Entry) (loaded : Loaded) (stored : FrozenRanges) : Type 0 where
+  pub lawful : IsLawful setup.segment (whole_log records)
+  pub of_log : IsLoadedFrom saved.topics records loaded
+  pub covered : AreCovered stored (whole_log records) (count_of (whole_log records))
+  pub base : saved.base ≡ no_base

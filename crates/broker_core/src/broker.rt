@@ -1,0 +1,92 @@
+//! The core as its callers see it: it represents some state at all times, so that no call asks for one.
+
+ghost use Rattle.std.specs.Prelude.{◌≡◌, List, None, IfOk, OnErr};
+ghost use Rattle.record_codec.specs.Entry.{Entry};
+ghost use Rattle.log_model.specs.Numbered.{count_of, place_end};
+ghost use Rattle.broker_model.specs.State.{State, Saved};
+ghost use Rattle.broker_model.specs.Run.{opened};
+ghost use Rattle.broker_events.specs.Shown.{Accepts, moved};
+ghost use Rattle.broker_events.specs.Steps.{IsAnswerTo, MayTakeMemory, said_in};
+ghost use Rattle.broker_core.specs.Represents.{Represents, setup_of};
+ghost use Rattle.broker_core.specs.Loads.{MayOpen, whole_log};
+ghost use Rattle.broker_core.specs.Makes.{Makes, shown_of};
+
+use crate::loaded::Loaded;
+use crate::parts::Parts;
+use broker_events::{Event, Said, Setup};
+use mq_outside::FrozenRanges;
+use std::alloc::{AllocError, Global};
+use std::marker::Model;
+
+/// The broker, as far as it is in memory.
+#[derive(Drop)]
+pub struct Core {
+    parts: Parts,
+}
+
+impl Model for Core {
+    ghost use Rattle.broker_core.specs.declared.parts.Parts.{Parts};
+    ghost use Rattle.broker_core.specs.contracts.parts.Parts.{the_row};
+
+    ghost Value = { Parts };
+
+    ghost coded = { the_row.coded };
+
+    ghost use Rattle.broker_core.specs.Carries.{RepresentsSome};
+
+    ghost view = { λ c. c.parts };
+
+    ghost invariant = { λ c. RepresentsSome c.parts };
+}
+
+impl Core {
+    /// The broker over a log that was loaded, whose records are in these stored ranges: all of it is on the disk, and consumers
+    /// see all of it. Takes no memory.
+    pub fn open(alloc: Global, setup: Setup, loaded: Loaded, stored: FrozenRanges) -> Core
+        requires some { (saved : Saved) × (records : List Entry) × MayOpen setup saved records loaded stored }
+        ensures represents { (saved : Saved) (records : List Entry) → MayOpen setup saved records loaded stored
+            → Represents result (opened (setup_of setup) (whole_log records) saved) }
+        ensures shown { (saved : Saved) (records : List Entry) → MayOpen setup saved records loaded stored
+            → shown_of result ≡ record { flushed = count_of (whole_log records); end = place_end (whole_log records); out = None } }
+    {
+        Core {
+            parts: Parts::open(alloc, setup, loaded, stored),
+        }
+    }
+
+    /// Makes one step. Want of memory comes only at a request and at `Take`, and changes nothing.
+    pub fn apply(&mut self, alloc: Global, event: &Event) -> Result<Said, AllocError>
+        requires accepted { Accepts (shown_of self.old) event.now }
+        ensures step { (s : State) → Represents self.old s → Makes s event.now (said_in result) self.new }
+        ensures shown { shown_of self.new ≡ moved (shown_of self.old) event.now (said_in result) }
+        ensures answer { IfOk result (IsAnswerTo event.now) }
+        ensures memory { OnErr result (MayTakeMemory event.now) }
+    {
+        match event {
+            Event::Request {
+                link: _,
+                host,
+                now,
+                request,
+            } => self.parts.request(alloc, host, *now, request),
+            Event::Take => match self.parts.take(alloc) {
+                Ok(batch) => Ok(Said::Batch(batch)),
+                Err(fault) => Err(fault),
+            },
+            Event::Flushed(receipt) => {
+                self.parts.flushed(receipt);
+                Ok(Said::Done)
+            }
+            Event::FlushFailed { count } => {
+                self.parts.flush_failed(*count);
+                Ok(Said::Done)
+            }
+            Event::Look { number, turn } => Ok(Said::Awaited(self.parts.look(*number, *turn))),
+            Event::Dispatch { most } => Ok(Said::Moved(self.parts.dispatch(*most))),
+            Event::Leave { link } => {
+                self.parts.leave(*link);
+                Ok(Said::Done)
+            }
+        }
+    }
+}

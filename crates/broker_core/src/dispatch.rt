@@ -1,0 +1,46 @@
+//! Dispatch: consumers see records that are on the disk, in the order of the log.
+
+ghost use Rattle.std.specs.Prelude.{◌≡◌, ◌≤◌, ◌<◌, ◌+◌, ◌-◌, ◌^◌, ℕ, List, length};
+ghost use Rattle.record_codec.specs.Entry.{Entry};
+ghost use Rattle.log_model.specs.Numbered.{Log};
+ghost use Rattle.pending_log.specs.Rows.{AreRowsOf};
+ghost use Rattle.broker_model.specs.Events as model;
+ghost use Rattle.broker_core.specs.Carries.{Carries, RepresentsSome};
+ghost use Rattle.broker_core.specs.Makes.{shown_of};
+ghost use Rattle.broker_core.specs.Represents.{AreTabled, AreTablesOf};
+
+use crate::parts::Parts;
+use pending_log::Rows;
+use queue_view::QueueView;
+
+// Consumers see the records with these numbers.
+pub(crate) fn see(queues: &mut QueueView, rows: &Rows, from: u64, to: u64)
+    requires some { (log : Log) × AreRowsOf log rows.now × AreTabled queues.old log.records rows.now.items
+        × AreTablesOf log.base log.records (from - log.base.records) queues.old }
+    requires kept { rows.now.first ≤ from }
+    requires ordered { from ≤ to }
+    requires within { to ≤ rows.now.first + length rows.now.items }
+    ensures { (log : Log) → AreRowsOf log rows.now → AreTabled queues.old log.records rows.now.items
+        → AreTablesOf log.base log.records (from - log.base.records) queues.old
+        → AreTabled queues.new log.records rows.now.items × AreTablesOf log.base log.records (to - log.base.records) queues.new }
+{
+    for number in from..to {
+        queues.see(rows.at(number).table);
+    }
+}
+
+impl Parts {
+    /// Consumers see at most so many records more, of those that are on the disk; how many they see then. Takes no memory.
+    pub(crate) fn dispatch(&mut self, most: u32) -> u64
+        requires some { RepresentsSome self.old }
+        ensures carries { Carries self.old (model.Dispatch most) (λ answer. answer ≡ model.Moved result) self.new }
+        ensures shown { shown_of self.new ≡ shown_of self.old }
+    {
+        let from = self.dispatched;
+        let flushed = self.pending.flushed_count();
+        let to = flushed.min(from.saturating_add(u64::from(most)));
+        see(&mut self.queues, &self.rows, from, to);
+        self.dispatched = to;
+        to
+    }
+}

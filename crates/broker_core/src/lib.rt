@@ -1,0 +1,27 @@
+//! What does one event do to the broker, and what does it say? The core holds no list of records: only where each stands, what
+//! is not yet on the disk, and the tables.
+#![tactic(auto)]
+
+mod alone;
+mod append;
+mod broker;
+mod dispatch;
+mod loaded;
+mod offsets;
+mod open;
+mod parts;
+mod pieces;
+mod pull;
+mod replies;
+mod request;
+mod send;
+mod send_draft;
+mod send_rows;
+mod store;
+mod topic;
+mod turns;
+
+pub use alone::Alone;
+pub use broker::Core;
+pub use loaded::Loaded;
+pub use pieces::{add_piece, no_pieces};

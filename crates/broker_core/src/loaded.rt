@@ -1,0 +1,137 @@
+//! What is loaded of a log before the broker opens: each record's row, the tables of queues, and the topics.
+
+ghost use Rattle.std.specs.Prelude.{◌≡◌, ◌<◌, ◌≤◌, ◌+◌, ◌^◌, ◌++◌, ◌∷◌, [], ℕ, List, Some, false};
+ghost use Rattle.std.specs.Prelude.{OnOk, IsTrue, if◌then◌else◌};
+ghost use Rattle.record_codec.specs.Entry.{Entry};
+ghost use Rattle.log_model.specs.Admissible.{is_system_topic as is_system};
+ghost use Rattle.broker_model.specs.Tables.{TopicRow, with_topic};
+ghost use Rattle.client_tables.specs.Counts.{queues_of};
+ghost use Rattle.broker_core.specs.Loads.{IsLoadedFrom, count_with, known_with, own_with};
+
+use client_tables::Topics;
+use log_model::is_system_topic;
+use pending_log::{Row, Rows};
+use queue_view::QueueView;
+use record_codec::{View, unit_of};
+use std::alloc::{AllocError, Global};
+
+// How many queues a topic has at least that a record names first.
+const QUEUES_MIN: u32 = 4;
+
+// More records than this no log has.
+const RECORDS_MAX: u64 = 1 << 61;
+
+/// The records of a log as far as they were loaded, from place 0 on.
+#[derive(Drop)]
+pub struct Loaded {
+    pub(crate) rows: Rows,
+    pub(crate) queues: QueueView,
+    pub(crate) topics: Topics,
+    // Where the last record ends, and when it was stored, in milliseconds.
+    pub(crate) end: u64,
+    pub(crate) store: u64,
+}
+
+// Whether a topic with so many queues has this one.
+fn has_queue(had: Option<u32>, queue: u32) -> bool
+    ensures { IsTrue result → had ≡ Some (count_with had queue) }
+{
+    match had {
+        Some(queues) => queues > queue,
+        None => false,
+    }
+}
+
+// How many queues a topic has once it has this one.
+fn queues_with(had: Option<u32>, queue: u32) -> u32
+    requires { queue + 1 < 2 ^ 32 }
+    ensures { result ≡ count_with had queue }
+{
+    match had {
+        Some(queues) => queues.max(queue + 1),
+        None => QUEUES_MIN.max(queue + 1),
+    }
+}
+
+// The topic has this queue from now on.
+fn know(topics: &mut Topics, alloc: Global, topic: &str, queue: u32) -> Result<(), AllocError>
+    ensures { OnOk result ((other : List ℕ) → queues_of topics.new other ≡ known_with (queues_of topics.old) topic.now queue other) }
+{
+    let had = topics.find(topic);
+    if has_queue(had, queue) {
+        return Ok(());
+    }
+    if queue == u32::MAX {
+        return Err(AllocError);
+    }
+    let name = String::from_str(alloc, topic)?;
+    topics.reserve()?;
+    topics.make(name, queues_with(had, queue));
+    Ok(())
+}
+
+// The same of a topic of clients; the broker's own topics are in no table.
+fn know_own(topics: &mut Topics, alloc: Global, topic: &str, queue: u32) -> Result<(), AllocError>
+    ensures { OnOk result ((other : List ℕ) → queues_of topics.new other ≡ own_with (queues_of topics.old) topic.now queue other) }
+{
+    if is_system_topic(topic) {
+        return Ok(());
+    }
+    know(topics, alloc, topic, queue)
+}
+
+impl Loaded {
+    /// Nothing is loaded yet; takes no memory.
+    pub fn new(alloc: Global) -> Loaded
+        ensures { IsLoadedFrom [] [] result }
+    {
+        Loaded {
+            rows: Rows::new(alloc, 0),
+            queues: QueueView::new(alloc),
+            topics: Topics::new(alloc),
+            end: 0,
+            store: 0,
+        }
+    }
+
+    /// Loads a topic of the kept file, before all records. One that was loaded already gets the greater number of queues.
+    pub fn add_topic(&mut self, alloc: Global, topic: &str, queues: u32) -> Result<(), AllocError>
+        requires plain { is_system topic.now ≡ false }
+        requires some { 0 < queues }
+        requires few { queues ≤ 1024 }
+        ensures { (saved : List TopicRow) → IsLoadedFrom saved [] self.old
+            → OnOk result (IsLoadedFrom (with_topic topic.now queues saved) [] self.new) }
+    {
+        let name = String::from_str(alloc, topic)?;
+        self.topics.reserve()?;
+        self.topics.make(name, queues);
+        Ok(())
+    }
+
+    /// Loads the next record. `Err` comes for want of memory, and for a record that is kept for another topic than its own, as
+    /// half and delayed messages are: these aren't served yet. What is loaded serves for nothing then.
+    pub fn add(&mut self, alloc: Global, view: &View<'_>) -> Result<(), AllocError>
+        ensures { (saved : List TopicRow) (records : List Entry) → IsLoadedFrom saved records self.old
+            → OnOk result (IsLoadedFrom saved (records ++ view.now ∷ []) self.new) }
+    {
+        if view.prop("REAL_TOPIC").is_some() {
+            return Err(AllocError);
+        }
+        if self.rows.end() >= RECORDS_MAX {
+            return Err(AllocError);
+        }
+        let topic = view.topic();
+        let queue = view.queue();
+        let place = view.offset();
+        let size = view.size();
+        let store = view.store();
+        self.rows.reserve(alloc, 1)?;
+        let table = self.queues.reserve(alloc, topic, queue, 1)?;
+        know_own(&mut self.topics, alloc, topic, queue)?;
+        self.queues.add(table, unit_of(view), store);
+        self.rows.push(Row { place, size, table });
+        self.end = place + u64::from(size);
+        self.store = store;
+        Ok(())
+    }
+}

@@ -1,0 +1,24 @@
+//! The parts of the core. Each has its own contract; what they say together of a state is `Represents`.
+
+use broker_events::Setup;
+use client_tables::Topics;
+use mq_outside::FrozenRanges;
+use pending_log::{Pending, Rows};
+use queue_view::QueueView;
+
+/// All that the broker keeps in memory.
+#[derive(Drop)]
+pub struct Parts {
+    // Constant.
+    pub(crate) setup: Setup,
+    // The log: where each record stands, what isn't on the disk yet, and the ranges that are.
+    pub(crate) rows: Rows,
+    pub(crate) pending: Pending,
+    pub(crate) stored: FrozenRanges,
+    // The tables of queues, and of topics.
+    pub(crate) queues: QueueView,
+    pub(crate) topics: Topics,
+    // How many records consumers see, the removed ones counted, and the greatest time so far, in milliseconds.
+    pub(crate) dispatched: u64,
+    pub(crate) now: u64,
+}

@@ -1,0 +1,48 @@
+//! Requests, each by its own call.
+
+ghost use Rattle.std.specs.Prelude.{◌≡◌, ◌<◌, ◌^◌, ℕ, true, IfOk, OnErr};
+ghost use Rattle.broker_model.specs.Events as model;
+ghost use Rattle.broker_events.specs.Served.{is_served};
+ghost use Rattle.broker_events.specs.Steps.{Says};
+ghost use Rattle.broker_core.specs.Carries.{Carries, Stays, RepresentsSome};
+
+use crate::parts::Parts;
+use broker_events::Said;
+use request_fields::Request;
+use std::alloc::{AllocError, Global};
+
+impl Parts {
+    /// A request that is served, from this host, at this reading of the clock in milliseconds. At `Err` nothing changes.
+    pub(crate) fn request(
+        &mut self,
+        alloc: Global,
+        host: &[u8; 8],
+        now: u64,
+        request: &Request,
+    ) -> Result<Said, AllocError>
+        requires some { RepresentsSome self.old }
+        requires time { now < 2 ^ 62 }
+        requires served { is_served request.now ≡ true }
+        ensures carries { (link : ℕ) → IfOk result (λ said. Carries self.old
+            (model.Asks (record { link = link; host = host.now; now = now; request = request.now })) (Says said) self.new) }
+        ensures stays { OnErr result (Stays self.old self.new) }
+    {
+        match request {
+            Request::Send(send) => self.send(alloc, *host, now, send),
+            Request::Pull(asked) => self.pull(alloc, now, asked),
+            Request::MakeTopic(fields) => self.make_topic(alloc, *host, now, fields),
+            Request::Search(asked) => self.search(alloc, now, asked),
+            Request::MaxOffset(asked) => self.max_offset(alloc, now, asked),
+            Request::MinOffset(asked) => self.min_offset(alloc, now, asked),
+            Request::Query(_)
+            | Request::OffsetOf(_)
+            | Request::SetOffset(_)
+            | Request::ViewById(_)
+            | Request::Beat(_)
+            | Request::Unregister(_)
+            | Request::EndTransaction(_)
+            | Request::Lock(_)
+            | Request::Unlock(_) => unreachable!(),
+        }
+    }
+}

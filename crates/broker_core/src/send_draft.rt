@@ -1,0 +1,105 @@
+//! What the record of a send says, and what a send asks for besides being stored.
+
+ghost use Rattle.std.specs.Prelude.{◌≡◌, ◌&&◌, not, is_none, IfOk};
+ghost use Rattle.record_codec.specs.LaxProps.{read_props};
+ghost use Rattle.broker_model.specs.Sends.{is_half_send, level_of as level_of_send, waits as waits_of};
+ghost use Rattle.broker_model.specs.Sends.{kept_props as kept_props_of, plain_draft as plain_draft_of};
+
+use crate::send_rows::queue_named;
+use mq_bytes::{Rows, Text, read_decimal};
+use record_codec::{Draft, PREPARED, Props, TRANSACTION_BITS};
+use request_fields::SendFields;
+use std::alloc::{AllocError, Global};
+
+// Whether it is a half message, by its property or by its system flag.
+fn is_half(send: &SendFields) -> bool
+    ensures { result ≡ is_half_send send.now }
+{
+    let says = match Props::value_in(send.props.as_str(), "TRAN_MSG") {
+        None => false,
+        Some(value) => value.eq_ignore_ascii_case("true"),
+    };
+    says || send.sysflag.cast_unsigned() & TRANSACTION_BITS == PREPARED
+}
+
+/// The delay level of a send, by its `DELAY`: 1 to 18, which stands for each greater number too.
+pub(crate) fn level_of(send: &SendFields) -> Option<u32>
+    ensures { result ≡ level_of_send send.now }
+{
+    match Props::value_in(send.props.as_str(), "DELAY") {
+        None => None,
+        Some(text) => match read_decimal(text) {
+            None => None,
+            Some(level) => {
+                if level < 1 {
+                    None
+                } else if level > 18 {
+                    Some(18)
+                } else {
+                    Some(level as u32)
+                }
+            }
+        },
+    }
+}
+
+/// Whether it is neither a half message nor a delayed one.
+pub(crate) fn is_plain(send: &SendFields) -> bool
+    ensures { result ≡ (not (is_half_send send.now) && is_none (level_of_send send.now)) }
+{
+    !is_half(send) && level_of(send).is_none()
+}
+
+/// Whether a message with these properties is answered once it is on the disk.
+pub(crate) fn waits(props: &Props) -> bool
+    ensures { result ≡ waits_of props.now }
+{
+    match props.get("WAIT") {
+        None => true,
+        Some(value) => !value.eq_ignore_ascii_case("false"),
+    }
+}
+
+// The properties of a send without the names that the broker keeps for itself.
+fn kept_props(alloc: Global, text: &str) -> Result<Props, AllocError>
+    ensures { IfOk result (λ props. props ≡ kept_props_of text.now) }
+{
+    let mut props = Props::read(alloc, text)?;
+    props.drop_name("TRANSACTION_CHECK_TIMES");
+    props.drop_name("TRAN_PREPARED_QUEUE_OFFSET");
+    props.drop_name("DELAY_FROM");
+    props.drop_name("REAL_QID");
+    props.drop_name("REAL_TOPIC");
+    props.drop_name("SEAL");
+    Ok(props)
+}
+
+fn text(alloc: Global, text: &str) -> Result<Text, AllocError>
+    ensures { IfOk result (λ copy. copy ≡ text.now) }
+{
+    Ok(Text::of(String::from_str(alloc, text)?))
+}
+
+/// The message as it was sent, from this host, to the broker at the other one.
+pub(crate) fn plain_draft(
+    alloc: Global,
+    send: &SendFields,
+    born_host: [u8; 8],
+    store_host: [u8; 8],
+) -> Result<Draft, AllocError>
+    ensures { IfOk result (λ draft. draft ≡ plain_draft_of store_host born_host send.now) }
+{
+    Ok(Draft {
+        topic: text(alloc, send.topic.as_str())?,
+        queue: queue_named(send.queue),
+        flag: send.flag,
+        sysflag: send.sysflag.cast_unsigned() & !TRANSACTION_BITS,
+        born: send.born,
+        born_host,
+        store_host,
+        reconsume: send.reconsume,
+        prepared: 0,
+        body: Rows::of(Vec::from_slice(alloc, send.body.as_slice())?),
+        props: kept_props(alloc, send.props.as_str())?,
+    })
+}

@@ -1,0 +1,157 @@
+//! A plain message is stored: all that may take memory is done before anything changes.
+
+ghost use Rattle.std.specs.Prelude.{◌≡◌, ◌<◌, ◌≤◌, ◌+◌, ◌^◌, ◌∷◌, [], length, max, pos, Some, IfOk, OnOk, OnErr, unwrap_or};
+ghost use Rattle.record_codec.specs.Drafts.{draft_size, entry_of, IsEncodable};
+ghost use Rattle.remoting_frame.specs.Head.{IsInOrder, pairs_size};
+ghost use Rattle.log_model.specs.Log.{place_after};
+ghost use Rattle.queue_view.specs.Tables.{number_of};
+ghost use Rattle.client_tables.specs.Counts.{queues_of};
+ghost use Rattle.broker_model.specs.State.{State};
+ghost use Rattle.broker_model.specs.Events as model;
+ghost use Rattle.broker_model.specs.Step.{with_made, with_records};
+ghost use Rattle.broker_model.specs.Answers.{append_answer};
+ghost use Rattle.broker_events.specs.Replies.{IsReplyOf};
+ghost use Rattle.broker_events.specs.Steps.{Says};
+ghost use Rattle.broker_core.specs.Carries.{Stays, RepresentsSome};
+ghost use Rattle.broker_core.specs.Represents.{Represents};
+ghost use Rattle.broker_core.specs.Appends.{HasRoomFor, MayStand};
+ghost use Rattle.broker_core.specs.Stores.{IsPlainDraft, IsStored, sent_fields as sent_fields_of};
+
+use crate::parts::Parts;
+use crate::send_draft::waits;
+use broker_events::Said;
+use mq_bytes::{Rows, Text, message_id};
+use record_codec::{Draft, Place};
+use reply_fields::Reply;
+use std::alloc::{AllocError, Global};
+
+fn text(alloc: Global, text: &str) -> Result<Text, AllocError>
+    ensures { IfOk result (λ copy. copy ≡ text.now) }
+{
+    Ok(Text::of(String::from_str(alloc, text)?))
+}
+
+// The fields that tell where a record stands.
+fn sent_fields(
+    alloc: Global,
+    host: [u8; 8],
+    place: Place,
+    queue: u32,
+) -> Result<Rows<(Text, Text)>, AllocError>
+    ensures fields { IfOk result (λ fields. fields ≡ sent_fields_of host place.offset queue place.queue_offset) }
+    ensures ordered { IfOk result IsInOrder }
+    ensures short { IfOk result (λ fields. pairs_size fields ≤ 200) }
+{
+    let id = message_id(alloc, host, place.offset)?;
+    let offset = place.queue_offset;
+    let fields = vec![in alloc;
+        (text(alloc, "msgId")?, Text::of(id)),
+        (
+            text(alloc, "queueId")?,
+            Text::of(format!(in alloc; "{queue}")?)
+        ),
+        (
+            text(alloc, "queueOffset")?,
+            Text::of(format!(in alloc; "{offset}")?)
+        ),
+    ]?;
+    Ok(Rows::of(fields))
+}
+
+// The reply to a send whose record stands there.
+fn sent(alloc: Global, host: [u8; 8], place: Place, queue: u32) -> Result<Reply, AllocError>
+    ensures { IfOk result (λ reply. reply
+        ≡ record { code = pos 0; remark = []; ext = sent_fields_of host place.offset queue place.queue_offset; body = [] }) }
+{
+    Ok(Reply {
+        code: 0,
+        remark: Text::of(String::new(alloc)),
+        ext: sent_fields(alloc, host, place, queue)?,
+        body: Rows::of(Vec::new(alloc)),
+    })
+}
+
+impl Parts {
+    // The answer to a request that appends one record: at once, or once the record is on the disk.
+    fn answer(&self, waits: bool, reply: Reply) -> Said
+        requires some { RepresentsSome self.now }
+        ensures { (s : State) (told : model.Reply) → Represents self.entry.now s → IsReplyOf reply told
+            → Says result (append_answer s waits told 1) }
+    {
+        if self.setup.sync && waits {
+            Said::After {
+                reply,
+                number: self.rows.end(),
+                turn: self.pending.turns(),
+            }
+        } else {
+            Said::Reply(reply)
+        }
+    }
+
+    // Appends the record of this draft, and makes its topic with so many queues where it isn't known.
+    fn append_in(
+        &mut self,
+        alloc: Global,
+        known: Option<u32>,
+        made: u32,
+        table: u32,
+        draft: &Draft,
+        place: &Place,
+        size: u32,
+    ) -> Result<(), AllocError>
+        requires some { (s : State) × Represents self.old s × MayStand s draft.now place.now }
+        requires encodable { IsEncodable draft.now place.now }
+        requires plain { IsPlainDraft self.old.setup.segment draft.now }
+        requires known { known ≡ queues_of self.old.topics draft.now.topic }
+        requires made { (0 < made) × (made ≤ 8) }
+        requires table { number_of self.old.queues draft.now.topic draft.now.queue ≡ Some table }
+        requires room { HasRoomFor self.old table }
+        requires size { size ≡ draft_size draft.now }
+        requires short { length self.old.pending.bytes + size ≤ 67108864 }
+        ensures appended { OnOk result ((s : State) → Represents self.old s → MayStand s draft.now place.now
+            → Represents self.new (with_records (with_made s draft.now.topic (unwrap_or known made)) place.now.store
+            (entry_of draft.now place.now ∷ []))) }
+        ensures stays { OnErr result (Stays self.old self.new) }
+    {
+        if known.is_some() {
+            return self.append(table, draft, place, size);
+        }
+        let name = String::from_str(alloc, draft.topic.as_str())?;
+        self.topics.reserve()?;
+        self.append(table, draft, place, size)?;
+        self.topics.make(name, made);
+        Ok(())
+    }
+
+    /// Stores a plain message for which there is room, in a topic that is made with so many queues where it isn't known. At
+    /// `Err` nothing changes.
+    pub(crate) fn store(
+        &mut self,
+        alloc: Global,
+        known: Option<u32>,
+        made: u32,
+        draft: &Draft,
+        size: u32,
+        now: u64,
+    ) -> Result<Said, AllocError>
+        requires some { RepresentsSome self.old }
+        requires plain { IsPlainDraft self.old.setup.segment draft.now }
+        requires known { known ≡ queues_of self.old.topics draft.now.topic }
+        requires made { (0 < made) × (made ≤ 8) }
+        requires size { size ≡ draft_size draft.now }
+        requires low { place_after self.old.pending.segment self.old.pending.end size + size ≤ 2 ^ 62 }
+        requires short { length self.old.pending.bytes + size ≤ 67108864 }
+        requires now { now < 2 ^ 62 }
+        ensures stored { IfOk result (λ said. (s : State) → Represents self.old s
+            → IsStored s draft.now (unwrap_or known made) (max now s.now) said self.new) }
+        ensures stays { OnErr result (Stays self.old self.new) }
+    {
+        let table = self.make_ready(alloc, draft.topic.as_str(), draft.queue)?;
+        let place = self.next_place(table, size, now.max(self.now));
+        let reply = sent(alloc, draft.store_host, place, draft.queue)?;
+        let said = self.answer(waits(&draft.props), reply);
+        self.append_in(alloc, known, made, table, draft, &place, size)?;
+        Ok(said)
+    }
+}
