@@ -128,6 +128,7 @@ no_cut segment records = record {
   begins = omega (arith, div-mul-le_self 0 segment);
   behind = omega arith;
   before = λ r at. omega arith;
+  within = omega arith;
 }
 
 -- the state of an opening is one
