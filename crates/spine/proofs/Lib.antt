@@ -1,0 +1,3 @@
+pub mod Runs
+pub mod AtTurn
+pub mod Seats

@@ -1,0 +1,4 @@
+pub mod Entries
+pub mod Stands
+pub mod Seen
+pub mod Passes

@@ -1,0 +1,47 @@
+//! The core as the lock keeps it, and what it is for it to stand for a history.
+
+ghost use Rattle.std.specs.Prelude.{◌≡◌, Option};
+ghost use Rattle.broker_events.specs.Shown.{Accepts};
+ghost use Rattle.broker_core.specs.Makes.{MakesStep, shown_of};
+ghost use Rattle.spine.specs.Entries.{Fits};
+
+use broker_core::Core;
+use broker_events::{Event, Said};
+use std::alloc::Global;
+use story_lock::Chronicle;
+
+/// The broker under the lock. An entry of its history is an event with what was said, or nothing where memory ran out.
+#[derive(Drop)]
+pub struct Shared {
+    pub(crate) core: Core,
+}
+
+/// What one caller has seen of the history and added to it, as `story_lock` has it.
+pub type Pass = story_lock::Pass<Shared>;
+
+impl Chronicle for Shared {
+    ghost use Rattle.spine.specs.Entries.{is_keyed};
+    ghost use Rattle.spine.specs.Stands.{Stands};
+
+    type Event = Event;
+
+    type Said = Option<Said>;
+
+    ghost represents = { λ start log now. Stands start.core log now.core };
+
+    ghost keyed = { λ event said. is_keyed event };
+}
+
+impl Shared {
+    /// Makes one step of the core, and answers what was said, nothing where memory ran out.
+    pub(crate) fn step(&mut self, alloc: Global, event: &Event) -> Option<Said>
+        requires accepted { Accepts (shown_of self.old.core) event.now }
+        ensures step { MakesStep self.old.core event.now result self.new.core }
+        ensures fits { Fits event.now result }
+    {
+        match self.core.apply(alloc, event) {
+            Ok(said) => Some(said),
+            Err(_) => None,
+        }
+    }
+}

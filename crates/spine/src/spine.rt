@@ -1,0 +1,101 @@
+//! The spine: a story over the core, and a count of the flush turns that ended, on which callers sleep.
+
+ghost use Rattle.std.specs.Prelude.{◌≡◌};
+
+use crate::pass::SpinePass;
+use crate::shared::{Pass, Shared};
+use broker_core::Core;
+use std::alloc::{AllocError, Global};
+use std::sync::{Condvar, Mutex, Wait};
+use story_lock::Story;
+
+/// The broker for many callers.
+pub struct Spine {
+    pub(crate) story: Story<Shared>,
+    // How many flush turns ended, modulo 2^64. It is rung at each.
+    pub(crate) ends: Mutex<u64>,
+    pub(crate) ended: Condvar,
+}
+
+impl Spine {
+    ghost use Rattle.std.specs.Prelude.{◌≡◌, ◌<◌, List, [], Option, Some, length, IfOk, IfErr};
+    ghost use Rattle.broker_events.specs.declared.event.Event.{Event as AnEvent};
+    ghost use Rattle.broker_events.specs.declared.said.Said.{Said as ASaid};
+    ghost use Rattle.story_lock.specs.Counts.{numbers_below};
+    ghost use Rattle.story_lock.specs.Passes.{start_of, seats_of, IsPassOf, HasSeat, Finds, seen_by, mine_of, numbers_of};
+    ghost use Rattle.spine.specs.Stands.{StandsFor};
+
+    /// The core under the lock with an empty history, and the first pass, which has each seat number. At `Err` memory ran
+    /// out, and the core is given back.
+    pub fn open(alloc: Global, core: Core, seats: u32) -> Result<(Spine, Pass), (Core, AllocError)>
+        requires seats { 0 < seats }
+        ensures spine { IfOk result (λ r. ((start_of r.0.story).core ≡ core) × (seats_of r.0.story ≡ seats)) }
+        ensures pass { IfOk result (λ r. IsPassOf r.0.story r.1 × (seen_by r.1 ≡ []) × (mine_of r.1 ≡ [])) }
+        ensures numbers { IfOk result (λ r. (numbers_of r.1 ≡ numbers_below seats) × (length (numbers_of r.1) ≡ seats)) }
+        ensures err { IfErr result (λ e. e.0 ≡ core) }
+    {
+        match Story::new(alloc, Shared { core }, seats) {
+            Ok((story, pass)) => Ok((
+                Spine {
+                    story,
+                    ends: Mutex::new(0),
+                    ended: Condvar::new(),
+                },
+                pass,
+            )),
+            Err((shared, fault)) => {
+                let Shared { core } = shared;
+                Err((core, fault))
+            }
+        }
+    }
+
+    /// The pass with its spine, and with what its calls wait by.
+    pub fn seat<'a, R: Wait>(&'a self, rt: &'a R, pass: Pass) -> SpinePass<'a, R>
+        requires of { IsPassOf self.now.story pass }
+        requires seat { HasSeat pass }
+        ensures spine { result.spine.now ≡ self.now }
+        ensures pass { result.pass ≡ Some pass }
+    {
+        SpinePass {
+            spine: self,
+            rt,
+            pass: Some(pass),
+        }
+    }
+
+    /// Waits for a turn, and gives the core, which stands for the history. Where the pass has each seat number, its `seen`
+    /// is the whole history, and each entry is its own.
+    pub fn close<R: Wait>(self, rt: &R, pass: Pass) -> Core
+        requires { IsPassOf self.story pass }
+        ensures { (history : List (AnEvent × Option ASaid)) × StandsFor self.story pass history result }
+    {
+        let Spine {
+            story,
+            ends: _,
+            ended: _,
+        } = self;
+        let Shared { core } = story.close(rt, pass);
+        core
+    }
+
+    // A flush turn ended.
+    pub(crate) fn ring<R: Wait>(&self, rt: &R) {
+        let mut ends = self.ends.lock(rt);
+        *ends = ends.wrapping_add(1);
+        self.ended.notify_all();
+    }
+
+    // How many flush turns ended so far.
+    pub(crate) fn ends_so_far<R: Wait>(&self, rt: &R) -> u64 {
+        *self.ends.lock(rt)
+    }
+
+    // Sleeps until a flush turn ended since that.
+    pub(crate) fn wait_past<R: Wait>(&self, rt: &R, ends: u64) {
+        drop(
+            self.ended
+                .wait_while(rt, self.ends.lock(rt), |now| *now == ends),
+        );
+    }
+}
