@@ -1,5 +1,5 @@
 -- At its turn a pass with the key finds that the core shows what the history shows that it had seen. So what it could accept is accepted.
-use Rattle.std.proofs.Common.{◌≡◌, ℕ, List, [], ◌∷◌, ◌++◌, Bool, true, Option, Some, IfSome, refl, sym, ap, ◌∙◌, subst}
+use Rattle.std.proofs.Common.{◌≡◌, List, Option, Some, sym, ap, ◌∙◌, subst}
 use Rattle.broker_events.specs.declared.event.Event.{Event}
 use Rattle.broker_events.specs.declared.event.Event.TheVariants.{Request, Take, Flushed, FlushFailed, Look, Dispatch, Leave}
 use Rattle.broker_events.specs.declared.said.Said.{Said}
@@ -25,16 +25,6 @@ accepts shown now (FlushFailed count) same may = subst (λ (z : Shown). Accepts 
 accepts shown now (Look number turn) same may = tt
 accepts shown now (Dispatch most) same may = tt
 accepts shown now (Leave link) same may = tt
-
--- a keyed event is a keyed entry, and the other way round
-pub keyed_is : (e : Event) → is_keyed e ≡ true → IsKeyed e
-keyed_is (Request link host time request) is = absurd (cc)
-keyed_is Take is = tt
-keyed_is (Flushed receipt) is = tt
-keyed_is (FlushFailed count) is = tt
-keyed_is (Look number turn) is = absurd (cc)
-keyed_is (Dispatch most) is = absurd (cc)
-keyed_is (Leave link) is = absurd (cc)
 
 module _ {chronicle : Ghosts Shared Event (Option Said)} where
   shown_at_turn : ((e : Event) (a : Option Said) → chronicle.keyed e a ≡ is_keyed e) → (story : Story Shared Event (Option Said)) (pass : Pass Shared Event (Option Said) chronicle) (history : List (Event × Option Said)) (now : Shared)

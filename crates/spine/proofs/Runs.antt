@@ -1,11 +1,10 @@
 -- A run along a history goes on by one step of the core.
-use Rattle.std.proofs.Common.{◌≡◌, List, [], ◌∷◌, ◌++◌, Option, refl, sym, ap, ◌∙◌, subst}
+use Rattle.std.proofs.Common.{List, [], ◌∷◌, ◌++◌, Option, refl, sym, ap, ◌∙◌, subst}
 use Rattle.broker_model.specs.State.{State}
 use Rattle.broker_events.specs.declared.event.Event.{Event}
 use Rattle.broker_events.specs.declared.said.Said.{Said}
 use Rattle.broker_events.specs.Shown.{Shown, moved}
 use Rattle.broker_core.specs.declared.parts.Parts.{Parts}
-use Rattle.broker_core.specs.Represents.{Represents}
 use Rattle.broker_core.specs.Makes.{MakesStep, shown_of}
 use Rattle.spine.specs.Stands.{StepsAlong, Along, Stands}
 use Rattle.spine.specs.Seen.{shown_append}

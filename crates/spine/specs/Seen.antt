@@ -1,5 +1,5 @@
 -- What the history that a pass has seen shows. The key stays with the pass, and who has it sees each keyed entry, since it is its own.
-use Rattle.std.specs.Prelude.{◌≡◌, ℕ, zero, ◌<◌, List, [], ◌∷◌, ◌++◌, Bool, false, Option, Some, None, IfSome}
+use Rattle.std.specs.Prelude.{◌≡◌, ℕ, ◌<◌, List, [], ◌∷◌, ◌++◌, Bool, false, Option, Some, None, IfSome}
 use Rattle.std.proofs.Common.{refl, sym, ap, ◌∙◌, subst}
 use Rattle.broker_events.specs.declared.event.Event.{Event}
 use Rattle.broker_events.specs.declared.event.Event.TheVariants.{Request, Take, Flushed, FlushFailed, Look, Dispatch, Leave}
@@ -9,7 +9,7 @@ use Rattle.broker_core.specs.Makes.{shown_of}
 use Rattle.story_lock.specs.declared.chronicle.Chronicle.{Ghosts}
 use Rattle.story_lock.specs.declared.story.Pass.{Pass}
 use Rattle.story_lock.specs.Counts.{times}
-use Rattle.story_lock.specs.Passes.{NoneKeyed, HasKey, IsSamePass, Adds, seen_by, numbers_of}
+use Rattle.story_lock.specs.Passes.{NoneKeyed, HasKey, IsSamePass, Adds, seen_by}
 use Rattle.spine.specs.declared.shared.Shared.{Shared}
 use Rattle.spine.specs.Entries.{is_keyed}
 use Rattle.spine.specs.Stands.{shown_after}

@@ -1,5 +1,5 @@
 -- What a core stands for: a run of steps along the history, from each state that the core at the opening represented.
-use Rattle.std.specs.Prelude.{◌≡◌, List, [], ◌∷◌, ◌++◌, Option}
+use Rattle.std.specs.Prelude.{◌≡◌, List, [], ◌∷◌, Option}
 use Rattle.broker_model.specs.State.{State}
 use Rattle.broker_model.specs.Events as model
 use Rattle.broker_model.specs.Step.{Step}

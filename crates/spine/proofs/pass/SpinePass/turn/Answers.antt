@@ -1,11 +1,11 @@
-use Rattle.std.proofs.Common.{rules, ◌≡◌, Some, IfSome, refl, sym, ◌∙◌, subst}
+use Rattle.std.proofs.Common.{IfSome, refl, sym, ◌∙◌, subst}
 use Rattle.broker_events.specs.Shown.{Accepts}
 use Rattle.broker_core.specs.Makes.{MakesStep, shown_of}
 use Rattle.story_lock.specs.Passes.{IsPassOf, HasSeat, HasKey, Finds, history_of}
 use Rattle.spine.specs.declared.shared.Shared.{Shared}
 use Rattle.spine.specs.Seen.{shown_by}
 use Rattle.spine.proofs.Runs.{stands_snoc}
-use Rattle.spine.proofs.AtTurn.{accepts_at_turn, keyed_is}
+use Rattle.spine.proofs.AtTurn.{accepts_at_turn}
 use Rattle.spine.proofs.pass.SpinePass.turn.Goals as goal
 
 pub step-said-requires : goal.step-said-requires
