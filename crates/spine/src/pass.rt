@@ -127,12 +127,7 @@ impl<'a, R: Wait> Calls for SpinePass<'a, R> {
     ghost shown = { λ x. shown_by x.pass };
 
     fn call(&mut self, alloc: Global, event: &Event) -> Result<Said, AllocError> {
-        let said = self.turn(alloc, event);
-        match event {
-            Event::Flushed(_) | Event::FlushFailed { count: _ } => self.spine.ring(self.rt),
-            _ => (),
-        }
-        match said {
+        match self.turn(alloc, event) {
             Some(said) => Ok(said),
             None => Err(AllocError),
         }

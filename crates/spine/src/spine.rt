@@ -1,4 +1,4 @@
-//! The spine: a story over the core, and a count of the flush turns that ended, on which callers sleep.
+//! The spine: a story over the core.
 
 ghost use Rattle.std.specs.Prelude.{◌≡◌};
 
@@ -6,15 +6,12 @@ use crate::pass::SpinePass;
 use crate::shared::{Pass, Shared};
 use broker_core::Core;
 use std::alloc::{AllocError, Global};
-use std::sync::{Condvar, Mutex, Wait};
+use std::sync::Wait;
 use story_lock::Story;
 
 /// The broker for many callers.
 pub struct Spine {
     pub(crate) story: Story<Shared>,
-    // How many flush turns ended, modulo 2^64. It is rung at each.
-    pub(crate) ends: Mutex<u64>,
-    pub(crate) ended: Condvar,
 }
 
 impl Spine {
@@ -35,14 +32,7 @@ impl Spine {
         ensures err { IfErr result (λ e. e.0 ≡ core) }
     {
         match Story::new(alloc, Shared { core }, seats) {
-            Ok((story, pass)) => Ok((
-                Spine {
-                    story,
-                    ends: Mutex::new(0),
-                    ended: Condvar::new(),
-                },
-                pass,
-            )),
+            Ok((story, pass)) => Ok((Spine { story }, pass)),
             Err((shared, fault)) => {
                 let Shared { core } = shared;
                 Err((core, fault))
@@ -70,32 +60,8 @@ impl Spine {
         requires { IsPassOf self.story pass }
         ensures { (history : List (AnEvent × Option ASaid)) × StandsFor self.story pass history result }
     {
-        let Spine {
-            story,
-            ends: _,
-            ended: _,
-        } = self;
+        let Spine { story } = self;
         let Shared { core } = story.close(rt, pass);
         core
-    }
-
-    // A flush turn ended.
-    pub(crate) fn ring<R: Wait>(&self, rt: &R) {
-        let mut ends = self.ends.lock(rt);
-        *ends = ends.wrapping_add(1);
-        self.ended.notify_all();
-    }
-
-    // How many flush turns ended so far.
-    pub(crate) fn ends_so_far<R: Wait>(&self, rt: &R) -> u64 {
-        *self.ends.lock(rt)
-    }
-
-    // Sleeps until a flush turn ended since that.
-    pub(crate) fn wait_past<R: Wait>(&self, rt: &R, ends: u64) {
-        drop(
-            self.ended
-                .wait_while(rt, self.ends.lock(rt), |now| *now == ends),
-        );
     }
 }
