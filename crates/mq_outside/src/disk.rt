@@ -136,6 +136,7 @@ pub trait Disk {
         requires stored { tells → IsStored base from to (state self.old) }
         ensures range { IfOk result (λ piece. (piece.base ≡ base) × (piece.from ≡ from) × (piece.len ≡ to - from)) }
         ensures held { tells → IfOk result (λ piece. piece.held ≡ Some (stored_piece base from to (state self.old))) }
+        ensures no_others { IfOk result (λ piece. IfSome piece.held (λ held. tells)) }
         ensures moves { tells → Moves Same (state self.old) (state self.new) }
         ensures cause { CountsDiskFault result (faults self.old) (faults self.new) }
         ensures syncs { syncs self.new ≡ syncs self.old }
