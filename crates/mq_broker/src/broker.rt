@@ -26,6 +26,10 @@ impl Reader for NothingStored {
 
     ghost alike = { λ _ _ _ _ _ given. absurd given };
 
+    fn fault_count(&self) -> u64 {
+        self.faults
+    }
+
     fn read(&mut self, _piece: &Frozen, _at: u64, _out: &mut [u8]) -> Result<(), Failed> {
         self.reads = self.reads.saturating_add(1);
         self.faults = self.faults.saturating_add(1);

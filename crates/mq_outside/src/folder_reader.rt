@@ -94,6 +94,10 @@ impl<R: Files<File = File> + AllocGlobal + Clone + Drop> Reader for FolderReader
 
     ghost alike = { alike_law };
 
+    fn fault_count(&self) -> u64 {
+        self.faults
+    }
+
     fn read(&mut self, piece: &Frozen, at: u64, out: &mut [u8]) -> Result<(), Failed> {
         self.reads = self.reads.saturating_add(1);
         if let Some(held) = &piece.held {

@@ -56,6 +56,10 @@ impl Reader for MemReader {
 
     ghost alike = { alike_law };
 
+    fn fault_count(&self) -> u64 {
+        self.faults
+    }
+
     fn read(&mut self, piece: &Frozen, at: u64, out: &mut [u8]) -> Result<(), Failed>
         requires { at + length out.old ≤ piece.now.len }
         ensures gives { OnOk result (gives_held piece.now at out.new) }

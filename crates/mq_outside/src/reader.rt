@@ -18,6 +18,10 @@ pub trait Reader {
     /// Which bytes a read of a piece at an offset gives. Only a read that answered Ok shows it.
     ghost gives: { Giving };
 
+    /// How often it failed, as a number: a refusal is told to the client with it.
+    fn fault_count(&self) -> u64
+        ensures { result ≡ faults self.now };
+
     /// Fills `out` with what the piece has from this offset in it on.
     fn read(&mut self, piece: &Frozen, at: u64, out: &mut [u8]) -> Result<(), Failed>
         requires { at + length out.old ≤ piece.now.len }
