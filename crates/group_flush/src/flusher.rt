@@ -3,12 +3,12 @@
 //! A turn takes no lock, waits for nobody and takes no memory. What it wrote may be acknowledged after it answered Ok, and
 //! never before.
 
-ghost use Rattle.std.specs.Prelude.{◌≡◌, ◌+◌, ◌<◌, ◌≤◌, ◌^◌, ℕ, length, IfErr, OnOk};
+ghost use Rattle.std.specs.Prelude.{◌≡◌, ◌+◌, ◌<◌, ◌≤◌, ◌^◌, ℕ, length, true, IfErr, OnOk};
 ghost use Rattle.mq_outside.specs.Counts.{Counted, CountsFailure};
 ghost use Rattle.log_model.specs.Batches.{IsBatchOf};
 ghost use Rattle.log_model.specs.Log.{IsWellFormed};
 ghost use Rattle.log_model.specs.Stored.{Stored, StaysOutside};
-ghost use Rattle.segment_files.specs.Turn.{IsInside, CanTurn, HasTurned, IsPlaced, PlacesOn, MovesOn, growing, opens_segment, syncs_of};
+ghost use Rattle.segment_files.specs.Turn.{IsInside, CanTurn, HasTurned, IsPlaced, GoesToPlace, PlacesOn, MovesOn, growing, opens_segment, syncs_of};
 
 use log_model::{Batch, Receipt};
 use mq_outside::{Disk, Failed};
@@ -33,6 +33,14 @@ impl Flusher {
         ensures { result.file ≡ file }
     {
         Flusher { file }
+    }
+
+    /// Whether the next turn writes the batch from its place on.
+    pub fn goes_to(&self, batch: &Batch) -> bool
+        ensures yes { result ≡ true → GoesToPlace self.now.file batch.now }
+        ensures no { GoesToPlace self.now.file batch.now → result ≡ true }
+    {
+        self.file.goes_to(batch)
     }
 
     /// Writes a batch behind the flushed records and syncs it. At `Err` the log is stored as before, and the next batch begins

@@ -14,7 +14,7 @@ ghost use Rattle.log_model.specs.Log.{IsWellFormed};
 ghost use Rattle.log_model.specs.Segments.{Shape, added, opened, used, segment_start, shape_of};
 ghost use Rattle.log_model.specs.Store.{IsBatch};
 ghost use Rattle.log_model.specs.Stored.{Stored, StaysOutside, HasRecords, stored};
-ghost use Rattle.segment_files.specs.Turn.{IsInside, WritesAt, Opens, CanTurn, HasTurned, IsPlaced, PlacesOn, MovesOn, growing, opens_segment, is_due, shape_behind, base_behind, unless_opened, syncs_of};
+ghost use Rattle.segment_files.specs.Turn.{IsInside, WritesAt, Opens, CanTurn, HasTurned, IsPlaced, GoesToPlace, PlacesOn, MovesOn, growing, opens_segment, is_due, shape_behind, base_behind, unless_opened, syncs_of};
 
 use crate::blank::write_blank;
 use bytes::Bytes;
@@ -43,6 +43,29 @@ impl LastFile {
         LastFile {
             base: end - offset,
             offset,
+        }
+    }
+
+    /// Whether the next turn writes the batch from its place on.
+    pub fn goes_to(&self, batch: &Batch) -> bool
+        ensures yes { result ≡ true → GoesToPlace self.now batch.now }
+        ensures no { GoesToPlace self.now batch.now → result ≡ true }
+    {
+        let opens = match batch.blank {
+            None => false,
+            Some((at, _)) => self.base <= at,
+        };
+        let (base, from) = if opens {
+            (batch.place, 0)
+        } else {
+            (self.base, self.offset)
+        };
+        if base.checked_add(from) != Some(batch.place) {
+            return false;
+        }
+        match self.offset.checked_add(batch.bytes.len() as u64) {
+            Some(end) => end < 1 << 63,
+            None => false,
         }
     }
 

@@ -15,7 +15,7 @@ use Rattle.broker_events.specs.declared.event.Event.TheVariants.{Take, Flushed, 
 use Rattle.broker_events.specs.declared.said.Said.{Said}
 use Rattle.broker_events.specs.declared.said.Said.TheVariants as said
 use Rattle.worker_turns.specs.declared.flush.FlushEnd.{FlushEnd}
-use Rattle.worker_turns.specs.declared.flush.FlushEnd.TheVariants.{Idle, Done, Failed, Memory}
+use Rattle.worker_turns.specs.declared.flush.FlushEnd.TheVariants.{Idle, Done, Failed, Misplaced, Memory}
 
 -- who makes steps: what was before, an event, what was said to it, and what is after
 abbrev pub Steps : Type 0 → Type 1
@@ -50,23 +50,32 @@ pub record HasFailed {C : Type 0} (makes : Steps C) (writes : Batch → Result R
   pub steps : Makes makes x ((Take, Some (said.Batch (Some batch))) ∷ (FlushFailed count, Some said.Done) ∷ []) y
   pub wrote : writes batch (Err (record { count = count }))
 
+-- a turn of some batch of which nothing was written: it was taken, and is pending again
+pub record IsPutBack {C : Type 0} (makes : Steps C) (x y : C) : Type 0 where
+  pub batch : Batch
+  pub count : ℕ
+  pub steps : Makes makes x ((Take, Some (said.Batch (Some batch))) ∷ (FlushFailed count, Some said.Done) ∷ []) y
+
 -- the steps of a turn that ended like this, and what its batch did
 abbrev pub HasEnded : {C : Type 0} → Steps C → (Batch → Result Receipt FlushFault → Type 0) → C → FlushEnd → C → Type 0
 HasEnded makes writes x Idle y = Makes makes x ((Take, Some (said.Batch None)) ∷ []) y
 HasEnded makes writes x Done y = IsDone makes writes x y
 HasEnded makes writes x (Failed count) y = HasFailed makes writes count x y
+HasEnded makes writes x Misplaced y = IsPutBack makes x y
 HasEnded makes writes x Memory y = Makes makes x ((Take, None) ∷ []) y
 
--- no batch was taken
-abbrev pub TookNone : FlushEnd → Type 0
-TookNone Idle = Unit {0}
-TookNone Done = ⊥
-TookNone (Failed count) = ⊥
-TookNone Memory = Unit {0}
+-- no batch was written
+abbrev pub WroteNone : FlushEnd → Type 0
+WroteNone Idle = Unit {0}
+WroteNone Done = ⊥
+WroteNone (Failed count) = ⊥
+WroteNone Misplaced = Unit {0}
+WroteNone Memory = Unit {0}
 
 -- the disk's count of faults rises exactly in a turn that failed, which tells it
 abbrev pub CountsEnd : FlushEnd → ℕ → ℕ → Type 0
 CountsEnd Idle old new = new ≡ old
 CountsEnd Done old new = new ≡ old
 CountsEnd (Failed count) old new = Rises old new × (count ≡ new)
+CountsEnd Misplaced old new = new ≡ old
 CountsEnd Memory old new = new ≡ old

@@ -1,14 +1,14 @@
 //! A flush turn: the batch that is pending is taken, written and synced, and then its records are flushed. Where the disk
 //! fails they are pending again.
 
-ghost use Rattle.std.specs.Prelude.{◌≡◌, Some, None, IfOk, OnErr};
+ghost use Rattle.std.specs.Prelude.{◌≡◌, ◌≢◌, Some, None, IfOk, OnErr};
 ghost use Rattle.log_model.specs.Batches.{IsReceiptFor};
 ghost use Rattle.log_model.specs.Stored.{StaysOutside};
 ghost use Rattle.segment_files.specs.Turn.{IsInside, growing};
 ghost use Rattle.broker_events.specs.Shown.{IsOut};
 ghost use Rattle.broker_events.specs.declared.event.Event.TheVariants.{Take, Flushed, FlushFailed};
 ghost use Rattle.broker_events.specs.declared.said.Said.TheVariants as said;
-ghost use Rattle.worker_turns.specs.Turns.{TakesFrom, Writes, HasEnded, TookNone, CountsEnd};
+ghost use Rattle.worker_turns.specs.Turns.{TakesFrom, Writes, HasEnded, WroteNone, CountsEnd};
 
 use broker_events::{Calls, Event, Said};
 use group_flush::Flusher;
@@ -25,6 +25,8 @@ pub enum FlushEnd {
     Done,
     /// The disk failed, and counts so many faults. The records are pending still.
     Failed(u64),
+    /// The batch doesn't begin where the flusher writes, so nothing was written. The records are pending still.
+    Misplaced,
     /// Memory ran out before anything was taken.
     Memory,
 }
@@ -75,7 +77,6 @@ pub fn flush_turn<C: Calls, D: Disk>(
 ) -> FlushEnd
     requires key { C.has_key calls.old }
     requires none_out { (C.shown calls.old).out ≡ None }
-    requires goes { TakesFrom C.makes calls.old flusher.old.file }
     requires inside { D.tells → IsInside flusher.old.file.base flusher.old.file.offset (D.state disk.old) }
 
     // The steps that it made, and what its batch did to the disk.
@@ -83,13 +84,16 @@ pub fn flush_turn<C: Calls, D: Disk>(
         (Writes D.tells (growing flusher.old.file (D.state disk.old)) (growing flusher.new.file (D.state disk.new))
         (D.syncs disk.old) (D.syncs disk.new))
         calls.old result calls.new }
-    ensures rests { TookNone result → (flusher.new ≡ flusher.old) × (disk.new ≡ disk.old) }
+    ensures rests { WroteNone result → (flusher.new ≡ flusher.old) × (disk.new ≡ disk.old) }
     ensures outside { D.tells → StaysOutside (D.state disk.old) (D.state disk.new) }
 
     // It can be made again.
     ensures key { C.has_key calls.new }
     ensures none_out { (C.shown calls.new).out ≡ None }
     ensures inside { D.tells → IsInside flusher.new.file.base flusher.new.file.offset (D.state disk.new) }
+
+    // No batch is misplaced where each that can be taken is written from its place on.
+    ensures placed { TakesFrom C.makes calls.old flusher.old.file → result ≢ FlushEnd.Misplaced }
 
     // It fails with the disk's count of faults, and only where that rose.
     ensures cause { CountsEnd result (D.faults disk.old) (D.faults disk.new) }
@@ -99,6 +103,10 @@ pub fn flush_turn<C: Calls, D: Disk>(
         Ok(None) => return FlushEnd::Idle,
         Err(_) => return FlushEnd::Memory,
     };
+    if !flusher.goes_to(&batch) {
+        tell_failed(alloc, calls, disk.fault_count());
+        return FlushEnd::Misplaced;
+    }
     match flusher.turn(disk, batch) {
         Ok(receipt) => {
             tell_flushed(alloc, calls, receipt);

@@ -14,6 +14,6 @@ returns-in-Ok-clause-ended g c =
       batch = batch;
       receipt = c.in-Ok.receipt;
       steps = (c.take.new.calls, taken, (c.tell_flushed.new.calls, c.tell_flushed.ensures, refl));
-      is = receipt_for batch _ _ _ told.moves (c.requires.goes batch c.take.new.calls taken);
+      is = receipt_for batch _ _ _ told.moves (c.if-not-goes_to.ensures.yes refl);
       wrote = record { turned = told.turned; places = told.places; moves = told.moves; synced = told.synced };
     }
