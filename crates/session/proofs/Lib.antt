@@ -1,2 +1,3 @@
+mod RemarkLemmas
 mod Responses
 mod TalkLaws

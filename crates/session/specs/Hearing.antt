@@ -32,6 +32,7 @@ AreResponses (frame ∷ frames) = (is_response frame.header ≡ true) × AreResp
 -- what is heard is what this frame says; of the request, unless memory ran out
 pub record IsHeard (heard : Heard) (frame : Frame) : Type 0 where
   pub form : heard.form ≡ frame.form
+  pub code : heard.code ≡ frame.header.code
   pub opaque : heard.opaque ≡ frame.header.opaque
   pub one_way : heard.one_way ≡ is_one_way frame.header
   pub request : Reads heard.request (request_of frame.header frame.body)

@@ -1,2 +1,4 @@
 pub mod Hearing
+pub mod Owing
+pub mod Serving
 pub mod Talks

@@ -14,6 +14,8 @@ use std::alloc::Global;
 pub struct Heard {
     /// The form of its header, which the reply has too.
     pub form: Form,
+    /// What it asks for, as a number.
+    pub code: i32,
     /// The sender's number of the request, which the reply repeats.
     pub opaque: i32,
     /// Nobody waits for a reply.
@@ -42,6 +44,7 @@ pub(crate) fn hear(alloc: Global, frame: &Frame) -> Heard
     let request = Request::read(alloc, frame);
     Heard {
         form: frame.form,
+        code: frame.header.code,
         opaque: frame.header.opaque,
         one_way: is_one_way(&frame.header),
         request,

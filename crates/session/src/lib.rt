@@ -1,12 +1,20 @@
 //! What a link says: the requests among the frames of its stream.
 #![tactic(auto)]
 
+mod caller;
 mod heard;
 mod laws;
+mod owed;
+mod serving;
+mod session;
 mod talk;
 
+pub use caller::Caller;
 pub use heard::Heard;
 pub use laws::a_talk_hears_the_requests_of_its_stream;
+pub use serving::{Halt, Step};
+pub use session::Session;
+pub use owed::{Applied, Awaits, Owed, apply, look, write_reply};
 pub use talk::Talk;
 
 #[cfg(test)]

@@ -1,0 +1,79 @@
+-- What is owed for a request, and what is written of it.
+use Rattle.std.specs.Prelude.{◌≡◌, ◌⊎◌, ℕ, ◌+◌, ◌<◌, ◌≤◌, ◌++◌, List, [], ◌∷◌, pos, codes, nat_le, if◌then◌else◌, Option, Some, None, Result, Ok, Err}
+use Rattle.mq_bytes.specs.Decimal.{digits_of}
+use Rattle.mq_outside.specs.Readings.{Giving}
+use Rattle.remoting_frame.specs.Head.{pairs_size}
+use Rattle.reply_fields.specs.Parts.{ReplyParts, plain}
+use Rattle.reply_fields.specs.Refusals.{fault_reply}
+use Rattle.reply_fields.specs.Replies.{AppendsReply}
+use Rattle.request_fields.specs.declared.fault.RequestFault.TheVariants as faults
+use Rattle.mq_outside.specs.declared.faults.DiskFault.{DiskFault}
+use Rattle.mq_outside.specs.declared.faults.DiskFault.TheVariants.{Failed, Memory}
+use Rattle.broker_events.specs.declared.event.Event.{Event}
+use Rattle.broker_events.specs.declared.event.Event.TheVariants as events
+use Rattle.broker_events.specs.declared.said.Said.{Said}
+use Rattle.broker_events.specs.declared.said.Said.TheVariants as said
+use Rattle.session.specs.declared.caller.Caller.{Caller}
+use Rattle.session.specs.declared.owed.Awaits.{Awaits}
+use Rattle.session.specs.declared.owed.Applied.{Applied}
+use Rattle.session.specs.declared.owed.Applied.TheVariants.{Owes, Full}
+
+-- who makes steps: what was before, an event, what was said to it, and what is after
+abbrev pub Steps : Type 0 → Type 1
+Steps C = C → Event → Option Said → C → Type 0
+
+-- ---- what came of a request
+
+-- the event is a request
+abbrev pub IsRequest : Event → Type 0
+IsRequest (events.Request link host now request) = Unit {0}
+IsRequest events.Take = ⊥
+IsRequest (events.Flushed receipt) = ⊥
+IsRequest (events.FlushFailed count) = ⊥
+IsRequest (events.Look number turn) = ⊥
+IsRequest (events.Dispatch most) = ⊥
+IsRequest (events.Leave link) = ⊥
+
+-- what was said to a request is what came of it
+abbrev pub applied_of : Option Said → Option Applied
+applied_of None = Some (Owes (fault_reply faults.Memory) None)
+applied_of (Some (said.Reply reply)) = Some (Owes reply None)
+applied_of (Some (said.After reply number turn)) = Some (Owes reply (Some (record { number = number; turn = turn })))
+applied_of (Some (said.Full pending)) = Some (Full pending)
+applied_of (Some (said.Batch batch)) = None
+applied_of (Some said.Done) = None
+applied_of (Some (said.Awaited what)) = None
+applied_of (Some (said.Moved number)) = None
+
+-- what came of it is what was said; where memory wants for telling so, nothing was said
+abbrev pub IsTold : {E : Type 0} → Option Said → Result Applied E → Type 0
+IsTold what (Ok applied) = applied_of what ≡ Some applied
+IsTold what (Err fault) = what ≡ None
+
+-- one step was made, and what came of the request is what was said
+pub record IsApplied {C E : Type 0} (makes : Steps C) (x : C) (event : Event) (result : Result Applied E) (y : C) : Type 0 where
+  pub what : Option Said
+  pub made : makes x event what y
+  pub told : IsTold what result
+
+-- ---- what became of its record
+
+-- the fields of the reply, unless they leave no room for a remark
+abbrev pub fields_within : ReplyParts → List (List ℕ × List ℕ)
+fields_within reply = if nat_le (pairs_size reply.ext) 65000 then reply.ext else []
+
+-- the reply where the disk failed, with its count
+abbrev pub not_flushed : ReplyParts → ℕ → ReplyParts
+not_flushed reply count = record { code = pos 10; remark = codes "flush " ++ digits_of count; ext = fields_within reply; body = [] }
+
+-- ---- what is written
+
+-- the reply where one can't be written: memory wants, or its stored bytes can't be read, with the count of the reader's faults
+abbrev pub unwritten : DiskFault → ℕ → ReplyParts
+unwritten Failed count = plain (pos 1) (codes "read " ++ digits_of count)
+unwritten Memory count = fault_reply faults.Memory
+
+-- the reply was written, or why it can't be
+abbrev pub IsWritten : Giving → Caller → ReplyParts → ℕ → List ℕ → List ℕ → Type 0
+IsWritten gives caller reply count old new = AppendsReply gives caller.form caller.opaque reply old new
+    ⊎ ((fault : DiskFault) × AppendsReply gives caller.form caller.opaque (unwritten fault count) old new)

@@ -1,0 +1,20 @@
+//! A link with its session.
+
+ghost use Rattle.std.specs.Prelude.{◌≤◌, length};
+
+use crate::heard::Heard;
+use crate::owed::Owed;
+use crate::talk::Talk;
+use std::collections::VecDeque;
+
+/// A link. It is seen as its stream (`talk`), the request that found no room (`held`), what is owed for the requests before
+/// it, oldest first, and the bytes of the replies before these, of which the first `sent` are sent.
+#[derive(Drop)]
+pub struct Session {
+    pub(crate) talk: Talk,
+    pub(crate) held: Option<Heard>,
+    pub(crate) owed: VecDeque<Owed>,
+    pub(crate) out: Vec<u8>,
+    pub(crate) sent: usize,
+    ghost within: { sent ≤ length out.items },
+}
