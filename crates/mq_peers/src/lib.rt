@@ -1,21 +1,27 @@
 //! Who is connected, and when may they have something to say? Doors, links and readiness, over TCP and by scripts.
 #![tactic(auto)]
 
+mod calls;
 mod door;
 mod event;
 mod incoming;
 mod link;
+mod mem_link;
 mod ready;
 mod rest;
 mod tcp_door;
 mod tcp_link;
 mod tcp_ready;
+#[cfg(test)]
+mod tcp_tests;
 mod wake;
 
+pub use calls::Calls;
 pub use door::Door;
 pub use event::Event;
 pub use incoming::Incoming;
 pub use link::Link;
+pub use mem_link::MemLink;
 pub use ready::Ready;
 pub use rest::{MachineRest, MemRest, Rest};
 pub use tcp_door::TcpDoor;
