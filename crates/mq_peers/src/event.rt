@@ -8,4 +8,6 @@ pub struct Event {
     pub readable: bool,
     /// It may take bytes, or has ended: it is worth a write.
     pub writable: bool,
+    /// Its peer has ended its side or the link broke: read on until a read says so.
+    pub ended: bool,
 }

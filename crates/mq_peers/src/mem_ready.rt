@@ -1,6 +1,6 @@
 //! Readiness without waiting: all that is registered is reported, so many times.
 
-ghost use Rattle.std.specs.Prelude.{◌≡◌, ◌++◌, ◌∷◌, ◌-◌, ◌↔◌, [], map, IfOk, OnOk, OnErr};
+ghost use Rattle.std.specs.Prelude.{◌≡◌, ◌++◌, ◌∷◌, ◌-◌, ◌==◌, ◌↔◌, [], filter, not, IfOk, OnOk, OnErr};
 ghost use Rattle.mq_outside.specs.Counts.{CountsDiskFault, CountsFailure, Rises};
 ghost use Rattle.mq_peers.specs.Reports.{events_of};
 
@@ -46,6 +46,7 @@ fn report(tokens: &[u32], out: &mut Vec<Event>) -> Result<(), AllocError>
             token: *token,
             readable: true,
             writable: true,
+            ended: false,
         })?;
     }
     Ok(())
@@ -127,6 +128,7 @@ impl<L: Link + Send + Drop> Ready for MemReady<L> {
     fn deregister(&mut self, _link: &mut L, token: u32) -> Result<(), Failed>
         ensures same { _link.new ≡ _link.old }
         ensures cause { CountsFailure result self.old.faults self.new.faults }
+        ensures removed { self.new.tokens.items ≡ filter (λ one. not (one == token)) self.old.tokens.items }
         ensures waits { self.new.waits ≡ self.old.waits }
     {
         self.tokens.retain(|one| *one != token);

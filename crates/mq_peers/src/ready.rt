@@ -11,8 +11,11 @@ use mq_outside::{DiskFault, Failed};
 use std::alloc::AllocError;
 
 /// Waits for the links and doors that are registered with it. Nothing is claimed of what it reports: a report may be
-/// spurious, and what it doesn't report may be ready. A report comes at a change: after one, go on with that link until
-/// it says 'not now', for else the next report may never come. What ended before it was registered is reported too.
+/// spurious, and what it doesn't report may be ready.
+///
+/// A report comes at a change, and what was ready before it was registered counts as one. So after a report go on with
+/// that link until it says 'not now' or brings less than there was room for, and where the report says `ended` until
+/// the end or a failure; with a door until it says 'not now'. Who stops before that has to come back by itself.
 pub trait Ready {
     /// The links that it waits for.
     type Link: Link + Send + Drop;

@@ -1,7 +1,7 @@
 //! A link over TCP. Its stream doesn't wait: where it would, it says 'not now'.
 
 ghost use Rattle.std.specs.Prelude.{◌≡◌, ◌≤◌, ◌<◌, ◌++◌, ◌∷◌, ◌/◌, ◌%◌, [], length, IfOk, IfSome};
-ghost use Rattle.std.specs.Io.KnownBytes.{Appends, Consumes};
+ghost use Rattle.std.specs.Io.KnownBytes.{Appends, Consumes, IsAtEnd};
 ghost use Rattle.std.specs.Net.Addr.{ipv4_octets};
 ghost use Rattle.std.specs.Net.Socket.{v4_ip, v4_port};
 ghost use Rattle.mq_outside.specs.Counts.{Rises};
@@ -38,6 +38,7 @@ pub(crate) fn read_now<R: Read>(stream: &mut R, out: &mut [u8]) -> Result<Incomi
     ensures within { IfBytes result (λ n. n ≤ length out.old) }
     ensures some { IfBytes result (λ n. 0 < n) }
     ensures bytes { Consumes (R.remaining stream.old) (R.remaining stream.new) (bytes_read result out.new) }
+    ensures end { result ≡ Ok Incoming.End → IsAtEnd (R.remaining stream.new) }
 {
     if out.is_empty() {
         return Ok(Incoming::NotNow);

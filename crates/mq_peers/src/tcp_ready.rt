@@ -54,12 +54,14 @@ pub struct TcpReady<R: Net + Copy + Drop> {
 fn put_events(events: &Events, out: &mut Vec<Event>) -> Result<(), AllocError> {
     for event in events {
         if let Ok(token) = u32::try_from(event.token().0) {
-            let readable = event.is_readable() || event.is_read_closed() || event.is_error();
+            let ended = event.is_read_closed() || event.is_error();
+            let readable = event.is_readable() || ended;
             let writable = event.is_writable() || event.is_write_closed() || event.is_error();
             out.push(Event {
                 token,
                 readable,
                 writable,
+                ended,
             })?;
         }
     }
