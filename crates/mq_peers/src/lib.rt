@@ -3,12 +3,16 @@
 
 mod calls;
 mod door;
+#[cfg(test)]
+mod echo;
 mod event;
 mod incoming;
 mod link;
 mod mem_door;
 mod mem_link;
 mod mem_ready;
+#[cfg(test)]
+mod mem_tests;
 mod ready;
 mod rest;
 mod tcp_door;

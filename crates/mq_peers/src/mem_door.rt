@@ -1,6 +1,6 @@
 //! A door in memory: it gives listed links in order, and then says 'not now'.
 
-ghost use Rattle.std.specs.Prelude.{◌≡◌, ◌++◌, [], ℕ, IfOk, IfSome, IsErr, OnErr, ◌↔◌, option_to_list};
+ghost use Rattle.std.specs.Prelude.{◌≡◌, ◌++◌, ◌∷◌, [], ℕ, IfOk, IfSome, IsErr, OnOk, OnErr, ◌↔◌, option_to_list};
 ghost use Rattle.std.specs.List.{All};
 ghost use Rattle.std.proofs.Props.{props};
 ghost use Rattle.mq_outside.specs.Counts.{CountsFailure, Rises};
@@ -9,6 +9,7 @@ use crate::calls::{Calls, Marked};
 use crate::door::Door;
 use crate::link::Link;
 use mq_outside::Failed;
+use std::alloc::{AllocError, Global};
 use std::collections::VecDeque;
 
 /// Gives the links of a list in order, fails at marked calls, and says 'not now' once none is left. It is open from the
@@ -26,20 +27,31 @@ pub struct MemDoor<L: Link + Drop> {
 impl<L: Link + Drop> MemDoor<L> {
     ghost use Rattle.mq_peers.specs.Calls.{IsMarked, after_call};
 
-    /// A door of these links, of whose calls of `open` and `accept` those in `fails` fail; the first is number 1.
-    pub fn new(links: VecDeque<L>, fails: Calls) -> MemDoor<L>
-        requires given { L.tells → All (λ link. L.given link ≡ []) links.items }
-        requires taken { L.tells → All (λ link. L.taken link ≡ []) links.items }
-        requires sound { All (λ link. L.faults link ≡ 0) links.items }
-        ensures links { result.links ≡ links }
+    /// A door without links, of whose calls of `open` and `accept` those in `fails` fail; the first is number 1.
+    pub fn new(alloc: Global, fails: Calls) -> MemDoor<L>
+        ensures links { result.links.items ≡ [] }
         ensures fails { result.fails ≡ record { calls = fails; asked = 0 } }
         ensures faults { result.faults ≡ 0 }
     {
         MemDoor {
-            links,
+            links: VecDeque::new(alloc),
             fails: Marked::new(fails),
             faults: 0,
         }
+    }
+
+    /// Puts a link behind those that wait. It has given and taken nothing and never failed.
+    pub fn put(&mut self, link: L) -> Result<(), AllocError>
+        requires given { L.tells → L.given link ≡ [] }
+        requires taken { L.tells → L.taken link ≡ [] }
+        requires sound { L.faults link ≡ 0 }
+        ensures last { OnOk result (self.new.links.items ≡ self.old.links.items ++ link ∷ []) }
+        ensures still { OnErr result (self.new.links.items ≡ self.old.links.items) }
+        ensures fails { self.new.fails ≡ self.old.fails }
+        ensures faults { self.new.faults ≡ self.old.faults }
+    {
+        self.links.push_back(link)?;
+        Ok(())
     }
 
     // Counts a failure.
