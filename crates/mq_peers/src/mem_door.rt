@@ -1,6 +1,6 @@
 //! A door in memory: it gives listed links in order, and then says 'not now'.
 
-ghost use Rattle.std.specs.Prelude.{◌≡◌, ◌++◌, ◌∷◌, [], ℕ, IfOk, IfSome, IsErr, OnOk, OnErr, ◌↔◌, option_to_list};
+ghost use Rattle.std.specs.Prelude.{◌≡◌, ◌++◌, ◌∷◌, [], IfOk, IfSome, IsErr, OnOk, OnErr, ◌↔◌, option_to_list};
 ghost use Rattle.std.specs.List.{All};
 ghost use Rattle.std.proofs.Props.{props};
 ghost use Rattle.mq_outside.specs.Counts.{CountsFailure, Rises};

@@ -1,7 +1,7 @@
 //! Readiness without waiting: all that is registered is reported, so many times.
 
 ghost use Rattle.std.specs.Prelude.{◌≡◌, ◌++◌, ◌∷◌, ◌-◌, ◌==◌, ◌↔◌, [], filter, not, IfOk, OnOk, OnErr};
-ghost use Rattle.mq_outside.specs.Counts.{CountsDiskFault, CountsFailure, Rises};
+ghost use Rattle.mq_outside.specs.Counts.{CountsDiskFault, CountsFailure};
 ghost use Rattle.mq_peers.specs.Reports.{events_of};
 
 use crate::event::Event;

@@ -1,7 +1,6 @@
 //! A door over TCP: peers come in by IPv4, and links don't wait to gather what they send.
 
-ghost use Rattle.std.specs.Prelude.{◌≡◌, [], IfOk, IfSome};
-ghost use Rattle.mq_outside.specs.Counts.{CountsFailure};
+ghost use Rattle.std.specs.Prelude.{◌≡◌, IfOk, IfSome};
 
 use crate::door::Door;
 use crate::link::Link;

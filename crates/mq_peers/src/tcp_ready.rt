@@ -1,7 +1,7 @@
 //! Readiness of links over TCP, by the system's own poll.
 
-ghost use Rattle.std.specs.Prelude.{◌≡◌, ◌≤◌, IfOk, vec_len, vec_capacity};
-ghost use Rattle.mq_outside.specs.Counts.{CountsDiskFault, Rises};
+ghost use Rattle.std.specs.Prelude.{◌≡◌, IfOk};
+ghost use Rattle.mq_outside.specs.Counts.{Rises};
 
 use crate::event::Event;
 use crate::ready::Ready;
