@@ -49,6 +49,14 @@ pub trait Link {
         ensures peer { peer self.new ≡ peer self.old }
         ensures cause { CountsFailure result (faults self.old) (faults self.new) };
 
+    /// Nothing more will be written: the peer sees the end after all that was taken. Reads go on.
+    fn done(&mut self)
+        ensures given { tells → given self.new ≡ given self.old }
+        ensures left { tells → left self.new ≡ left self.old }
+        ensures taken { tells → taken self.new ≡ taken self.old }
+        ensures peer { peer self.new ≡ peer self.old }
+        ensures faults { faults self.new ≡ faults self.old };
+
     /// Nothing more will be read or written: the peer sees the end, and what the system held for the link is free again.
     /// Later reads and writes fail.
     fn close(&mut self)

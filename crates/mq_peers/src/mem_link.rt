@@ -174,6 +174,10 @@ impl Link for MemLink {
         }
     }
 
+    fn done(&mut self) {
+        self.sink.done();
+    }
+
     fn close(&mut self)
         ensures { self.new ≡ record self.old { closed = true } }
     {

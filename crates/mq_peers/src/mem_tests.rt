@@ -73,6 +73,7 @@ fn a_link_that_never_takes_takes_nothing(rt: HostRuntime) -> Result<(), Fail> {
     assert!(rt; link.write(b"xy") == Ok(None));
     assert!(rt; link.write(b"xy") == Ok(None));
     assert!(rt; link.bytes().is_empty());
+    link.done();
     link.close();
     assert!(rt; link.write(b"xy") == Err(Failed));
     assert!(rt; link.is_closed());

@@ -12,9 +12,10 @@ use crate::link::Link;
 use mio::net::TcpStream;
 use mq_outside::Failed;
 use std::io::{ErrorKind, Read, Write};
-use std::net::SocketAddrV4;
+use std::net::{Shutdown, SocketAddrV4};
 
-/// A link over TCP. It says nothing of the bytes that pass, and fails where the system refuses.
+/// A link over TCP. It says nothing of the bytes that pass, and fails where the system refuses. To close it while bytes
+/// have come that weren't read resets it, and what it took may then be lost on its way: call `done` and read on first.
 #[derive(Drop)]
 pub struct TcpLink {
     // None once it is closed.
@@ -140,6 +141,12 @@ impl Link for TcpLink {
         match write_now(stream, piece) {
             Ok(took) => Ok(took),
             Err(Failed) => Err(self.fail()),
+        }
+    }
+
+    fn done(&mut self) {
+        if let Some(stream) = &self.stream {
+            let _ = stream.shutdown(Shutdown::Write);
         }
     }
 

@@ -89,12 +89,21 @@ fn a_link_is_quiet_then_speaks_then_ends(rt: HostRuntime) -> Result<(), Fail> {
 }
 
 #[test]
-fn a_closed_link_ends_for_its_peer(rt: HostRuntime) -> Result<(), Fail> {
+fn a_link_that_is_done_ends_for_its_peer_and_reads_on_until_it_is_closed(
+    rt: HostRuntime,
+) -> Result<(), Fail> {
     let (mut link, mut stream) = link_up(rt)?;
     let mut ready = TcpReady::new(rt, rt.alloc()).or(Err("no poll"))?;
-    link.close();
     let mut out = [0; 4];
+    link.done();
     assert!(rt; stream.read(&mut out)? == 0);
+    stream.write_all(b"ab")?;
+    MachineRest::new(rt).rest(20);
+    assert!(rt;
+        link.read(&mut out) == Ok(Incoming::Bytes(2)),
+        "reads go on"
+    );
+    link.close();
     assert!(rt; link.read(&mut out) == Err(Failed));
     assert!(rt; link.write(b"x") == Err(Failed));
     assert!(rt; ready.register(&mut link, 1) == Err(DiskFault::Failed));
