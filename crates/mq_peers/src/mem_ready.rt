@@ -137,6 +137,7 @@ impl<L: Link + Send + Drop> Ready for MemReady<L> {
 
     fn wait(&mut self, _timeout_millis: Option<u64>, out: &mut Vec<Event>) -> Result<(), DiskFault>
         ensures cause { CountsDiskFault result self.old.faults self.new.faults }
+        ensures none { OnErr result (out.new.items ≡ []) }
         ensures reports { OnOk result (out.new.items ≡ events_of self.old.tokens.items) }
         ensures stops { (result ≡ Err DiskFault.Failed) ↔ (self.old.waits ≡ 0) }
         ensures waits { self.new.waits ≡ self.old.waits - 1 }
@@ -150,7 +151,10 @@ impl<L: Link + Send + Drop> Ready for MemReady<L> {
         self.waits -= 1;
         match report(&self.tokens, out) {
             Ok(()) => Ok(()),
-            Err(_) => Err(DiskFault::Memory),
+            Err(_) => {
+                out.clear();
+                Err(DiskFault::Memory)
+            }
         }
     }
 }

@@ -1,6 +1,6 @@
 //! Waiting until a link may have something to say, or may take something.
 
-ghost use Rattle.std.specs.Prelude.{◌≡◌, ℕ, IfOk};
+ghost use Rattle.std.specs.Prelude.{◌≡◌, [], ℕ, IfOk, OnErr};
 ghost use Rattle.mq_outside.specs.Counts.{CountsDiskFault, CountsFailure};
 
 use crate::door::Door;
@@ -53,5 +53,6 @@ pub trait Ready {
     /// Waits until something that is registered may be ready, a waker is woken or so many milliseconds have passed;
     /// `None` sets no time. What may be ready is in `out` then, and nothing else; after a failure `out` is empty.
     fn wait(&mut self, timeout_millis: Option<u64>, out: &mut Vec<Event>) -> Result<(), DiskFault>
+        ensures none { OnErr result (out.new.items ≡ []) }
         ensures cause { CountsDiskFault result (faults self.old) (faults self.new) };
 }

@@ -179,7 +179,10 @@ impl<R: Net + Copy + Send + Drop> Ready for TcpReady<R> {
         }
         match put_events(&self.events, out) {
             Ok(()) => Ok(()),
-            Err(_) => Err(DiskFault::Memory),
+            Err(_) => {
+                out.clear();
+                Err(DiskFault::Memory)
+            }
         }
     }
 }
