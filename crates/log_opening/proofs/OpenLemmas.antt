@@ -104,10 +104,10 @@ pub stays_outside_then : (old mid new : DiskState) → StaysOutside old mid → 
 stays_outside_then old mid new outside rests = outside_then outside (rests_outside mid new rests)
 
 -- what tells no damage tells none of another kind
-pub no_damage : {A B : Type 0} (fault : RecoverFault) (P : ℕ → List ℕ → Type 0) → OnDamage {A = A} (Err fault) (λ place name. ⊥) → OnDamage {A = B} (Err fault) P
-no_damage (Damaged place name) P none = absurd none
-no_damage Failed P none = tt
-no_damage Memory P none = tt
+pub no_damage : (A B : Type 0) (fault : RecoverFault) (P : ℕ → List ℕ → Type 0) → OnDamage {A = A} (Err fault) (λ place name. ⊥) → OnDamage {A = B} (Err fault) P
+no_damage A B (Damaged place name) P none = absurd none
+no_damage A B Failed P none = tt
+no_damage A B Memory P none = tt
 
 -- ---- where the flusher writes
 

@@ -41,3 +41,8 @@ loop-i-preserved g c =
       faults = c.in_ok-add_file.ensures.cause ∙ c.loop-i.invariant.faults;
       syncs = omega (arith, c.add_file.ensures.syncs, c.loop-i.invariant.syncs);
     }
+
+pub returns-clause-pieces : goal.returns-clause-pieces
+returns-clause-pieces g c = λ files reads are.
+    let all : c.loop-i.i ≡ c.args.count = omega (arith, c.loop-i-test.false, c.loop-i.auto.i-end) in
+    subst (λ (n : ℕ). ArePieces g.D.Disk.tells c.args.segment (n * c.args.segment) files c.loop-i.stored) all (c.loop-i.invariant.pieces files reads are)

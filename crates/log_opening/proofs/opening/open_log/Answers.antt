@@ -1,10 +1,11 @@
 use Rattle.std.proofs.Common.{◌≡◌, ◌∙◌, ◌≤◌, ℕ, List, length, take, refl, sym, subst}
 use Rattle.std.proofs.lemmas.List.{length-take-le}
 use Rattle.mq_bytes.specs.Names.{log_file}
-use Rattle.mq_outside.specs.Disk.{DiskState}
+use Rattle.mq_outside.specs.Disk.{DiskState, Rests}
 use Rattle.mq_outside.specs.Files.{Files, bytes_of}
 use Rattle.record_codec.specs.Entry.{Entry}
 use Rattle.log_model.specs.Bases.{whole}
+use Rattle.log_model.specs.Store.{IsDamagedAt}
 use Rattle.log_opening.proofs.LogLemmas.{has_up_to}
 use Rattle.log_opening.proofs.OpenLemmas.{can_told, can_some, stays_then, stays_outside_then, no_damage, inside_file, ready_for_turns}
 use Rattle.log_opening.proofs.opening.open_log.Goals as goal
@@ -17,10 +18,10 @@ freeze_log-requires-clause-has g c = λ tells.
 -- ---- a file was not frozen
 
 pub returns-in-Err-freeze_log-clause-damaged : goal.returns-in-Err-freeze_log-clause-damaged
-returns-in-Err-freeze_log-clause-damaged g c = λ tells. no_damage c.in-Err-freeze_log.fault _ c.in-Err-freeze_log.ensures.damage
+returns-in-Err-freeze_log-clause-damaged g c = λ tells. no_damage (Unit {0}) (Unit {0}) c.in-Err-freeze_log.fault (IsDamagedAt (whole c.args.setup.segment) (g.D.Disk.state c.args.disk.now).reads) c.in-Err-freeze_log.ensures.damage
 
 pub returns-in-Err-freeze_log-clause-untouched : goal.returns-in-Err-freeze_log-clause-untouched
-returns-in-Err-freeze_log-clause-untouched g c = λ tells. no_damage c.in-Err-freeze_log.fault _ c.in-Err-freeze_log.ensures.damage
+returns-in-Err-freeze_log-clause-untouched g c = λ tells. no_damage (Unit {0}) (Unit {0}) c.in-Err-freeze_log.fault (λ place name. Rests (g.D.Disk.state c.args.disk.now) (g.D.Disk.state c.freeze_log.new.disk)) c.in-Err-freeze_log.ensures.damage
 
 pub returns-in-Err-freeze_log-clause-flushed : goal.returns-in-Err-freeze_log-clause-flushed
 returns-in-Err-freeze_log-clause-flushed g c = λ tells. stays_then (whole c.args.setup.segment) _ _ _ (c.load_log.ensures.flushed tells) (c.freeze_log.ensures.rests tells)
