@@ -1,6 +1,7 @@
 -- What was loaded of a log, and that the broker opens over it.
-use Rattle.std.proofs.Common.{◌≡◌, ◌⊎◌, ⊎_elim, ap, sym, ◌∙◌, subst, refl, arith, ℕ, ◌+◌, ◌-◌, ◌*◌, ◌/◌, ◌%◌, ◌≤◌, List, [], length, take, Result, Ok, Err}
+use Rattle.std.proofs.Common.{◌≡◌, ◌⊎◌, ⊎_elim, ap, sym, ◌∙◌, subst, refl, arith, ℕ, ◌+◌, ◌-◌, ◌*◌, ◌/◌, ◌%◌, ◌<◌, ◌≤◌, List, [], length, take, Result, Ok, Err}
 use Rattle.std.proofs.lemmas.List.{take_all, length-take-le}
+use Rattle.std.proofs.lemmas.Nat.{div-mul-add}
 use Rattle.mq_outside.specs.Covers.{HoldsRange}
 use Rattle.mq_outside.specs.Disk.{DiskState, IsCrashImage, EachImage, Rests}
 use Rattle.mq_bytes.specs.Names.{log_file}
@@ -120,6 +121,13 @@ inside_file S records end file files is placed has =
     let offset : file.offset ≡ end % S = placed.offset ∙ ap (λ (n : ℕ). n % S) all in
     let low = has.last in
     subst (λ (b : ℕ). file.offset ≤ length (bytes_of files (log_file b))) (sym base) (omega (arith, offset, low))
+
+-- whose number is that of the segment where the log ends
+pub base_number : (S : ℕ) (records : List Entry) (end : ℕ) (file : LastFile) → 0 < S → end ≡ end_of no_base records → GoesToEnd (stored (whole S) records (length records)) file → file.base / S ≡ end / S
+base_number S records end file some is placed =
+    let all : end_of no_base (take (length records) records) ≡ end = ap (end_of no_base) (take_all (length records) records (omega arith)) ∙ sym is in
+    let base : file.base ≡ end / S * S + 0 = let starts = placed.base ∙ ap (λ (n : ℕ). n / S * S) all in omega (arith, starts) in
+    ap (λ (n : ℕ). n / S) base ∙ div-mul-add (end / S) S 0 some
 
 -- behind a log that is stored, and nothing stands behind that
 pub ready_for_turns : (S : ℕ) (records : List Entry) (number : ℕ) (file : LastFile) (old new : DiskState) → number ≡ length records → GoesToEnd (stored (whole S) records (length records)) file

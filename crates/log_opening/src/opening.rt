@@ -1,6 +1,6 @@
 //! A log opens: the core over its records, and the flusher where they end.
 
-ghost use Rattle.std.specs.Prelude.{◌≡◌, List, ℕ, IfOk};
+ghost use Rattle.std.specs.Prelude.{◌≡◌, ◌+◌, ◌/◌, ◌≤◌, List, ℕ, IfOk};
 ghost use Rattle.mq_outside.specs.Disk.{Rests};
 ghost use Rattle.record_codec.specs.Entry.{Entry};
 ghost use Rattle.log_model.specs.Bases.{whole};
@@ -69,6 +69,9 @@ pub fn open_log<D: Disk>(
     ensures flushed { D.tells → StaysFlushed (whole setup.segment) (D.state disk.old) (D.state disk.new) }
     ensures outside { D.tells → StaysOutside (D.state disk.old) (D.state disk.new) }
     ensures cause { CountsRecoverFault result (D.faults disk.old) (D.faults disk.new) }
+
+    // It asks for one sync a file, and for one more.
+    ensures syncs { IfOk result (λ it. D.syncs disk.new ≤ D.syncs disk.old + (it.flusher.file.base / setup.segment + 2)) }
 {
     let log = match load_log(alloc, disk, setup.segment) {
         Ok(log) => log,

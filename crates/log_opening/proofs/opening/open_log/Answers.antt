@@ -1,4 +1,4 @@
-use Rattle.std.proofs.Common.{◌≡◌, ◌∙◌, ◌≤◌, ℕ, List, length, take, refl, sym, subst}
+use Rattle.std.proofs.Common.{◌≡◌, ◌∙◌, ◌≤◌, ℕ, List, length, take, refl, sym, subst, arith}
 use Rattle.std.proofs.lemmas.List.{length-take-le}
 use Rattle.mq_bytes.specs.Names.{log_file}
 use Rattle.mq_outside.specs.Disk.{DiskState, Rests}
@@ -7,7 +7,7 @@ use Rattle.record_codec.specs.Entry.{Entry}
 use Rattle.log_model.specs.Bases.{whole}
 use Rattle.log_model.specs.Store.{IsDamagedAt}
 use Rattle.log_opening.proofs.LogLemmas.{has_up_to}
-use Rattle.log_opening.proofs.OpenLemmas.{can_told, can_some, stays_then, stays_outside_then, no_damage, inside_file, ready_for_turns}
+use Rattle.log_opening.proofs.OpenLemmas.{can_told, can_some, stays_then, stays_outside_then, no_damage, inside_file, base_number, ready_for_turns}
 use Rattle.log_opening.proofs.opening.open_log.Goals as goal
 
 pub freeze_log-requires-clause-has : goal.freeze_log-requires-clause-has
@@ -87,3 +87,12 @@ returns-clause-flushed g c = λ tells. stays_then (whole c.args.setup.segment) _
 
 pub returns-clause-outside : goal.returns-clause-outside
 returns-clause-outside g c = λ tells. stays_outside_then _ _ _ (c.load_log.ensures.outside tells) (c.freeze_log.ensures.rests tells)
+
+pub returns-clause-syncs : goal.returns-clause-syncs
+returns-clause-syncs g c =
+    let files : Files = (g.D.Disk.state c.load_log.new.disk).reads in
+    let some = can_some g.D.Disk.tells c.args.setup (g.D.Disk.state c.args.disk.now).reads files c.in-Ok.log c.in-Ok-freeze_log.pieces c.in-Ok.ensures.loaded c.in-Ok.ensures.kept
+    (c.in-Ok-freeze_log.ensures.pieces files (λ tells. refl)) in
+    let opens = c.open_loaded.ensures some.0 some.1 in
+    let number = base_number c.args.setup.segment some.0 c.in-Ok.log.end c.open_loaded.result.flusher.file (omega (arith, c.requires.low)) some.1.ends opens.placed in
+    omega (arith, number, c.load_log.ensures.syncs, c.freeze_log.ensures.syncs)
