@@ -75,12 +75,15 @@ can_told tells setup records files log pieces told lawful loaded ends has are = 
 pub can_some : (tells : Type 0) (setup : Setup) (old files : Files) (log : LoadedLog) (pieces : FrozenRanges) → Handed (whole setup.segment) (λ records. IsLoadedFrom [] records log.loaded) log.end
     → (tells → IsKeptLog (whole setup.segment) old files log) → ArePieces tells setup.segment log.end files pieces → (records : List Entry) × CanOpen setup records log pieces
 can_some tells setup old files log pieces handed kept are = ⊎_elim
-    (λ (nothing : (place : ℕ) (bytes : List ℕ) → HoldsRange pieces.pieces.items place bytes). (handed.records, record {
-      lawful = handed.lawful;
-      loaded = handed.handed;
-      ends = handed.ends;
-      covered = covered_none tells setup.segment handed.records log.end files pieces handed.lawful handed.ends are nothing;
-    }))
+    (λ (nothing : (place : ℕ) (bytes : List ℕ) → HoldsRange pieces.pieces.items place bytes). (
+      handed.records,
+      record {
+        lawful = handed.lawful;
+        loaded = handed.handed;
+        ends = handed.ends;
+        covered = covered_none tells setup.segment handed.records log.end files pieces handed.lawful handed.ends are nothing;
+      },
+    ))
     (λ (told : tells). let found = kept told in (found.records, can_told tells setup found.records files log pieces told found.keeps.well_formed found.loaded found.ends found.has are))
     are.none
 

@@ -4,7 +4,6 @@
 mod freezing;
 mod loading;
 mod opening;
-
 #[cfg(test)]
 mod tests;
 

@@ -47,11 +47,7 @@ fn open_loaded(alloc: Global, setup: Setup, log: LoadedLog, pieces: FrozenRanges
 /// Opens the log of this disk: it is recovered and loaded, each of its files is synced and frozen, and the core opens over it.
 ///
 /// At `Err` nothing is open, and it may be tried again. What was flushed still stands. At `Damaged` nothing was changed.
-pub fn open_log<D: Disk>(
-    alloc: Global,
-    disk: &mut D,
-    setup: Setup,
-) -> Result<Opened, RecoverFault>
+pub fn open_log<D: Disk>(alloc: Global, disk: &mut D, setup: Setup) -> Result<Opened, RecoverFault>
     requires { IsSegmentSize setup.segment }
 
     // Whatever the disk tells, it opens over a log. Where it tells, over the one that recovery keeps of its files.
