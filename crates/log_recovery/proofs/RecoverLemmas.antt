@@ -1,5 +1,5 @@
 -- What recovery leaves on the disk, from what was read and how the files were settled.
-use Rattle.std.proofs.Common.{◌≡◌, ◌≢◌, ◌⊎◌, ⊎_elim, ℕ, suc, ◌+◌, ◌-◌, ◌*◌, ◌/◌, ◌%◌, ◌^◌, ◌<◌, ◌≤◌, max, List, [], length, Option, Some, None, IsSome, sym, ◌∙◌, ap, subst, arith}
+use Rattle.std.proofs.Common.{◌≡◌, ◌≢◌, ◌⊎◌, ⊎_elim, ℕ, suc, ◌+◌, ◌-◌, ◌*◌, ◌/◌, ◌%◌, ◌^◌, ◌<◌, ◌≤◌, max, List, [], ◌∷◌, length, Option, Some, None, IsSome, sym, ◌∙◌, ap, subst, arith}
 use Rattle.std.proofs.lemmas.Bool.{cases_lt}
 use Rattle.std.proofs.lemmas.List.{length-take}
 use Rattle.std.proofs.lemmas.Nat.{mod-mul-add, div-mul-add}
@@ -10,17 +10,17 @@ use Rattle.mq_outside.proofs.Moments.{at_end}
 use Rattle.record_codec.specs.Entry.{Entry}
 use Rattle.log_model.specs.Bases.{Geometry, first_segment}
 use Rattle.log_model.specs.Log.{IsSegmentSize, IsWellFormed, end_of}
-use Rattle.log_model.specs.Segments.{Shape, used, shape_of, segment_file, last_bytes, IsLogFile, NoOther, next_segment}
-use Rattle.log_model.specs.Store.{Keeps}
+use Rattle.log_model.specs.Segments.{Shape, used, shape_of, segment_file, last_bytes, layouts, IsLogFile, NoOther, next_segment}
+use Rattle.log_model.specs.Store.{AreEnded, Keeps}
 use Rattle.log_model.proofs.Places.{next_low, placed_log}
 use Rattle.log_model.proofs.FileNames.{IsNamed, names_apart, is_log_file}
 use Rattle.log_model.proofs.Longer.{find_name}
 use Rattle.log_model.proofs.NameOrder.{Precedes, precede_once, files_precede}
 use Rattle.log_model.proofs.Recovery.{times_length, keeps_unique}
 use Rattle.log_recovery.specs.Names.{AreNamed, NoFurther}
-use Rattle.log_recovery.specs.Recovered.{IsCutTo, IsSettled, IsLastFile}
+use Rattle.log_recovery.specs.Recovered.{HasKept, IsCutTo, IsSettled, IsLastFile}
 use Rattle.log_recovery.specs.Scan.{ReadLog}
-use Rattle.log_recovery.specs.Settle.{CutsTo, IsTrimmed, Settles, IsSettledAt}
+use Rattle.log_recovery.specs.Settle.{CutsTo, IsPruned, IsTrimmed, Settles, IsSettledAt}
 use Rattle.log_recovery.proofs.KeptShapes.{kept_reads}
 
 -- ---- where the records end
@@ -154,4 +154,42 @@ exact_each S count end n before after first old new log rests named low behind i
           exact_image S count n log.records first.reads from.before files named log.keeps low behind log.named log.all (read_there S count end first.reads before after log)
           (is_settled.at from.before was) from.changed
           (subst (λ (f : Files). CutsTo (segment_file S m) (used (shape_of S log.records)) f files) rests.same settled.last);
+    })
+
+-- ---- what is read at the end
+
+pruned_same : (S : Geometry) (m n k : ℕ) (old new : Files) → IsNamed S n → m < n → k < m → IsPruned S.size m n old new → new (segment_file S k) ≡ old (segment_file S k)
+pruned_same S m n k old new named behind less pruned = ⊎_elim
+    (λ (same : new (segment_file S k) ≡ old (segment_file S k)). same)
+    (λ (gone : (new (segment_file S k) ≡ None) × ((j : ℕ) × (m < j) × (j ≤ n) × (segment_file S k ≡ segment_file S j))).
+    absurd (names_apart S n k gone.1.0 named (omega (arith, less, behind)) gone.1.2 (λ is. omega (arith, is, less, gone.1.1)) gone.1.3))
+    (pruned (segment_file S k))
+
+settled_same : (S : Geometry) (m n len k : ℕ) (old new : DiskState) → IsNamed S n → m < n → k < m → Settles S.size m n len old new → new.reads (segment_file S k) ≡ old.reads (segment_file S k)
+settled_same S m n len k old new named behind less settles = ⊎_elim
+    (λ (pruned : IsPruned S.size m n old.reads new.reads). pruned_same S m n k old.reads new.reads named behind less pruned)
+    (λ (trimmed : IsTrimmed S.size m n len old.reads new.reads).
+    let apart : segment_file S k ≢ segment_file S m = names_apart S n k m named (omega (arith, less, behind)) (omega (arith, behind)) (λ is. omega (arith, is, less)) in
+    trimmed.cut.others (segment_file S k) apart ∙ pruned_same S m n k old.reads trimmed.mid named behind less trimmed.pruned)
+    settles.reads
+
+ended_same : (S : Geometry) (older : List (List Entry)) (old new : Files) → ((k : ℕ) → k < next_segment S older → new (segment_file S k) ≡ old (segment_file S k)) → AreEnded S older old → AreEnded S older new
+ended_same S [] old new same ended = tt
+ended_same S (records ∷ older) old new same ended =
+    ((ended.0.0, same (next_segment S older) (omega arith) ∙ ended.0.1, ended.0.2), ended_same S older old new (λ k less. same k (omega (arith, less))) ended.1)
+
+-- the kept records are read then, and nothing behind them
+pub has_kept : (S : Geometry) (count end n : ℕ) (before after : List Entry → Type 0) (first old new : DiskState) → (log : ReadLog S first.reads before after count end) → Rests first old → IsNamed S n
+    → next_segment S (shape_of S log.records).older < n → Settles S.size (next_segment S (shape_of S log.records).older) n (used (shape_of S log.records)) old new
+    → CutsTo (segment_file S (next_segment S (shape_of S log.records).older)) (used (shape_of S log.records)) old.reads new.reads
+    → (records : List Entry) → Keeps S records first.reads → HasKept S records new.reads
+has_kept S count end n before after first old new log rests named behind settles cut records keeps =
+    let same : log.records ≡ records = keeps_unique S log.records records first.reads log.keeps keeps in
+    let m : ℕ = next_segment S (shape_of S log.records).older in
+    let reads = kept_reads S log.records first.reads log.keeps in
+    let cuts : CutsTo (segment_file S m) (used (shape_of S log.records)) first.reads new.reads = subst (λ (f : Files). CutsTo (segment_file S m) (used (shape_of S log.records)) f new.reads) rests.same cut in
+    subst (λ (l : List Entry). HasKept S l new.reads) same (record {
+      older = ended_same S (shape_of S log.records).older first.reads new.reads
+          (λ k less. settled_same S m n (used (shape_of S log.records)) k old new named behind less settles ∙ ap (λ (f : Files). f (segment_file S k)) rests.same) reads.older;
+      last = cuts.bytes ∙ reads.last;
     })

@@ -7,9 +7,9 @@ use Rattle.mq_outside.specs.Files.{Files}
 use Rattle.mq_outside.specs.Disk.{DiskState, EachImage, Throughout}
 use Rattle.record_codec.specs.Entry.{Entry}
 use Rattle.log_model.specs.Bases.{Geometry, first_segment}
-use Rattle.log_model.specs.Log.{end_of}
+use Rattle.log_model.specs.Log.{IsWellFormed, end_of}
 use Rattle.log_model.specs.Segments.{used, shape_of, segment_file, last_name, last_bytes, layouts, IsLogFile, NoOther, next_segment}
-use Rattle.log_model.specs.Store.{Keeps, StoresAt, StoresLog, IsHonest, KeepsIfHonest}
+use Rattle.log_model.specs.Store.{AreEnded, Keeps, StoresAt, StoresLog, IsHonest, KeepsIfHonest}
 use Rattle.log_model.specs.Stored.{HasRecords}
 use Rattle.log_recovery.specs.declared.fault.RecoverFault.{RecoverFault}
 use Rattle.log_recovery.specs.declared.fault.RecoverFault.TheVariants.{Damaged, Failed, Memory}
@@ -21,6 +21,18 @@ pub record Kept (S : Geometry) (files : Files) (before after : List Entry → Ty
   pub keeps : Keeps S records files
   pub handed : before [] → after records
   pub ends : end ≡ end_of S.base records
+
+-- The records that the visitor was handed are a log, and they end here.
+pub record Handed (S : Geometry) (stands : List Entry → Type 0) (end : ℕ) : Type 0 where
+  pub records : List Entry
+  pub lawful : IsWellFormed S records
+  pub handed : stands records
+  pub ends : end ≡ end_of S.base records
+
+-- the files have these records: each file before the last ends in a blank, and the last has nothing behind its records
+pub record HasKept (S : Geometry) (records : List Entry) (files : Files) : Type 0 where
+  pub older : AreEnded S (shape_of S records).older files
+  pub last : last_bytes S (shape_of S records) files ≡ layouts (shape_of S records).last
 
 -- a place and a file that are told as damaged
 abbrev pub OnDamage : {A : Type 0} → Result A RecoverFault → (ℕ → List ℕ → Type 0) → Type 0

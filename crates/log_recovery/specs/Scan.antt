@@ -4,7 +4,7 @@ use Rattle.mq_outside.specs.Files.{Files}
 use Rattle.record_codec.specs.Entry.{Entry}
 use Rattle.record_codec.specs.Layout.{layout, size, IsRecord}
 use Rattle.log_model.specs.Bases.{Geometry, first_segment}
-use Rattle.log_model.specs.Log.{end_of}
+use Rattle.log_model.specs.Log.{IsWellFormed, end_of}
 use Rattle.log_model.specs.Segments.{Shape, used, segment_start, next_segment}
 use Rattle.log_model.specs.Store.{IsNext, ReadsTo, Keeps}
 use Rattle.log_tail.specs.declared.tail.LogTail.{LogTail}
@@ -88,3 +88,12 @@ pub record ReadLog (S : Geometry) (files : Files) (before after : List Entry →
   pub named : AreNamed S count files
   pub all : NoFurther S count files
   pub last : ((count ≡ first_segment S) × (records ≡ [])) ⊎ (count ≡ suc (next_segment S keeps.shape.older))
+
+-- ---- whatever the disk tells
+
+-- the records that were handed on are a log, and the tail stands for it
+pub record HandsOn (S : Geometry) (tail : LogTail) (stands : List Entry → Type 0) : Type 0 where
+  pub records : List Entry
+  pub lawful : IsWellFormed S records
+  pub left : StandsIn S tail records
+  pub handed : stands records

@@ -1,6 +1,6 @@
 //! Recovery of the log's files.
 
-ghost use Rattle.std.specs.Prelude.{◌≡◌, ◌+◌, ◌*◌, ◌/◌, ◌%◌, ◌^◌, ◌≤◌, List, ℕ, IfOk};
+ghost use Rattle.std.specs.Prelude.{◌≡◌, [], ◌+◌, ◌*◌, ◌/◌, ◌%◌, ◌^◌, ◌≤◌, List, ℕ, IfOk};
 ghost use Rattle.mq_outside.specs.Disk.{EachImage, Rests};
 ghost use Rattle.record_codec.specs.Entry.{Entry};
 ghost use Rattle.log_model.specs.Bases.{geometry};
@@ -9,7 +9,7 @@ ghost use Rattle.log_model.specs.Log.{IsGeometry};
 ghost use Rattle.log_model.specs.Store.{Keeps, IsDamagedAt, IsHonest, StoresLog};
 ghost use Rattle.log_model.specs.Stored.{StaysOutside};
 ghost use Rattle.segment_files.specs.Turn.{IsInside};
-ghost use Rattle.log_recovery.specs.Recovered.{Kept, Recovered, IsCutTo, IsSettled, StaysFlushed, OnDamage, OnMemory, CountsRecoverFault};
+ghost use Rattle.log_recovery.specs.Recovered.{Kept, Handed, HasKept, Recovered, IsCutTo, IsSettled, StaysFlushed, OnDamage, OnMemory, CountsRecoverFault};
 
 use crate::fault::RecoverFault;
 use crate::scan::read_log;
@@ -34,9 +34,14 @@ pub fn recover<D: Disk, V: Visit>(
 ) -> Result<u64, RecoverFault>
     requires size { IsGeometry (geometry segment (base_of base.now)) }
 
+    // Whatever the disk tells, what was handed on is a log.
+    ensures handed { V.stands (base_of base.now) each.old [] → IfOk result (Handed (geometry segment (base_of base.now)) (V.stands (base_of base.now) each.new)) }
+
     // What is kept of any files, and when they are damaged.
     ensures kept { D.tells → IfOk result (Kept (geometry segment (base_of base.now)) (D.state disk.old).reads (V.stands (base_of base.now) each.old) (V.stands (base_of base.now) each.new)) }
     ensures low { IfOk result (λ end. end ≤ 2 ^ 62) }
+    ensures reads { D.tells → IfOk result (λ end. (records : List Entry) → Keeps (geometry segment (base_of base.now)) records (D.state disk.old).reads
+        → HasKept (geometry segment (base_of base.now)) records (D.state disk.new).reads) }
     ensures inside { D.tells → IfOk result (λ end. IsInside (end / segment * segment) (end % segment) (D.state disk.new)) }
     ensures damaged { D.tells → OnDamage result (IsDamagedAt (geometry segment (base_of base.now)) (D.state disk.old).reads) }
     ensures untouched { D.tells → OnDamage result (λ place name. Rests (D.state disk.old) (D.state disk.new)) }

@@ -11,8 +11,8 @@ ghost use Rattle.log_model.specs.Log.{IsSegmentSize, IsGeometry};
 ghost use Rattle.log_model.specs.Segments.{Shape, layouts, segment_file, next_segment};
 ghost use Rattle.log_model.specs.Store.{ComesNext, EndsInBlank, IsDamagedAt};
 ghost use Rattle.log_recovery.specs.Reads.{OnlyReads};
-ghost use Rattle.log_recovery.specs.Recovered.{OnDamage};
-ghost use Rattle.log_recovery.specs.Scan.{Shows, StandsIn, Stood, StepsTo, Stops, ScansTo, Opened, ReadLog};
+ghost use Rattle.log_recovery.specs.Recovered.{Handed, OnDamage};
+ghost use Rattle.log_recovery.specs.Scan.{Shows, StandsIn, Stood, StepsTo, Stops, ScansTo, Opened, HandsOn, ReadLog};
 ghost use Rattle.log_recovery.specs.Names.{AreNamed, NoFurther};
 
 use crate::fault::RecoverFault;
@@ -56,6 +56,8 @@ fn step<D: Disk, V: Visit>(
         → Stood (geometry segment begun) files records shape scan.old.tail base at
         → IfOk result (λ n. StepsTo (geometry segment begun) files records shape scan.new.tail (V.stands begun each.old) (V.stands begun each.new) n ⊎ Stops (geometry segment begun) files records shape scan.new.tail (V.stands begun each.old) (V.stands begun each.new) n) }
     ensures damage { OnDamage result (λ place name. ⊥) }
+    ensures handed { (begun : Begun) → HandsOn (geometry segment begun) scan.old.tail (V.stands begun each.old)
+        → OnOk result (HandsOn (geometry segment begun) scan.new.tail (V.stands begun each.new)) }
     ensures only_reads { OnlyReads D.Disk result disk.old disk.new }
 {
     load(&mut scan.window, disk, name, at, segment)?;
@@ -88,6 +90,8 @@ fn scan_file<D: Disk, V: Visit>(
         → Stood (geometry segment begun) files records shape scan.old.tail base 0
         → IfOk result (ScansTo (geometry segment begun) files records scan.new.tail base (V.stands begun each.old) (V.stands begun each.new)) }
     ensures damage { OnDamage result (λ place name. ⊥) }
+    ensures handed { (begun : Begun) → HandsOn (geometry segment begun) scan.old.tail (V.stands begun each.old)
+        → OnOk result (HandsOn (geometry segment begun) scan.new.tail (V.stands begun each.new)) }
     ensures only_reads { OnlyReads D.Disk result disk.old disk.new }
 {
     let file = LogFile::of(base);
@@ -163,6 +167,8 @@ fn read_ended<D: Disk, V: Visit>(
     ensures damaged { D.tells → (begun : Begun) (files : Files) (records : List Entry) (shape : Shape) (behind : List ℕ) → (D.state disk.old).reads ≡ files
         → Stood (geometry segment begun) files records shape scan.old.tail base 0 → base < 2 ^ 63 → ComesNext (geometry segment begun) (next_segment (geometry segment begun) shape.older) files (log_file base) → ComesNext (geometry segment begun) (next_segment (geometry segment begun) shape.older + 1) files behind
         → OnDamage result (IsDamagedAt (geometry segment begun) files) }
+    ensures handed { (begun : Begun) → HandsOn (geometry segment begun) scan.old.tail (V.stands begun each.old)
+        → OnOk result (HandsOn (geometry segment begun) scan.new.tail (V.stands begun each.new)) }
     ensures only_reads { OnlyReads D.Disk result disk.old disk.new }
 {
     let at = scan_file(disk, segment, base, scan, each)?;
@@ -198,6 +204,8 @@ fn read_front<D: Disk, V: Visit>(
         → OnOk result (Opened (geometry segment (base_of base.now)) files [] count scan.new.tail (V.stands (base_of base.now) each.old) (V.stands (base_of base.now) each.new)) }
     ensures damaged { D.tells → (files : Files) (behind : List ℕ) → (D.state disk.old).reads ≡ files → StandsIn (geometry segment (base_of base.now)) scan.old.tail [] → AreNamed (geometry segment (base_of base.now)) count files → ComesNext (geometry segment (base_of base.now)) count files behind
         → OnDamage result (IsDamagedAt (geometry segment (base_of base.now)) files) }
+    ensures handed { HandsOn (geometry segment (base_of base.now)) scan.old.tail (V.stands (base_of base.now) each.old)
+        → OnOk result (HandsOn (geometry segment (base_of base.now)) scan.new.tail (V.stands (base_of base.now) each.new)) }
     ensures only_reads { OnlyReads D.Disk result disk.old disk.new }
 {
     let first = first_of(segment, base);
@@ -232,6 +240,8 @@ fn read_all<D: Disk, V: Visit>(
         → IfOk result (ReadLog (geometry segment (base_of base.now)) files (V.stands (base_of base.now) each.old) (V.stands (base_of base.now) each.new) count) }
     ensures damaged { D.tells → (files : Files) → (D.state disk.old).reads ≡ files → StandsIn (geometry segment (base_of base.now)) scan.old.tail [] → AreNamed (geometry segment (base_of base.now)) count files → NoFurther (geometry segment (base_of base.now)) count files
         → OnDamage result (IsDamagedAt (geometry segment (base_of base.now)) files) }
+    ensures handed { HandsOn (geometry segment (base_of base.now)) scan.old.tail (V.stands (base_of base.now) each.old)
+        → IfOk result (Handed (geometry segment (base_of base.now)) (V.stands (base_of base.now) each.new)) }
     ensures only_reads { OnlyReads D.Disk result disk.old disk.new }
 {
     let first = first_of(segment, base);
@@ -257,6 +267,7 @@ pub(crate) fn read_log<D: Disk, V: Visit>(
     ensures count { IfOk result (λ log. (k : ℕ) → k < log.count → k * segment < 2 ^ 63) }
     ensures read { D.tells → IfOk result (λ log. ReadLog (geometry segment (base_of base.now)) (D.state disk.old).reads (V.stands (base_of base.now) each.old) (V.stands (base_of base.now) each.new) log.count log.end) }
     ensures damaged { D.tells → OnDamage result (IsDamagedAt (geometry segment (base_of base.now)) (D.state disk.old).reads) }
+    ensures handed { V.stands (base_of base.now) each.old [] → IfOk result (λ log. Handed (geometry segment (base_of base.now)) (V.stands (base_of base.now) each.new) log.end) }
     ensures only_reads { OnlyReads D.Disk result disk.old disk.new }
 {
     let names = disk.list(alloc)?;

@@ -6,7 +6,7 @@ use Rattle.log_model.specs.Bases.{Geometry, geometry}
 use Rattle.log_model.specs.Told.{base_of}
 use Rattle.log_model.specs.Segments.{segment_file, shape_of, used, next_segment}
 use Rattle.log_model.proofs.Places.{geometry_size}
-use Rattle.log_recovery.proofs.RecoverLemmas.{ends_at, top_named, read_within, settled_here, exact_each}
+use Rattle.log_recovery.proofs.RecoverLemmas.{ends_at, top_named, read_within, settles_here, settled_here, exact_each, has_kept}
 use Rattle.log_recovery.proofs.OursLemmas.{rests_stays, rests_outside, settles_outside, read_stays, read_recovered}
 use Rattle.log_recovery.proofs.recovery.recover.Goals as goal
 
@@ -70,3 +70,21 @@ returns-clause-exact g c = λ tells is_settled records keeps.
 pub returns-clause-ours : goal.returns-clause-ours
 returns-clause-ours g c = λ tells log flushed stores honest. read_recovered (geometry c.args.segment (base_of c.args.base.now)) c.in_ok-log.log.count c.in_ok-log.log.end _ _ _ _ _ (geometry_size _ c.requires.size) c.in_ok-log.ensures.low c.in_ok-log.ensures.count (c.in_ok-log.ensures.read tells)
     (c.read_log.ensures.only_reads.rests tells) (g.met.D.Disk.reads_is_image c.args.disk.now tells) log flushed stores honest (c.in_ok-settle.ensures.settled tells)
+
+pub returns-clause-reads : goal.returns-clause-reads
+returns-clause-reads g c = λ tells records keeps.
+    let S : Geometry = geometry c.args.segment (base_of c.args.base.now) in
+    let count : ℕ = c.in_ok-log.log.count in
+    let end : ℕ = c.in_ok-log.log.end in
+    let first : DiskState = g.D.Disk.state c.args.disk.now in
+    let old : DiskState = g.D.Disk.state c.read_log.new.disk in
+    let new : DiskState = g.D.Disk.state c.settle.new.disk in
+    let read = c.in_ok-log.ensures.read tells in
+    let at = ends_at S read.records end read.keeps.well_formed read.ends in
+    let n : ℕ = max (end / S.size + 1) (count - 1) in
+    let m : ℕ = next_segment S (shape_of S read.records).older in
+    let named = top_named S end count (geometry_size _ c.requires.size) c.in_ok-log.ensures.low c.in_ok-log.ensures.count in
+    let behind : m < n = omega (arith, at.0) in
+    let settles = settles_here S end n m (used (shape_of S read.records)) old new at (c.settle.ensures.settles tells) in
+    let settled = settled_here S end n m (used (shape_of S read.records)) old new at (c.in_ok-settle.ensures.settled tells) in
+    has_kept S count end n _ _ first old new read (c.read_log.ensures.only_reads.rests tells) named behind settles (settled.at new.reads (g.met.D.Disk.reads_is_image c.settle.new.disk tells)).last records keeps

@@ -12,6 +12,7 @@ loop-i-init g c = record {
   opened = λ tells files reads left named.
       subst (λ (k : ℕ). Opened (geometry c.args.segment (base_of c.args.base.now)) files [] k c.args.scan.now.tail (g.V.Visit.stands (base_of c.args.base.now) c.args.each.now) (g.V.Visit.stands (base_of c.args.base.now) c.args.each.now)) (sym c.first_of-first.ensures)
       (front_start (geometry c.args.segment (base_of c.args.base.now)) files c.args.scan.now.tail _ c.requires.size left);
+  handed = λ start. start;
   rests = λ tells. rests_start _;
   faults = refl;
   syncs = refl;
@@ -44,6 +45,7 @@ loop-i-preserved g c = record {
       let next = front_next S i file_base c.args.count files [] c.loop-i.scan.tail _ _ so_far is c.loop-i-test.true named in
       front_more S i files [] c.loop-i.scan.tail c.read_ended.new.scan.tail _ _ _ so_far
       (c.in_ok-read_ended.ensures.opened tells (base_of c.args.base.now) files so_far.records so_far.shape ((c.loop-i.invariant.rests tells).same ∙ reads) stood low next);
+  handed = λ start. c.in_ok-read_ended.ensures.handed (base_of c.args.base.now) (c.loop-i.invariant.handed start);
   rests = λ tells. rests_then (c.loop-i.invariant.rests tells) (c.read_ended.ensures.only_reads.rests tells);
   faults = c.in_ok-read_ended.ensures.only_reads.cause ∙ c.loop-i.invariant.faults;
   syncs = c.read_ended.ensures.only_reads.syncs ∙ c.loop-i.invariant.syncs;

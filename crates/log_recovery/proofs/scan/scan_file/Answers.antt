@@ -27,6 +27,7 @@ loop-i-preserved g c = record {
       let step = c.in_ok-size.ensures.next tells begun files so_far.records so_far.shape ((c.loop-i.invariant.rests tells).same ∙ reads) shows so_far.stood in
       subst (λ (n : ℕ). Scanned (geometry c.args.segment begun) files records c.step.new.scan.tail c.args.base (g.V.Visit.stands begun c.args.each.now) (g.V.Visit.stands begun c.step.new.each) (c.loop-i.at + n)) (sym c.from-at.ensures)
       (scan_more (geometry c.args.segment begun) files records c.loop-i.scan.tail c.step.new.scan.tail c.args.base _ (g.V.Visit.stands begun c.loop-i.each) _ c.loop-i.at c.in_ok-size.size so_far step c.if-size-eq0.false);
+  handed = λ begun start. c.in_ok-size.ensures.handed begun (c.loop-i.invariant.handed begun start);
   rests = λ tells. rests_then (c.loop-i.invariant.rests tells) (c.step.ensures.only_reads.rests tells);
   faults = c.in_ok-size.ensures.only_reads.cause ∙ c.loop-i.invariant.faults;
   syncs = c.step.ensures.only_reads.syncs ∙ c.loop-i.invariant.syncs;

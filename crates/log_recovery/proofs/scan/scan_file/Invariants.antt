@@ -5,7 +5,7 @@ use Rattle.mq_outside.specs.Disk.{Rests}
 use Rattle.record_codec.specs.Entry.{Entry}
 use Rattle.log_model.specs.Bases.{Base, geometry}
 use Rattle.log_model.specs.Segments.{Shape}
-use Rattle.log_recovery.specs.Scan.{Shows, Stood, Scanned}
+use Rattle.log_recovery.specs.Scan.{Shows, Stood, Scanned, HandsOn}
 use Rattle.log_recovery.proofs.scan.scan_file.Given as goal
 
 abbrev pub invariant-loop-i : goal.invariant-loop-i
@@ -16,6 +16,7 @@ invariant-loop-i g l = record {
   shows : g.D.Disk.tells → Shows l.scan.window (bytes_of (g.D.Disk.state l.fn.disk).reads (log_file l.base));
   scanned : g.D.Disk.tells → (begun : Base) (files : Files) (records : List Entry) (shape : Shape) → (g.D.Disk.state l.fn.disk).reads ≡ files → Stood (geometry l.segment begun) files records shape l.fn.scan.tail l.base 0
       → Scanned (geometry l.segment begun) files records l.scan.tail l.base (g.V.Visit.stands begun l.fn.each) (g.V.Visit.stands begun l.each) l.at;
+  handed : (begun : Base) → HandsOn (geometry l.segment begun) l.fn.scan.tail (g.V.Visit.stands begun l.fn.each) → HandsOn (geometry l.segment begun) l.scan.tail (g.V.Visit.stands begun l.each);
   rests : g.D.Disk.tells → Rests (g.D.Disk.state l.fn.disk) (g.D.Disk.state l.disk);
   faults : g.D.Disk.faults l.disk ≡ g.D.Disk.faults l.fn.disk;
   syncs : g.D.Disk.syncs l.disk ≡ g.D.Disk.syncs l.fn.disk;

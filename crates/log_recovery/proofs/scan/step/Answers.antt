@@ -1,8 +1,9 @@
-use Rattle.std.proofs.Common.{◌≡◌, inl, inr, ◌∙◌, ℕ, List, true, false, refl, sym, subst}
+use Rattle.std.proofs.Common.{◌≡◌, inl, inr, ◌∙◌, ◌++◌, ◌∷◌, [], ℕ, List, true, false, refl, sym, subst}
 use Rattle.mq_bytes.specs.Names.{log_file}
 use Rattle.mq_outside.specs.Files.{bytes_of}
 use Rattle.log_model.specs.Bases.{geometry}
 use Rattle.log_model.specs.Log.{Follows}
+use Rattle.log_model.proofs.Recovery.{well_formed_push}
 use Rattle.log_recovery.proofs.StepLemmas.{step_none, step_other, step_next}
 use Rattle.log_recovery.proofs.scan.step.Goals as goal
 
@@ -57,3 +58,15 @@ returns-clause-next g c = λ tells begun files records shape reads shows stood.
       left = record { size = c.add.ensures.segment ∙ stood.left.size; stands = c.in_ok-add.ensures.taken (geometry c.args.segment begun) records stood.left.stands follows };
       handed = λ before. c.in_ok-record.ensures (geometry c.args.segment begun) records next.follows before;
     })
+
+pub returns-clause-handed : goal.returns-clause-handed
+returns-clause-handed g c = λ begun so_far.
+    let r = c.in-Some.view in
+    let follows : Follows (geometry c.args.segment begun) so_far.records r =
+    subst (λ (k : ℕ). Follows (geometry k begun) so_far.records r) so_far.left.size ((c.is_next.ensures begun so_far.records so_far.left.stands).0 c.if-not-is_next.false) in
+    record {
+      records = so_far.records ++ r ∷ [];
+      lawful = well_formed_push (geometry c.args.segment begun) so_far.records r so_far.lawful follows;
+      left = record { size = c.add.ensures.segment ∙ so_far.left.size; stands = c.in_ok-add.ensures.taken (geometry c.args.segment begun) so_far.records so_far.left.stands follows };
+      handed = c.in_ok-record.ensures (geometry c.args.segment begun) so_far.records follows so_far.handed;
+    }

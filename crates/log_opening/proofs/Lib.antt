@@ -1,0 +1,3 @@
+pub mod FreezeLemmas
+pub mod LogLemmas
+pub mod OpenLemmas

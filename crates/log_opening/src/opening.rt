@@ -1,0 +1,81 @@
+//! A log opens: the core over its records, and the flusher where they end.
+
+ghost use Rattle.std.specs.Prelude.{◌≡◌, ◌+◌, ◌/◌, ◌≤◌, List, ℕ, IfOk};
+ghost use Rattle.mq_outside.specs.Disk.{Rests};
+ghost use Rattle.record_codec.specs.Entry.{Entry};
+ghost use Rattle.log_model.specs.Bases.{whole};
+ghost use Rattle.log_model.specs.Log.{IsSegmentSize};
+ghost use Rattle.log_model.specs.Store.{IsDamagedAt, IsHonest, StoresLog};
+ghost use Rattle.log_model.specs.Stored.{StaysOutside};
+ghost use Rattle.log_recovery.specs.Recovered.{StaysFlushed, OnDamage, CountsRecoverFault};
+ghost use Rattle.segment_files.specs.Turn.{IsInside};
+ghost use Rattle.log_opening.specs.Opens.{CanOpen, OpensOver, OpensLog, OpensKept, OpensOurs};
+
+use crate::freezing::freeze_log;
+use crate::loading::{LoadedLog, load_log};
+use broker_core::Core;
+use broker_events::Setup;
+use group_flush::Flusher;
+use log_recovery::RecoverFault;
+use mq_outside::{Disk, FrozenRanges};
+use segment_files::LastFile;
+use std::alloc::Global;
+
+/// A log that is open.
+#[derive(Drop)]
+pub struct Opened {
+    /// The broker over the log: all of its records are on the disk, and consumers see all of them.
+    pub core: Core,
+    /// Makes the flush turns, from the end of the log on. It is to be given the same disk.
+    pub flusher: Flusher,
+}
+
+// The core and the flusher of a log that was loaded, which these pieces cover.
+fn open_loaded(alloc: Global, setup: Setup, log: LoadedLog, pieces: FrozenRanges) -> Opened
+    requires size { IsSegmentSize setup.segment }
+    requires some { (records : List Entry) × CanOpen setup records log pieces }
+    ensures { (records : List Entry) → CanOpen setup records log pieces → OpensOver setup records result }
+{
+    let file = LastFile::at(setup.segment, log.end);
+    let core = Core::open(alloc, setup, log.loaded, pieces);
+    Opened {
+        core,
+        flusher: Flusher::new(file),
+    }
+}
+
+/// Opens the log of this disk: it is recovered and loaded, each of its files is synced and frozen, and the core opens over it.
+///
+/// At `Err` nothing is open, and it may be tried again. What was flushed still stands. At `Damaged` nothing was changed.
+pub fn open_log<D: Disk>(alloc: Global, disk: &mut D, setup: Setup) -> Result<Opened, RecoverFault>
+    requires { IsSegmentSize setup.segment }
+
+    // Whatever the disk tells, it opens over a log. Where it tells, over the one that recovery keeps of its files.
+    ensures represents { IfOk result (OpensLog setup) }
+    ensures kept { D.tells → IfOk result (OpensKept setup (D.state disk.old).reads) }
+    ensures inside { D.tells → IfOk result (λ it. IsInside it.flusher.file.base it.flusher.file.offset (D.state disk.new)) }
+    ensures damaged { D.tells → OnDamage result (IsDamagedAt (whole setup.segment) (D.state disk.old).reads) }
+    ensures untouched { D.tells → OnDamage result (λ place name. Rests (D.state disk.old) (D.state disk.new)) }
+
+    // A disk that stores a log, and is read honestly: it opens over a prefix with all that was flushed, which is stored.
+    ensures ours { D.tells → (log : List Entry) (flushed : ℕ) → StoresLog (whole setup.segment) log flushed (D.state disk.old) → IsHonest (whole setup.segment) log flushed (D.state disk.old).reads
+        → IfOk result (OpensOurs setup log flushed (D.state disk.new)) }
+
+    // Whatever the answer, what was flushed stays, at each moment, and so do files outside the log's folder.
+    ensures flushed { D.tells → StaysFlushed (whole setup.segment) (D.state disk.old) (D.state disk.new) }
+    ensures outside { D.tells → StaysOutside (D.state disk.old) (D.state disk.new) }
+    ensures cause { CountsRecoverFault result (D.faults disk.old) (D.faults disk.new) }
+
+    // It asks for one sync a file, and for one more.
+    ensures syncs { IfOk result (λ it. D.syncs disk.new ≤ D.syncs disk.old + (it.flusher.file.base / setup.segment + 2)) }
+{
+    let log = match load_log(alloc, disk, setup.segment) {
+        Ok(log) => log,
+        Err(fault) => return Err(fault),
+    };
+    let pieces = match freeze_log(alloc, disk, setup.segment, log.end) {
+        Ok(pieces) => pieces,
+        Err(fault) => return Err(fault),
+    };
+    Ok(open_loaded(alloc, setup, log, pieces))
+}
