@@ -1,4 +1,6 @@
 pub mod ForeignLemmas
 pub mod FormatLemmas
 pub mod KeepLemmas
+pub mod ServeLemmas
+pub mod SettingLemmas
 pub mod WordLemmas
