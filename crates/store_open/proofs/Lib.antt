@@ -1,5 +1,6 @@
 pub mod ForeignLemmas
 pub mod FormatLemmas
+pub mod HostLemmas
 pub mod KeepLemmas
 pub mod ServeLemmas
 pub mod SettingLemmas

@@ -1,5 +1,5 @@
 -- The command line of `serve`.
-use Rattle.std.specs.Prelude.{◌≡◌, ℕ, ◌+◌, ◌*◌, ◌≤◌, List, [], ◌∷◌, ◌++◌, codes, length, take, get_or, All, flat_map, filter_map, Option, Some, None, Bool, true, false, unwrap_or}
+use Rattle.std.specs.Prelude.{◌≡◌, ℕ, ◌+◌, ◌*◌, ◌<◌, ◌≤◌, List, [], ◌∷◌, ◌++◌, codes, length, take, get_or, All, flat_map, filter_map, Option, Some, None, Bool, true, false, unwrap_or}
 use Rattle.mq_bytes.specs.Decimal.{digits_of}
 use Rattle.log_model.specs.Log.{IsSegmentSize}
 use Rattle.store_open.specs.declared.settings.Choice.{Choice}
@@ -25,14 +25,21 @@ port_of host = 256 * get_or host 6 0 + get_or host 7 0
 
 -- a host's text: the four parts of its address with a dot between them, a colon, and the port
 abbrev pub host_text : List ℕ → List ℕ
-host_text host = digits_of (get_or host 0 0) ++ 46 ∷ digits_of (get_or host 1 0) ++ 46 ∷ digits_of (get_or host 2 0) ++ 46 ∷ digits_of (get_or host 3 0) ++ 58 ∷ digits_of (port_of host)
+host_text host =
+    digits_of (get_or host 0 0) ++ (46 ∷ (digits_of (get_or host 1 0) ++ (46 ∷ (digits_of (get_or host 2 0) ++ (46 ∷ (digits_of (get_or host 3 0) ++ (58 ∷ digits_of (port_of host))))))))
 
--- the eight bytes are a host: the port's upper two are 0, and it is none of 0
+-- the eight bytes are a host: the port's upper two are 0, and the port is not 0
 pub record IsHost (host : List ℕ) : Type 0 where
+  pub len : length host ≡ 8
+  pub first : get_or host 0 0 ≤ 255
+  pub second : get_or host 1 0 ≤ 255
+  pub third : get_or host 2 0 ≤ 255
+  pub fourth : get_or host 3 0 ≤ 255
   pub upper : get_or host 4 0 ≡ 0
   pub next : get_or host 5 0 ≡ 0
   pub low : 1 ≤ port_of host
   pub high : port_of host ≤ 65535
+  pub low_byte : get_or host 7 0 ≤ 255
 
 -- a number of links or connections
 pub record IsCount (n : ℕ) : Type 0 where
@@ -147,3 +154,17 @@ pub record IsServeCommand (words : List (List ℕ)) (command : ServeCommand) : T
   pub in_range : All IsInRange said
   pub once : AreSaid said settings
   pub meant : IsMeant settings command
+
+-- a command begins with these words
+pub record BeginsServeCommand (words : List (List ℕ)) : Type 0 where
+  pub rest : List (List ℕ)
+  pub command : ServeCommand
+  pub is : IsServeCommand (words ++ rest) command
+
+-- The first word that doesn't fit, counted from 0: a command begins with the words before it, and none with it as well. Where
+-- each word fits and one is missing, it is the word behind the last.
+pub record IsFirstWrongOfServe (words : List (List ℕ)) (place : ℕ) : Type 0 where
+  pub within : place ≤ length words
+  pub fit : BeginsServeCommand (take place words)
+  pub wrong : place < length words → BeginsServeCommand (take (place + 1) words) → ⊥
+  pub missing : place ≡ length words → (command : ServeCommand) → IsServeCommand words command → ⊥

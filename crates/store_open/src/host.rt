@@ -1,6 +1,6 @@
 //! A host as the command line writes it, `A.B.C.D:PORT`, and as eight bytes: four of the address, and the port in four, high byte first.
 
-ghost use Rattle.std.specs.Prelude.{◌≡◌, ℕ, ◌≤◌, ◌∷◌, ◌++◌, IfSome};
+ghost use Rattle.std.specs.Prelude.{◌≡◌, ℕ, ◌≤◌, ◌∷◌, ◌++◌, List, IfSome, IsSome, MatchOption};
 ghost use Rattle.mq_bytes.specs.Decimal.{digits_of};
 ghost use Rattle.store_open.specs.ServeWords.{IsHost, host_text};
 
@@ -9,6 +9,7 @@ use crate::number::read_number;
 // The part of an address in front of the first dot, and what stands behind that.
 fn part_before_dot(text: &str) -> Option<(u32, &str)>
     ensures found { IfSome result (λ r. (text.now ≡ digits_of r.0 ++ 46 ∷ r.1.now) × (r.0 ≤ 255)) }
+    ensures exact { (n : ℕ) (rest : List ℕ) → text.now ≡ digits_of n ++ 46 ∷ rest → n ≤ 255 → MatchOption result ⊥ (λ r. (r.0 ≡ n) × (r.1.now ≡ rest)) }
 {
     let (digits, rest) = text.split_once('.')?;
     match read_number(digits, 0, 255) {
@@ -21,6 +22,7 @@ fn part_before_dot(text: &str) -> Option<(u32, &str)>
 fn last_part_and_port(text: &str) -> Option<(u32, u32)>
     ensures found { IfSome result (λ r. text.now ≡ digits_of r.0 ++ 58 ∷ digits_of r.1) }
     ensures within { IfSome result (λ r. (r.0 ≤ 255) × (1 ≤ r.1) × (r.1 ≤ 65535)) }
+    ensures exact { (n port : ℕ) → text.now ≡ digits_of n ++ 58 ∷ digits_of port → n ≤ 255 → 1 ≤ port → port ≤ 65535 → IsSome result }
 {
     let (digits, rest) = text.split_once(':')?;
     let part = read_number(digits, 0, 255)?;
@@ -32,6 +34,7 @@ fn last_part_and_port(text: &str) -> Option<(u32, u32)>
 pub(crate) fn read_host(text: &str) -> Option<[u8; 8]>
     ensures found { IfSome result (λ host. text.now ≡ host_text host) }
     ensures within { IfSome result (λ host. IsHost host) }
+    ensures exact { (host : List ℕ) → IsHost host → text.now ≡ host_text host → IsSome result }
 {
     let (first, rest) = part_before_dot(text)?;
     let (second, rest) = part_before_dot(rest)?;

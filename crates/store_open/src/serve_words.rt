@@ -1,8 +1,8 @@
 //! The words of `serve`: `serve`, and behind it options with their values, each option at most once and in any order.
 
-ghost use Rattle.std.specs.Prelude.{IfOk, IfErr, ◌≤◌, length};
+ghost use Rattle.std.specs.Prelude.{IfOk, IfErr};
 ghost use Rattle.store_open.specs.Words.{texts_of};
-ghost use Rattle.store_open.specs.ServeWords.{IsServeCommand, IsMeant};
+ghost use Rattle.store_open.specs.ServeWords.{IsServeCommand, IsFirstWrongOfServe, IsMeant};
 
 use crate::settings::{Settings, read_choice, read_setting};
 
@@ -39,7 +39,7 @@ fn command_of(settings: &Settings) -> ServeCommand
 /// The command, or the place of the first word that doesn't fit, counted from 0.
 pub fn read_serve_words(words: &[&str]) -> Result<ServeCommand, u64>
     ensures fits { IfOk result (λ command. IsServeCommand (texts_of words.now) command) }
-    ensures within { IfErr result (λ place. place ≤ length words.now) }
+    ensures wrong { IfErr result (λ place. IsFirstWrongOfServe (texts_of words.now) place) }
 {
     let Some((word, options)) = words.split_first() else {
         return Err(0);

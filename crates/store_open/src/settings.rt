@@ -8,10 +8,11 @@
 //! | `--links`       | how many links may be open at a time, 1 to 4096          |
 //! | `--connections` | after how many connections the program ends, 1 to 4096   |
 
-ghost use Rattle.std.specs.Prelude.{◌≡◌, ◌∷◌, ◌++◌, [], ℕ, List, All, IfSome, IsTrue};
+ghost use Rattle.std.specs.Prelude.{◌≡◌, ◌≢◌, ◌↔◌, ◌∷◌, ◌++◌, [], List, Bool, IfSome, IsNone, IsTrue};
+ghost use Rattle.store_open.specs.declared.settings.Choice.{Choice};
 ghost use Rattle.store_open.specs.declared.settings.Choice.TheVariants.{Flush};
 ghost use Rattle.store_open.specs.declared.settings.Setting.{Setting};
-ghost use Rattle.store_open.specs.ServeWords.{spelled, choice_of, value_text, IsInRange, IsFree, AreSaid};
+ghost use Rattle.store_open.specs.ServeWords.{spelled, choice_of, value_text, flush_text, IsInRange, IsFree, AreSaid};
 
 use crate::host::read_host;
 use crate::number::read_number;
@@ -50,6 +51,7 @@ pub(crate) struct Settings {
 /// The option with this name.
 pub(crate) fn read_choice(word: &str) -> Option<Choice>
     ensures found { IfSome result (λ choice. word.now ≡ spelled choice) }
+    ensures none { IsNone result → (choice : Choice) → word.now ≢ spelled choice }
 {
     if word == "--flush" {
         Some(Choice::Flush)
@@ -70,6 +72,7 @@ pub(crate) fn read_choice(word: &str) -> Option<Choice>
 pub(crate) fn read_setting(choice: Choice, value: &str) -> Option<Setting>
     ensures found { IfSome result (λ setting. (choice_of setting ≡ choice) × (value_text setting ≡ value.now)) }
     ensures within { IfSome result (λ setting. IsInRange setting) }
+    ensures none { IsNone result → (setting : Setting) → IsInRange setting → choice_of setting ≡ choice → value.now ≢ value_text setting }
 {
     match choice {
         Choice::Flush => read_flush(value),
@@ -96,6 +99,7 @@ pub(crate) fn read_setting(choice: Choice, value: &str) -> Option<Setting>
 fn read_flush(value: &str) -> Option<Setting>
     ensures found { IfSome result (λ setting. (choice_of setting ≡ Flush) × (value_text setting ≡ value.now)) }
     ensures within { IfSome result (λ setting. IsInRange setting) }
+    ensures none { IsNone result → (sync : Bool) → value.now ≢ flush_text sync }
 {
     if value == "sync" {
         Some(Setting::FlushAs(true))
@@ -122,7 +126,7 @@ impl Settings {
 
     /// Whether this option has no value yet.
     pub(crate) fn is_free(&self, choice: Choice) -> bool
-        ensures { IsTrue result → IsFree choice self.now }
+        ensures { IsTrue result ↔ IsFree choice self.now }
     {
         match choice {
             Choice::Flush => self.sync.is_none(),
