@@ -1,7 +1,8 @@
 -- The words of `serve`, read so far, and the first that doesn't fit.
-use Rattle.std.proofs.Common.{◌≡◌, ◌≢◌, ℕ, ◌+◌, ◌<◌, ◌≤◌, List, [], ◌∷◌, ◌++◌, length, take, get_or, map, codes, Option, Some, None, true, refl, sym, ap, subst, ◌∙◌, arith, length-append}
+use Rattle.std.proofs.Common.{◌≡◌, ◌≢◌, ℕ, ◌+◌, ◌<◌, ◌≤◌, List, [], ◌∷◌, ◌++◌, length, take, get_or, map, codes, Option, Some, None, true, refl, sym, ap, subst, ◌∙◌, arith, length-append, drop, ⊎_elim}
 use Rattle.std.specs.Prelude.{All, flat_map, filter_map, unwrap_or, if◌then◌else◌, nat_eq}
-use Rattle.std.proofs.lemmas.List.{take_at, append_assoc, append-nil}
+use Rattle.std.proofs.lemmas.List.{take_at, append_assoc, append-nil, take-append-drop}
+use Rattle.std.proofs.lemmas.Bool.{cases_lt}
 use Rattle.std.proofs.lemmas.List.Elements.{All-cons, All-head, All-tail, All-append}
 use Rattle.std.proofs.lemmas.List.Concat.{flat_map-append}
 use denote.Ref.{Bor}
@@ -12,7 +13,7 @@ use Rattle.store_open.specs.declared.settings.Setting.TheVariants.{FlushAs, Segm
 use Rattle.store_open.specs.declared.settings.Settings.{Settings}
 use Rattle.store_open.specs.declared.serve_words.ServeCommand.{ServeCommand}
 use Rattle.store_open.specs.Words.{texts_of}
-use Rattle.store_open.specs.ServeWords.{spelled, choice_of, value_text, written, sync_in, segment_in, host_in, links_in, connections_in, listed, IsInRange, IsFree, AreSaid, IsMeant, IsServeCommand, BeginsServeCommand, IsFirstWrongOfServe}
+use Rattle.store_open.specs.ServeWords.{spelled, choice_of, value_text, written, sync_in, segment_in, host_in, links_in, connections_in, listed, IsInRange, IsFree, AreSaid, IsServeCommand, BeginsServeCommand, IsFirstWrongOfServe}
 use Rattle.store_open.proofs.SettingLemmas.{kept, added}
 
 -- the words are `serve`, what is said so far, and these; and this many are read
@@ -139,11 +140,11 @@ example_in_range Connections = record { low = omega arith; high = omega arith }
 
 -- an option more that was free
 example_more : (k : Choice) (said : List Setting) (o : Settings) → IsFree k o → AreSaid said o → (more : Settings) × AreSaid (said ++ example k ∷ []) more
-example_more Flush said o free is = (record { sync = Some true; segment = o.segment; host = o.host; links = o.links; connections = o.connections; }, record { sync = added sync_in said _ _ _ refl free is.sync; segment = kept segment_in said _ _ refl is.segment; host = kept host_in said _ _ refl is.host; links = kept links_in said _ _ refl is.links; connections = kept connections_in said _ _ refl is.connections; })
-example_more Segment said o free is = (record { sync = o.sync; segment = Some 4096; host = o.host; links = o.links; connections = o.connections; }, record { sync = kept sync_in said _ _ refl is.sync; segment = added segment_in said _ _ _ refl free is.segment; host = kept host_in said _ _ refl is.host; links = kept links_in said _ _ refl is.links; connections = kept connections_in said _ _ refl is.connections; })
-example_more Host said o free is = (record { sync = o.sync; segment = o.segment; host = Some (127 ∷ 0 ∷ 0 ∷ 1 ∷ 0 ∷ 0 ∷ 42 ∷ 159 ∷ []); links = o.links; connections = o.connections; }, record { sync = kept sync_in said _ _ refl is.sync; segment = kept segment_in said _ _ refl is.segment; host = added host_in said _ _ _ refl free is.host; links = kept links_in said _ _ refl is.links; connections = kept connections_in said _ _ refl is.connections; })
-example_more Links said o free is = (record { sync = o.sync; segment = o.segment; host = o.host; links = Some 1; connections = o.connections; }, record { sync = kept sync_in said _ _ refl is.sync; segment = kept segment_in said _ _ refl is.segment; host = kept host_in said _ _ refl is.host; links = added links_in said _ _ _ refl free is.links; connections = kept connections_in said _ _ refl is.connections; })
-example_more Connections said o free is = (record { sync = o.sync; segment = o.segment; host = o.host; links = o.links; connections = Some 1; }, record { sync = kept sync_in said _ _ refl is.sync; segment = kept segment_in said _ _ refl is.segment; host = kept host_in said _ _ refl is.host; links = kept links_in said _ _ refl is.links; connections = added connections_in said _ _ _ refl free is.connections; })
+example_more Flush said o free is = (record { sync = Some true; segment = o.segment; host = o.host; links = o.links; connections = o.connections }, record { sync = added sync_in said _ _ _ refl free is.sync; segment = kept segment_in said _ _ refl is.segment; host = kept host_in said _ _ refl is.host; links = kept links_in said _ _ refl is.links; connections = kept connections_in said _ _ refl is.connections })
+example_more Segment said o free is = (record { sync = o.sync; segment = Some 4096; host = o.host; links = o.links; connections = o.connections }, record { sync = kept sync_in said _ _ refl is.sync; segment = added segment_in said _ _ _ refl free is.segment; host = kept host_in said _ _ refl is.host; links = kept links_in said _ _ refl is.links; connections = kept connections_in said _ _ refl is.connections })
+example_more Host said o free is = (record { sync = o.sync; segment = o.segment; host = Some (127 ∷ 0 ∷ 0 ∷ 1 ∷ 0 ∷ 0 ∷ 42 ∷ 159 ∷ []); links = o.links; connections = o.connections }, record { sync = kept sync_in said _ _ refl is.sync; segment = kept segment_in said _ _ refl is.segment; host = added host_in said _ _ _ refl free is.host; links = kept links_in said _ _ refl is.links; connections = kept connections_in said _ _ refl is.connections })
+example_more Links said o free is = (record { sync = o.sync; segment = o.segment; host = o.host; links = Some 1; connections = o.connections }, record { sync = kept sync_in said _ _ refl is.sync; segment = kept segment_in said _ _ refl is.segment; host = kept host_in said _ _ refl is.host; links = added links_in said _ _ _ refl free is.links; connections = kept connections_in said _ _ refl is.connections })
+example_more Connections said o free is = (record { sync = o.sync; segment = o.segment; host = o.host; links = o.links; connections = Some 1 }, record { sync = kept sync_in said _ _ refl is.sync; segment = kept segment_in said _ _ refl is.segment; host = kept host_in said _ _ refl is.host; links = kept links_in said _ _ refl is.links; connections = added connections_in said _ _ _ refl free is.connections })
 
 -- ---- the name of an option is its own
 
@@ -200,7 +201,6 @@ not_again front whole o more w x k once all taken c is =
 
 begun : (said : List Setting) (w : List ℕ) (more ys texts : List (List ℕ)) (n : ℕ) → texts ≡ codes "serve" ∷ (flat_map written said ++ (w ∷ (more ++ ys))) → n ≡ 2 + length (flat_map written said) + length more → (b : BeginsServeCommand (take n texts)) → Cut said b.is.said w (more ++ b.rest)
 begun said w more ys texts n e len b =
-    let front_words : List (List ℕ) = codes "serve" ∷ (flat_map written said ++ (w ∷ more)) in
     let whole : texts ≡ (codes "serve" ∷ (flat_map written said ++ (w ∷ more))) ++ ys = e ∙ ap (λ (l : List (List ℕ)). codes "serve" ∷ l) (sym (append_assoc (flat_map written said) (w ∷ more) ys)) in
     let front : take n texts ≡ codes "serve" ∷ (flat_map written said ++ (w ∷ more)) = ap (λ (l : List (List ℕ)). take n l) whole ∙ take_at (codes "serve" ∷ (flat_map written said ++ (w ∷ more))) ys n (omega (arith, len, length-append (flat_map written said) (w ∷ more))) in
     let words : codes "serve" ∷ ((flat_map written said ++ (w ∷ more)) ++ b.rest) ≡ codes "serve" ∷ flat_map written b.is.said = sym (ap (λ (l : List (List ℕ)). l ++ b.rest) front) ∙ b.is.words_are in
@@ -229,9 +229,8 @@ fit_name said o k xs texts range once free e =
     let front : take (2 + length (flat_map written said)) texts ≡ codes "serve" ∷ (flat_map written said ++ (spelled k ∷ [])) = ap (λ (l : List (List ℕ)). take (2 + length (flat_map written said)) l) whole ∙ take_at (codes "serve" ∷ (flat_map written said ++ (spelled k ∷ []))) xs _ (omega (arith, length-append (flat_map written said) (spelled k ∷ []))) in
     let name = ap spelled (example_is k) in
     let both = flat_map-append written said (example k ∷ []) in
-    let value : List (List ℕ) = value_text (example k) ∷ [] in
     let words : (flat_map written said ++ (spelled k ∷ [])) ++ (value_text (example k) ∷ []) ≡ flat_map written (said ++ example k ∷ []) =
-        append_assoc (flat_map written said) (spelled k ∷ []) (value_text (example k) ∷ []) ∙ ap (λ (t : List ℕ). flat_map written said ++ (t ∷ value_text (example k) ∷ [])) (sym name) ∙ sym both in
+    append_assoc (flat_map written said) (spelled k ∷ []) (value_text (example k) ∷ []) ∙ ap (λ (t : List ℕ). flat_map written said ++ (t ∷ value_text (example k) ∷ [])) (sym name) ∙ sym both in
     begins_said (said ++ example k ∷ []) more.0 _ (value_text (example k) ∷ []) all more.1 (ap (λ (l : List (List ℕ)). l ++ (value_text (example k) ∷ [])) front ∙ ap (λ (l : List (List ℕ)). codes "serve" ∷ l) words)
 
 -- ---- the first word that doesn't fit
@@ -280,3 +279,15 @@ wrong_value said o k v x texts n len range once free e bad =
       wrong = λ there b. let c = begun said (spelled k) (v ∷ []) x texts (n + 1) e (omega (arith, len)) b in let value = c.value in bad c.t c.within (one_name (choice_of c.t) k (sym c.name)) cc;
       missing = λ end. absurd (omega (arith, len, size, sizes, end));
     }
+
+-- ---- words are a command, or one of them is the first that doesn't fit, and not both
+
+pub no_wrong_serve_word : (words : List (List ℕ)) (command : ServeCommand) (place : ℕ) → IsServeCommand words command → IsFirstWrongOfServe words place → ⊥
+no_wrong_serve_word words command place is first = ⊎_elim
+    (λ (there : place < length words). first.wrong there (record {
+      rest = drop (place + 1) words;
+      command = command;
+      is = subst (λ (all : List (List ℕ)). IsServeCommand all command) (sym (take-append-drop (place + 1) words)) is;
+    }))
+    (λ (end : length words ≤ place). first.missing (omega (arith, first.within, end)) command is)
+    (cases_lt place (length words))

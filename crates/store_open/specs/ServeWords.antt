@@ -23,7 +23,7 @@ spelled Connections = codes "--connections"
 abbrev pub port_of : List ℕ → ℕ
 port_of host = 256 * get_or host 6 0 + get_or host 7 0
 
--- a host's text: the four parts of its address with a dot between them, a colon, and the port
+-- a host's text: the four parts of its address with a dot (46) between them, a colon (58), and the port
 abbrev pub host_text : List ℕ → List ℕ
 host_text host =
     digits_of (get_or host 0 0) ++ (46 ∷ (digits_of (get_or host 1 0) ++ (46 ∷ (digits_of (get_or host 2 0) ++ (46 ∷ (digits_of (get_or host 3 0) ++ (58 ∷ digits_of (port_of host))))))))

@@ -1,4 +1,5 @@
 //! A host as the command line writes it, `A.B.C.D:PORT`, and as eight bytes: four of the address, and the port in four, high byte first.
+//! In the clauses 46 is the dot and 58 the colon.
 
 ghost use Rattle.std.specs.Prelude.{◌≡◌, ℕ, ◌≤◌, ◌∷◌, ◌++◌, List, IfSome, IsSome, MatchOption};
 ghost use Rattle.mq_bytes.specs.Decimal.{digits_of};

@@ -63,7 +63,14 @@ fn each_option_of_serve_is_read(rt: HostRuntime) -> Result<(), Fail> {
     for (value, segment) in [("4096", 4096), ("1073741824", 1_073_741_824)] {
         let read = read_serve_words(&["serve", "--segment", value]);
         let segment = Some(segment);
-        assert_eq!(rt; read, Ok(ServeCommand { segment, ..DEFAULTS }), "{value}");
+        assert_eq!(rt;
+            read,
+            Ok(ServeCommand {
+                segment,
+                ..DEFAULTS
+            }),
+            "{value}"
+        );
     }
     let hosts = [
         ("0.0.0.0:1", [0, 0, 0, 0, 0, 0, 0, 1]),
@@ -75,10 +82,24 @@ fn each_option_of_serve_is_read(rt: HostRuntime) -> Result<(), Fail> {
     }
     for (value, n) in [("1", 1), ("4096", 4096)] {
         let read = read_serve_words(&["serve", "--links", value]);
-        assert_eq!(rt; read, Ok(ServeCommand { links: n, ..DEFAULTS }), "{value}");
+        assert_eq!(rt;
+            read,
+            Ok(ServeCommand {
+                links: n,
+                ..DEFAULTS
+            }),
+            "{value}"
+        );
         let read = read_serve_words(&["serve", "--connections", value]);
         let connections = Some(n);
-        assert_eq!(rt; read, Ok(ServeCommand { connections, ..DEFAULTS }), "{value}");
+        assert_eq!(rt;
+            read,
+            Ok(ServeCommand {
+                connections,
+                ..DEFAULTS
+            }),
+            "{value}"
+        );
     }
     let all = [
         "serve",
@@ -110,9 +131,18 @@ fn the_first_word_of_serve_that_does_not_fit_is_told(rt: HostRuntime) -> Result<
     assert_eq!(rt; read_serve_words(&["pipe"]), Err(0));
     assert_eq!(rt; read_serve_words(&["serve", "serve"]), Err(1));
     assert_eq!(rt; read_serve_words(&["serve", "--port", "1"]), Err(1));
-    assert_eq!(rt; read_serve_words(&["serve", "--links", "1", "--links", "1"]), Err(3));
-    assert_eq!(rt; read_serve_words(&["serve", "--links", "1", "--bogus"]), Err(3));
-    assert_eq!(rt; read_serve_words(&["serve", "--links", "1", "--host"]), Err(4));
+    assert_eq!(rt;
+        read_serve_words(&["serve", "--links", "1", "--links", "1"]),
+        Err(3)
+    );
+    assert_eq!(rt;
+        read_serve_words(&["serve", "--links", "1", "--bogus"]),
+        Err(3)
+    );
+    assert_eq!(rt;
+        read_serve_words(&["serve", "--links", "1", "--host"]),
+        Err(4)
+    );
     let rows = [
         ("--flush", "often"),
         ("--flush", ""),

@@ -1,9 +1,5 @@
 -- The words so far are `serve` and what is said, and what is left stands behind them.
-use Rattle.std.proofs.Common.{◌≡◌, ℕ, ◌+◌, List, ◌∷◌, ◌++◌, codes, length}
-use Rattle.std.specs.Prelude.{All, flat_map}
-use denote.Ref.{Bor}
-use Rattle.store_open.specs.Words.{texts_of}
-use Rattle.store_open.specs.ServeWords.{written}
+use Rattle.std.proofs.Common.{length}
 use Rattle.store_open.proofs.ServeLemmas.{IsReadTo}
 use Rattle.store_open.proofs.serve_words.read_serve_words.Given as goal
 

@@ -1,5 +1,5 @@
-use Rattle.std.proofs.Common.{refl, ◌∷◌, [], ◌++◌}
-use Rattle.store_open.specs.ServeWords.{sync_in, segment_in, host_in, links_in, connections_in, choice_of, IsFree, AreSaid}
+use Rattle.std.proofs.Common.{refl}
+use Rattle.store_open.specs.ServeWords.{sync_in, segment_in, host_in, links_in, connections_in}
 use Rattle.store_open.proofs.SettingLemmas.{kept, added}
 use Rattle.store_open.proofs.settings.Settings.put.Goals as goal
 
