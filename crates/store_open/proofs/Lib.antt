@@ -1,4 +1,7 @@
 pub mod ForeignLemmas
 pub mod FormatLemmas
+pub mod HostLemmas
 pub mod KeepLemmas
+pub mod ServeLemmas
+pub mod SettingLemmas
 pub mod WordLemmas

@@ -1,4 +1,5 @@
 pub mod Formats
 pub mod Openings
+pub mod ServeWords
 pub mod Statuses
 pub mod Words

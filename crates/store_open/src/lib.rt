@@ -2,12 +2,16 @@
 #![tactic(auto)]
 
 mod format;
+mod host;
 mod number;
 mod opening;
+mod serve_words;
+mod settings;
 mod status;
 mod words;
 
 pub use opening::open_format;
+pub use serve_words::{ServeCommand, read_serve_words};
 pub use status::Status;
 pub use words::{Command, read_words};
 

@@ -1,6 +1,7 @@
 //! The command line, word by word, and the opening of stores in memory.
 
 use crate::opening::open_format;
+use crate::serve_words::{ServeCommand, read_serve_words};
 use crate::status::Status;
 use crate::words::{Command, read_words};
 use mq_outside::{Disk, MemDisk, MemKeep, Room};
@@ -41,6 +42,134 @@ fn the_first_word_that_does_not_fit_is_told(rt: HostRuntime) -> Result<(), Fail>
         read_words(&["pipe", "--segment", "4096", "--segment"]),
         Err(3)
     );
+    Ok(())
+}
+
+const DEFAULTS: ServeCommand = ServeCommand {
+    sync: true,
+    segment: None,
+    host: [127, 0, 0, 1, 0, 0, 42, 159],
+    links: 1024,
+    connections: None,
+};
+
+#[test]
+fn each_option_of_serve_is_read(rt: HostRuntime) -> Result<(), Fail> {
+    assert_eq!(rt; read_serve_words(&["serve"]), Ok(DEFAULTS));
+    for (value, sync) in [("sync", true), ("async", false)] {
+        let read = read_serve_words(&["serve", "--flush", value]);
+        assert_eq!(rt; read, Ok(ServeCommand { sync, ..DEFAULTS }), "{value}");
+    }
+    for (value, segment) in [("4096", 4096), ("1073741824", 1_073_741_824)] {
+        let read = read_serve_words(&["serve", "--segment", value]);
+        let segment = Some(segment);
+        assert_eq!(rt;
+            read,
+            Ok(ServeCommand {
+                segment,
+                ..DEFAULTS
+            }),
+            "{value}"
+        );
+    }
+    let hosts = [
+        ("0.0.0.0:1", [0, 0, 0, 0, 0, 0, 0, 1]),
+        ("10.2.30.255:65535", [10, 2, 30, 255, 0, 0, 255, 255]),
+    ];
+    for (value, host) in hosts {
+        let read = read_serve_words(&["serve", "--host", value]);
+        assert_eq!(rt; read, Ok(ServeCommand { host, ..DEFAULTS }), "{value}");
+    }
+    for (value, n) in [("1", 1), ("4096", 4096)] {
+        let read = read_serve_words(&["serve", "--links", value]);
+        assert_eq!(rt;
+            read,
+            Ok(ServeCommand {
+                links: n,
+                ..DEFAULTS
+            }),
+            "{value}"
+        );
+        let read = read_serve_words(&["serve", "--connections", value]);
+        let connections = Some(n);
+        assert_eq!(rt;
+            read,
+            Ok(ServeCommand {
+                connections,
+                ..DEFAULTS
+            }),
+            "{value}"
+        );
+    }
+    let all = [
+        "serve",
+        "--connections",
+        "2",
+        "--links",
+        "3",
+        "--host",
+        "1.2.3.4:256",
+        "--segment",
+        "65536",
+        "--flush",
+        "async",
+    ];
+    let said = ServeCommand {
+        sync: false,
+        segment: Some(65536),
+        host: [1, 2, 3, 4, 0, 0, 1, 0],
+        links: 3,
+        connections: Some(2),
+    };
+    assert_eq!(rt; read_serve_words(&all), Ok(said));
+    Ok(())
+}
+
+#[test]
+fn the_first_word_of_serve_that_does_not_fit_is_told(rt: HostRuntime) -> Result<(), Fail> {
+    assert_eq!(rt; read_serve_words(&[]), Err(0));
+    assert_eq!(rt; read_serve_words(&["pipe"]), Err(0));
+    assert_eq!(rt; read_serve_words(&["serve", "serve"]), Err(1));
+    assert_eq!(rt; read_serve_words(&["serve", "--port", "1"]), Err(1));
+    assert_eq!(rt;
+        read_serve_words(&["serve", "--links", "1", "--links", "1"]),
+        Err(3)
+    );
+    assert_eq!(rt;
+        read_serve_words(&["serve", "--links", "1", "--bogus"]),
+        Err(3)
+    );
+    assert_eq!(rt;
+        read_serve_words(&["serve", "--links", "1", "--host"]),
+        Err(4)
+    );
+    let rows = [
+        ("--flush", "often"),
+        ("--flush", ""),
+        ("--segment", "4095"),
+        ("--segment", "1073741825"),
+        ("--segment", "04096"),
+        ("--host", "1.2.3.4"),
+        ("--host", "1.2.3:80"),
+        ("--host", "1.2.3.4.5:80"),
+        ("--host", "1.2.3.256:80"),
+        ("--host", "1.02.3.4:80"),
+        ("--host", "1.2.3.4:0"),
+        ("--host", "1.2.3.4:65536"),
+        ("--host", "localhost:80"),
+        ("--links", "0"),
+        ("--links", "4097"),
+        ("--links", "+1"),
+        ("--connections", "0"),
+        ("--connections", "4097"),
+    ];
+    for (option, value) in rows {
+        assert_eq!(rt;
+            read_serve_words(&["serve", option, value]),
+            Err(2),
+            "{option} {value}"
+        );
+    }
     Ok(())
 }
 
