@@ -292,8 +292,8 @@ impl Session {
         }
     }
 
-    /// Writes the replies that are due, in the order of the requests, up to one whose record is pending still; none where nobody
-    /// waits for one. At `Err` there is no memory, and the link ends.
+    /// Writes the replies that are due, in the order of the requests, up to one whose record is pending still, and until
+    /// so many bytes wait that no further reply is written before some are sent; none where nobody waits for one. At `Err` there is no memory, and the link ends.
     pub fn settle<C: Calls, R: Reader>(
         &mut self,
         alloc: Global,
@@ -302,6 +302,9 @@ impl Session {
     ) -> Result<(), AllocError> {
         let count = self.owed.len();
         for _ in 0..count {
+            if self.out.len() - self.sent >= UNSENT_MAX {
+                return Ok(());
+            }
             let Some((caller, reply)) = self.next_due(alloc, calls)? else {
                 return Ok(());
             };
