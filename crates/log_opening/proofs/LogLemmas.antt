@@ -1,5 +1,5 @@
 -- Where the records of a log stand in its files, and that pieces of these cover them.
-use Rattle.std.proofs.Common.{◌≡◌, ◌⊎◌, ⊎_elim, ap, sym, ◌∙◌, subst, refl, arith, ℕ, zero, suc, ◌+◌, ◌-◌, ◌*◌, ◌/◌, ◌%◌, ◌<◌, ◌≤◌, true, false, List, [], ◌∷◌, ◌++◌, length, take, drop, slice_get, Option, Some, append_assoc}
+use Rattle.std.proofs.Common.{◌≡◌, ⊎_elim, ap, sym, ◌∙◌, subst, arith, ℕ, zero, suc, ◌+◌, ◌-◌, ◌*◌, ◌/◌, ◌%◌, ◌<◌, ◌≤◌, true, false, List, [], ◌∷◌, ◌++◌, length, take, drop, slice_get, Option, Some, append_assoc}
 use Rattle.std.proofs.lemmas.Bool.{leb-true, cases_Bool, cond-true, cond-false}
 use Rattle.std.proofs.lemmas.List.{take_all}
 use Rattle.std.proofs.lemmas.Option.{same_Some}
@@ -14,7 +14,7 @@ use Rattle.record_codec.proofs.LayoutLengths.{length-layout}
 use Rattle.log_model.specs.Bases.{Geometry, whole, no_base, first_segment}
 use Rattle.log_model.specs.Log.{end_of, fits, Follows, IsWellFormed}
 use Rattle.log_model.specs.Numbered.{IsLawful, count_of}
-use Rattle.log_model.specs.Segments.{Shape, used, laid, layouts, shape_of, segment_file, last_bytes, next_segment}
+use Rattle.log_model.specs.Segments.{Shape, used, laid, shape_of, segment_file, last_bytes, next_segment}
 use Rattle.log_model.specs.Store.{AreEnded, StandsAtPlace, StoresAt}
 use Rattle.log_model.proofs.Fronts.{starts_layout, closed_ended}
 use Rattle.log_model.proofs.Lists.{get_within}

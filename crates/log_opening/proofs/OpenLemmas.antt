@@ -1,24 +1,24 @@
 -- What was loaded of a log, and that the broker opens over it.
-use Rattle.std.proofs.Common.{◌≡◌, ◌⊎◌, ⊎_elim, ap, sym, ◌∙◌, subst, refl, arith, ℕ, ◌+◌, ◌-◌, ◌*◌, ◌/◌, ◌%◌, ◌<◌, ◌≤◌, List, [], length, take, Result, Ok, Err}
-use Rattle.std.proofs.lemmas.List.{take_all, length-take-le}
+use Rattle.std.proofs.Common.{◌≡◌, ⊎_elim, ap, sym, ◌∙◌, subst, refl, arith, ℕ, ◌+◌, ◌-◌, ◌*◌, ◌/◌, ◌%◌, ◌<◌, ◌≤◌, List, [], length, take, Err}
+use Rattle.std.proofs.lemmas.List.{take_all}
 use Rattle.std.proofs.lemmas.Nat.{div-mul-add}
 use Rattle.mq_outside.specs.Covers.{HoldsRange}
-use Rattle.mq_outside.specs.Disk.{DiskState, IsCrashImage, EachImage, Rests}
+use Rattle.mq_outside.specs.Disk.{DiskState, IsCrashImage, Rests}
 use Rattle.mq_bytes.specs.Names.{log_file}
 use Rattle.mq_outside.specs.Files.{Files, bytes_of}
 use Rattle.mq_outside.proofs.Moments.{at_end, chained, throughout_rests}
 use Rattle.mq_outside.specs.declared.frozen_ranges.FrozenRanges.{FrozenRanges}
 use Rattle.record_codec.specs.Entry.{Entry}
-use Rattle.log_model.specs.Bases.{Base, Geometry, geometry, whole, no_base}
+use Rattle.log_model.specs.Bases.{Geometry, whole, no_base}
 use Rattle.log_model.specs.Log.{end_of}
 use Rattle.log_model.specs.Numbered.{IsLawful}
-use Rattle.log_model.specs.Segments.{Shape, used, shape_of}
-use Rattle.log_model.specs.Store.{Keeps, StoresAt, StoresLog, IsHonest}
+use Rattle.log_model.specs.Segments.{used, shape_of}
+use Rattle.log_model.specs.Store.{Keeps, StoresAt}
 use Rattle.log_model.specs.Stored.{StaysOutside, stored}
 use Rattle.log_model.proofs.OutsideLemmas.{outside_then}
 use Rattle.log_model.proofs.Places.{placed_log, placed_offset}
 use Rattle.log_model.proofs.StoreLemmas.{stores_again}
-use Rattle.log_recovery.specs.Recovered.{Handed, HasKept, Kept, OnDamage, Recovered, Stays, StaysFlushed}
+use Rattle.log_recovery.specs.Recovered.{Handed, HasKept, Kept, OnDamage, Recovered, StaysFlushed}
 use Rattle.log_recovery.specs.declared.fault.RecoverFault.{RecoverFault}
 use Rattle.log_recovery.specs.declared.fault.RecoverFault.TheVariants.{Damaged, Failed, Memory}
 use Rattle.log_recovery.proofs.OursLemmas.{rests_images, rests_outside}

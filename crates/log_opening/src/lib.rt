@@ -4,7 +4,5 @@
 mod freezing;
 mod loading;
 mod opening;
-#[cfg(test)]
-mod tests;
 
 pub use opening::{Opened, open_log};

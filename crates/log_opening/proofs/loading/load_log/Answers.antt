@@ -1,8 +1,7 @@
-use Rattle.std.proofs.Common.{ℕ, List, [], sym, subst}
+use Rattle.std.proofs.Common.{ℕ, List, subst}
 use Rattle.mq_outside.specs.Disk.{DiskState}
 use Rattle.record_codec.specs.Entry.{Entry}
-use Rattle.log_model.specs.Bases.{Base, Geometry, geometry}
-use Rattle.log_model.specs.Log.{IsGeometry}
+use Rattle.log_model.specs.Bases.{Base, geometry}
 use Rattle.log_model.specs.Store.{IsHonest, StoresLog}
 use Rattle.log_model.specs.Told.{base_of}
 use Rattle.log_recovery.specs.Recovered.{StaysFlushed}

@@ -1,7 +1,7 @@
-use Rattle.std.proofs.Common.{◌≡◌, ◌∙◌, ◌≤◌, ℕ, List, length, take, refl, sym, subst, arith}
+use Rattle.std.proofs.Common.{◌≤◌, List, length, take, refl, sym, subst, arith}
 use Rattle.std.proofs.lemmas.List.{length-take-le}
 use Rattle.mq_bytes.specs.Names.{log_file}
-use Rattle.mq_outside.specs.Disk.{DiskState, Rests}
+use Rattle.mq_outside.specs.Disk.{Rests}
 use Rattle.mq_outside.specs.Files.{Files, bytes_of}
 use Rattle.record_codec.specs.Entry.{Entry}
 use Rattle.log_model.specs.Bases.{whole}
