@@ -47,6 +47,12 @@ def send(opaque, body, topic="T", flag=0, binary=False, short=False, without=(),
     return frame({"code": 310 if short else 10, "extFields": ext, "flag": flag, "opaque": opaque, "version": 395}, body, binary)
 
 
+def pull(opaque, topic, at, most=32, flag=0, binary=False, **fields):
+    ext = {"consumerGroup": "C", "topic": topic, "queueId": "0", "queueOffset": str(at), "maxMsgNums": str(most), "sysFlag": "0"}
+    ext.update(fields)
+    return frame({"code": 11, "extFields": ext, "flag": flag, "opaque": opaque, "version": 395}, b"", binary)
+
+
 def binary_header(text):
     """The header that these bytes are, as a JSON header would say it."""
     at = 17
@@ -73,6 +79,23 @@ def replies(data):
         text = data[8:8 + head]
         found.append({"binary": form == 1, **(binary_header(text) if form == 1 else json.loads(text))})
         data = data[4 + size:]
+    return found
+
+
+def reply_of(data):
+    """The reply that this one frame is, with its body."""
+    head = int.from_bytes(data[5:8], "big")
+    return {**replies(data)[0], "body": data[8 + head:]}
+
+
+def pulled(body):
+    """The records of a pull's body, one behind another, each at its own place of the log."""
+    found, at = [], 0
+    while at < len(body):
+        r = record(body, at, int.from_bytes(body[at + 28:at + 36], "big") - at)
+        assert r is not None, f"no record stands at byte {at} of a pull's body"
+        found.append(r)
+        at += r["size"]
     return found
 
 
