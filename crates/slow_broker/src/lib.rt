@@ -1,0 +1,18 @@
+//! A broker that keeps the plain list of its records, and answers each event by looking through it: slow, and plain to read
+//! beside the model, whose step is its contract. Tests compare the broker's core with it.
+#![tactic(auto)]
+
+mod answer;
+mod apply;
+mod broker;
+mod dispatch;
+mod event;
+mod leave;
+mod records;
+mod turns;
+
+pub use answer::{Answer, Reply, Taken};
+pub use broker::{
+    ClientRow, FailedTurn, HeardRow, LockRow, OffsetRow, Out, Saved, SlowBroker, TopicRow,
+};
+pub use event::Event;
