@@ -1,4 +1,5 @@
 pub mod Events
 pub mod Lists
+pub mod Refused
 pub mod Sounds
 pub mod TurnLemmas

@@ -1,4 +1,5 @@
 pub mod Answers
+pub mod Requests
 pub mod Sound
 pub mod States
 pub mod Steps

@@ -18,7 +18,7 @@ use Rattle.slow_broker.specs.declared.broker.HeardRow.{HeardRow}
 use Rattle.slow_broker.specs.declared.broker.Saved.{Saved}
 use Rattle.slow_broker.specs.declared.broker.SlowBroker.{SlowBroker}
 use Rattle.slow_broker.specs.declared.event.Event.{Event}
-use Rattle.slow_broker.specs.declared.event.Event.TheVariants.{Take, Flushed, FlushFailed, Look, Dispatch, Leave}
+use Rattle.slow_broker.specs.declared.event.Event.TheVariants.{Asks, Take, Flushed, FlushFailed, Look, Dispatch, Leave}
 
 -- ---- rows, as the model has them
 
@@ -73,6 +73,7 @@ state_of b = record {
 
 -- the event as the model has it
 abbrev pub event_of : Event → events.Event
+event_of (Asks link host now request) = events.Asks (record { link = link; host = host; now = now; request = request })
 event_of Take = events.Take
 event_of (Flushed count) = events.Flushed count
 event_of (FlushFailed count) = events.FlushFailed count

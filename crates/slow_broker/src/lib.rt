@@ -8,7 +8,12 @@ mod broker;
 mod dispatch;
 mod event;
 mod leave;
+mod offsets;
 mod records;
+mod refusals;
+mod replies;
+mod request;
+mod topics;
 mod turns;
 
 pub use answer::{Answer, Reply, Taken};
