@@ -1,16 +1,21 @@
 -- What the model answers to requests that are refused, and to those that append nothing.
-use Rattle.std.proofs.Common.{◌≡◌, ◌∙◌, refl, ap, ℕ, ◌+◌, ◌^◌, ◌||◌, ◌&&◌, nat_lt, sum_by, max, List, [], length, Bool, true, false, Option, Some, None, is_some, if◌then◌else◌}
+use Rattle.std.proofs.Common.{◌≡◌, ◌∙◌, refl, ap, ℕ, ◌+◌, ◌^◌, ◌||◌, ◌&&◌, nat_lt, sum_by, max, List, [], ◌∷◌, ⊎_elim, map, option_map, length, Bool, true, false, Option, Some, None, is_some, if◌then◌else◌}
 use Rattle.std.specs.List.{list_any}
 use Rattle.record_codec.specs.Entry.{Entry}
 use Rattle.record_codec.specs.Layout.{size}
 use Rattle.request_fields.specs.declared.request.Request.{Request}
-use Rattle.request_fields.specs.declared.request.Request.TheVariants.{Send, EndTransaction}
-use Rattle.slow_broker.specs.Requests.{is_built}
+use Rattle.request_fields.specs.declared.request.Request.TheVariants.{Send, EndTransaction, MakeTopic, OffsetOf, MaxOffset, MinOffset}
+use Rattle.slow_broker.specs.Requests.{is_built, is_quiet, refusal_reply}
+use Rattle.slow_broker.specs.Sends.{rows_of, refusal_by}
+use Rattle.std.proofs.lemmas.Bool.{cases_Bool}
+use Rattle.record_codec.specs.Drafts.{first_that_holds}
+use Rattle.request_fields.specs.Requests.{SendSaid}
+use Rattle.broker_model.specs.Tables.{queues_in}
 use Rattle.record_codec.specs.declared.draft.Draft.{Draft}
 use Rattle.log_model.specs.Numbered.{next_records}
 use Rattle.broker_model.specs.State.{State, pending_bytes}
 use Rattle.broker_model.specs.Events as model
-use Rattle.broker_model.specs.Refusals.{refusal_of}
+use Rattle.broker_model.specs.Refusals.{refusal_of, send_refusal}
 use Rattle.broker_model.specs.Appended.{is_refused, is_past_end, is_full, drafts_of, request_drafts, made_by, appended}
 use Rattle.broker_model.specs.Answers.{answer_of, refused_answer, carried_out_answer, request_answer, or_refused}
 use Rattle.broker_model.specs.Step.{after, changed, request_changed, with_records}
@@ -69,8 +74,30 @@ module _ (s : State) (a : model.Asked) where
       ap (λ (b : Bool). if b then s else with_records (request_changed s a.link (max a.now s.now) a.request) (max a.now s.now) (made_by s (model.Asks a))) (roomy taken none)
       ∙ ap (λ (rs : List Entry). with_records (request_changed s a.link (max a.now s.now) a.request) (max a.now s.now) rs) (made_none none)
 
--- requests that are built append nothing
-pub no_drafts : (s : State) (now : ℕ) (host : List ℕ) (r : Request) → is_built r ≡ true → request_drafts s now host r ≡ []
-no_drafts s now host (Send send) built = absurd cc
-no_drafts s now host (EndTransaction end) built = absurd cc
-no_drafts s now host _ built = refl
+-- quiet requests append nothing
+pub no_drafts : (s : State) (now : ℕ) (host : List ℕ) (r : Request) → is_quiet r ≡ true → request_drafts s now host r ≡ []
+no_drafts s now host (Send send) quiet = absurd cc
+no_drafts s now host (EndTransaction end) quiet = absurd cc
+no_drafts s now host _ quiet = refl
+
+-- a request that is built is a send, or quiet
+pub quiet_else : (r : Request) → is_built r ≡ true → ((send : SendSaid) → r ≡ Send send → ⊥) → is_quiet r ≡ true
+quiet_else (Send send) built other = absurd (other send refl)
+quiet_else (MakeTopic t) built other = refl
+quiet_else (OffsetOf q) built other = refl
+quiet_else (MaxOffset q) built other = refl
+quiet_else (MinOffset q) built other = refl
+quiet_else _ built other = absurd cc
+
+-- the first row that holds, with what is made of it
+first_mapped : {A B : Type 0} (f : A → B) (rows : List (Bool × A)) → option_map f (first_that_holds rows) ≡ first_that_holds (map (λ (row : Bool × A). (row.0, f row.1)) rows)
+first_mapped f [] = refl
+first_mapped f (row ∷ rows) = ⊎_elim
+    (λ (holds : row.0 ≡ true). rw holds refl)
+    (λ (fails : row.0 ≡ false). rw fails (first_mapped f rows))
+    (cases_Bool row.0)
+
+-- the rows of a send are the model's
+pub rows_are : (s : State) (send : SendSaid) → option_map refusal_reply (refusal_by s.setup.segment (queues_in s.topics send.topic) send) ≡ send_refusal s send
+unfolding refusal_by
+rows_are s send = first_mapped refusal_reply (rows_of s.setup.segment (queues_in s.topics send.topic) send)

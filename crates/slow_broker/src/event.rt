@@ -15,13 +15,24 @@ pub enum Event {
     /// A flush turn begins.
     Take,
     /// The batch that is out, of so many records, was written and synced.
-    Flushed { count: u64 },
+    Flushed {
+        count: u64,
+    },
     /// It was not: this is the disk's count of faults.
-    FlushFailed { count: u64 },
+    FlushFailed {
+        count: u64,
+    },
     /// What became of the record with this number, after so many flush turns?
-    Look { number: u64, turn: u64 },
+    Look {
+        number: u64,
+        turn: u64,
+    },
     /// Consumers see at most so many flushed records more.
-    Dispatch { most: u32 },
+    Dispatch {
+        most: u32,
+    },
     /// A link ended.
-    Leave { link: u32 },
+    Leave {
+        link: u32,
+    },
 }

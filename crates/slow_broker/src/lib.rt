@@ -7,12 +7,17 @@ mod apply;
 mod broker;
 mod dispatch;
 mod event;
+mod fault;
 mod leave;
 mod offsets;
 mod records;
 mod refusals;
 mod replies;
 mod request;
+mod send;
+mod send_draft;
+mod send_rows;
+mod store;
 mod topics;
 mod turns;
 
@@ -21,3 +26,4 @@ pub use broker::{
     ClientRow, FailedTurn, HeardRow, LockRow, OffsetRow, Out, Saved, SlowBroker, TopicRow,
 };
 pub use event::Event;
+pub use fault::SlowFault;

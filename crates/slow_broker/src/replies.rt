@@ -23,7 +23,7 @@ pub(crate) fn plain_reply(alloc: Global, code: u32, remark: &str) -> Result<Repl
     })
 }
 
-fn number(alloc: Global, number: u64) -> Result<Text, AllocError>
+pub(crate) fn number(alloc: Global, number: u64) -> Result<Text, AllocError>
     ensures { IfOk result (λ text. text ≡ digits_of number) }
 {
     Ok(Text::of(format!(in alloc; "{number}")?))

@@ -18,7 +18,12 @@ use request_fields::TopicFields;
 use std::alloc::{AllocError, Global};
 
 // A row with its own number of queues, or with at least so many.
-fn row_with(alloc: Global, row: &TopicRow, raised: bool, queues: u32) -> Result<TopicRow, AllocError>
+fn row_with(
+    alloc: Global,
+    row: &TopicRow,
+    raised: bool,
+    queues: u32,
+) -> Result<TopicRow, AllocError>
     ensures { IfOk result (λ copy. topic_of copy
         ≡ (if raised then record { topic = row.now.topic; queues = max row.now.queues queues } else topic_of row.now)) }
 {

@@ -76,7 +76,7 @@ impl SlowBroker {
     }
 
     // The records that are not yet on the disk.
-    fn pending(&self) -> &[Record]
+    pub(crate) fn pending(&self) -> &[Record]
         requires sound { IsSound self.now }
         ensures { result.now ≡ drop (self.entry.now.flushed - self.entry.now.base.records) self.entry.now.log.items }
     {
