@@ -2,6 +2,7 @@
 //! beside the model, whose step is its contract. Tests compare the broker's core with it.
 #![tactic(auto)]
 
+mod accepts;
 mod answer;
 mod apply;
 mod broker;
@@ -10,6 +11,7 @@ mod event;
 mod fault;
 mod leave;
 mod offsets;
+mod open;
 mod records;
 mod refusals;
 mod replies;
