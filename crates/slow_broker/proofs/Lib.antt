@@ -1,0 +1,6 @@
+pub mod Events
+pub mod Lists
+pub mod Refused
+pub mod Sent
+pub mod Sounds
+pub mod TurnLemmas

@@ -1,0 +1,1 @@
+use Rattle.slow_broker.proofs.broker.SlowBroker.new.Goals as goal
