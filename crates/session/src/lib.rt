@@ -12,9 +12,9 @@ mod talk;
 pub use caller::Caller;
 pub use heard::Heard;
 pub use laws::a_talk_hears_the_requests_of_its_stream;
+pub use owed::{Applied, Awaits, Owed, apply, look, write_reply};
 pub use serving::{Halt, Step};
 pub use session::Session;
-pub use owed::{Applied, Awaits, Owed, apply, look, write_reply};
 pub use talk::Talk;
 
 #[cfg(test)]

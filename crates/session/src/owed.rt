@@ -48,11 +48,13 @@ pub fn apply<C: Calls>(alloc: Global, calls: &mut C, event: &Event) -> Result<Ap
 {
     match calls.call(alloc, event) {
         Ok(Said::Reply(reply)) => Ok(Applied::Owes(reply, None)),
-        Ok(Said::After {
-            reply,
-            number,
-            turn,
-        }) => Ok(Applied::Owes(reply, Some(Awaits { number, turn }))),
+        Ok(
+            Said::After {
+                reply,
+                number,
+                turn,
+            },
+        ) => Ok(Applied::Owes(reply, Some(Awaits { number, turn }))),
         Ok(Said::Full { pending }) => Ok(Applied::Full(pending)),
         Ok(_) => unreachable!(),
         Err(_) => {

@@ -272,7 +272,11 @@ impl Session {
     }
 
     // The front reply, where its record is not pending any more; none where it is, or nothing is owed.
-    fn next_due<C: Calls>(&mut self, alloc: Global, calls: &mut C) -> Result<Option<(Caller, Reply)>, AllocError> {
+    fn next_due<C: Calls>(
+        &mut self,
+        alloc: Global,
+        calls: &mut C,
+    ) -> Result<Option<(Caller, Reply)>, AllocError> {
         let Some(front) = self.owed.front() else {
             return Ok(None);
         };
@@ -283,7 +287,14 @@ impl Session {
         if awaited == Awaited::NotYet {
             return Ok(None);
         }
-        let Some(Owed { caller, reply, awaits: _ }) = self.owed.pop_front() else {
+        let Some(
+            Owed {
+                caller,
+                reply,
+                awaits: _,
+            },
+        ) = self.owed.pop_front()
+        else {
             return Ok(None);
         };
         match awaited {
