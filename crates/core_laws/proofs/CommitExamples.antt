@@ -1,22 +1,23 @@
 -- The run of a half message is one.
-use Rattle.std.proofs.Common.{◌≡◌, refl, arith, [], ◌∷◌, true, Some}
+use Rattle.std.proofs.Common.{◌≡◌, refl, arith, [], ◌∷◌, true, false, Some}
 use Rattle.std.specs.Fmt.{digits}
 use Rattle.mq_bytes.specs.Decimal.{decimal_value}
 use Rattle.record_codec.specs.LaxProps.{read_props, pieces}
 use Rattle.record_codec.specs.Props.{pair_in, until}
 use Rattle.log_model.specs.Numbered.{count_of}
-use Rattle.log_model.specs.Transactions.{Committed, copies, transaction_state}
+use Rattle.log_model.specs.Transactions.{Committed, RolledBack, copies, transaction_state}
 use Rattle.broker_model.specs.Events
-use Rattle.broker_model.specs.Refusals.{refusal_of}
+use Rattle.broker_model.specs.Refusals.{refusal_of, named_half}
 use Rattle.broker_model.specs.Appended.{appended, is_refused, drafts_of}
-use Rattle.broker_model.specs.Answers.{answer_of, carried_out_answer, request_answer, done_reply}
+use Rattle.broker_model.specs.Answers.{answer_of, carried_out_answer, request_answer, done_reply, half_waits}
 use Rattle.broker_model.specs.Step.{after, changed, request_changed, IsPossible}
-use Rattle.broker_model.specs.Run.{Steps, Crashes, Goes}
+use Rattle.broker_model.specs.Run.{Steps, Crashes, Goes, RunWith}
 use Rattle.broker_model.specs.Acknowledged.{AnswersAfter, AnswersAtOnce, is_verdict_on}
 use Rattle.broker_model.specs.Examples.{half_props}
 use Rattle.broker_model.specs.StepExamples.{sends}
 use Rattle.core_laws.specs.Examples.{setup, at_opening, answered}
-use Rattle.core_laws.specs.CommitExamples.{at_half, at_turn, at_flushed, commits, at_commit, at_next_turn, at_both_flushed, at_told, until_told, at_kept_copy, at_again, until_again}
+use Rattle.core_laws.specs.CommitExamples.{at_half, at_turn, at_flushed, commits, at_commit, at_next_turn, at_both_flushed, at_told, until_told, at_kept_copy, at_again, until_again, commit_said, rolls_back, at_rolled_back, at_refused, until_refused}
+use Rattle.core_laws.specs.Halves.{NoCommitOn}
 use Rattle.core_laws.proofs.Examples.{goes}
 
 -- ---- answers and numbers, computed
@@ -91,6 +92,36 @@ unfolding read_props pieces pair_in until decimal_value digits after changed req
     carried_out_answer request_answer appended
 again_committed = refl
 
+pub again_in_sync : at_kept_copy.now.setup.sync ≡ true
+unfolding read_props pieces pair_in until decimal_value digits after changed request_changed is_refused drafts_of refusal_of answer_of
+    carried_out_answer request_answer appended
+again_in_sync = refl
+
+pub half_is_waited_for : half_waits (named_half at_kept_copy.now commit_said) ≡ true
+unfolding read_props pieces pair_in until decimal_value digits after changed request_changed is_refused drafts_of refusal_of answer_of
+    carried_out_answer request_answer appended
+half_is_waited_for = refl
+
+rollback_is_no_commit : is_verdict_on at_flushed.now 0 8 rolls_back ≡ false
+unfolding read_props pieces pair_in until decimal_value digits after changed request_changed is_refused drafts_of refusal_of answer_of
+    carried_out_answer request_answer appended
+rollback_is_no_commit = refl
+
+refused_is_no_commit : is_verdict_on at_rolled_back.now 0 8 commits ≡ false
+unfolding read_props pieces pair_in until decimal_value digits after changed request_changed is_refused drafts_of refusal_of answer_of
+    carried_out_answer request_answer appended
+refused_is_no_commit = refl
+
+send_is_no_commit : is_verdict_on at_opening.now 0 8 (sends half_props) ≡ false
+unfolding read_props pieces pair_in until decimal_value digits after changed request_changed is_refused drafts_of refusal_of answer_of
+    carried_out_answer request_answer appended
+send_is_no_commit = refl
+
+pub refused_rolled_back : transaction_state at_refused.now.log.records 0 ≡ RolledBack
+unfolding read_props pieces pair_in until decimal_value digits after changed request_changed is_refused drafts_of refusal_of answer_of
+    carried_out_answer request_answer appended
+refused_rolled_back = refl
+
 -- ---- the moves
 
 sends_half : Goes at_opening (answered at_opening (sends half_props)) at_half
@@ -153,3 +184,21 @@ commit_is_answered_again = record {
   asks = says_again;
   rest = refl;
 }
+
+pub run_to_refused : RunWith (NoCommitOn 0) at_opening until_refused at_refused
+run_to_refused = (
+  at_half,
+  sends_half,
+  send_is_no_commit,
+  (
+    at_turn,
+    takes_half,
+    refl,
+    (
+      at_flushed,
+      flushes_half,
+      refl,
+      (at_rolled_back, goes at_flushed rolls_back tt, rollback_is_no_commit, (at_refused, goes at_rolled_back commits tt, refused_is_no_commit, refl)),
+    ),
+  ),
+)

@@ -152,7 +152,7 @@ step_order s t e some sound kept (inr (inl grows)) order = subst InOrder (sym gr
 step_order s t e some sound kept (inr (inr cut)) order =
     subst InOrder (sym cut.log) (order_above s.log s.saved.base sound.ahead (omega (arith, sound.within, sound.dispatched, sound.flushed)) sound.saved order)
 
-goes_order : (b : Boot) (move : Move) (c : Boot) → IsKeptBoot b → Goes b move c → InOrder b.now.log → InOrder c.now.log
+pub goes_order : (b : Boot) (move : Move) (c : Boot) → IsKeptBoot b → Goes b move c → InOrder b.now.log → InOrder c.now.log
 goes_order b (Steps e said) c kept goes order =
     step_order b.now c.now e kept.segment kept.sound.state (kept.logs b.now (inl refl)) (step_log b.now c.now e said goes.0) order
 goes_order b SavesOffsets c kept goes order = subst (λ (x : Boot). InOrder x.now.log) (sym goes.2) order

@@ -44,11 +44,11 @@ pub record GivesUp (s : State) (e : Events.Event) : Type 0 where
   pub renews : is_renewal origin.queue_offset renewal ≡ true
   pub drafts_are : drafts_of s e ≡ discard_draft s.setup.host renewal ∷ op_draft s.setup.host (moment s e) origin.queue_offset ∷ []
 
-left_of : (a b : Bool) → a ≡ true → (a || b) ≡ true
+pub left_of : (a b : Bool) → a ≡ true → (a || b) ≡ true
 left_of true b is = refl
 left_of false b is = absurd (cc)
 
-right_of : (a b : Bool) → b ≡ true → (a || b) ≡ true
+pub right_of : (a b : Bool) → b ≡ true → (a || b) ≡ true
 right_of true b is = refl
 right_of false b is = is
 
@@ -124,7 +124,7 @@ next_discards s time origin asked (Some renewal) is = by (nat_lt (length asked) 
     by true = inl (half_apart origin.topic discard_topic (same_text origin.topic _ is) refl, tt)
     by false = inr (renewal, refl, refl)
 
-unsettled : (a b : Bool) → (not a && b) ≡ true → a ≡ false
+pub unsettled : (a b : Bool) → (not a && b) ≡ true → a ≡ false
 unsettled true b is = absurd (cc)
 unsettled false b is = refl
 

@@ -1,9 +1,11 @@
 -- What the broker appends fits its log.
-use Rattle.std.proofs.Common.{◌≡◌, ◌≢◌, refl, ap, sym, ◌∙◌, subst, arith, ℕ, ◌<◌, List, [], slice_get, Bool, true, false, Option, Some, None, if◌then◌else◌}
-use Rattle.std.specs.Prelude.{bit_and, codes, ◌||◌, ◌==◌, unwrap_or}
+use Rattle.std.proofs.Common.{◌≡◌, ◌≢◌, refl, ap, sym, ◌∙◌, subst, arith, ℕ, ◌-◌, ◌<◌, ◌^◌, List, [], slice_get, Bool, true, false, Option, Some, None, if◌then◌else◌}
+use Rattle.std.specs.Prelude.{ℤ, pos, negsuc, min, nat_lt, bit_and, codes, ◌||◌, ◌==◌, unwrap_or}
 use Rattle.std.specs.Str.{bytes_eq}
 use Rattle.std.proofs.lemmas.Bool.{and_from, eq-eqb}
-use Rattle.mq_bytes.specs.Decimal.{digits_of}
+use Rattle.std.proofs.lemmas.Option.{same_Some}
+use Rattle.std.proofs.Math.Nat.{min-le_right}
+use Rattle.mq_bytes.specs.Decimal.{digits_of, decimal_value}
 use Rattle.record_codec.specs.Entry.{Entry}
 use Rattle.record_codec.specs.Props.{value_of, with_prop, without, has_name}
 use Rattle.record_codec.specs.LaxProps.{read_props}
@@ -12,12 +14,12 @@ use Rattle.record_codec.proofs.LastLemmas.{value_of-put, value_of-other, value_o
 use Rattle.log_model.specs.Admissible.{half_topic, level_topic, op_topic, discard_topic, is_system_topic}
 use Rattle.log_model.specs.Kinds.{is_half, is_delayed, is_text}
 use Rattle.log_model.specs.Drafts.{text_in, plain_flag, copy_draft, op_draft, renewal_draft, renewed_props, discard_draft, delivery_draft}
-use Rattle.log_model.specs.Numbered.{Log, place_end}
+use Rattle.log_model.specs.Numbered.{Log, with_appended, place_end, queue_max}
 use Rattle.request_fields.specs.Requests.{SendSaid}
-use Rattle.broker_model.specs.Sends.{send_draft, half_draft, delayed_or_plain, plain_draft, kept_props, with_real, with_group, is_half_send, level_of, flag_of, queue_named}
+use Rattle.broker_model.specs.Sends.{send_draft, half_draft, delayed_or_plain, plain_draft, kept_props, with_real, with_group, is_half_send, level_of, level_text, level_named, flag_of, queue_named}
 use Rattle.core_laws.specs.Kept.{IsKept, IsNumberText}
 use Rattle.core_laws.specs.KeptDrafts.{IsFitDraft}
-use Rattle.core_laws.proofs.Bases.{queue_before}
+use Rattle.core_laws.proofs.Bases.{count_queue, queue_before}
 use Rattle.core_laws.proofs.Kept.{ends_behind}
 use Rattle.core_laws.proofs.Texts.{same_text, text_equal, plain_bits, number_once}
 
@@ -68,6 +70,8 @@ plain_fits log d plain bits =
       text = never _ apart.half;
       queue = never _ apart.half;
       names = never _ apart.half;
+      level = never _ apart.level;
+      op = never _ apart.op;
       undelivered = neither _ _ apart.half apart.level;
     }
 
@@ -96,17 +100,43 @@ copy_fits log host half k kept at is =
       text = never _ apart.half;
       queue = never _ apart.half;
       names = never _ apart.half;
+      level = never _ apart.level;
+      op = never _ apart.op;
       undelivered = neither _ _ apart.half apart.level;
     }
 
-pub op_fits : (log : Log) (host : List ℕ) (now origin : ℕ) → IsFitDraft log (op_draft host now origin)
-op_fits log host now origin = record {
+-- an origin of the log may be named by its queue offset
+pub record CanBeNamed (log : Log) (origin : ℕ) : Type 0 where
+  pub small : origin < 2 ^ 64
+  pub low : origin < queue_max log half_topic 0
+
+pub half_named : (log : Log) (k : ℕ) (half : Entry) → IsKept log → slice_get log.records k ≡ Some half → is_half half ≡ true → CanBeNamed log half.queue_offset
+half_named log k half kept at is =
+    let behind = kept.halves k half at is in
+    record {
+      small = (kept.each k half at).low is;
+      low = omega (
+        arith,
+        behind.queue_offset,
+        queue_before k log.records half half_topic 0 at (and_from (is_half half) (half.queue == 0) is (eq-eqb half.queue 0 behind.queue)),
+      );
+    }
+
+-- in a longer log too
+pub named_on : (log : Log) (new : List Entry) (origin : ℕ) → CanBeNamed log origin → CanBeNamed (with_appended log new) origin
+named_on log new origin can = record { small = can.small; low = omega (arith, can.low, count_queue log.records new half_topic 0) }
+
+pub op_fits : (log : Log) (host : List ℕ) (now origin : ℕ) → CanBeNamed log origin → IsFitDraft log (op_draft host now origin)
+op_fits log host now origin can = record {
   prepared = neither _ _ refl refl;
   bits = neither _ _ refl refl;
   real = neither _ _ refl refl;
   text = never _ refl;
   queue = never _ refl;
   names = never _ refl;
+  level = never _ refl;
+  op = λ is h low named. subst (λ (n : ℕ). n < queue_max log half_topic 0)
+      (number_once origin h can.small low (same_text (digits_of origin) (digits_of h) named)) can.low;
   undelivered = neither _ _ refl refl;
 }
 
@@ -118,6 +148,8 @@ discard_fits log host half k kept at = record {
   text = never _ refl;
   queue = never _ refl;
   names = never _ refl;
+  level = never _ refl;
+  op = never _ refl;
   undelivered = neither _ _ refl refl;
 }
 
@@ -153,6 +185,8 @@ renewal_fits log host n origin k kept at is =
       real = λ any. ap (λ (o : Option (List ℕ)). is_system_topic (unwrap_or o [])) real ∙ before.real waits;
       text = λ any. subst IsNumberText (sym text) (origin.queue_offset, before.low is, refl);
       undelivered = λ any. renewed_unmarked n origin (before.undelivered waits);
+      level = never _ (half_apart origin.topic level_topic (same_text origin.topic half_topic is) refl);
+      op = never _ (half_apart origin.topic op_topic (same_text origin.topic half_topic is) refl);
       queue = λ any. (kept.halves k origin at is).queue;
       names = λ any h low named.
           let same = same_text (digits_of origin.queue_offset) (digits_of h) (subst (λ (o : Option (List ℕ)). is_text (digits_of h) o ≡ true) text named) in
@@ -188,7 +222,7 @@ real_topic : (topic : List ℕ) (queue : ℕ) (props : List (List ℕ × List �
 real_topic topic queue props = value_of-other (codes "REAL_TOPIC") (codes "REAL_QID") (digits_of queue) (with_prop (codes "REAL_TOPIC") topic props) (differ _ _ refl)
     ∙ value_of-put (codes "REAL_TOPIC") topic props
 
-half_text : (group topic : List ℕ) (queue : ℕ) (text : List ℕ)
+pub half_text : (group topic : List ℕ) (queue : ℕ) (text : List ℕ)
     → value_of (codes "TRAN_PREPARED_QUEUE_OFFSET") (with_group group (with_real topic queue (without (codes "DELAY") (kept_props text)))) ≡ None
 half_text group topic queue text =
     group_other (codes "TRAN_PREPARED_QUEUE_OFFSET") group (with_real topic queue (without (codes "DELAY") (kept_props text))) (differ _ _ refl)
@@ -226,6 +260,19 @@ send_unmarked host born send =
       ]
     ]
 
+-- a level is at most 18
+level_low : (o : Option ℤ) (level : ℕ) → level_named o ≡ Some level → level - 1 < 18
+level_low None level is = absurd (cc)
+level_low (Some (negsuc n)) level is = absurd (cc)
+level_low (Some (pos n)) level is = (elim (nat_lt 0 n) as (λ b. (if b then Some (min n 18) else None) ≡ Some level → level - 1 < 18) [
+  | true ↦ λ e. omega (arith, min-le_right n 18, same_Some (min n 18) level e)
+  | false ↦ λ e. absurd (cc)
+]) is
+
+text_low : (o : Option (List ℕ)) (level : ℕ) → level_text o ≡ Some level → level - 1 < 18
+text_low None level is = absurd (cc)
+text_low (Some text) level is = level_low (decimal_value text) level is
+
 pub send_fits : (log : Log) (host born : List ℕ) (send : SendSaid) → is_system_topic send.topic ≡ false → IsFitDraft log (send_draft host born send)
 send_fits log host born send plain =
     elim (is_half_send send) as (λ b. IsFitDraft log (if b then half_draft send.group (plain_draft host born send) else delayed_or_plain (level_of send) (plain_draft host born send))) [
@@ -236,22 +283,26 @@ send_fits log host born send plain =
             (group_other (codes "REAL_TOPIC") send.group (with_real send.topic (queue_named send.queue) (without (codes "DELAY") (kept_props send.props))) (differ _ _ refl) ∙ real_topic send.topic (queue_named send.queue) (without (codes "DELAY") (kept_props send.props))) ∙ plain;
         text = λ any. subst IsNumberText (sym (half_text send.group send.topic (queue_named send.queue) send.props)) tt;
         undelivered = λ any. half_unmarked send;
+        level = never _ refl;
+        op = never _ refl;
         queue = λ any. refl;
         names = λ any h low named. absurd (let no = subst (λ (o : Option (List ℕ)). is_text (digits_of h) o ≡ true)
             (half_text send.group send.topic (queue_named send.queue) send.props) named in cc);
       }
-      | false ↦ elim (level_of send) as (λ level. IsFitDraft log (delayed_or_plain level (plain_draft host born send))) [
-        | None ↦ plain_fits log (plain_draft host born send) plain bits
-        | Some level ↦ record {
+      | false ↦ (elim (level_of send) as (λ level. level_of send ≡ level → IsFitDraft log (delayed_or_plain level (plain_draft host born send))) [
+        | None ↦ λ e. plain_fits log (plain_draft host born send) plain bits
+        | Some level ↦ λ e. record {
           prepared = neither _ _ (no_copy (plain_flag (flag_of send)) bits) refl;
           bits = λ any. bits;
           real = λ any. ap (λ (o : Option (List ℕ)). is_system_topic (unwrap_or o [])) (real_topic send.topic (queue_named send.queue) (kept_props send.props)) ∙ plain;
           text = never _ refl;
           queue = never _ refl;
           names = never _ refl;
+          level = λ any. text_low (value_of (codes "DELAY") (read_props send.props)) level e;
+          op = never _ refl;
           undelivered = λ any. real_unmarked send.topic (queue_named send.queue) (kept_props send.props) (sent_unmarked send.props);
         }
-      ]
+      ]) refl
     ]
   where
     bits : bit_and (plain_flag (flag_of send)) 12 ≡ 0

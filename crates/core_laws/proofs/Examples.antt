@@ -19,7 +19,7 @@ use Rattle.broker_model.specs.StepExamples.{sends, stores}
 use Rattle.broker_model.specs.Examples.{no_log}
 use Rattle.core_laws.specs.Offsets.{StoresOnly}
 use Rattle.core_laws.specs.Replay.{StandsFor}
-use Rattle.core_laws.specs.Examples.{setup, at_opening, stepped, answered, at_send, at_take, at_flush, at_look, hi_record, hi_reply, until_look, at_dispatch, asked_pull, pull_said, at_pull, until_dispatch, at_store, at_saving, until_saving, is_one, at_crash, at_cut, tables_of}
+use Rattle.core_laws.specs.Examples.{setup, at_opening, stepped, answered, at_send, at_take, at_flush, at_look, hi_record, hi_reply, at_dispatch, asked_pull, pull_said, at_pull, until_dispatch, at_store, at_saving, until_saving, until_crash, is_one, at_crash, at_cut, tables_of}
 
 -- what may happen happens
 pub goes : (b : Boot) (e : Events.Event) → IsPossible b.now e → Goes b (answered b e) (stepped b e)
@@ -144,7 +144,7 @@ crashes = (record { no_less = omega (arith, flushed_is_1); no_more = omega (arit
 
 -- ---- runs
 
-pub hi_is_acknowledged : IsAcknowledged at_opening until_look at_look 0 hi_record
+pub hi_is_acknowledged : IsAcknowledged at_opening until_crash at_crash 0 hi_record
 hi_is_acknowledged = record {
   event = sends [];
   reply = hi_reply;
@@ -153,7 +153,8 @@ hi_is_acknowledged = record {
     turn = 0;
     before = [];
     waiting = answered at_send Events.Take ∷ answered at_take (Events.Flushed 1) ∷ [];
-    later = [];
+    later = answered at_look (Events.Dispatch 1) ∷ Steps (Events.Asks asked_pull) (Some (Events.Replies pull_said)) ∷ answered at_pull (stores 9)
+        ∷ SavesOffsets ∷ Crashes 1 setup ∷ [];
     asked = at_opening;
     heard = at_send;
     looked = at_flush;
@@ -164,7 +165,7 @@ hi_is_acknowledged = record {
     boot = (λ crash. crash, (λ crash. crash, tt));
     waits = (at_take, takes_it, tt, (at_flush, flushes_it, tt, refl));
     looks = looks_at_it;
-    rest = refl;
+    rest = (at_dispatch, dispatches_it, tt, (at_pull, pulls_it, tt, (at_store, stores_it, tt, (at_saving, saves_it, tt, (at_crash, crashes, tt, refl)))));
   };
   appended = record { low = omega arith; high = omega arith; stands = record { index = 0; number = number_is_0; stands = record_is_sent } };
 }

@@ -15,7 +15,7 @@ use Rattle.log_model.specs.Kinds.{is_half}
 use Rattle.log_model.specs.Queues.{queue_of, queue_end}
 use Rattle.log_model.proofs.Places.{end_of-append}
 use Rattle.broker_model.specs.Removal.{IsBaseAfter}
-use Rattle.core_laws.specs.Kept.{IsKept, IsKeptBehind, IsHalfBehind}
+use Rattle.core_laws.specs.Kept.{IsKept, IsKeptBehind, IsHalfBehind, IsCountedBehind}
 use Rattle.core_laws.proofs.Lists.{get_append, get_take, take_get, drop_get, take_left, take_take_less, length_take, within}
 use Rattle.core_laws.proofs.Bases.{count_queue, take_plus}
 
@@ -43,10 +43,11 @@ ends_behind log i x kept at = end_behind log.base.place log.records i x (λ k r 
 
 -- one more record
 pub kept_one : (log : Log) (r : Entry) → IsKept log → IsKeptBehind log.records r → (is_half r ≡ true → IsHalfBehind log.base log.records r)
-    → place_end log ≤ r.offset → IsKept (with_appended log (r ∷ []))
-kept_one log r kept behind half place = record {
+    → IsCountedBehind log.base log.records r → place_end log ≤ r.offset → IsKept (with_appended log (r ∷ []))
+kept_one log r kept behind half counts place = record {
   each = each IsKeptBehind kept.each behind;
   halves = each (λ l x. is_half x ≡ true → IsHalfBehind log.base l x) kept.halves half;
+  counts = each (IsCountedBehind log.base) kept.counts counts;
   counted = counted;
 }
   where
@@ -113,6 +114,9 @@ kept_below log n kept = record {
       let h = get_take (n - log.base.records) i log.records r at in
       subst (λ (l : List Entry). is_half r ≡ true → IsHalfBehind log.base l r) (sym (take_take_less i (n - log.base.records) log.records (omega (arith, h.1))))
       (kept.halves i r h.0);
+  counts = λ i r at.
+      let h = get_take (n - log.base.records) i log.records r at in
+      subst (λ (l : List Entry). IsCountedBehind log.base l r) (sym (take_take_less i (n - log.base.records) log.records (omega (arith, h.1)))) (kept.counts i r h.0);
   counted = λ k topic queue. elim (cases_lt (n - log.base.records) k) [
     | inl high ↦ subst (λ (l : List Entry). log.base.queues topic queue + length (queue_of l topic queue) ≤ end_from log.base.place l)
         (sym (take_all k (take (n - log.base.records) log.records) (omega (arith, high, length-take (n - log.base.records) log.records))))
@@ -149,23 +153,37 @@ behind_left log n i r kept = record {
   low = kept.low;
   text = kept.text;
   undelivered = kept.undelivered;
+  level = kept.level;
 }
+
+-- the records of a queue are those that are gone and those that are left
+queue_left : (base later : Base) (log : List Entry) (n i : ℕ) (topic : List ℕ) (queue : ℕ) → IsBaseAfter base (take n log) later
+    → queue_end base (take (n + i) log) topic queue ≡ queue_end later (take i (drop n log)) topic queue
+queue_left base later log n i topic queue counts = omega (
+  arith,
+  counts.queues topic queue,
+  count_queue (take n log) (take i (drop n log)) topic queue,
+  ap (λ (l : List Entry). length (queue_of l topic queue)) (take_plus n i log),
+)
 
 -- and it counts the same half messages, with those that are gone
 half_left : (base later : Base) (log : List Entry) (n i : ℕ) (r : Entry) → IsBaseAfter base (take n log) later → IsHalfBehind base (take (n + i) log) r
     → IsHalfBehind later (take i (drop n log)) r
 half_left base later log n i r counts half =
-    let same : queue_end base (take (n + i) log) half_topic 0 ≡ queue_end later (take i (drop n log)) half_topic 0 = omega (
-      arith,
-      counts.queues half_topic 0,
-      count_queue (take n log) (take i (drop n log)) half_topic 0,
-      ap (λ (l : List Entry). length (queue_of l half_topic 0)) (take_plus n i log),
-    ) in
+    let same = queue_left base later log n i half_topic 0 counts in
     record {
       queue = half.queue;
       queue_offset = half.queue_offset ∙ same;
       names = λ h low is. omega (arith, half.names h low is, same);
     }
+
+-- and the same of its queue
+counts_left : (base later : Base) (log : List Entry) (n i : ℕ) (r : Entry) → IsBaseAfter base (take n log) later → IsCountedBehind base (take (n + i) log) r
+    → IsCountedBehind later (take i (drop n log)) r
+counts_left base later log n i r counts counted = record {
+  queue_offset = counted.queue_offset ∙ queue_left base later log n i r.topic r.queue counts;
+  names = λ h low is. omega (arith, counted.names h low is, queue_left base later log n i half_topic 0 counts);
+}
 
 pub kept_above : (log : Log) (later : Base) (n : ℕ) → n ≤ length log.records → IsBaseAfter log.base (take n log.records) later
     → ((topic : List ℕ) (queue : ℕ) → later.queues topic queue ≤ later.place) → IsKept log → IsKept (above log later)
@@ -174,6 +192,7 @@ kept_above log later n long counts low kept =
     subst (λ (m : ℕ). IsKept (record { base = later; records = drop m log.records })) (sym number) (record {
       each = λ i r at. behind_left log.records n i r (kept.each (n + i) r (drop_get n i log.records r at));
       halves = λ i r at is. half_left log.base later log.records n i r counts (kept.halves (n + i) r (drop_get n i log.records r at) is);
+      counts = λ i r at. counts_left log.base later log.records n i r counts (kept.counts (n + i) r (drop_get n i log.records r at));
       counted = λ k topic queue. rest_counted log.base later (take n log.records) (take k (drop n log.records)) topic queue (counts.queues topic queue) (low topic queue)
           (subst (λ (l : List Entry). log.base.queues topic queue + length (queue_of l topic queue) ≤ end_from log.base.place l)
           (take_plus n k log.records) (kept.counted (n + k) topic queue));

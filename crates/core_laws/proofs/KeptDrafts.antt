@@ -1,5 +1,5 @@
 -- The next record of a draft that fits keeps the log.
-use Rattle.std.proofs.Common.{◌≡◌, ap, ◌∙◌, subst, arith, ℕ, ◌+◌, ◌<◌, ◌≤◌, ◌^◌, List, [], ◌∷◌, length, take}
+use Rattle.std.proofs.Common.{◌≡◌, refl, ap, ◌∙◌, subst, arith, ℕ, ◌+◌, ◌<◌, ◌≤◌, ◌^◌, List, [], ◌∷◌, length, take}
 use Rattle.std.specs.Str.{bytes_eq}
 use Rattle.std.proofs.lemmas.Bool.{and_parts}
 use Rattle.std.proofs.lemmas.List.{take_all}
@@ -7,7 +7,8 @@ use Rattle.record_codec.specs.Entry.{Entry}
 use Rattle.record_codec.specs.Layout.{size}
 use Rattle.record_codec.specs.Drafts.{draft_size}
 use Rattle.record_codec.specs.declared.draft.Draft.{Draft}
-use Rattle.log_model.specs.Admissible.{half_topic}
+use Rattle.mq_bytes.specs.Decimal.{digits_of}
+use Rattle.log_model.specs.Admissible.{half_topic, op_topic}
 use Rattle.log_model.specs.Log.{end_from}
 use Rattle.log_model.specs.Numbered.{Log, with_appended, next_record, queue_max, place_end}
 use Rattle.log_model.specs.Queues.{queue_of}
@@ -36,8 +37,12 @@ kept_next S now log d some kept fit high =
       low = λ is. omega (arith, queue_low log d.topic d.queue kept, behind, high);
       text = fit.text;
       undelivered = fit.undelivered;
+      level = λ is. (fit.level is, omega (arith, queue_low log d.topic d.queue kept, behind, high));
     }) (λ is. record {
       queue = fit.queue is;
       queue_offset = ap (λ (t : List ℕ). queue_max log t d.queue) (same_text d.topic half_topic is) ∙ ap (λ (q : ℕ). queue_max log half_topic q) (fit.queue is);
       names = λ h low renewal. fit.names is h low (and_parts (bytes_eq d.topic half_topic) _ renewal).1;
+    }) (record {
+      queue_offset = refl;
+      names = λ h low is. let parts = and_parts (bytes_eq d.topic op_topic) (bytes_eq d.body (digits_of h)) is in fit.op parts.0 h low parts.1;
     }) behind

@@ -1,7 +1,7 @@
 -- A lawful log is kept, so a run begins with a kept one.
 use Rattle.std.proofs.Common.{◌≡◌, inl, inr, refl, ap, sym, ◌∙◌, subst, arith, ℕ, zero, suc, ◌+◌, ◌<◌, ◌≤◌, ◌^◌, if◌then◌else◌, List, [], ◌∷◌, ◌++◌, length, take, slice_get, Bool, true, false, Option, Some, None}
 use Rattle.std.specs.Prelude.{codes, bit_and, ◌||◌, IsSome, IfSome, unwrap_or}
-use Rattle.std.specs.Str.{bytes_eq}
+use Rattle.std.specs.Str.{bytes_eq, is_utf8}
 use Rattle.std.specs.Str.Parse.{digits_value}
 use Rattle.mq_bytes.specs.Decimal.{digits_of}
 use Rattle.std.proofs.lemmas.Bool.{or_cases, and_parts, eqb-true}
@@ -9,16 +9,16 @@ use Rattle.std.proofs.lemmas.List.{take_all}
 use Rattle.record_codec.specs.Entry.{Entry}
 use Rattle.record_codec.specs.Layout.{size}
 use Rattle.record_codec.specs.Props.{value_of}
-use Rattle.log_model.specs.Admissible.{IsAdmissible, Waits, IsPlainTopic, is_system_topic, most_queues, half_topic, op_topic, discard_topic, number_in, number_of, number_at}
+use Rattle.log_model.specs.Admissible.{IsAdmissible, Waits, IsPlainTopic, is_system_topic, most_queues, half_topic, level_topic, op_topic, discard_topic, number_in, number_of, number_at}
 use Rattle.log_model.specs.Bases.{Base, geometry}
-use Rattle.log_model.specs.Kinds.{is_half, is_delayed, is_copy, is_discard, is_text, origin_text}
+use Rattle.log_model.specs.Kinds.{is_half, is_delayed, is_op, is_copy, is_discard, is_text, origin_text}
 use Rattle.log_model.specs.Log.{IsGeometry, IsWellFormed, Follows, end_from, end_of}
 use Rattle.log_model.specs.Numbered.{Log, IsLawful}
 use Rattle.log_model.specs.Queues.{queue_of, queue_end}
 use Rattle.log_model.proofs.FirstFits.{place_behind}
 use Rattle.broker_model.specs.State.{State}
 use Rattle.broker_model.specs.Run.{Boot, IsAmong, IsOpening}
-use Rattle.core_laws.specs.Kept.{IsKept, IsKeptBoot, IsNumberText, IsHalfBehind}
+use Rattle.core_laws.specs.Kept.{IsKept, IsKeptBoot, IsNumberText, IsHalfBehind, IsCountedBehind}
 use Rattle.core_laws.proofs.Kept.{kept_one, ends_behind}
 use Rattle.core_laws.proofs.KeptDrafts.{queue_low}
 use Rattle.core_laws.proofs.Runs.{opening_sound}
@@ -26,7 +26,7 @@ use Rattle.core_laws.proofs.Texts.{number_text, number_is, number_value, same_te
 
 -- no record is a kept log
 none_kept : (S : ℕ) (base : Base) → IsGeometry (geometry S base) → IsKept (record { base = base; records = [] })
-none_kept S base site = record { each = λ i r at. absurd (cc); halves = λ i r at. absurd (cc); counted = counted }
+none_kept S base site = record { each = λ i r at. absurd (cc); halves = λ i r at. absurd (cc); counts = λ i r at. absurd (cc); counted = counted }
   where
     low : (topic : List ℕ) (queue : ℕ) → base.queues topic queue + 0 ≤ base.place
     low topic queue = omega (arith, site.counted topic queue, site.some)
@@ -102,6 +102,32 @@ half_behind S base log r is follows =
           (and_parts (is_half r) (is_text (digits_of h) (origin_text r)) named).1;
     }
 
+-- the number that an op record names is the one of its body
+body_number : (plain : Bool) (text : List ℕ) → IsSome (if plain then number_in text else None) → (plain ≡ true) × IsSome (number_in text)
+body_number true text is = (refl, is)
+body_number false text is = absurd (cc)
+
+named_body : (body : List ℕ) (halves h : ℕ) → h < 2 ^ 64 → IsSome (number_of body) → IfSome (number_of body) (λ n. n < halves)
+    → bytes_eq body (digits_of h) ≡ true → h < halves
+named_body body halves h low some below is =
+    let parts = body_number (is_utf8 body) body some in
+    named_text (Some body) halves h low parts.1 (subst (λ (b : Bool). IfSome (if b then number_in body else None) (λ n. n < halves)) parts.0 below) is
+
+counted_behind : (S : ℕ) (base : Base) (log : List Entry) (r : Entry) → Follows (geometry S base) log r → IsCountedBehind base log r
+counted_behind S base log r follows = record {
+  queue_offset = follows.queue_offset;
+  names = λ h low is.
+      let parts = and_parts (is_op r) (bytes_eq r.body (digits_of h)) is in
+      named_body r.body (queue_end base log half_topic 0) h low (follows.admissible.op parts.0)
+      (subst (λ (t : List ℕ). IfSome (if bytes_eq t op_topic then number_of r.body else (if bytes_eq t half_topic then number_at (origin_text r) else None))
+      (λ n. n < queue_end base log half_topic 0)) (same_text r.topic op_topic parts.0) follows.names) parts.1;
+}
+
+-- there are 18 levels
+level_queue : (S : ℕ) (r : Entry) → is_delayed r ≡ true → IsAdmissible S r → r.queue < 18
+level_queue S r is may =
+    let most : r.queue < 18 = subst (λ (t : List ℕ). r.queue < most_queues t) (same_text r.topic level_topic is) may.queue in most
+
 follows_kept : (S : ℕ) (base : Base) (log : List Entry) (r : Entry) → 0 < S → IsKept (record { base = base; records = log })
     → Follows (geometry S base) log r → IsKept (record { base = base; records = log ++ r ∷ [] })
 follows_kept S base log r some kept follows =
@@ -114,7 +140,8 @@ follows_kept S base log r some kept follows =
       low = λ is. omega (arith, follows.queue_offset, queue_low (record { base = base; records = log }) r.topic r.queue kept, place, follows.low);
       text = λ is. renewal_text (value_of (codes "TRAN_PREPARED_QUEUE_OFFSET") r.props) follows.admissible.renewal;
       undelivered = λ is. follows.admissible.undelivered (system_topic r is);
-    }) (λ is. half_behind S base log r is follows) place
+      level = λ is. (level_queue S r is follows.admissible, omega (arith, follows.queue_offset, queue_low (record { base = base; records = log }) r.topic r.queue kept, place, follows.low));
+    }) (λ is. half_behind S base log r is follows) (counted_behind S base log r follows) place
 
 -- ---- a whole log
 

@@ -140,7 +140,7 @@ after_setup s e = elim (is_refused s e) as (λ b. ((if b then s else with_record
       | false ↦ let w = with_setup (changed s e) (moment s e) (made_by s e) in let c = changed_setup s e in (w.0 ∙ c.0, w.1 ∙ c.1)
     ]
 
-step_saved : (s t : State) (e : Events.Event) (said : Option Events.Answer) → Step s e said t → (t.setup ≡ s.setup) × (t.saved ≡ s.saved)
+pub step_saved : (s t : State) (e : Events.Event) (said : Option Events.Answer) → Step s e said t → (t.setup ≡ s.setup) × (t.saved ≡ s.saved)
 step_saved s t e None step = (ap (λ (x : State). x.setup) step.1, ap (λ (x : State). x.saved) step.1)
 step_saved s t e (Some said) step =
     let a = after_setup s e in (ap (λ (x : State). x.setup) step.2 ∙ a.0, ap (λ (x : State). x.saved) step.2 ∙ a.1)

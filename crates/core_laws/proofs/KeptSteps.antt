@@ -3,6 +3,7 @@ use Rattle.std.proofs.Common.{◌≡◌, ◌⊎◌, inl, inr, refl, ap, sym, ◌
 use Rattle.std.specs.Prelude.{codes, ◌==◌, ◌&&◌, not, is_some, is_none, nat_lt, nat_le}
 use Rattle.std.specs.List.{list_any}
 use Rattle.std.specs.Str.{bytes_eq}
+use Rattle.std.specs.Str.Parse.{digits_value}
 use Rattle.std.proofs.lemmas.Bool.{or_parts, and_parts, ltb-false, cases_Bool, cond-true, cond-false}
 use Rattle.std.proofs.lemmas.List.{append-nil}
 use Rattle.std.proofs.lemmas.Option.{same_Some}
@@ -16,7 +17,7 @@ use Rattle.log_model.specs.Delays.{next_delayed, due_here, due_among, due_delaye
 use Rattle.log_model.specs.Drafts.{copy_draft, op_draft, renewal_draft, discard_draft}
 use Rattle.log_model.specs.Kinds.{is_half, is_delayed, origin_text}
 use Rattle.log_model.specs.Numbered.{Log, below, queue_min, records_of, with_appended, next_record, next_records}
-use Rattle.log_model.specs.Transactions.{TransactionState, Open, Committed, RolledBack, Discarded, transaction_state, origins, last_of, renewals, is_renewal}
+use Rattle.log_model.specs.Transactions.{TransactionState, Open, Committed, RolledBack, Discarded, transaction_state, origins, last_of, renewals, is_renewal, is_origin, named_origin, origin_of}
 use Rattle.request_fields.specs.Requests.{SendSaid, EndSaid}
 use Rattle.request_fields.specs.declared.request.Request.{Request}
 use Rattle.request_fields.specs.declared.request.Request.TheVariants.{Send, EndTransaction}
@@ -24,7 +25,7 @@ use Rattle.broker_model.specs.State.{State}
 use Rattle.broker_model.specs.Sends.{flag_of, queue_named}
 use Rattle.broker_model.specs.Tables.{queues_in}
 use Rattle.broker_model.specs.Events
-use Rattle.broker_model.specs.Refusals.{refusal_of, send_refusal, send_queues, plain_reply, named_half, verdict_origin}
+use Rattle.broker_model.specs.Refusals.{refusal_of, send_refusal, send_queues, plain_reply, named_half, verdict_origin, judged_origin, is_by_its_group}
 use Rattle.broker_model.specs.Appended.{request_drafts, verdict_drafts, open_verdict, first_verdict, check_drafts, next_check, due_origin, is_due_origin, delivery_drafts, drafts_of, is_refused_request}
 use Rattle.core_laws.specs.Kept.{IsKept}
 use Rattle.core_laws.specs.KeptDrafts.{IsFitDraft}
@@ -32,7 +33,7 @@ use Rattle.core_laws.proofs.Lists.{get_take}
 use Rattle.core_laws.proofs.KeptDrafts.{kept_next}
 use Rattle.core_laws.proofs.Pulls.{kept_was_there, kept_passes}
 use Rattle.core_laws.proofs.Texts.{found_at}
-use Rattle.core_laws.proofs.DraftFits.{copy_fits, op_fits, discard_fits, renewal_fits, delivery_fits, send_fits}
+use Rattle.core_laws.proofs.DraftFits.{CanBeNamed, half_named, named_on, copy_fits, op_fits, discard_fits, renewal_fits, delivery_fits, send_fits}
 
 -- ---- several drafts
 
@@ -86,14 +87,40 @@ named_there s end half is =
     let parts = and_parts (is_half half && (half.queue_offset == end.queue_offset)) (half.offset == end.place) there.2 in
     (there.0, there.1, (and_parts (is_half half) (half.queue_offset == end.queue_offset) parts.0).0)
 
+-- so is the origin of the half message
+origin_there : (log : List Entry) (k : ℕ) (half origin : Entry) → slice_get log k ≡ Some half → is_half half ≡ true → origin_of log half ≡ Some origin
+    → (j : ℕ) × (slice_get log j ≡ Some origin) × (is_half origin ≡ true)
+origin_there log k half origin at is found = by_text (origin_text half) found
+  where
+    by_text : (text : Option (List ℕ)) → named_origin log text half ≡ Some origin → (j : ℕ) × (slice_get log j ≡ Some origin) × (is_half origin ≡ true)
+    by_text None own = let same = same_Some half origin own in
+        (k, subst (λ (r : Entry). slice_get log k ≡ Some r) same at, subst (λ (r : Entry). is_half r ≡ true) same is)
+    by_text (Some text) named =
+        let there = found_at (is_origin (digits_value 10 text)) log origin named in
+        let parts = and_parts (is_half origin && is_none (origin_text origin)) (origin.queue_offset == digits_value 10 text) there.2 in
+        (there.0, there.1, (and_parts (is_half origin) (is_none (origin_text origin)) parts.0).0)
+
+-- and the origin that a verdict is on
+judged_there : (s : State) (end : EndSaid) (half : Option Entry) (origin : Entry) → IsKept s.log → named_half s end ≡ half
+    → judged_origin s.log.records end half ≡ Some origin → CanBeNamed s.log origin.queue_offset
+judged_there s end None origin kept named is = absurd (cc)
+judged_there s end (Some half) origin kept named is =
+    let there = named_there s end half named in
+    let at = origin_there s.log.records there.0 half origin there.1 there.2 (by_group (is_by_its_group end half) is) in
+    half_named s.log at.0 origin kept at.1 at.2
+  where
+    by_group : (b : Bool) → (if b then origin_of s.log.records half else None) ≡ Some origin → origin_of s.log.records half ≡ Some origin
+    by_group true found = found
+    by_group false found = absurd (cc)
+
 open_fits : (s : State) (S now time verdict : ℕ) (half origin : Entry) (k : ℕ) → IsKept s.log → slice_get s.log.records k ≡ Some half → is_half half ≡ true
-    → AllFit S now s.log (open_verdict s time verdict half origin)
-open_fits s S now time verdict half origin k kept at is =
+    → CanBeNamed s.log origin.queue_offset → AllFit S now s.log (open_verdict s time verdict half origin)
+open_fits s S now time verdict half origin k kept at is can =
     elim (verdict == 8) as (λ b. AllFit S now s.log (if b then copy_draft s.setup.host half ∷ op_draft s.setup.host time origin.queue_offset ∷ []
     else (if verdict == 12 then op_draft s.setup.host time origin.queue_offset ∷ [] else []))) [
-      | true ↦ (copy_fits s.log s.setup.host half k kept at is, (op_fits _ s.setup.host time origin.queue_offset, tt))
+      | true ↦ (copy_fits s.log s.setup.host half k kept at is, (op_fits _ s.setup.host time origin.queue_offset (named_on s.log _ origin.queue_offset can), tt))
       | false ↦ elim (verdict == 12) as (λ b. AllFit S now s.log (if b then op_draft s.setup.host time origin.queue_offset ∷ [] else [])) [
-        | true ↦ (op_fits s.log s.setup.host time origin.queue_offset, tt)
+        | true ↦ (op_fits s.log s.setup.host time origin.queue_offset can, tt)
         | false ↦ tt
       ]
     ]
@@ -105,18 +132,20 @@ first_fits S now log RolledBack drafts fit = tt
 first_fits S now log Discarded drafts fit = tt
 
 verdict_fits : (s : State) (S now time verdict : ℕ) (half origin : Option Entry) → IsKept s.log
-    → ((r : Entry) → half ≡ Some r → (k : ℕ) × (slice_get s.log.records k ≡ Some r) × (is_half r ≡ true)) → AllFit S now s.log (verdict_drafts s time verdict half origin)
-verdict_fits s S now time verdict None origin kept there = tt
-verdict_fits s S now time verdict (Some half) None kept there = tt
-verdict_fits s S now time verdict (Some half) (Some origin) kept there =
+    → ((r : Entry) → half ≡ Some r → (k : ℕ) × (slice_get s.log.records k ≡ Some r) × (is_half r ≡ true))
+    → ((r : Entry) → origin ≡ Some r → CanBeNamed s.log r.queue_offset) → AllFit S now s.log (verdict_drafts s time verdict half origin)
+verdict_fits s S now time verdict None origin kept there can = tt
+verdict_fits s S now time verdict (Some half) None kept there can = tt
+verdict_fits s S now time verdict (Some half) (Some origin) kept there can =
     let h = there half refl in
-    first_fits S now s.log (transaction_state s.log.records origin.queue_offset) _ (open_fits s S now time verdict half origin h.0 kept h.1 h.2)
+    first_fits S now s.log (transaction_state s.log.records origin.queue_offset) _ (open_fits s S now time verdict half origin h.0 kept h.1 h.2 (can origin refl))
 
 request_fits : (s : State) (S now time : ℕ) (host : List ℕ) (r : Request) → IsKept s.log → refusal_of s r ≡ None → AllFit S now s.log (request_drafts s time host r)
 unfolding refusal_of
 request_fits s S now time host (Send send) kept none = (send_fits s.log s.setup.host host send (send_plain s send none), tt)
 request_fits s S now time host (EndTransaction end) kept none =
     verdict_fits s S now time end.verdict (named_half s end) (verdict_origin s end) kept (λ r is. named_there s end r is)
+    (λ r is. judged_there s end (named_half s end) r kept refl is)
 request_fits s S now time host _ kept none = tt
 
 -- the last of some records is one of them
@@ -134,7 +163,10 @@ next_fits s S now time origin k asked (Some renewal) kept at is there =
     elim (nat_lt (length asked) 15) as (λ b. AllFit S now s.log (if b then renewal_draft s.setup.host (length asked + 1) origin ∷ []
     else discard_draft s.setup.host renewal ∷ op_draft s.setup.host time origin.queue_offset ∷ [])) [
       | true ↦ (renewal_fits s.log s.setup.host (length asked + 1) origin k kept at is, tt)
-      | false ↦ (discard_fits s.log s.setup.host renewal h.0 kept h.1, (op_fits _ s.setup.host time origin.queue_offset, tt))
+      | false ↦ (
+        discard_fits s.log s.setup.host renewal h.0 kept h.1,
+        (op_fits _ s.setup.host time origin.queue_offset (named_on s.log _ origin.queue_offset (half_named s.log k origin kept at is)), tt),
+      )
     ]
 
 -- the origin that is due is a half message of the log

@@ -28,9 +28,13 @@ pub mod Offsets
 pub mod OnlyCommits
 pub mod Pulls
 pub mod QueueEnds
+pub mod RemovalExamples
+pub mod Removed
+pub mod Renewals
 pub mod Replay
 pub mod Runs
 pub mod Steps
 pub mod Texts
 pub mod Verdicts
 pub mod Within
+pub mod Whole

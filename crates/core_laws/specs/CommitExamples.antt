@@ -1,10 +1,11 @@
 -- A run of a half message: it is sent, flushed and committed, and its copy is flushed; and a crash that keeps the copy without its op
 -- record, behind which the Commit is said again.
-use Rattle.std.specs.Prelude.{List, [], ◌∷◌, Some}
+use Rattle.std.specs.Prelude.{List, [], ◌∷◌, codes, Some}
+use Rattle.request_fields.specs.Requests.{EndSaid}
 use Rattle.broker_model.specs.Events
 use Rattle.broker_model.specs.Answers.{done_reply}
 use Rattle.broker_model.specs.Run.{Boot, Move, Steps, Crashes, crashed}
-use Rattle.broker_model.specs.Examples.{asks, commit, half_props}
+use Rattle.broker_model.specs.Examples.{asks, commit, verdict_by, half_props}
 use Rattle.broker_model.specs.StepExamples.{sends}
 use Rattle.core_laws.specs.Examples.{setup, at_opening, stepped, answered}
 
@@ -50,3 +51,23 @@ at_again = stepped at_kept_copy commits
 abbrev pub until_again : List Move
 until_again = answered at_opening (sends half_props) ∷ answered at_half Events.Take ∷ answered at_turn (Events.Flushed 1)
     ∷ Steps commits (Some (Events.After done_reply 2 1)) ∷ Crashes 2 setup ∷ Steps commits (Some (Events.Replies done_reply)) ∷ []
+
+-- ---- or it is rolled back
+
+-- what the Commit says
+abbrev pub commit_said : EndSaid
+commit_said = record { group = codes "P"; queue_offset = 0; place = 0; verdict = 8; msg_id = [] }
+
+abbrev pub rolls_back : Events.Event
+rolls_back = asks (verdict_by (codes "P") 12 0 0)
+
+abbrev pub at_rolled_back : Boot
+at_rolled_back = stepped at_flushed rolls_back
+
+-- a Commit is refused then
+abbrev pub at_refused : Boot
+at_refused = stepped at_rolled_back commits
+
+abbrev pub until_refused : List Move
+until_refused = answered at_opening (sends half_props) ∷ answered at_half Events.Take ∷ answered at_turn (Events.Flushed 1)
+    ∷ answered at_flushed rolls_back ∷ answered at_rolled_back commits ∷ []

@@ -1,9 +1,9 @@
 -- A run of a delayed message: `hi` is sent with the delay level 1, flushed, dispatched, and delivered once its time has come.
 use Rattle.std.specs.Prelude.{◌++◌, List, [], ◌∷◌, codes}
 use Rattle.broker_model.specs.Events
-use Rattle.broker_model.specs.Run.{Boot, Move}
+use Rattle.broker_model.specs.Run.{Boot, Move, Crashes, crashed}
 use Rattle.broker_model.specs.StepExamples.{sends}
-use Rattle.core_laws.specs.Examples.{at_opening, stepped, answered}
+use Rattle.core_laws.specs.Examples.{setup, at_opening, stepped, answered}
 
 -- it is sent with the delay level 1 at 1000, and flushed
 abbrev pub sends_delayed : Events.Event
@@ -37,3 +37,13 @@ abbrev pub until_delivered : List Move
 until_delivered = answered at_opening sends_delayed ∷ answered at_delayed Events.Take ∷ answered at_batch (Events.Flushed 1)
     ∷ answered at_stored (Events.Dispatch 1) ∷ answered at_seen (Events.Deliver 2000) ∷ answered at_delivery Events.Take
     ∷ answered at_second_batch (Events.Flushed 1) ∷ []
+
+-- all crashes, and it is to be delivered again
+abbrev pub at_crash : Boot
+at_crash = record { now = crashed at_delivered.now 2 setup; before = [] }
+
+abbrev pub at_again : Boot
+at_again = stepped at_crash (Events.Deliver 5000)
+
+abbrev pub until_again : List Move
+until_again = Crashes 2 setup ∷ answered at_crash (Events.Deliver 5000) ∷ []

@@ -1,6 +1,6 @@
 -- A run, so that the laws speak of something: `hi` is sent to an empty store, flushed, looked at, dispatched, pulled, an offset is
 -- stored and saved, and then all crashes.
-use Rattle.std.specs.Prelude.{◌==◌, List, [], ◌∷◌, codes, pos, Bool, true, Some}
+use Rattle.std.specs.Prelude.{◌==◌, ◌++◌, List, [], ◌∷◌, codes, pos, Bool, true, Some}
 use Rattle.record_codec.specs.Entry.{Entry}
 use Rattle.log_model.specs.Bases.{no_base}
 use Rattle.log_model.specs.Numbered.{next_record, records_of}
@@ -13,7 +13,7 @@ use Rattle.broker_model.specs.State.{State, Setup, seen}
 use Rattle.broker_model.specs.Events
 use Rattle.broker_model.specs.Answers.{answer_of, reply_with, send_ext, pull_of, pulled_reply}
 use Rattle.broker_model.specs.Step.{after}
-use Rattle.broker_model.specs.Run.{Boot, Move, Steps, SavesOffsets, opened, crashed, with_saved}
+use Rattle.broker_model.specs.Run.{Boot, Move, Steps, SavesOffsets, Crashes, opened, crashed, with_saved}
 use Rattle.broker_model.specs.Examples.{broker, hi, draft_of_hi, no_log}
 use Rattle.broker_model.specs.StepExamples.{sends, stores}
 use Rattle.core_laws.specs.Replay.{Tables, keyed_by}
@@ -55,11 +55,6 @@ hi_record = next_record 1073741824 1000 no_log (draft_of_hi [])
 -- the reply to its send
 abbrev pub hi_reply : Events.Reply
 hi_reply = reply_with (send_ext (hi []) (hi_record ∷ [])) []
-
--- all of this as moves
-abbrev pub until_look : List Move
-until_look = Steps (sends []) (Some (Events.After hi_reply 0 0)) ∷ answered at_send Events.Take ∷ answered at_take (Events.Flushed 1)
-    ∷ Steps (Events.Look 0 0) (Some (Events.Looked Events.IsFlushed)) ∷ []
 
 -- ---- it is dispatched and pulled
 
@@ -116,6 +111,10 @@ is_one row = row.offset == 1
 -- the crash keeps the record
 abbrev pub at_crash : Boot
 at_crash = record { now = crashed at_saving.now 1 setup; before = [] }
+
+-- all of it as moves
+abbrev pub until_crash : List Move
+until_crash = until_saving ++ Crashes 1 setup ∷ []
 
 -- the same store, opened with a saved offset that lies past the end of its queue
 abbrev pub at_cut : Boot

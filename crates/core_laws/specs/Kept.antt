@@ -11,7 +11,7 @@ use Rattle.log_model.specs.Kinds.{is_half, is_delayed, is_copy, is_discard, orig
 use Rattle.log_model.specs.Log.{end_from}
 use Rattle.log_model.specs.Numbered.{Log}
 use Rattle.log_model.specs.Queues.{queue_of, queue_end}
-use Rattle.log_model.specs.Transactions.{is_renewal}
+use Rattle.log_model.specs.Transactions.{is_renewal, names_it}
 use Rattle.broker_model.specs.State.{State}
 use Rattle.broker_model.specs.Run.{Boot, IsOfBoot}
 use Rattle.core_laws.specs.Sound.{IsSoundBoot}
@@ -23,7 +23,7 @@ IsNumberText (Some text) = (k : ℕ) × (k < 2 ^ 64) × (text ≡ digits_of k)
 
 -- Its place is behind each of these; a copy and a discarded half name a place before their own; a message that waits has no
 -- transaction bit, is for a topic of clients and is no delivery; a half message has a queue offset of 64 bits, and so has the origin
--- that it names.
+-- that it names; a delayed message is in the queue of a level, with a queue offset of 64 bits.
 pub record IsKeptBehind (earlier : List Entry) (r : Entry) : Type 0 where
   pub place : (i : ℕ) (x : Entry) → slice_get earlier i ≡ Some x → x.offset + size x ≤ r.offset
   pub prepared : (is_copy r || is_discard r) ≡ true → r.prepared < r.offset
@@ -32,6 +32,7 @@ pub record IsKeptBehind (earlier : List Entry) (r : Entry) : Type 0 where
   pub low : is_half r ≡ true → r.queue_offset < 2 ^ 64
   pub text : is_half r ≡ true → IsNumberText (origin_text r)
   pub undelivered : (is_half r || is_delayed r) ≡ true → value_of (codes "DELAY_FROM") r.props ≡ None
+  pub level : is_delayed r ≡ true → (r.queue < 18) × (r.queue_offset < 2 ^ 64)
 
 -- A half message is in the one queue of its topic, its queue offset counts the half messages before it, removed ones too, and where it
 -- is a renewal it names one of these.
@@ -40,10 +41,17 @@ pub record IsHalfBehind (base : Base) (earlier : List Entry) (r : Entry) : Type 
   pub queue_offset : r.queue_offset ≡ queue_end base earlier half_topic 0
   pub names : (h : ℕ) → h < 2 ^ 64 → is_renewal h r ≡ true → h < queue_end base earlier half_topic 0
 
+-- Its queue offset counts the records of its queue before it, removed ones too, and an op record names one of the half messages
+-- before it.
+pub record IsCountedBehind (base : Base) (earlier : List Entry) (r : Entry) : Type 0 where
+  pub queue_offset : r.queue_offset ≡ queue_end base earlier r.topic r.queue
+  pub names : (h : ℕ) → h < 2 ^ 64 → names_it h r ≡ true → h < queue_end base earlier half_topic 0
+
 -- Each record stands so behind those before it, and no queue has more records than there are places.
 pub record IsKept (log : Log) : Type 0 where
   pub each : (i : ℕ) (r : Entry) → slice_get log.records i ≡ Some r → IsKeptBehind (take i log.records) r
   pub halves : (i : ℕ) (r : Entry) → slice_get log.records i ≡ Some r → is_half r ≡ true → IsHalfBehind log.base (take i log.records) r
+  pub counts : (i : ℕ) (r : Entry) → slice_get log.records i ≡ Some r → IsCountedBehind log.base (take i log.records) r
   pub counted : (k : ℕ) (topic : List ℕ) (queue : ℕ)
       → log.base.queues topic queue + length (queue_of (take k log.records) topic queue) ≤ end_from log.base.place (take k log.records)
 

@@ -8,5 +8,7 @@ pub mod KeptDrafts
 pub mod LogSteps
 pub mod Offsets
 pub mod Pulls
+pub mod RemovalExamples
+pub mod Removed
 pub mod Replay
 pub mod Sound

@@ -1,12 +1,12 @@
 //! What holds of every run of steps, savings and crashes from an opening. No call is made: the clauses speak of the definitions.
 
-ghost use Rattle.std.specs.Prelude.{◌≡◌, ◌⊎◌, ◌+◌, ◌-◌, ◌^◌, ◌<◌, ◌≤◌, ℕ, max, List, [], ◌∷◌, take, drop, map, slice_get, Bool, true, codes, Option, Some, None};
+ghost use Rattle.std.specs.Prelude.{◌≡◌, ◌≢◌, ◌⊎◌, ◌+◌, ◌-◌, ◌^◌, ◌<◌, ◌≤◌, ℕ, max, List, [], ◌∷◌, take, drop, map, slice_get, Bool, true, codes, Option, Some, None};
 ghost use Rattle.record_codec.specs.Entry.{Entry};
 ghost use Rattle.record_codec.specs.Props.{value_of};
 ghost use Rattle.log_model.specs.Drafts.{delivery_text};
 ghost use Rattle.log_model.specs.Numbered.{Log, count_of, records_of};
-ghost use Rattle.log_model.specs.Kinds.{is_copy};
-ghost use Rattle.log_model.specs.Transactions.{Committed, copies, is_origin, transaction_state};
+ghost use Rattle.log_model.specs.Kinds.{is_copy, is_delayed};
+ghost use Rattle.log_model.specs.Transactions.{Open, Committed, RolledBack, copies, is_origin, is_renewal, transaction_state};
 ghost use Rattle.request_fields.specs.Requests.{PullSaid, EndSaid};
 ghost use Rattle.request_fields.specs.declared.request.Request.TheVariants.{Pull, EndTransaction};
 ghost use Rattle.broker_model.specs.Tables.{OffsetRow};
@@ -23,6 +23,8 @@ ghost use Rattle.core_laws.specs.Examples as examples;
 ghost use Rattle.core_laws.specs.Halves.{IsMadeByCommit, NoCommitOn, IsCopyAt, IsCommittedOrRemoved};
 ghost use Rattle.core_laws.specs.Offsets.{AllRows, IsAllowed, IsWithin, StoresOnly};
 ghost use Rattle.core_laws.specs.Pulls.{IsSliceOf};
+ghost use Rattle.core_laws.specs.RemovalExamples as removals;
+ghost use Rattle.core_laws.specs.Removed.{IsSettledBehind, IsDeliveredBehind, WasDelivered};
 ghost use Rattle.core_laws.specs.Replay.{Tables, StandsFor, IsReplayOf};
 
 /// What was acknowledged stays, whatever crashes, until it is removed. A crash keeps the records from the saved base's number up to
@@ -119,11 +121,35 @@ pub fn delays_once()
         → StandsAt d.now k y → Delivers level number x → Delivers level number y → (n < d.now.log.base.records) ⊎ (n ≡ k) }
 {}
 
+/// What is removed was done. Nothing is removed but what the saved base counts, and all of that is on the disk and dispatched. Each
+/// half message of it is settled, and goes with its renewals, and each delayed message of it is delivered, by a record on the disk that
+/// stands behind it. So a removal takes no half message that is open and no delayed message that still waits.
+pub fn removed_are_done()
+    ensures flushed { (b c : Boot) (moves : List Move) → IsOpening b → Run b moves c
+        → (c.now.log.base.records ≤ c.now.saved.base.records) × (c.now.saved.base.records ≤ c.now.dispatched)
+        × (c.now.dispatched ≤ c.now.flushed) }
+    ensures removed { (b c : Boot) (move : Move) (n : ℕ) (r : Entry) → Goes b move c → StandsAt b.now n r → n < c.now.log.base.records
+        → n < b.now.saved.base.records }
+    ensures settled { (b c : Boot) (moves : List Move) (n h : ℕ) (origin : Entry) → IsOpening b → Run b moves c → StandsAt c.now n origin
+        → is_origin h origin ≡ true → n < c.now.saved.base.records
+        → IsSettledBehind c.now h n × (transaction_state c.now.log.records h ≢ Open) }
+    // A half message goes with its renewals.
+    ensures families { (b c : Boot) (moves : List Move) (n m h : ℕ) (origin renewal : Entry) → IsOpening b → Run b moves c
+        → StandsAt c.now n origin → is_origin h origin ≡ true → n < c.now.saved.base.records → StandsAt c.now m renewal
+        → is_renewal h renewal ≡ true → m < c.now.saved.base.records }
+    // Whatever the opening's log: the message was delivered in a state of this boot.
+    ensures was_delivered { (b c : Boot) (moves : List Move) (n : ℕ) (item : Entry) → IsOpening b → Run b moves c
+        → StandsAt c.now n item → is_delayed item ≡ true → n < c.now.saved.base.records → WasDelivered c n item }
+    // Where the deliveries of the opening's log are in order, as those of an empty log are, it still is.
+    ensures delivered { (b c : Boot) (moves : List Move) (n : ℕ) (item : Entry) → IsOpening b → InOrder b.now.log → Run b moves c
+        → StandsAt c.now n item → is_delayed item ≡ true → n < c.now.saved.base.records → IsDeliveredBehind c.now item n }
+{}
+
 /// The laws speak of something: `hi` is sent to an empty store, acknowledged, dispatched and pulled; the offset 9 is stored as 1, the
 /// end of its queue, and saved; then all crashes, and the record and the offset are kept. A saved offset past its queue is cut.
 pub fn a_run_happens()
     ensures opening { IsOpening examples.at_opening }
-    ensures acknowledged { IsAcknowledged examples.at_opening examples.until_look examples.at_look 0 examples.hi_record }
+    ensures acknowledged { IsAcknowledged examples.at_opening examples.until_crash examples.at_crash 0 examples.hi_record }
     ensures dispatched { Run examples.at_opening examples.until_dispatch examples.at_dispatch }
     ensures pulled { Goes examples.at_dispatch (Steps (events.Asks examples.asked_pull) (Some (events.Replies examples.pull_said)))
         examples.at_pull }
@@ -137,23 +163,49 @@ pub fn a_run_happens()
 {}
 
 /// The law on halves speaks of something: a half message is sent and flushed, and a Commit of it is answered once its copy and op
-/// record are flushed. Or a crash keeps the copy alone: the Commit that is said again is answered at once, and there is still one copy.
+/// record are flushed. Or a crash keeps the copy alone: the Commit that is said again is answered at once, and there is still one copy. Or
+/// it is rolled back, and a Commit is refused.
 pub fn a_commit_happens()
     ensures answered { AnswersAfter examples.at_opening commits.until_told commits.at_told commits.commits done_reply 2 }
     ensures verdict { is_verdict_on commits.at_flushed.now 0 8 commits.commits ≡ true }
     ensures copied { copies commits.at_commit.now.log.records 0 ≡ 1 }
     ensures again { AnswersAtOnce examples.at_opening commits.until_again commits.at_again commits.commits done_reply }
+    ensures waits { (commits.at_kept_copy.now.setup.sync ≡ true)
+        × (half_waits (named_half commits.at_kept_copy.now commits.commit_said) ≡ true) }
     ensures again_verdict { is_verdict_on commits.at_kept_copy.now 0 8 commits.commits ≡ true }
     ensures once { copies commits.at_again.now.log.records 0 ≡ 1 }
     ensures committed { (transaction_state commits.at_told.now.log.records 0 ≡ Committed)
         × (transaction_state commits.at_again.now.log.records 0 ≡ Committed) }
+    // Rolled back: a Commit that is refused is none.
+    ensures rolled_back { RunWith (NoCommitOn 0) examples.at_opening commits.until_refused commits.at_refused
+        × (transaction_state commits.at_refused.now.log.records 0 ≡ RolledBack) }
 {}
 
 /// The law on delays speaks of something: `hi` is sent with the delay level 1 to an empty store, flushed and dispatched, and delivered
-/// once its time has come. The delivery, with the number 0 of its level, is flushed too.
+/// once its time has come. The delivery, with the number 0 of its level, is flushed too. Then all crashes, and the delivery that is asked
+/// for again comes to nothing.
 pub fn a_delivery_happens()
     ensures run { Run examples.at_opening deliveries.until_delivered deliveries.at_delivered }
     ensures delivered { map (λ r. value_of (codes "DELAY_FROM") r.props) deliveries.at_delivered.now.log.records
         ≡ None ∷ Some (delivery_text 1 0) ∷ [] }
     ensures flushed { deliveries.at_delivered.now.flushed ≡ 2 }
+    ensures crash { Run deliveries.at_delivered deliveries.until_again deliveries.at_again
+        × (map (λ r. value_of (codes "DELAY_FROM") r.props) deliveries.at_again.now.log.records ≡ None ∷ Some (delivery_text 1 0) ∷ []) }
+{}
+
+/// The law on removal speaks of something: in segments of 4,096 bytes a half message is sent and committed, `hi` is sent with the delay
+/// level 1 and delivered, and two long messages follow, of which the second begins the next segment. All is flushed and dispatched.
+/// The base of the first segment may be saved, and counts the half message and the delayed one; once it is taken over, or once all
+/// crashes, the log begins with the last message.
+pub fn a_removal_happens()
+    ensures opening { IsOpening removals.at_empty × InOrder removals.at_empty.now.log }
+    ensures saved { Run removals.at_empty removals.until_saved removals.at_saved }
+    ensures half { (origin : Entry) × StandsAt removals.at_saved.now 0 origin × (is_origin 0 origin ≡ true)
+        × (0 < removals.at_saved.now.saved.base.records) }
+    ensures delayed { (item : Entry) × StandsAt removals.at_saved.now 3 item × (is_delayed item ≡ true)
+        × (3 < removals.at_saved.now.saved.base.records) }
+    ensures removed { Goes removals.at_saved (examples.answered removals.at_saved (events.Trim removals.next_base)) removals.at_removed
+        × (map (λ r. r.offset) removals.at_removed.now.log.records ≡ 4096 ∷ []) }
+    ensures crash { Goes removals.at_saved (Crashes 7 removals.small) removals.at_restart
+        × (map (λ r. r.offset) removals.at_restart.now.log.records ≡ 4096 ∷ []) }
 {}

@@ -1,4 +1,4 @@
-use Rattle.core_laws.proofs.CommitExamples.{commit_is_answered, commit_is_verdict, one_copy, commit_is_answered_again, again_is_verdict, still_one_copy, told_committed, again_committed}
+use Rattle.core_laws.proofs.CommitExamples.{commit_is_answered, commit_is_verdict, one_copy, commit_is_answered_again, again_is_verdict, still_one_copy, told_committed, again_committed, again_in_sync, half_is_waited_for, run_to_refused, refused_rolled_back}
 use Rattle.core_laws.proofs.laws.a_commit_happens.Goals as goal
 
 pub returns-clause-answered : goal.returns-clause-answered
@@ -21,3 +21,9 @@ returns-clause-once c = still_one_copy
 
 pub returns-clause-committed : goal.returns-clause-committed
 returns-clause-committed c = (told_committed, again_committed)
+
+pub returns-clause-waits : goal.returns-clause-waits
+returns-clause-waits c = (again_in_sync, half_is_waited_for)
+
+pub returns-clause-rolled_back : goal.returns-clause-rolled_back
+returns-clause-rolled_back c = (run_to_refused, refused_rolled_back)
