@@ -13,12 +13,12 @@ use Rattle.session.specs.Talks.{Call, fed, answered, AreCalls, stream_of, heard_
 use Rattle.session.specs.declared.heard.Heard.{Heard}
 
 -- frames, and behind them others
-begins_append : (at : ℕ) (bytes : List ℕ) (fs gs : List Frame) (mid : ℕ) (rest : List ℕ) (end : ℕ) (last : List ℕ) → BeginsWith at bytes fs mid rest → BeginsWith mid rest gs end last
+pub begins_append : (at : ℕ) (bytes : List ℕ) (fs gs : List Frame) (mid : ℕ) (rest : List ℕ) (end : ℕ) (last : List ℕ) → BeginsWith at bytes fs mid rest → BeginsWith mid rest gs end last
     → BeginsWith at bytes (fs ++ gs) end last
 begins_append at bytes [] gs mid rest end last h k = rw (h.0, h.1) k
 begins_append at bytes (f ∷ fs) gs mid rest end last h k = (h.0, h.1, begins_append (at + (length bytes - length h.0)) h.0 fs gs mid rest end last h.2 k)
 
-heard_append : (hs ks : List Heard) (fs gs : List Frame) → AreHeard hs fs → AreHeard ks gs → AreHeard (hs ++ ks) (fs ++ gs)
+pub heard_append : (hs ks : List Heard) (fs gs : List Frame) → AreHeard hs fs → AreHeard ks gs → AreHeard (hs ++ ks) (fs ++ gs)
 heard_append [] ks [] gs h k = k
 heard_append [] ks (f ∷ fs) gs h k = absurd h
 heard_append (x ∷ hs) ks [] gs h k = absurd h
@@ -32,11 +32,11 @@ no_requests (f ∷ frames) all = subst (λ (b : Bool). (if not b then f ∷ requ
 one_request : (frame : Frame) → is_response frame.header ≡ false → requests_of (frame ∷ []) ≡ frame ∷ []
 one_request frame is = subst (λ (b : Bool). (if not b then frame ∷ [] else []) ≡ frame ∷ []) (sym is) refl
 
-none_heard : (old after : Held) (rest : Type 0) → HearsNone old after rest → HasHeard old.at old.bytes [] after
+pub none_heard : (old after : Held) (rest : Type 0) → HearsNone old after rest → HasHeard old.at old.bytes [] after
 none_heard old after rest h = record { frames = h.skipped; begins = h.skips.begins; requests = subst (λ (l : List Frame). AreHeard [] l) (sym (no_requests h.skipped h.skips.responses)) tt }
 
 -- what one answer takes off
-one_answer : (old after : Held) (result : Result (Option Heard) FrameFault) → Hears old result after → HasHeard old.at old.bytes (heard_in result) after
+pub one_answer : (old after : Held) (result : Result (Option Heard) FrameFault) → Hears old result after → HasHeard old.at old.bytes (heard_in result) after
 one_answer old after (Ok (Some heard)) h =
     let requests : requests_of (h.skipped ++ h.frame ∷ []) ≡ h.frame ∷ [] =
     filter-append (λ frame. not (is_response frame.header)) h.skipped (h.frame ∷ []) ∙ ap (λ (l : List Frame). l ++ requests_of (h.frame ∷ [])) (no_requests h.skipped h.responses) ∙ one_request h.frame h.request in

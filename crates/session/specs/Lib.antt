@@ -1,4 +1,6 @@
 pub mod Hearing
 pub mod Owing
 pub mod Serving
+pub mod Sessions
+pub mod Settling
 pub mod Talks

@@ -1,5 +1,5 @@
 -- What is owed for a request, and what is written of it.
-use Rattle.std.specs.Prelude.{◌≡◌, ◌⊎◌, ℕ, ◌+◌, ◌<◌, ◌≤◌, ◌++◌, List, [], ◌∷◌, pos, codes, nat_le, if◌then◌else◌, Option, Some, None, Result, Ok, Err}
+use Rattle.std.specs.Prelude.{◌≡◌, ◌⊎◌, ℕ, ◌++◌, List, [], pos, codes, nat_le, if◌then◌else◌, Option, Some, None, Result, Ok, Err}
 use Rattle.mq_bytes.specs.Decimal.{digits_of}
 use Rattle.mq_outside.specs.Readings.{Giving}
 use Rattle.remoting_frame.specs.Head.{pairs_size}
@@ -14,7 +14,6 @@ use Rattle.broker_events.specs.declared.event.Event.TheVariants as events
 use Rattle.broker_events.specs.declared.said.Said.{Said}
 use Rattle.broker_events.specs.declared.said.Said.TheVariants as said
 use Rattle.session.specs.declared.caller.Caller.{Caller}
-use Rattle.session.specs.declared.owed.Awaits.{Awaits}
 use Rattle.session.specs.declared.owed.Applied.{Applied}
 use Rattle.session.specs.declared.owed.Applied.TheVariants.{Owes, Full}
 

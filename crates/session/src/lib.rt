@@ -7,11 +7,14 @@ mod laws;
 mod owed;
 mod serving;
 mod session;
+mod settling;
 mod talk;
 
 pub use caller::Caller;
 pub use heard::Heard;
-pub use laws::a_talk_hears_the_requests_of_its_stream;
+pub use laws::{
+    a_talk_hears_the_requests_of_its_stream, replies_leave_in_the_order_of_the_requests,
+};
 pub use owed::{Applied, Awaits, Owed, apply, look, write_reply};
 pub use serving::{Halt, Step};
 pub use session::Session;

@@ -1,32 +1,29 @@
-//! One link as a machine: the bytes that were heard, the requests that are given to the broker, and the replies, which leave in
-//! the order of the requests. It waits for nothing, and has no device.
+//! One link as a machine: the bytes that were heard, and the requests that are given to the broker. It waits for nothing, and
+//! has no device.
 
-ghost use Rattle.std.specs.Prelude.{◌≡◌, ◌<◌, ◌^◌, ◌++◌, [], true, None, pos, codes, length, OnOk, OnErr, IfOk};
+ghost use Rattle.std.specs.Prelude.{◌≡◌, ◌<◌, ◌^◌, ◌++◌, [], ◌∷◌, true, None, Some, Option, pos, codes, IfOk, OnOk, OnErr};
 ghost use Rattle.mq_bytes.specs.Decimal.{digits_of};
 ghost use Rattle.reply_fields.specs.Parts.{plain};
+ghost use Rattle.reply_fields.specs.Refusals.{fault_reply};
 ghost use Rattle.broker_events.specs.Served.{is_served as is_served_of};
 ghost use Rattle.broker_events.specs.Shown.{Accepts};
+ghost use Rattle.std.specs.Option.{option_map};
 ghost use Rattle.session.specs.Owing.{IsRequest};
-ghost use Rattle.session.specs.Serving.{KeepsRest};
+ghost use Rattle.session.specs.Serving.{KeepsRest, KeepsReplies, KeepsLink, KeepsOut, TakesNext, OwesOne, OnRequest, GivesEvent};
+ghost use Rattle.session.specs.Serving.{Leads, Serves, ServesNext, GivesUp, heard_from, caller_of};
+ghost use Rattle.session.specs.Serving.{halt_of as halt_of_fault, found_room as found_room_of};
 
 use crate::caller::Caller;
 use crate::heard::Heard;
-use crate::owed::{Applied, Awaits, Owed, apply, look, not_flushed, write_reply};
+use crate::owed::{Applied, Awaits, Owed, apply};
 use crate::session::Session;
 use crate::talk::Talk;
-use broker_events::{Awaited, Calls, Event, is_served};
-use mq_outside::Reader;
+use broker_events::{Calls, Event, is_served};
 use remoting_frame::FrameFault;
 use reply_fields::Reply;
 use request_fields::{Request, RequestFault};
 use std::alloc::{AllocError, Global};
 use std::collections::VecDeque;
-
-/// So many replies may be owed before no further request is read.
-pub const OWED_MAX: usize = 1024;
-
-/// So many bytes of replies may wait before no further request is read.
-pub const UNSENT_MAX: usize = 1 << 20;
 
 /// What came of the next request.
 #[derive(Debug, Clone, Copy, PartialEq, Eq)]
@@ -48,12 +45,24 @@ pub enum Halt {
     Memory,
 }
 
-fn halt_of(fault: FrameFault) -> Halt {
+fn halt_of(fault: FrameFault) -> Halt
+    ensures { result ≡ halt_of_fault fault }
+{
     match fault {
         FrameFault::BadLength(at) | FrameFault::BadForm(at) | FrameFault::BadHeader(at) => {
             Halt::BadFrame(at)
         }
         FrameFault::Memory => Halt::Memory,
+    }
+}
+
+// Whether nothing of the request is to be held.
+fn found_room(end: Result<Step, Halt>) -> bool
+    ensures { result ≡ found_room_of end }
+{
+    match end {
+        Ok(Step::Full) => false,
+        Ok(Step::Request | Step::Nothing) | Err(_) => true,
     }
 }
 
@@ -71,7 +80,7 @@ impl Session {
     pub fn new(alloc: Global, link: u32, host: [u8; 8]) -> Session
         ensures link { (result.talk.link ≡ link) × (result.talk.host ≡ host) }
         ensures held { result.talk.cutter ≡ record { at = 0; bytes = [] } }
-        ensures none { (result.held ≡ None) × (result.owed.items ≡ []) × (result.out.items ≡ []) }
+        ensures none { (result.held ≡ None) × (result.owed.items ≡ []) × (result.out.items ≡ []) × (result.sent ≡ 0) }
     {
         Session {
             talk: Talk::new(alloc, link, host),
@@ -91,7 +100,8 @@ impl Session {
 
     /// Takes the next piece of the stream. A stream longer than 2^64 - 1 bytes is refused as want of memory.
     pub fn feed(&mut self, piece: &[u8]) -> Result<(), AllocError>
-        ensures ok { OnOk result (self.new.talk.cutter ≡ record { at = self.old.talk.cutter.at; bytes = self.old.talk.cutter.bytes ++ piece.now }) }
+        ensures ok { OnOk result (self.new.talk.cutter
+            ≡ record { at = self.old.talk.cutter.at; bytes = self.old.talk.cutter.bytes ++ piece.now }) }
         ensures err { OnErr result (self.new.talk.cutter ≡ self.old.talk.cutter) }
         ensures rest { KeepsRest self.old self.new }
     {
@@ -99,7 +109,11 @@ impl Session {
     }
 
     // The next request: the one that found no room, else the next of the stream.
-    fn next(&mut self, alloc: Global) -> Result<Option<Heard>, Halt> {
+    fn next(&mut self, alloc: Global) -> Result<Option<Heard>, Halt>
+        ensures taken { TakesNext self.old result self.new }
+        ensures held { self.new.held ≡ None }
+        ensures rest { KeepsReplies self.old self.new }
+    {
         if let Some(heard) = self.held.take() {
             return Ok(Some(heard));
         }
@@ -110,7 +124,12 @@ impl Session {
     }
 
     // Owes a reply.
-    fn owe(&mut self, caller: Caller, reply: Reply, awaits: Option<Awaits>) -> Result<Step, Halt> {
+    fn owe(&mut self, caller: Caller, reply: Reply, awaits: Option<Awaits>) -> Result<Step, Halt>
+        ensures owes { OwesOne (record { caller = caller; reply = reply; awaits = awaits }) self.old result self.new }
+        ensures held { self.new.held ≡ self.old.held }
+        ensures talk { self.new.talk ≡ self.old.talk }
+        ensures out { KeepsOut self.old self.new }
+    {
         let owed = Owed {
             caller,
             reply,
@@ -123,9 +142,15 @@ impl Session {
     }
 
     // Keeps a request that found no room.
-    fn hold(&mut self, caller: Caller, code: i32, event: Event) {
+    fn hold(&mut self, caller: Caller, code: i32, event: Event)
+        requires { IsRequest event }
+        ensures held { OnRequest event (λ request. self.new.held ≡ Some (heard_from caller code (Ok request))) }
+        ensures owed { self.new.owed.items ≡ self.old.owed.items }
+        ensures talk { self.new.talk ≡ self.old.talk }
+        ensures out { KeepsOut self.old self.new }
+    {
         let Event::Request { request, .. } = event else {
-            return;
+            unreachable!();
         };
         self.held = Some(Heard {
             form: caller.form,
@@ -136,7 +161,8 @@ impl Session {
         });
     }
 
-    /// Gives the next request to the broker, at this reading of the clock, in milliseconds.
+    /// Gives the next request to the broker, at this reading of the clock, in milliseconds. After `Memory` the link has to end,
+    /// since a request may have been answered whose reply is not owed.
     pub fn serve_next<C: Calls>(
         &mut self,
         alloc: Global,
@@ -144,6 +170,9 @@ impl Session {
         now: u64,
     ) -> Result<Step, Halt>
         requires { now < 2 ^ 62 }
+        ensures serves { Leads C.makes calls.old calls.new (λ made. ServesNext now self.old made result self.new) }
+        ensures link { KeepsLink self.old self.new }
+        ensures out { KeepsOut self.old self.new }
     {
         let Some(heard) = self.next(alloc)? else {
             return Ok(Step::Nothing);
@@ -160,6 +189,9 @@ impl Session {
         heard: Heard,
     ) -> Result<Step, Halt>
         requires { now < 2 ^ 62 }
+        ensures serves { Leads C.makes calls.old calls.new (λ made. Serves now heard self.old made result self.new) }
+        ensures talk { self.new.talk ≡ self.old.talk }
+        ensures out { KeepsOut self.old self.new }
     {
         let caller = heard.caller();
         let Heard {
@@ -176,12 +208,12 @@ impl Session {
     }
 
     // Owes the reply to what is no request that is served.
-    fn refuse(
-        &mut self,
-        alloc: Global,
-        caller: Caller,
-        fault: &RequestFault,
-    ) -> Result<Step, Halt> {
+    fn refuse(&mut self, alloc: Global, caller: Caller, fault: &RequestFault) -> Result<Step, Halt>
+        ensures owes { OwesOne (record { caller = caller; reply = fault_reply fault.now; awaits = None }) self.old result self.new }
+        ensures held { self.new.held ≡ self.old.held }
+        ensures talk { self.new.talk ≡ self.old.talk }
+        ensures out { KeepsOut self.old self.new }
+    {
         let Ok(reply) = Reply::of_fault(alloc, fault) else {
             return Err(Halt::Memory);
         };
@@ -199,6 +231,10 @@ impl Session {
         request: Request,
     ) -> Result<Step, Halt>
         requires { now < 2 ^ 62 }
+        ensures serves { Leads C.makes calls.old calls.new
+            (λ made. Serves now (heard_from caller code (Ok request)) self.old made result self.new) }
+        ensures talk { self.new.talk ≡ self.old.talk }
+        ensures out { KeepsOut self.old self.new }
     {
         if !is_served(&request) {
             return self.refuse(alloc, caller, &RequestFault::Unsupported(code));
@@ -218,6 +254,10 @@ impl Session {
     ) -> Result<Step, Halt>
         requires now { now < 2 ^ 62 }
         requires served { is_served_of request ≡ true }
+        ensures serves { Leads C.makes calls.old calls.new
+            (λ made. Serves now (heard_from caller code (Ok request)) self.old made result self.new) }
+        ensures talk { self.new.talk ≡ self.old.talk }
+        ensures out { KeepsOut self.old self.new }
     {
         let event = Event::Request {
             link: self.talk.link(),
@@ -226,9 +266,10 @@ impl Session {
             request,
         };
         let result = self.give_event(alloc, calls, caller, &event);
-        if result == Ok(Step::Full) {
-            self.hold(caller, code, event);
+        if found_room(result) {
+            return result;
         }
+        self.hold(caller, code, event);
         result
     }
 
@@ -242,6 +283,10 @@ impl Session {
     ) -> Result<Step, Halt>
         requires request { IsRequest event.now }
         requires accepted { Accepts (C.shown calls.old) event.now }
+        ensures gives { GivesEvent C.makes event.now caller calls.old self.old result calls.new self.new }
+        ensures held { self.new.held ≡ self.old.held }
+        ensures talk { self.new.talk ≡ self.old.talk }
+        ensures out { KeepsOut self.old self.new }
     {
         match apply(alloc, calls, event) {
             Ok(Applied::Owes(reply, awaits)) => self.owe(caller, reply, awaits),
@@ -251,7 +296,13 @@ impl Session {
     }
 
     // Who asked what found no room, and is refused now.
-    fn let_go(&mut self) -> Option<Caller> {
+    fn let_go(&mut self) -> Option<Caller>
+        ensures caller { result ≡ option_map caller_of self.old.held }
+        ensures held { self.new.held ≡ None }
+        ensures talk { self.new.talk ≡ self.old.talk }
+        ensures owed { self.new.owed.items ≡ self.old.owed.items }
+        ensures out { KeepsOut self.old self.new }
+    {
         match self.held.take() {
             Some(heard) => Some(heard.caller()),
             None => None,
@@ -260,7 +311,12 @@ impl Session {
 
     /// Refuses the request that found no room, since the flush turn that it waited for failed, as the disk's failure of this
     /// number. Nothing where there is none.
-    pub fn give_up(&mut self, alloc: Global, count: u64) -> Result<(), Halt> {
+    pub fn give_up(&mut self, alloc: Global, count: u64) -> Result<(), Halt>
+        ensures gives_up { GivesUp self.old.held count self.old result self.new }
+        ensures held { self.new.held ≡ None }
+        ensures talk { self.new.talk ≡ self.old.talk }
+        ensures out { KeepsOut self.old self.new }
+    {
         let Some(caller) = self.let_go() else {
             return Ok(());
         };
@@ -269,112 +325,5 @@ impl Session {
         };
         self.owe(caller, reply, None)?;
         Ok(())
-    }
-
-    // The front reply, where its record is not pending any more; none where it is, or nothing is owed.
-    fn next_due<C: Calls>(
-        &mut self,
-        alloc: Global,
-        calls: &mut C,
-    ) -> Result<Option<(Caller, Reply)>, AllocError> {
-        let Some(front) = self.owed.front() else {
-            return Ok(None);
-        };
-        let awaited = match front.awaits {
-            None => Awaited::Flushed,
-            Some(awaits) => look(alloc, calls, awaits),
-        };
-        if awaited == Awaited::NotYet {
-            return Ok(None);
-        }
-        let Some(
-            Owed {
-                caller,
-                reply,
-                awaits: _,
-            },
-        ) = self.owed.pop_front()
-        else {
-            return Ok(None);
-        };
-        match awaited {
-            Awaited::Failed { count } => Ok(Some((caller, not_flushed(alloc, reply, count)?))),
-            Awaited::Flushed | Awaited::NotYet => Ok(Some((caller, reply))),
-        }
-    }
-
-    /// Writes the replies that are due, in the order of the requests, up to one whose record is pending still, and until
-    /// so many bytes wait that no further reply is written before some are sent; none where nobody waits for one. At `Err` there is no memory, and the link ends.
-    pub fn settle<C: Calls, R: Reader>(
-        &mut self,
-        alloc: Global,
-        calls: &mut C,
-        reader: &mut R,
-    ) -> Result<(), AllocError> {
-        let count = self.owed.len();
-        for _ in 0..count {
-            if self.out.len() - self.sent >= UNSENT_MAX {
-                return Ok(());
-            }
-            let Some((caller, reply)) = self.next_due(alloc, calls)? else {
-                return Ok(());
-            };
-            self.put(alloc, caller, reply, reader)?;
-        }
-        Ok(())
-    }
-
-    // Puts the bytes of a reply behind those that are to be sent, none where nobody waits for it.
-    fn put<R: Reader>(
-        &mut self,
-        alloc: Global,
-        caller: Caller,
-        reply: Reply,
-        reader: &mut R,
-    ) -> Result<(), AllocError> {
-        if caller.one_way {
-            return Ok(());
-        }
-        write_reply(alloc, caller, &reply, reader, &mut self.out)
-    }
-
-    /// Whether a reply waits for its record, or a request for room: a flush turn may bring it on.
-    pub fn awaits(&self) -> bool {
-        if self.held.is_some() {
-            return true;
-        }
-        match self.owed.front() {
-            Some(owed) => owed.awaits.is_some(),
-            None => false,
-        }
-    }
-
-    /// Whether so much is owed or unsent that no further request is to be read.
-    pub fn is_loaded(&self) -> bool {
-        self.held.is_some()
-            || self.owed.len() >= OWED_MAX
-            || self.out.len() - self.sent >= UNSENT_MAX
-    }
-
-    /// The bytes of replies that are to be sent.
-    pub fn unsent(&self) -> &[u8] {
-        &self.out[self.sent..]
-    }
-
-    /// So many of the unsent bytes were sent, at most all.
-    pub fn sent(&mut self, count: usize) {
-        if count >= self.out.len() - self.sent {
-            self.out.clear();
-            self.sent = 0;
-        } else {
-            self.sent += count;
-        }
-    }
-
-    /// The place at which the next frame starts, and how many bytes of it and what follows are held.
-    pub fn rest(&self) -> (u64, u64)
-        ensures { (result.0 ≡ self.now.talk.cutter.at) × (result.1 ≡ length self.now.talk.cutter.bytes) }
-    {
-        self.talk.rest()
     }
 }

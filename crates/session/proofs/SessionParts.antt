@@ -1,0 +1,216 @@
+-- What one call of a session did, and what calls did one after another.
+use Rattle.std.proofs.Common.{◌≡◌, ◌⊎◌, ℕ, List, [], ◌∷◌, ◌++◌, Bool, true, false, Option, Some, None, Ok, inl, inr, refl, sym, ap, ◌∙◌, subst, append_assoc, append-nil}
+use Rattle.std.specs.Prelude.{not, option_to_list, if◌then◌else◌}
+use Rattle.std.proofs.lemmas.List.Elements.{filter-append}
+use Rattle.mq_outside.specs.Readings.{Giving}
+use Rattle.remoting_frame.specs.Held.{Held}
+use Rattle.remoting_frame.specs.declared.frame.Frame.{Frame}
+use Rattle.remoting_frame.proofs.StreamLaws.{begins_more}
+use Rattle.reply_fields.specs.Parts.{ReplyParts}
+use Rattle.reply_fields.specs.Replies.{reply_bytes}
+use Rattle.broker_events.specs.declared.event.Event.{Event}
+use Rattle.broker_events.specs.declared.said.Said.{Said}
+use Rattle.broker_events.specs.declared.said.Said.TheVariants as said
+use Rattle.broker_events.specs.declared.said.Awaited.{Awaited}
+use Rattle.broker_events.specs.declared.said.Awaited.TheVariants.{Flushed, Failed, NotYet}
+use Rattle.session.specs.Hearing.{is_response}
+use Rattle.session.specs.Talks.{HasHeard, AreHeard, requests_of}
+use Rattle.session.specs.Owing.{applied_of, unwritten}
+use Rattle.session.specs.Serving.{Made, IsNext}
+use Rattle.session.specs.Settling.{look_for, IsDueAt, IsDueAfter, IsNotYet, Waits, IsPutBy, Settles}
+use Rattle.session.specs.Sessions.{applies, applied_in, has_room, finds, found_in, Answer, IsAnswer, AreAnswers, steps_of, AreReplies}
+use Rattle.session.specs.declared.heard.Heard.{Heard}
+use Rattle.session.specs.declared.caller.Caller.{Caller}
+use Rattle.session.specs.declared.owed.Awaits.{Awaits}
+use Rattle.session.specs.declared.owed.Owed.{Owed}
+use Rattle.session.specs.declared.owed.Applied.TheVariants.{Owes, Full}
+use Rattle.session.specs.declared.talk.Talk.{Talk}
+use Rattle.session.proofs.TalkLaws.{begins_append, heard_append, one_answer}
+
+-- ---- lists
+
+-- what comes in behind and leaves in front, twice
+pub moves_on : {A : Type 0} (a b c x z y w : List A) → a ++ x ≡ y ++ b → b ++ z ≡ w ++ c → a ++ (x ++ z) ≡ (y ++ w) ++ c
+moves_on a b c x z y w p q = sym (append_assoc a x z) ∙ ap (λ l. l ++ z) p ∙ append_assoc y b z ∙ ap (λ l. y ++ l) q ∙ sym (append_assoc y w c)
+
+-- nothing comes in or leaves
+pub stays : {A : Type 0} (a b : List A) → b ≡ a → a ++ [] ≡ b
+stays a b e = append-nil a ∙ sym e
+
+-- ---- what was heard
+
+-- what was heard of a stream, and then of what is fed behind it
+pub hears_on : (at : ℕ) (bytes more : List ℕ) (hs ks : List Heard) (mid new : Held) → HasHeard at bytes hs mid → HasHeard mid.at (mid.bytes ++ more) ks new
+    → HasHeard at (bytes ++ more) (hs ++ ks) new
+hears_on at bytes more hs ks mid new h k = record {
+  frames = h.frames ++ k.frames;
+  begins = begins_append at (bytes ++ more) h.frames k.frames mid.at (mid.bytes ++ more) new.at new.bytes
+      (begins_more at bytes more h.frames mid.at mid.bytes h.begins) k.begins;
+  requests = subst (λ (l : List Frame). AreHeard (hs ++ ks) l) (sym (filter-append (λ frame. not (is_response frame.header)) h.frames k.frames))
+      (heard_append hs ks (requests_of h.frames) (requests_of k.frames) h.requests k.requests);
+}
+
+-- nothing is heard where a piece is fed
+pub hears_fed : (at : ℕ) (bytes : List ℕ) (new : Held) → new.at ≡ at → new.bytes ≡ bytes → HasHeard at bytes [] new
+hears_fed at bytes new place rest = record { frames = []; begins = (sym place, sym rest); requests = tt }
+
+-- which requests are heard of the stream as the next one is taken
+pub record TakesOne (held : Option Heard) (heard : Heard) (old new : Held) : Type 0 where
+  pub heards : List Heard
+  pub hears : HasHeard old.at old.bytes heards new
+  pub one : option_to_list held ++ heards ≡ heard ∷ []
+
+pub takes_one : (held : Option Heard) (heard : Heard) (old new : Held) → IsNext held heard old new → TakesOne held heard old new
+takes_one None heard old new h = record { heards = heard ∷ []; hears = one_answer old new (Ok (Some heard)) h; one = refl }
+takes_one (Some first) heard old new h = record {
+  heards = [];
+  hears = hears_fed old.at old.bytes new (ap (λ (w : Held). w.at) h.1) (ap (λ (w : Held). w.bytes) h.1);
+  one = ap (λ (w : Heard). w ∷ []) (sym h.0);
+}
+
+-- ---- steps
+
+-- what is owed for a step found room
+pub had_room : (what : Option Said) (reply : ReplyParts) (awaits : Option Awaits) → applied_of what ≡ Some (Owes reply awaits) → has_room what ≡ true
+had_room None reply awaits h = refl
+had_room (Some (said.Reply other)) reply awaits h = refl
+had_room (Some (said.After other number turn)) reply awaits h = refl
+had_room (Some (said.Full pending)) reply awaits h = cc
+had_room (Some (said.Batch batch)) reply awaits h = refl
+had_room (Some said.Done) reply awaits h = refl
+had_room (Some (said.Awaited what)) reply awaits h = refl
+had_room (Some (said.Moved number)) reply awaits h = refl
+
+pub had_none : (what : Option Said) (pending : ℕ) → applied_of what ≡ Some (Full pending) → has_room what ≡ false
+had_none None pending h = cc
+had_none (Some (said.Reply other)) pending h = cc
+had_none (Some (said.After other number turn)) pending h = cc
+had_none (Some (said.Full other)) pending h = refl
+had_none (Some (said.Batch batch)) pending h = cc
+had_none (Some said.Done) pending h = cc
+had_none (Some (said.Awaited what)) pending h = cc
+had_none (Some (said.Moved number)) pending h = cc
+
+-- a step of which a test holds, or does not
+pub one_applied : (step : Event × Option Said) (b : Bool) → b ≡ true → (if b then step ∷ [] else []) ≡ step ∷ []
+one_applied step b is = subst (λ (w : Bool). (if w then step ∷ [] else []) ≡ step ∷ []) (sym is) refl
+
+pub none_applied : (step : Event × Option Said) (b : Bool) → b ≡ false → (if b then step ∷ [] else []) ≡ []
+none_applied step b is = subst (λ (w : Bool). (if w then step ∷ [] else []) ≡ []) (sym is) refl
+
+applied_append : (made more : Made) → applied_in (made ++ more) ≡ applied_in made ++ applied_in more
+applied_append made more = filter-append (λ step. applies step.0 step.1) made more
+
+-- two lists of steps, and what was applied in them
+pub applies_on : (made more first rest : Made) → applied_in made ≡ first → applied_in more ≡ rest → applied_in (made ++ more) ≡ first ++ rest
+applies_on made more first rest h k = applied_append made more ∙ ap (λ l. l ++ applied_in more) h ∙ ap (λ l. first ++ l) k
+
+found_append : (made more : Made) → found_in (made ++ more) ≡ found_in made ++ found_in more
+found_append made more = filter-append (λ step. finds step.0 step.1) made more
+
+pub finds_on : (made more first rest : Made) → found_in made ≡ first → found_in more ≡ rest → found_in (made ++ more) ≡ first ++ rest
+finds_on made more first rest h k = found_append made more ∙ ap (λ l. l ++ found_in more) h ∙ ap (λ l. first ++ l) k
+
+-- a look applies nothing, and finds something where a reply is due after it
+due_applies : (awaits : Option Awaits) (reply due : ReplyParts) (made : Made) → IsDueAfter awaits reply due made → applied_in made ≡ []
+due_applies None reply due made h = ap applied_in h.1
+due_applies (Some awaits) reply due made h = ap applied_in h.2
+
+look_finds : (awaits : Awaits) (what : Awaited) (reply due : ReplyParts) → IsDueAt what reply due → found_in (look_for awaits what ∷ []) ≡ look_for awaits what ∷ []
+look_finds awaits Flushed reply due h = refl
+look_finds awaits (Failed count) reply due h = refl
+look_finds awaits NotYet reply due h = absurd h
+
+due_finds : (awaits : Option Awaits) (reply due : ReplyParts) (made : Made) → IsDueAfter awaits reply due made → found_in made ≡ made
+due_finds None reply due made h = ap found_in h.1 ∙ sym h.1
+due_finds (Some awaits) reply due made h = ap found_in h.2 ∙ look_finds awaits h.0 reply due h.1 ∙ sym h.2
+
+not_yet_applies : (awaits : Option Awaits) (made : Made) → IsNotYet awaits made → applied_in made ≡ []
+not_yet_applies None made h = absurd h
+not_yet_applies (Some awaits) made h = ap applied_in h
+
+not_yet_finds : (awaits : Option Awaits) (made : Made) → IsNotYet awaits made → found_in made ≡ []
+not_yet_finds None made h = absurd h
+not_yet_finds (Some awaits) made h = ap found_in h
+
+waits_applies : (owed : List Owed) (made : Made) → Waits owed made → applied_in made ≡ []
+waits_applies [] made h = ap applied_in h
+waits_applies (owed ∷ more) made h = not_yet_applies owed.awaits made h
+
+waits_finds : (owed : List Owed) (made : Made) → Waits owed made → found_in made ≡ []
+waits_finds [] made h = ap found_in h
+waits_finds (owed ∷ more) made h = not_yet_finds owed.awaits made h
+
+pub settles_applies : (gives : Giving) (settled : List Owed) (old : List ℕ) (made : Made) (new : List ℕ) → Settles gives settled old made new → applied_in made ≡ []
+settles_applies gives [] old made new h = ap applied_in h.0
+settles_applies gives (owed ∷ more) old made new h =
+    ap applied_in h.3 ∙ applies_on h.1 h.2 [] [] (due_applies owed.awaits owed.reply h.4.due h.1 h.4.is) (settles_applies gives more h.0 h.2 new h.5)
+
+pub settles_finds : (gives : Giving) (settled : List Owed) (old : List ℕ) (made : Made) (new : List ℕ) → Settles gives settled old made new → found_in made ≡ made
+settles_finds gives [] old made new h = ap found_in h.0 ∙ sym h.0
+settles_finds gives (owed ∷ more) old made new h =
+    ap found_in h.3 ∙ finds_on h.1 h.2 h.1 h.2 (due_finds owed.awaits owed.reply h.4.due h.1 h.4.is) (settles_finds gives more h.0 h.2 new h.5) ∙ sym h.3
+
+pub stops_applies : (owed : List Owed) (made : Made) (low : Type 0) → Waits owed made ⊎ (low × (made ≡ [])) → applied_in made ≡ []
+stops_applies owed made low (inl h) = waits_applies owed made h
+stops_applies owed made low (inr h) = ap applied_in h.1
+
+pub stops_finds : (owed : List Owed) (made : Made) (low : Type 0) → Waits owed made ⊎ (low × (made ≡ [])) → found_in made ≡ []
+stops_finds owed made low (inl h) = waits_finds owed made h
+stops_finds owed made low (inr h) = ap found_in h.1
+
+-- ---- answers
+
+pub answers_on : (talk other : Talk) (first more : List Answer) → ((answer : Answer) → IsAnswer other answer → IsAnswer talk answer) → AreAnswers talk first
+    → AreAnswers other more → AreAnswers talk (first ++ more)
+answers_on talk other [] [] same h k = tt
+answers_on talk other [] (b ∷ more) same h k = (same b k.0, answers_on talk other [] more same h k.1)
+answers_on talk other (a ∷ first) more same h k = (h.0, answers_on talk other first more same h.1 k)
+
+pub steps_append : (first more : List Answer) → steps_of (first ++ more) ≡ steps_of first ++ steps_of more
+steps_append [] more = refl
+steps_append (a ∷ first) more = ap (λ l. a.made ++ l) (steps_append first more) ∙ sym (append_assoc a.made (steps_of first) (steps_of more))
+
+-- ---- replies
+
+-- the bytes of one reply
+puts_by : (b : Bool) (gives : Giving) (caller : Caller) (reply : ReplyParts) (count : ℕ) (old new : List ℕ) → IsPutBy b gives caller reply count old new
+    → (piece : List ℕ) × (new ≡ old ++ piece) × IsPutBy b gives caller reply count [] piece
+puts_by true gives caller reply count old new h = ([], h ∙ sym (append-nil old), refl)
+puts_by false gives caller reply count old new (inl h) =
+    (reply_bytes caller.form caller.opaque reply h.body, h.behind, inl (record { body = h.body; given = h.given; behind = refl }))
+puts_by false gives caller reply count old new (inr h) =
+    (reply_bytes caller.form caller.opaque (unwritten h.0 count) h.1.body, h.1.behind, inr (h.0, record { body = h.1.body; given = h.1.given; behind = refl }))
+
+-- the bytes of all that is settled
+pub record PutsReplies (gives : Giving) (settled : List Owed) (made : Made) (old new : List ℕ) : Type 0 where
+  pub bytes : List ℕ
+  pub behind : new ≡ old ++ bytes
+  pub replies : AreReplies gives settled made bytes
+
+pub puts_replies : (gives : Giving) (settled : List Owed) (old : List ℕ) (made : Made) (new : List ℕ) → Settles gives settled old made new
+    → PutsReplies gives settled made old new
+puts_replies gives [] old made new h = record { bytes = []; behind = h.1 ∙ sym (append-nil old); replies = (h.0, refl) }
+puts_replies gives (owed ∷ more) old made new h =
+    let one = puts_by owed.caller.one_way gives owed.caller h.4.due h.4.count old h.0 h.4.put in
+    let rest = puts_replies gives more h.0 h.2 new h.5 in
+    record {
+      bytes = one.0 ++ rest.bytes;
+      behind = rest.behind ∙ ap (λ l. l ++ rest.bytes) one.1 ∙ append_assoc old one.0 rest.bytes;
+      replies = (h.1, h.2, one.0, rest.bytes, h.3, refl, record { due = h.4.due; is = h.4.is; count = h.4.count; put = one.2 }, rest.replies);
+    }
+
+-- the replies of some, and then of others
+pub replies_on : (gives : Giving) (first more : List Owed) (made looks : Made) (bytes rest : List ℕ) → AreReplies gives first made bytes
+    → AreReplies gives more looks rest → AreReplies gives (first ++ more) (made ++ looks) (bytes ++ rest)
+replies_on gives [] more made looks bytes rest h k = rw (h.0, h.1) k
+replies_on gives (owed ∷ first) more made looks bytes rest h k = (
+  h.0,
+  h.1 ++ looks,
+  h.2,
+  h.3 ++ rest,
+  ap (λ l. l ++ looks) h.4 ∙ append_assoc h.0 h.1 looks,
+  ap (λ l. l ++ rest) h.5 ∙ append_assoc h.2 h.3 rest,
+  h.6,
+  replies_on gives first more h.1 looks h.3 rest h.7 k,
+)

@@ -1,0 +1,159 @@
+-- What became of the front of what is owed.
+use Rattle.std.proofs.Common.{◌≡◌, ℕ, List, [], ◌∷◌, ◌++◌, Option, Some, None, Ok, Err, refl, sym, ap, ◌∙◌, subst, append_assoc, append-nil}
+use Rattle.std.specs.Prelude.{Result, IsErrAnd}
+use Rattle.mq_outside.specs.Readings.{Giving}
+use Rattle.reply_fields.specs.Parts.{ReplyParts}
+use Rattle.broker_events.specs.declared.said.Awaited.{Awaited}
+use Rattle.broker_events.specs.declared.said.Awaited.TheVariants.{NotYet}
+use Rattle.broker_events.specs.Makes.{Makes}
+use Rattle.broker_events.proofs.Makes.{makes_append}
+use Rattle.session.specs.Owing.{Steps}
+use Rattle.session.specs.Serving.{Made, Leads}
+use Rattle.session.specs.Settling.{look_for, LooksFor, IsDueAt, Became, IsDueAfter, IsNotYet, Waits, Leaves, IsLost, TakesDue, GivesDue, IsPut, SettlesOne, Settles, Stops, IsSettled, IsBroken, SettlesAll}
+use Rattle.session.specs.declared.caller.Caller.{Caller}
+use Rattle.session.specs.declared.owed.Awaits.{Awaits}
+use Rattle.session.specs.declared.owed.Owed.{Owed}
+use Rattle.session.specs.declared.session.Session.{Session}
+
+-- what a look says became of a record
+pub became_by : (awaits : Option Awaits) (one : Awaits) (what : Awaited) → awaits ≡ Some one → Became awaits what (look_for one what ∷ [])
+became_by awaits one what is = subst (λ (w : Option Awaits). Became w what (look_for one what ∷ [])) (sym is) refl
+
+-- a record that became nothing yet is waited for
+not_yet : (awaits : Option Awaits) (made : Made) → Became awaits NotYet made → IsNotYet awaits made
+not_yet None made h = let flushed = h.0 in cc
+not_yet (Some awaits) made h = h
+
+pub waits : (items : List Owed) (front : Owed) (more : List Owed) (made : Made) → items ≡ front ∷ more → Became front.awaits NotYet made → Waits items made
+waits items front more made is h = subst (λ (l : List Owed). Waits l made) (sym is) (not_yet front.awaits made h)
+
+-- what is due after a record became this
+due_after : (awaits : Option Awaits) (what : Awaited) (reply due : ReplyParts) (made : Made) → Became awaits what made → IsDueAt what reply due → IsDueAfter awaits reply due made
+due_after None what reply due made h k = (subst (λ (w : Awaited). IsDueAt w reply due) h.0 k, h.1)
+due_after (Some awaits) what reply due made h k = (what, k, h)
+
+looked : (awaits : Option Awaits) (what : Awaited) (made : Made) → Became awaits what made → LooksFor awaits made
+looked None what made h = h.1
+looked (Some awaits) what made h = (what, h)
+
+-- one list begins with two elements, which are one
+fronts : (items : List Owed) (one other : Owed) (more rest : List Owed) → items ≡ one ∷ more → items ≡ other ∷ rest → one.awaits ≡ other.awaits
+fronts items one other more rest p q = cc
+
+-- the front left once this became of its record
+pub gives_due : {E : Type 0} (what : Awaited) (old new : Session) (front : Owed) (more : List Owed) (made : Made) (result : Result (Option (Caller × ReplyParts)) E)
+    → old.owed.items ≡ front ∷ more → Became front.awaits what made → TakesDue what old.owed.items result new.owed.items → GivesDue old made result new
+gives_due what old new front more made (Ok (Some due)) is became h =
+    let same = fronts old.owed.items front h.0 more new.owed.items is h.1 in
+    record {
+      owed = h.0;
+      left = h.1;
+      caller = h.2;
+      is = due_after h.0.awaits what h.0.reply due.1 made (subst (λ (w : Option Awaits). Became w what made) same became) h.3;
+    }
+gives_due what old new front more made (Ok None) is became h = absurd h
+gives_due what old new front more made (Err fault) is became h =
+    let same = fronts old.owed.items front h.0 more new.owed.items is h.1 in
+    record { owed = h.0; left = h.1; looked = looked h.0.awaits what made (subst (λ (w : Option Awaits). Became w what made) same became) }
+
+-- one more is settled behind the others
+pub settles_snoc : (gives : Giving) (settled : List Owed) (owed : Owed) (old mid new : List ℕ) (first last : Made) → Settles gives settled old first mid
+    → SettlesOne gives owed mid last new → Settles gives (settled ++ owed ∷ []) old (first ++ last) new
+settles_snoc gives [] owed old mid new first last h k =
+    let from = subst (λ (l : List ℕ). SettlesOne gives owed l last new) h.1 k in
+    (new, last, [], ap (λ l. l ++ last) h.0 ∙ sym (append-nil last), from, (refl, refl))
+settles_snoc gives (o ∷ settled) owed old mid new first last h k =
+    (h.0, h.1, h.2 ++ last, ap (λ l. l ++ last) h.3 ∙ append_assoc h.1 h.2 last, h.4, settles_snoc gives settled owed h.0 mid new h.2 last h.5 k)
+
+-- ---- one after another
+
+-- the first of what was owed have left, by steps from x to y
+pub record HasSettled {C : Type 0} (makes : Steps C) (gives : Giving) (x : C) (old : Session) (y : C) (new : Session) : Type 0 where
+  pub made : Made
+  pub leads : Makes makes x made y
+  pub settled : List Owed
+  pub left : old.owed.items ≡ settled ++ new.owed.items
+  pub puts : Settles gives settled old.out.items made new.out.items
+
+pub settled_none : {C : Type 0} (makes : Steps C) (gives : Giving) (x : C) (old : Session) → HasSettled makes gives x old x old
+settled_none makes gives x old = record { made = []; leads = refl; settled = []; left = refl; puts = (refl, refl) }
+
+-- a look was made for what is due after one
+looks_for : (awaits : Option Awaits) (reply due : ReplyParts) (made : Made) → IsDueAfter awaits reply due made → LooksFor awaits made
+looks_for None reply due made h = h.1
+looks_for (Some awaits) reply due made h = (h.0, h.2)
+
+module _ {C : Type 0} (makes : Steps C) (gives : Giving) (x y : C) (old mid : Session) (so : HasSettled makes gives x old y mid) where
+  -- one more left
+  pub settled_more : (z : C) (after new : Session) (due : Caller × ReplyParts) (count : ℕ) → Leads makes y z (λ made. Leaves mid made due after)
+      → after.out.items ≡ mid.out.items → IsPut gives due.0 due.1 count after.out.items new.out.items → new.owed.items ≡ after.owed.items
+      → HasSettled makes gives x old z new
+  settled_more z after new due count next out put same =
+      let leaves = next.so in
+      let wrote : IsPut gives leaves.owed.caller due.1 count mid.out.items new.out.items =
+      subst (λ (c : Caller). IsPut gives c due.1 count mid.out.items new.out.items) leaves.caller
+      (subst (λ (l : List ℕ). IsPut gives due.0 due.1 count l new.out.items) out put) in
+      record {
+        made = so.made ++ next.made;
+        leads = makes_append makes x so.made y next.made z so.leads next.leads;
+        settled = so.settled ++ leaves.owed ∷ [];
+        left = so.left ∙ ap (λ (l : List Owed). so.settled ++ l) (leaves.left ∙ ap (λ (l : List Owed). leaves.owed ∷ l) (sym same))
+            ∙ sym (append_assoc so.settled (leaves.owed ∷ []) new.owed.items);
+        puts = settles_snoc gives so.settled leaves.owed old.out.items mid.out.items new.out.items so.made next.made so.puts
+            (record { due = due.1; is = leaves.is; count = count; put = wrote });
+      }
+
+  -- there is a cause to stop
+  pub settled_stops : (z : C) (new : Session) → Leads makes y z (λ made. Stops mid made) → new.owed.items ≡ mid.owed.items → new.out.items ≡ mid.out.items
+      → new.sent ≡ mid.sent → Leads makes x z (λ made. IsSettled gives old made new)
+  settled_stops z new stop owed out sent = record {
+    made = so.made ++ stop.made;
+    leads = makes_append makes x so.made y stop.made z so.leads stop.leads;
+    so = record {
+      settled = so.settled;
+      left = so.left ∙ ap (λ (l : List Owed). so.settled ++ l) (sym owed);
+      first = so.made;
+      last = stop.made;
+      both = refl;
+      puts = subst (λ (l : List ℕ). Settles gives so.settled old.out.items so.made l) (sym out) so.puts;
+      stops = rw (owed, out, sent) stop.so;
+    };
+  }
+
+  -- one left that is lost
+  pub settled_lost : (z : C) (new : Session) → Leads makes y z (λ made. IsLost mid made new) → new.out.items ≡ mid.out.items
+      → Leads makes x z (λ made. IsBroken gives old made new)
+  settled_lost z new lost out = record {
+    made = so.made ++ lost.made;
+    leads = makes_append makes x so.made y lost.made z so.leads lost.leads;
+    so = record {
+      settled = so.settled;
+      lost = lost.so.owed;
+      left = so.left ∙ ap (λ (l : List Owed). so.settled ++ l) lost.so.left;
+      first = so.made;
+      last = lost.made;
+      both = refl;
+      puts = subst (λ (l : List ℕ). Settles gives so.settled old.out.items so.made l) (sym out) so.puts;
+      looked = lost.so.looked;
+    };
+  }
+
+  -- one that was due could not be put
+  pub settled_unput : (z : C) (after new : Session) (due : Caller × ReplyParts) → Leads makes y z (λ made. Leaves mid made due after)
+      → after.out.items ≡ mid.out.items → new.out.items ≡ after.out.items → new.owed.items ≡ after.owed.items
+      → Leads makes x z (λ made. IsBroken gives old made new)
+  settled_unput z after new due next kept out owed = settled_lost z new (record {
+    made = next.made;
+    leads = next.leads;
+    so = record {
+      owed = next.so.owed;
+      left = next.so.left ∙ ap (λ (l : List Owed). next.so.owed ∷ l) (sym owed);
+      looked = looks_for next.so.owed.awaits next.so.owed.reply due.1 next.made next.so.is;
+    };
+  }) (out ∙ kept)
+
+-- what is so at an `Err` is what `settle` does
+pub breaks : {C A E : Type 0} (makes : Steps C) (gives : Giving) (x y : C) (old new : Session) (result : Result A E) (fault : E) → IsErrAnd result (λ e. e ≡ fault)
+    → Leads makes x y (λ made. IsBroken gives old made new) → Leads makes x y (λ made. SettlesAll gives old made result new)
+breaks makes gives x y old new (Ok done) fault is h = absurd is
+breaks makes gives x y old new (Err other) fault is h = h

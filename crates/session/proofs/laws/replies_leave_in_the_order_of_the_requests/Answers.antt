@@ -1,0 +1,5 @@
+use Rattle.session.proofs.SessionLaws.{replies_in_order}
+use Rattle.session.proofs.laws.replies_leave_in_the_order_of_the_requests.Goals as goal
+
+pub returns : goal.returns
+returns g c = λ old calls new is h. replies_in_order g.R.Reader.gives old calls new is h

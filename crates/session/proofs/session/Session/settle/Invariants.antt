@@ -1,0 +1,14 @@
+use Rattle.std.proofs.Common.{◌≡◌, length}
+use Rattle.session.proofs.SettlingSteps.{HasSettled}
+use Rattle.session.proofs.session.Session.settle.Given as goal
+
+abbrev pub invariant-owed : goal.invariant-owed
+invariant-owed g l = record {
+  so : HasSettled g.C.Calls.makes g.R.Reader.gives l.fn.calls l.fn.self l.calls l.self;
+  held : l.self.held ≡ l.fn.self.held;
+  talk : l.self.talk ≡ l.fn.self.talk;
+  sent : l.self.sent ≡ l.fn.self.sent;
+}
+
+abbrev pub decreases-owed : goal.decreases-owed
+decreases-owed g l = length l.self.owed.items

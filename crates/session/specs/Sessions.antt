@@ -1,0 +1,217 @@
+-- Calls of a session: what they fed, which requests they heard, and the bytes of replies that left.
+use Rattle.std.specs.Prelude.{◌≡◌, ◌⊎◌, ◌++◌, ℕ, List, [], ◌∷◌, Bool, true, false, take, drop, filter, map, option_to_list}
+use Rattle.std.specs.Prelude.{Option, Some, None, Result, Ok, Err}
+use Rattle.mq_outside.specs.Readings.{Giving}
+use Rattle.reply_fields.specs.Parts.{ReplyParts}
+use Rattle.broker_events.specs.declared.event.Event.{Event}
+use Rattle.broker_events.specs.declared.event.Event.TheVariants as events
+use Rattle.broker_events.specs.declared.said.Said.{Said}
+use Rattle.broker_events.specs.declared.said.Said.TheVariants as said
+use Rattle.broker_events.specs.declared.said.Awaited.TheVariants.{Flushed, Failed, NotYet}
+use Rattle.session.specs.Talks.{HasHeard}
+use Rattle.session.specs.Serving.{Made, KeepsRest, KeepsLink, KeepsOut, ServesNext, GivesUp, IsAnswered, caller_of, no_room}
+use Rattle.session.specs.Settling.{IsDueAfter, IsPut, IsSettled, unsent_of}
+use Rattle.session.specs.declared.heard.Heard.{Heard}
+use Rattle.session.specs.declared.owed.Owed.{Owed}
+use Rattle.session.specs.declared.talk.Talk.{Talk}
+use Rattle.session.specs.declared.session.Session.{Session}
+use Rattle.session.specs.declared.serving.Step.{Step}
+use Rattle.session.specs.declared.serving.Halt.{Halt}
+use Rattle.session.specs.declared.serving.Halt.TheVariants as halts
+
+-- A piece was fed; the next request was served, by these steps; the request that found no room was given up; replies were settled,
+-- by these steps; or these bytes, so many of the unsent ones, were sent.
+pub data Call : Type 0 where
+  fed : List ℕ → Call
+  served : ℕ → Made → Result Step Halt → Call
+  gave_up : ℕ → Call
+  settled : Made → Call
+  sent : ℕ → List ℕ → Call
+
+-- memory did not want
+abbrev pub HadMemory : Result Step Halt → Type 0
+HadMemory (Ok step) = Unit {0}
+HadMemory (Err (halts.BadFrame at)) = Unit {0}
+HadMemory (Err halts.Memory) = ⊥
+
+-- what the session is after a call in which memory did not want
+abbrev pub IsCall : Giving → Session → Call → Session → Type 0
+IsCall gives old (fed piece) new =
+    (new.talk.cutter ≡ record { at = old.talk.cutter.at; bytes = old.talk.cutter.bytes ++ piece }) × KeepsRest old new
+IsCall gives old (served now made result) new =
+    HadMemory result × ServesNext now old made result new × KeepsLink old new × KeepsOut old new
+IsCall gives old (gave_up count) new =
+    GivesUp old.held count old (Ok tt) new × (new.held ≡ None) × (new.talk ≡ old.talk) × KeepsOut old new
+IsCall gives old (settled made) new =
+    IsSettled gives old made new × (new.held ≡ old.held) × (new.talk ≡ old.talk) × (new.sent ≡ old.sent)
+IsCall gives old (sent count bytes) new = (bytes ≡ take count (unsent_of old)) × (unsent_of new ≡ drop count (unsent_of old))
+    × (new.held ≡ old.held) × (new.talk ≡ old.talk) × (new.owed.items ≡ old.owed.items)
+
+-- these calls, in this order, lead from the old session to the new one
+abbrev pub AreCalls : Giving → Session → List Call → Session → Type 0
+AreCalls gives old [] new = old ≡ new
+AreCalls gives old (call ∷ calls) new = (after : Session) × IsCall gives old call after × AreCalls gives after calls new
+
+-- ---- what the calls were given, and gave
+
+-- the piece that a call fed
+abbrev pub stream_in : Call → List ℕ
+stream_in (fed piece) = piece
+stream_in (served now made result) = []
+stream_in (gave_up count) = []
+stream_in (settled made) = []
+stream_in (sent count bytes) = []
+
+-- the bytes that were sent
+abbrev pub sent_in : Call → List ℕ
+sent_in (fed piece) = []
+sent_in (served now made result) = []
+sent_in (gave_up count) = []
+sent_in (settled made) = []
+sent_in (sent count bytes) = bytes
+
+-- the steps that were made
+abbrev pub made_in : Call → Made
+made_in (fed piece) = []
+made_in (served now made result) = made
+made_in (gave_up count) = []
+made_in (settled made) = made
+made_in (sent count bytes) = []
+
+-- the pieces that were fed, joined
+abbrev pub stream_of : List Call → List ℕ
+stream_of [] = []
+stream_of (call ∷ calls) = stream_in call ++ stream_of calls
+
+-- the bytes that were sent, joined
+abbrev pub sent_of : List Call → List ℕ
+sent_of [] = []
+sent_of (call ∷ calls) = sent_in call ++ sent_of calls
+
+-- all steps that were made, in order
+abbrev pub made_of : List Call → Made
+made_of [] = []
+made_of (call ∷ calls) = made_in call ++ made_of calls
+
+-- it was not said that there is no room
+abbrev pub has_room : Option Said → Bool
+has_room None = true
+has_room (Some (said.Reply reply)) = true
+has_room (Some (said.After reply number turn)) = true
+has_room (Some (said.Full pending)) = false
+has_room (Some (said.Batch batch)) = true
+has_room (Some said.Done) = true
+has_room (Some (said.Awaited what)) = true
+has_room (Some (said.Moved number)) = true
+
+-- the event is a request, and found room
+abbrev pub applies : Event → Option Said → Bool
+applies (events.Request link host now request) what = has_room what
+applies events.Take what = false
+applies (events.Flushed receipt) what = false
+applies (events.FlushFailed count) what = false
+applies (events.Look number turn) what = false
+applies (events.Dispatch most) what = false
+applies (events.Leave link) what = false
+
+-- the steps at which a request was applied: those at requests, but where there was no room
+abbrev pub applied_in : Made → Made
+applied_in = filter (λ step. applies step.0 step.1)
+
+-- it became of a record that it is flushed, or that the disk failed
+abbrev pub has_come : Option Said → Bool
+has_come None = false
+has_come (Some (said.Reply reply)) = false
+has_come (Some (said.After reply number turn)) = false
+has_come (Some (said.Full pending)) = false
+has_come (Some (said.Batch batch)) = false
+has_come (Some said.Done) = false
+has_come (Some (said.Awaited Flushed)) = true
+has_come (Some (said.Awaited (Failed count))) = true
+has_come (Some (said.Awaited NotYet)) = false
+has_come (Some (said.Moved number)) = false
+
+-- the event is a look for a record that is not pending any more
+abbrev pub finds : Event → Option Said → Bool
+finds (events.Request link host now request) what = false
+finds events.Take what = false
+finds (events.Flushed receipt) what = false
+finds (events.FlushFailed count) what = false
+finds (events.Look number turn) what = has_come what
+finds (events.Dispatch most) what = false
+finds (events.Leave link) what = false
+
+-- the looks for records that were not pending any more
+abbrev pub found_in : Made → Made
+found_in = filter (λ step. finds step.0 step.1)
+
+-- ---- what was answered
+
+-- a request, the steps at which it was applied, and what was owed for it
+pub record Answer : Type 0 where
+  pub heard : Heard
+  pub made : Made
+  pub owed : Owed
+
+-- the answer is what came of the request at some reading of the clock; or it found no room, and was given up with the disk's count
+abbrev pub IsAnswer : Talk → Answer → Type 0
+IsAnswer talk answer = ((now : ℕ) × IsAnswered talk now answer.heard answer.owed answer.made)
+    ⊎ ((count : ℕ) × (answer.owed ≡ no_room (caller_of answer.heard) count) × (answer.made ≡ []))
+
+abbrev pub AreAnswers : Talk → List Answer → Type 0
+AreAnswers talk [] = Unit {0}
+AreAnswers talk (answer ∷ answers) = IsAnswer talk answer × AreAnswers talk answers
+
+-- the steps of answers, joined
+abbrev pub steps_of : List Answer → Made
+steps_of [] = []
+steps_of (answer ∷ answers) = answer.made ++ steps_of answers
+
+-- The bytes are those of the reply that was due for what was owed, after these looks, and none where nobody waits for it.
+pub record IsReplyTo (gives : Giving) (owed : Owed) (made : Made) (bytes : List ℕ) : Type 0 where
+  pub due : ReplyParts
+  pub is : IsDueAfter owed.awaits owed.reply due made
+  pub count : ℕ
+  pub put : IsPut gives owed.caller due count [] bytes
+
+-- the bytes are those of these replies, one after another, each after its looks
+abbrev pub AreReplies : Giving → List Owed → Made → List ℕ → Type 0
+AreReplies gives [] made bytes = (made ≡ []) × (bytes ≡ [])
+AreReplies gives (owed ∷ more) made bytes = (looks : Made) × (others : Made) × (first : List ℕ) × (rest : List ℕ)
+    × (made ≡ looks ++ others) × (bytes ≡ first ++ rest) × IsReplyTo gives owed looks first × AreReplies gives more others rest
+
+-- What calls have done that fed this stream, made these steps and sent these bytes. The requests of the stream are `heard`; with one
+-- that was held before they are those that were answered and one that is held now. What was owed before and the answers are what left
+-- and what is owed now; and what was to be sent before and the replies of those that left are what was sent and what is to be sent now.
+pub record HasServed (gives : Giving) (old : Session) (stream : List ℕ) (made : Made) (sent : List ℕ) (new : Session) : Type 0 where
+  pub link : KeepsLink old new
+  pub heard : List Heard
+  pub hears : HasHeard old.talk.cutter.at (old.talk.cutter.bytes ++ stream) heard new.talk.cutter
+  pub answers : List Answer
+  pub are : AreAnswers old.talk answers
+  pub each : option_to_list old.held ++ heard ≡ map (λ answer. answer.heard) answers ++ option_to_list new.held
+  pub applied : applied_in made ≡ steps_of answers
+  pub settled : List Owed
+  pub left : old.owed.items ++ map (λ answer. answer.owed) answers ≡ settled ++ new.owed.items
+  pub looks : Made
+  pub found : found_in made ≡ looks
+  pub bytes : List ℕ
+  pub replies : AreReplies gives settled looks bytes
+  pub went : unsent_of old ++ bytes ≡ sent ++ unsent_of new
+
+-- nothing was heard yet, and nothing is owed
+pub record IsNew (session : Session) : Type 0 where
+  pub held : session.talk.cutter ≡ record { at = 0; bytes = [] }
+  pub none : (session.held ≡ None) × (session.owed.items ≡ []) × (session.out.items ≡ []) × (session.sent ≡ 0)
+
+-- What calls of a new session have done: the requests of the stream are those that were answered, and one that is held; the steps at
+-- which a request was applied are those of the answers; and what was sent, and is to be sent, are the replies of the first requests,
+-- in order, one each, and none for those that wait for none. The looks that found something are those of these replies.
+pub record RepliesInOrder (gives : Giving) (old : Session) (calls : List Call) (new : Session) : Type 0 where
+  pub answers : List Answer
+  pub are : AreAnswers old.talk answers
+  pub hears : HasHeard 0 (stream_of calls) (map (λ answer. answer.heard) answers ++ option_to_list new.held) new.talk.cutter
+  pub applied : applied_in (made_of calls) ≡ steps_of answers
+  pub settled : List Owed
+  pub left : map (λ answer. answer.owed) answers ≡ settled ++ new.owed.items
+  pub replies : AreReplies gives settled (found_in (made_of calls)) (sent_of calls ++ unsent_of new)

@@ -1,0 +1,156 @@
+-- How what is owed leaves: the replies that are due, in the order of their requests, and their bytes.
+use Rattle.std.specs.Prelude.{◌≡◌, ◌⊎◌, ◌-◌, ◌≤◌, ◌++◌, ◌||◌, ℕ, List, [], ◌∷◌, length, drop, nat_le, Bool, true, false, is_some}
+use Rattle.std.specs.Prelude.{Option, Some, None, Result, Ok, Err}
+use Rattle.mq_outside.specs.Readings.{Giving}
+use Rattle.reply_fields.specs.Parts.{ReplyParts}
+use Rattle.broker_events.specs.declared.event.Event.{Event}
+use Rattle.broker_events.specs.declared.event.Event.TheVariants.{Look}
+use Rattle.broker_events.specs.declared.said.Said.{Said}
+use Rattle.broker_events.specs.declared.said.Said.TheVariants as said
+use Rattle.broker_events.specs.declared.said.Awaited.{Awaited}
+use Rattle.broker_events.specs.declared.said.Awaited.TheVariants.{Flushed, Failed, NotYet}
+use Rattle.session.specs.Owing.{IsWritten, not_flushed}
+use Rattle.session.specs.Serving.{Made}
+use Rattle.session.specs.declared.caller.Caller.{Caller}
+use Rattle.session.specs.declared.owed.Awaits.{Awaits}
+use Rattle.session.specs.declared.owed.Owed.{Owed}
+use Rattle.session.specs.declared.session.Session.{Session}
+use Rattle.session.specs.declared.settling.TheConstants.{OWED_MAX, UNSENT_MAX}
+
+-- ---- what is due
+
+-- one look for this record, and what became of it
+abbrev pub look_for : Awaits → Awaited → Event × Option Said
+look_for awaits what = (Look awaits.number awaits.turn, Some (said.Awaited what))
+
+-- one look for the record, where there is one
+abbrev pub LooksFor : Option Awaits → Made → Type 0
+LooksFor None made = made ≡ []
+LooksFor (Some awaits) made = (what : Awaited) × (made ≡ look_for awaits what ∷ [])
+
+-- the reply that is due once this became of its record: itself where it is flushed, the failure where the disk failed
+abbrev pub IsDueAt : Awaited → ReplyParts → ReplyParts → Type 0
+IsDueAt Flushed reply due = due ≡ reply
+IsDueAt (Failed count) reply due = due ≡ not_flushed reply count
+IsDueAt NotYet reply due = ⊥
+
+-- what became of the record, by one look; it is as if flushed where there is none
+abbrev pub Became : Option Awaits → Awaited → Made → Type 0
+Became None what made = (what ≡ Flushed) × (made ≡ [])
+Became (Some awaits) what made = made ≡ look_for awaits what ∷ []
+
+-- the reply that is due after a look for its record, where there is one
+abbrev pub IsDueAfter : Option Awaits → ReplyParts → ReplyParts → Made → Type 0
+IsDueAfter None reply due made = (due ≡ reply) × (made ≡ [])
+IsDueAfter (Some awaits) reply due made = (what : Awaited) × IsDueAt what reply due × (made ≡ look_for awaits what ∷ [])
+
+-- the record was looked for, and is pending still
+abbrev pub IsNotYet : Option Awaits → Made → Type 0
+IsNotYet None made = ⊥
+IsNotYet (Some awaits) made = made ≡ look_for awaits NotYet ∷ []
+
+-- the front of what is owed has to wait, or nothing is owed
+abbrev pub Waits : List Owed → Made → Type 0
+Waits [] made = made ≡ []
+Waits (owed ∷ more) made = IsNotYet owed.awaits made
+
+-- the front of what was owed left, and its reply is due to its caller
+pub record Leaves (old : Session) (made : Made) (due : Caller × ReplyParts) (new : Session) : Type 0 where
+  pub owed : Owed
+  pub left : old.owed.items ≡ owed ∷ new.owed.items
+  pub caller : due.0 ≡ owed.caller
+  pub is : IsDueAfter owed.awaits owed.reply due.1 made
+
+-- the front of what was owed left, and for want of memory no reply is made for it
+pub record IsLost (old : Session) (made : Made) (new : Session) : Type 0 where
+  pub owed : Owed
+  pub left : old.owed.items ≡ owed ∷ new.owed.items
+  pub looked : LooksFor owed.awaits made
+
+-- the front left, since this became of its record
+abbrev pub TakesDue : {E : Type 0} → Awaited → List Owed → Result (Option (Caller × ReplyParts)) E → List Owed → Type 0
+TakesDue what old (Ok (Some due)) new = (owed : Owed) × (old ≡ owed ∷ new) × (due.0 ≡ owed.caller) × IsDueAt what owed.reply due.1
+TakesDue what old (Ok None) new = ⊥
+TakesDue what old (Err fault) new = (owed : Owed) × (old ≡ owed ∷ new)
+
+-- what `next_due` does, by what it answers
+abbrev pub GivesDue : {E : Type 0} → Session → Made → Result (Option (Caller × ReplyParts)) E → Session → Type 0
+GivesDue old made (Ok (Some due)) new = Leaves old made due new
+GivesDue old made (Ok None) new = Waits old.owed.items made × (new.owed.items ≡ old.owed.items)
+GivesDue old made (Err fault) new = IsLost old made new
+
+-- ---- what is written
+
+-- the bytes of a reply, or none where nobody waits for it
+abbrev pub IsPutBy : Bool → Giving → Caller → ReplyParts → ℕ → List ℕ → List ℕ → Type 0
+IsPutBy true gives caller reply count old new = new ≡ old
+IsPutBy false gives caller reply count old new = IsWritten gives caller reply count old new
+
+-- a reply is put behind the bytes before it, unless nobody waits for it
+abbrev pub IsPut : Giving → Caller → ReplyParts → ℕ → List ℕ → List ℕ → Type 0
+IsPut gives caller reply count old new = IsPutBy caller.one_way gives caller reply count old new
+
+-- ---- what is settled
+
+-- the reply that is due for one that is owed is put behind the bytes before, where the reader counts so many faults
+pub record SettlesOne (gives : Giving) (owed : Owed) (old : List ℕ) (made : Made) (new : List ℕ) : Type 0 where
+  pub due : ReplyParts
+  pub is : IsDueAfter owed.awaits owed.reply due made
+  pub count : ℕ
+  pub put : IsPut gives owed.caller due count old new
+
+-- each of these is settled, in this order
+abbrev pub Settles : Giving → List Owed → List ℕ → Made → List ℕ → Type 0
+Settles gives [] old made new = (made ≡ []) × (new ≡ old)
+Settles gives (owed ∷ more) old made new = (mid : List ℕ) × (first rest : Made) × (made ≡ first ++ rest)
+    × SettlesOne gives owed old first mid × Settles gives more mid rest new
+
+-- why no further reply is settled: none is owed, or its record is pending still, or so many bytes wait
+abbrev pub Stops : Session → Made → Type 0
+Stops session made = Waits session.owed.items made ⊎ ((UNSENT_MAX ≤ length session.out.items - session.sent) × (made ≡ []))
+
+-- the first of what was owed are settled, and then there is a cause to stop
+pub record IsSettled (gives : Giving) (old : Session) (made : Made) (new : Session) : Type 0 where
+  pub settled : List Owed
+  pub left : old.owed.items ≡ settled ++ new.owed.items
+  pub first : Made
+  pub last : Made
+  pub both : made ≡ first ++ last
+  pub puts : Settles gives settled old.out.items first new.out.items
+  pub stops : Stops new last
+
+-- the first of what was owed are settled, and for want of memory the next one left and has no reply
+pub record IsBroken (gives : Giving) (old : Session) (made : Made) (new : Session) : Type 0 where
+  pub settled : List Owed
+  pub lost : Owed
+  pub left : old.owed.items ≡ settled ++ lost ∷ new.owed.items
+  pub first : Made
+  pub last : Made
+  pub both : made ≡ first ++ last
+  pub puts : Settles gives settled old.out.items first new.out.items
+  pub looked : LooksFor lost.awaits last
+
+-- what `settle` does, by what it answers
+abbrev pub SettlesAll : {A E : Type 0} → Giving → Session → Made → Result A E → Session → Type 0
+SettlesAll gives old made (Ok done) new = IsSettled gives old made new
+SettlesAll gives old made (Err fault) new = IsBroken gives old made new
+
+-- ---- what is seen of it
+
+-- the bytes that are to be sent
+abbrev pub unsent_of : Session → List ℕ
+unsent_of session = drop session.sent session.out.items
+
+-- a reply waits for its record
+abbrev pub front_awaits : List Owed → Bool
+front_awaits [] = false
+front_awaits (owed ∷ more) = is_some owed.awaits
+
+-- a request waits for room, or the first reply for its record
+abbrev pub awaits_of : Session → Bool
+awaits_of session = is_some session.held || front_awaits session.owed.items
+
+-- a request waits for room, or so many replies are owed, or so many bytes are to be sent
+abbrev pub is_loaded_of : Session → Bool
+is_loaded_of session = is_some session.held || nat_le OWED_MAX (length session.owed.items)
+    || nat_le UNSENT_MAX (length session.out.items - session.sent)
