@@ -1,0 +1,4 @@
+pub mod Blocks
+pub mod Halves
+pub mod OfLog
+pub mod Rooms

@@ -1,0 +1,90 @@
+//! What a record is to the half messages.
+
+ghost use Rattle.std.specs.Prelude.{◌≡◌, ◌==◌, ◌&&◌, not};
+ghost use Rattle.log_model.specs.Admissible.{is_bare as bare, number_in as number_of_text, number_of as number_of_bytes, number_at};
+ghost use Rattle.log_model.specs.Kinds.{is_half as is_half_entry, is_op as is_op_entry, is_discard as is_discard_entry, is_copy as is_copy_entry, origin_text};
+ghost use Rattle.half_view.specs.OfLog.{rolled_back_by};
+
+use mq_bytes::read_decimal;
+use record_codec::{COMMITTED, TRANSACTION_BITS, View};
+
+/// Numbers in records are below this one.
+const LIMIT: u64 = 1 << 62;
+
+pub(crate) fn is_half(view: &View<'_>) -> bool
+    ensures { result ≡ is_half_entry view.now }
+{
+    view.topic() == "RMQ_SYS_TRANS_HALF_TOPIC"
+}
+
+fn is_op(view: &View<'_>) -> bool
+    ensures { result ≡ is_op_entry view.now }
+{
+    view.topic() == "RMQ_SYS_TRANS_OP_HALF_TOPIC"
+}
+
+pub(crate) fn is_discard(view: &View<'_>) -> bool
+    ensures { result ≡ is_discard_entry view.now }
+{
+    view.topic() == "TRANS_CHECK_MAX_TIME_TOPIC"
+}
+
+// A copy that a Commit appended.
+pub(crate) fn is_copy(view: &View<'_>) -> bool
+    ensures { result ≡ is_copy_entry view.now }
+{
+    view.sysflag() & TRANSACTION_BITS == COMMITTED
+}
+
+// The text has no sign and no leading zero.
+fn is_bare(text: &[u8]) -> bool
+    ensures { result ≡ bare text.now }
+{
+    !text.is_empty() && text[0] != b'-' && (text[0] != b'0' || text.len() == 1)
+}
+
+// The number that the text writes.
+fn number_in(text: &str) -> Option<u64>
+    ensures { result ≡ number_of_text text.now }
+{
+    if !is_bare(text.as_bytes()) {
+        return None;
+    }
+    let value = read_decimal(text)?;
+    if value < 0 {
+        return None;
+    }
+    let value = value as u64;
+    if value >= LIMIT {
+        return None;
+    }
+    Some(value)
+}
+
+// The same of bytes.
+fn number_of(bytes: &[u8]) -> Option<u64>
+    ensures { result ≡ number_of_bytes bytes.now }
+{
+    match std::str::from_utf8(bytes) {
+        Ok(text) => number_in(text),
+        Err(_) => None,
+    }
+}
+
+// The queue offset that a half message names.
+pub(crate) fn named_half(view: &View<'_>) -> Option<u64>
+    ensures { result ≡ number_at (origin_text view.now) }
+{
+    number_in(view.prop("TRAN_PREPARED_QUEUE_OFFSET")?)
+}
+
+// The queue offset that an op record names.
+pub(crate) fn rolled_back(view: &View<'_>) -> Option<u64>
+    ensures { result ≡ rolled_back_by view.now }
+{
+    if is_op(view) {
+        number_of(view.body())
+    } else {
+        None
+    }
+}
