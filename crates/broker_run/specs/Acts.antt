@@ -1,0 +1,133 @@
+-- What happened to the broker and its disk, act by act.
+use Rattle.std.specs.Prelude.{◌≡◌, ℕ, ◌++◌, List, [], ◌∷◌, Option, Some, None, Result, Ok, Err}
+use Rattle.mq_outside.specs.Counts.{Rises}
+use Rattle.mq_outside.specs.Disk.{DiskState}
+use Rattle.log_model.specs.Batches.{IsReceiptFor}
+use Rattle.log_model.specs.Stored.{FlushTurn, flush_turn}
+use Rattle.log_model.specs.declared.batch.Batch.{Batch}
+use Rattle.log_model.specs.declared.batch.Receipt.{Receipt}
+use Rattle.segment_files.specs.Turn.{Growing, growing}
+use Rattle.segment_files.specs.declared.last_file.LastFile.{LastFile}
+use Rattle.broker_events.specs.Makes.{Makes}
+use Rattle.broker_events.specs.Shown.{Shown}
+use Rattle.broker_events.specs.declared.event.Event.{Event}
+use Rattle.broker_events.specs.declared.event.Event.TheVariants.{Request, Take, Flushed, FlushFailed, Look, Dispatch, Leave}
+use Rattle.broker_events.specs.declared.said.Said.{Said}
+use Rattle.broker_events.specs.declared.said.Said.TheVariants as said
+use Rattle.worker_turns.specs.Turns.{Steps, Writes}
+
+-- a flush turn that ended Ok: what it wrote, its receipt, and the disk's moment at its end
+pub record Turn : Type 0 where
+  pub batch : Batch
+  pub receipt : Receipt
+  pub moment : ℕ
+
+-- A step of the broker with what was said to it, which left the disk as it was; a flush turn that ended Ok; and one that failed,
+-- where the disk counts so many faults.
+pub data Act : Type 0 where
+  Made : Event → Option Said → Act
+  Wrote : Turn → Act
+  Missed : Batch → (count : ℕ) → Act
+
+-- what is seen of disks of this type: that they tell what they hold, what that is, and how often one failed and was synced
+pub record DiskView (D : Type 0) : Type 1 where
+  pub tells : Type 0
+  pub state : D → DiskState
+  pub faults : D → ℕ
+  pub syncs : D → ℕ
+
+abbrev pub view_of : {D : Type 0} → Type 0 → (D → DiskState) → (D → ℕ) → (D → ℕ) → DiskView D
+view_of tells state faults syncs = record { tells = tells; state = state; faults = faults; syncs = syncs }
+
+-- the log's last file with the offset of the next bytes, and the disk
+pub record Place (D : Type 0) : Type 0 where
+  pub file : LastFile
+  pub disk : D
+
+abbrev pub place_of : {D : Type 0} → LastFile → D → Place D
+place_of file disk = record { file = file; disk = disk }
+
+-- a log that is open for batches there
+abbrev pub growing_at : {D : Type 0} → DiskView D → Place D → Growing
+growing_at view at = growing at.file (view.state at.disk)
+
+-- it has the key, and no batch is out
+pub record IsFree (key : Type 0) (shown : Shown) : Type 0 where
+  pub key_is : key
+  pub none_out : shown.out ≡ None
+
+-- no batch is flushed by the event
+abbrev pub IsBetween : Event → Type 0
+IsBetween (Request link host now request) = Unit {0}
+IsBetween Take = Unit {0}
+IsBetween (Flushed receipt) = ⊥
+IsBetween (FlushFailed count) = Unit {0}
+IsBetween (Look number turn) = Unit {0}
+IsBetween (Dispatch most) = Unit {0}
+IsBetween (Leave link) = Unit {0}
+
+-- one step was made, and the disk is as it was
+pub record HasMade {C D : Type 0} (makes : Steps C) (e : Event) (what : Option Said) (x : C) (old : Place D) (y : C) (new : Place D) : Type 0 where
+  pub made : makes x e what y
+  pub between : IsBetween e
+  pub still : new ≡ old
+
+-- a flush turn wrote its batch and synced it, and the batch is flushed
+pub record HasWritten {C D : Type 0} (makes : Steps C) (view : DiskView D) (turn : Turn) (x : C) (old : Place D) (y : C) (new : Place D) : Type 0 where
+  pub steps : Makes makes x ((Take, Some (said.Batch (Some turn.batch))) ∷ (Flushed turn.receipt, Some said.Done) ∷ []) y
+  pub is : IsReceiptFor turn.batch turn.receipt
+  pub wrote : Writes view.tells (growing_at view old) (growing_at view new) (view.syncs old.disk) (view.syncs new.disk) turn.batch (Ok turn.receipt)
+  pub ended : turn.moment ≡ (view.state new.disk).moment
+  pub still : view.faults new.disk ≡ view.faults old.disk
+
+-- a flush turn failed, and its batch is pending again
+pub record HasMissed {C D : Type 0} (makes : Steps C) (view : DiskView D) (batch : Batch) (count : ℕ) (x : C) (old : Place D) (y : C) (new : Place D) : Type 0 where
+  pub steps : Makes makes x ((Take, Some (said.Batch (Some batch))) ∷ (FlushFailed count, Some said.Done) ∷ []) y
+  pub wrote : Writes view.tells (growing_at view old) (growing_at view new) (view.syncs old.disk) (view.syncs new.disk) batch (Err (record { count = count }))
+  pub rises : Rises (view.faults old.disk) (view.faults new.disk)
+  pub count_is : count ≡ view.faults new.disk
+
+-- the act was this
+abbrev pub Happens : {C D : Type 0} → Steps C → DiskView D → Act → C → Place D → C → Place D → Type 0
+Happens makes view (Made e what) x old y new = HasMade makes e what x old y new
+Happens makes view (Wrote turn) x old y new = HasWritten makes view turn x old y new
+Happens makes view (Missed batch count) x old y new = HasMissed makes view batch count x old y new
+
+-- nothing happened
+pub record IsStill {C D : Type 0} (x : C) (old : Place D) (y : C) (new : Place D) : Type 0 where
+  pub calls : y ≡ x
+  pub place : new ≡ old
+
+-- these acts, one after another, lead from the first broker and its disk to the second
+abbrev pub Acts : {C D : Type 0} → Steps C → DiskView D → List Act → C → Place D → C → Place D → Type 0
+Acts makes view [] x old y new = IsStill x old y new
+Acts {C} {D} makes view (act ∷ acts) x old y new = (z : C) × (mid : Place D) × Happens makes view act x old z mid × Acts makes view acts z mid y new
+
+-- acts of this kind do
+pub record Acted {C D : Type 0} (makes : Steps C) (view : DiskView D) (IsKind : List Act → Type 0) (x : C) (old : Place D) (y : C) (new : Place D) : Type 0 where
+  pub acts : List Act
+  pub kind : IsKind acts
+  pub happened : Acts makes view acts x old y new
+
+-- ---- what acts are for the broker and for the log
+
+-- the steps of an act, each event with what was said to it
+abbrev pub steps_in : Act → List (Event × Option Said)
+steps_in (Made e what) = (e, what) ∷ []
+steps_in (Wrote turn) = (Take, Some (said.Batch (Some turn.batch))) ∷ (Flushed turn.receipt, Some said.Done) ∷ []
+steps_in (Missed batch count) = (Take, Some (said.Batch (Some batch))) ∷ (FlushFailed count, Some said.Done) ∷ []
+
+-- the steps of all of them, in order
+abbrev pub steps_of : List Act → List (Event × Option Said)
+steps_of [] = []
+steps_of (act ∷ acts) = steps_in act ++ steps_of acts
+
+-- the flush turns that ended Ok, each with how many records it flushed and its moment
+abbrev pub turns_in : Act → List FlushTurn
+turns_in (Made e what) = []
+turns_in (Wrote turn) = flush_turn turn.receipt.count turn.moment ∷ []
+turns_in (Missed batch count) = []
+
+abbrev pub turns_of : List Act → List FlushTurn
+turns_of [] = []
+turns_of (act ∷ acts) = turns_in act ++ turns_of acts
