@@ -17,6 +17,7 @@ use std::alloc::{AllocError, Global};
 use std::sync::Wait;
 
 /// A pass with its spine, and with what its calls wait by.
+#[derive(Drop)]
 pub struct SpinePass<'a, R: Wait> {
     pub(crate) spine: &'a Spine,
     pub(crate) rt: &'a R,

@@ -5,3 +5,4 @@ pub mod KeepLemmas
 pub mod ServeLemmas
 pub mod SettingLemmas
 pub mod WordLemmas
+pub mod ServeSizes

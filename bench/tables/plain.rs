@@ -1,0 +1,125 @@
+//! The same work as `main.txt` over Vec, HashMap and BTreeMap: `plain WORK ASKS`.
+use std::collections::{BTreeMap, BTreeSet, HashMap};
+
+const UNITS: u32 = 1_000_000;
+const HALVES: u32 = 100_000;
+
+#[derive(Clone, Copy)]
+struct Unit {
+    offset: u64,
+    size: u32,
+    tag: i64,
+    #[allow(dead_code)]
+    store: u64,
+}
+
+fn after(number: u64) -> u64 {
+    number
+        .wrapping_mul(6_364_136_223_846_793_005)
+        .wrapping_add(1_442_695_040_888_963_407)
+}
+
+fn queues(queues: u32, asks: u32) -> bool {
+    let mut tables: HashMap<(String, u32), Vec<Unit>> = HashMap::new();
+    for at in 0..UNITS {
+        tables.entry(("T".to_string(), at % queues)).or_default().push(Unit {
+            offset: u64::from(at) * 108,
+            size: 108,
+            tag: 0,
+            store: u64::from(at),
+        });
+    }
+    let topic = "T".to_string();
+    let mut number = 1u64;
+    for _ in 0..asks {
+        number = after(number);
+        let queue = (number >> 40) as u32 % queues;
+        let from = ((number >> 20) % u64::from(UNITS / queues - 31)) as usize;
+        let table = &tables[&(topic.clone(), queue)];
+        let mut size = 0;
+        let mut found: Vec<(u64, u32)> = Vec::new();
+        for unit in &table[from..] {
+            if found.len() == 32 || size + unit.size > 262_144 {
+                break;
+            }
+            if unit.tag == 0 {
+                size += unit.size;
+                found.push((unit.offset, unit.size));
+            }
+        }
+        if found.len() != 32 {
+            return false;
+        }
+    }
+    true
+}
+
+fn keys(asks: u32) -> bool {
+    let mut table: HashMap<u32, Vec<(u64, u64)>> = HashMap::new();
+    for at in 0..UNITS {
+        table
+            .entry(at.wrapping_mul(2_654_435_761))
+            .or_default()
+            .push((u64::from(at) * 108, u64::from(at)));
+    }
+    let mut number = 1u64;
+    for _ in 0..asks {
+        number = after(number);
+        let hash = ((number >> 20) as u32 % UNITS).wrapping_mul(2_654_435_761);
+        let places: Vec<u64> = table[&hash].iter().rev().take(32).map(|entry| entry.0).collect();
+        if places.len() != 1 {
+            return false;
+        }
+    }
+    true
+}
+
+// Origins by queue offset, and those that are open by their time.
+fn halves(asks: u32) -> bool {
+    let mut rows: BTreeMap<u64, (u64, u64)> = BTreeMap::new();
+    let mut due: BTreeSet<(u64, u64)> = BTreeSet::new();
+    for at in 0..u64::from(HALVES) {
+        rows.insert(at, (at * 178, at + 6_000));
+        due.insert((at + 6_000, at));
+    }
+    for at in 0..u64::from(HALVES / 8) {
+        let row = rows.get_mut(&at).unwrap();
+        due.remove(&(row.1, at));
+        row.1 = u64::from(HALVES) + at + 60_000;
+        due.insert((row.1, at));
+    }
+    for _ in 0..asks {
+        match due.first().copied() {
+            Some(first) if first.0 <= u64::from(HALVES) + 6_000 => {
+                due.remove(&first);
+            }
+            _ => return false,
+        }
+    }
+    true
+}
+
+fn levels(asks: u32) -> bool {
+    let times: Vec<u64> = (0..u64::from(UNITS)).collect();
+    let seen = std::hint::black_box(0usize);
+    for _ in 0..asks {
+        if std::hint::black_box(&times[..seen]).first().is_some() {
+            return false;
+        }
+    }
+    true
+}
+
+fn main() {
+    let words: Vec<String> = std::env::args().collect();
+    let asks = words[2].parse().unwrap();
+    let fine = match words[1].as_str() {
+        "queue" => queues(1, asks),
+        "queues" => queues(1_000, asks),
+        "keys" => keys(asks),
+        "halves" => halves(asks),
+        "levels" => levels(asks),
+        _ => false,
+    };
+    std::process::exit(i32::from(!fine));
+}

@@ -1,0 +1,14 @@
+use Rattle.std.proofs.Common.{◌≡◌, None}
+use Rattle.log_model.specs.Stored.{StaysOutside}
+use Rattle.segment_files.specs.Turn.{IsInside}
+use Rattle.broker_serve.proofs.flusher.flush_all.Given as goal
+
+abbrev pub invariant-loop : goal.invariant-loop
+invariant-loop g l = record {
+  next : (goal.iterator-loop g).can_next l.iterator';
+  finite : (goal.iterator-loop g).is_finite l.iterator';
+  key : g.C.Calls.has_key l.calls;
+  none_out : (g.C.Calls.shown l.calls).out ≡ None;
+  inside : g.D.Disk.tells → IsInside l.flusher.file.base l.flusher.file.offset (g.D.Disk.state l.disk);
+  outside : g.D.Disk.tells → StaysOutside (g.D.Disk.state l.initial.disk) (g.D.Disk.state l.disk);
+}

@@ -1,0 +1,25 @@
+use Rattle.log_model.proofs.OutsideLemmas.{outside_start, outside_then}
+use Rattle.broker_serve.proofs.flusher.keep_flushing.Goals as goal
+
+pub loop-init : goal.loop-init
+loop-init g c = record {
+  next = tt;
+  finite = tt;
+  key = c.requires.key;
+  none_out = c.requires.none_out;
+  inside = c.requires.inside;
+  outside = λ tells. outside_start _;
+}
+
+pub returns-then-over-clause-outside : goal.returns-then-over-clause-outside
+returns-then-over-clause-outside g c = λ tells. outside_then (c.loop.invariant.outside tells) (c.flush_all-end.ensures.outside tells)
+
+pub loop-preserved : goal.loop-preserved
+loop-preserved g c = record {
+  next = tt;
+  finite = tt;
+  key = c.flush_all-end.ensures.key;
+  none_out = c.flush_all-end.ensures.none_out;
+  inside = c.flush_all-end.ensures.inside;
+  outside = λ tells. outside_then (c.loop.invariant.outside tells) (c.flush_all-end.ensures.outside tells);
+}

@@ -1,0 +1,99 @@
+//! The flusher: one write and one sync for all that is pending, as often as something is.
+
+ghost use Rattle.std.specs.Prelude.{◌≡◌, None};
+ghost use Rattle.log_model.specs.Stored.{StaysOutside};
+ghost use Rattle.segment_files.specs.Turn.{IsInside};
+
+use crate::shared::{Port, Shared};
+use broker_events::Calls;
+use group_flush::Flusher;
+use mq_outside::Disk;
+use mq_peers::Ready;
+use std::alloc::Global;
+use std::sync::Wait;
+use worker_turns::{FlushEnd, dispatch_turn, flush_turn};
+
+// Lets consumers see what is flushed.
+fn show<C: Calls>(alloc: Global, calls: &mut C)
+    requires key { C.has_key calls.old }
+    requires none_out { (C.shown calls.old).out ≡ None }
+    ensures key { C.has_key calls.new }
+    ensures none_out { (C.shown calls.new).out ≡ None }
+{
+    let _ = dispatch_turn(alloc, calls, u32::MAX);
+}
+
+// Tells the loops that wait for a turn that one has ended like this.
+fn tell<P: Ready>(shared: &Shared, ports: &[Port<P>], end: FlushEnd) {
+    shared.count_turn(match end {
+        FlushEnd::Failed(count) => Some(count),
+        FlushEnd::Idle | FlushEnd::Done | FlushEnd::Misplaced | FlushEnd::Memory => None,
+    });
+    for port in ports {
+        port.turn_ended();
+    }
+}
+
+// Makes flush turns until nothing is pending or one fails, and after each lets consumers see what is flushed and wakes the loops
+// that wait for it. Answers how the last turn ended.
+fn flush_all<W: Wait, C: Calls, D: Disk, P: Ready>(
+    rt: &W,
+    alloc: Global,
+    shared: &Shared,
+    ports: &[Port<P>],
+    calls: &mut C,
+    flusher: &mut Flusher,
+    disk: &mut D,
+) -> FlushEnd
+    requires key { C.has_key calls.old }
+    requires none_out { (C.shown calls.old).out ≡ None }
+    requires inside { D.tells → IsInside flusher.old.file.base flusher.old.file.offset (D.state disk.old) }
+    ensures key { C.has_key calls.new }
+    ensures none_out { (C.shown calls.new).out ≡ None }
+    ensures inside { D.tells → IsInside flusher.new.file.base flusher.new.file.offset (D.state disk.new) }
+    ensures outside { D.tells → StaysOutside (D.state disk.old) (D.state disk.new) }
+{
+    for _ in rt.forever() {
+        let end = flush_turn(alloc, calls, flusher, disk);
+        if end == FlushEnd::Idle {
+            return end;
+        }
+        show(alloc, calls);
+        tell(shared, ports, end);
+        if end != FlushEnd::Done {
+            return end;
+        }
+    }
+    unreachable!()
+}
+
+/// Flushes whenever it is rung for, until the loops have ended, and then what is left. What was pending when a turn failed is
+/// tried again at the next ring. Answers how the last turn ended.
+pub(crate) fn keep_flushing<W: Wait, C: Calls, D: Disk, P: Ready>(
+    rt: &W,
+    alloc: Global,
+    shared: &Shared,
+    ports: &[Port<P>],
+    calls: &mut C,
+    flusher: &mut Flusher,
+    disk: &mut D,
+) -> FlushEnd
+    requires key { C.has_key calls.old }
+    requires none_out { (C.shown calls.old).out ≡ None }
+    requires inside { D.tells → IsInside flusher.old.file.base flusher.old.file.offset (D.state disk.old) }
+    ensures key { C.has_key calls.new }
+    ensures none_out { (C.shown calls.new).out ≡ None }
+    ensures inside { D.tells → IsInside flusher.new.file.base flusher.new.file.offset (D.state disk.new) }
+    ensures outside { D.tells → StaysOutside (D.state disk.old) (D.state disk.new) }
+{
+    for _ in rt.forever() {
+        // Looked at before the turns, so that these flush what the loops appended to their end.
+        let over = shared.is_over();
+        let end = flush_all(rt, alloc, shared, ports, calls, flusher, disk);
+        if over {
+            return end;
+        }
+        shared.sleep(rt);
+    }
+    unreachable!()
+}

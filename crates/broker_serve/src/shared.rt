@@ -1,0 +1,183 @@
+//! What the threads of a running broker see of each other: who sleeps, what has ended, and links on their way to a loop.
+
+use mq_peers::{Ready, Wake};
+use std::alloc::Global;
+use std::collections::VecDeque;
+use std::sync::atomic::{AtomicU64, Ordering};
+use std::sync::{Mutex, Wait};
+use std::thread::Parker;
+
+/// A link that was let in, with its number.
+#[derive(Drop)]
+pub(crate) struct NewLink<L: Drop> {
+    pub(crate) number: u32,
+    pub(crate) link: L,
+}
+
+/// A loop, as the other threads see it.
+#[derive(Drop)]
+pub(crate) struct Port<P: Ready> {
+    inbox: Mutex<VecDeque<NewLink<P::Link>>>,
+    // 1 while the loop waits for a flush turn.
+    awaits: AtomicU64,
+    waker: P::Waker,
+}
+
+impl<P: Ready> Port<P> {
+    /// A loop that these wakes reach.
+    pub(crate) fn new(alloc: Global, waker: P::Waker) -> Port<P> {
+        Port {
+            inbox: Mutex::new(VecDeque::new(alloc)),
+            awaits: AtomicU64::new(0),
+            waker,
+        }
+    }
+
+    /// Hands a link over. Where memory wants for it the link is dropped, which closes it.
+    pub(crate) fn hand_over<R: Wait>(&self, rt: &R, link: NewLink<P::Link>) {
+        let _ = self.inbox.lock(rt).push_back(link);
+        self.waker.wake();
+    }
+
+    /// The next link that was handed over.
+    pub(crate) fn take<R: Wait>(&self, rt: &R) -> Option<NewLink<P::Link>> {
+        self.inbox.lock(rt).pop_front()
+    }
+
+    /// From now on the end of a flush turn wakes the loop.
+    pub(crate) fn await_turn(&self) {
+        self.awaits.store(1, Ordering::SeqCst);
+    }
+
+    /// A flush turn has ended: wakes the loop if it waits for one.
+    pub(crate) fn turn_ended(&self) {
+        if self.awaits.swap(0, Ordering::SeqCst) == 1 {
+            self.waker.wake();
+        }
+    }
+
+    /// Wakes the loop.
+    pub(crate) fn wake(&self) {
+        self.waker.wake();
+    }
+}
+
+/// What all threads share.
+#[derive(Drop)]
+pub(crate) struct Shared {
+    // What the flusher sleeps on.
+    bell: Parker,
+    // How many flush turns have ended.
+    turns: AtomicU64,
+    // 1 once the loops are to end, and once they have.
+    ending: AtomicU64,
+    over: AtomicU64,
+    // 1 once no further link is let in.
+    closed: AtomicU64,
+    // The disk's count of faults where the last turn failed, and one more; 0 where it did not.
+    failed: AtomicU64,
+    // How many links were let in and have not ended.
+    open: AtomicU64,
+    // 1 once a link has ended, until the door was asked again.
+    retry: AtomicU64,
+}
+
+impl Shared {
+    pub(crate) fn new() -> Shared {
+        Shared {
+            bell: Parker::new(),
+            turns: AtomicU64::new(0),
+            ending: AtomicU64::new(0),
+            over: AtomicU64::new(0),
+            closed: AtomicU64::new(0),
+            failed: AtomicU64::new(0),
+            open: AtomicU64::new(0),
+            retry: AtomicU64::new(0),
+        }
+    }
+
+    /// Something is pending: the flusher makes a turn.
+    pub(crate) fn ring(&self) {
+        self.bell.unpark();
+    }
+
+    /// Sleeps until something is pending.
+    pub(crate) fn sleep<R: Wait>(&self, rt: &R) {
+        self.bell.park(rt);
+    }
+
+    /// How many flush turns have ended, up to overflow.
+    pub(crate) fn turns(&self) -> u64 {
+        self.turns.load(Ordering::SeqCst)
+    }
+
+    /// One more flush turn has ended, and failed where this is the disk's count of faults.
+    pub(crate) fn count_turn(&self, failed: Option<u64>) {
+        let word = match failed {
+            Some(count) => count.saturating_add(1),
+            None => 0,
+        };
+        self.failed.store(word, Ordering::SeqCst);
+        self.turns.fetch_add(1, Ordering::SeqCst);
+    }
+
+    /// The disk's count of faults, where the last turn failed.
+    pub(crate) fn failed(&self) -> Option<u64> {
+        match self.failed.load(Ordering::SeqCst) {
+            0 => None,
+            word => Some(word - 1),
+        }
+    }
+
+    /// How many links were let in and have not ended.
+    pub(crate) fn open_links(&self) -> u64 {
+        self.open.load(Ordering::SeqCst)
+    }
+
+    /// A link was let in.
+    pub(crate) fn link_opened(&self) {
+        self.open.fetch_add(1, Ordering::SeqCst);
+    }
+
+    /// A link has ended, so that the door may let in another.
+    pub(crate) fn link_ended(&self) {
+        self.open.fetch_sub(1, Ordering::SeqCst);
+        self.retry.store(1, Ordering::SeqCst);
+    }
+
+    /// Whether a link has ended since this was asked.
+    pub(crate) fn take_retry(&self) -> bool {
+        self.retry.swap(0, Ordering::SeqCst) == 1
+    }
+
+    /// No further link is let in.
+    pub(crate) fn close(&self) {
+        self.closed.store(1, Ordering::SeqCst);
+    }
+
+    /// Whether no further link is let in.
+    pub(crate) fn is_closed(&self) -> bool {
+        self.closed.load(Ordering::SeqCst) == 1
+    }
+
+    /// The loops are to end.
+    pub(crate) fn end(&self) {
+        self.ending.store(1, Ordering::SeqCst);
+    }
+
+    /// Whether the loops are to end.
+    pub(crate) fn is_ending(&self) -> bool {
+        self.ending.load(Ordering::SeqCst) == 1
+    }
+
+    /// The loops have ended: the flusher makes its last turns.
+    pub(crate) fn loops_ended(&self) {
+        self.over.store(1, Ordering::SeqCst);
+        self.ring();
+    }
+
+    /// Whether the loops have ended.
+    pub(crate) fn is_over(&self) -> bool {
+        self.over.load(Ordering::SeqCst) == 1
+    }
+}
