@@ -23,7 +23,7 @@ use Rattle.half_view.proofs.LogLemmas.{numbers, kept_was, names_earlier, filter-
 
 -- ---- lists
 
-find-filter : (p q : Entry → Bool) (xs : List Entry) → find p (filter q xs) ≡ find (λ x. q x && p x) xs
+pub find-filter : (p q : Entry → Bool) (xs : List Entry) → find p (filter q xs) ≡ find (λ x. q x && p x) xs
 find-filter p q [] = refl
 find-filter p q (x ∷ xs) = by_test (find-filter p q xs) (q x)
   where
@@ -31,11 +31,11 @@ find-filter p q (x ∷ xs) = by_test (find-filter p q xs) (q x)
     by_test rest true = ap (λ (o : Option Entry). cond (p x) (Some x) o) rest
     by_test rest false = rest
 
-find-agree : (p q : Entry → Bool) → ((x : Entry) → p x ≡ q x) → (xs : List Entry) → find p xs ≡ find q xs
+pub find-agree : (p q : Entry → Bool) → ((x : Entry) → p x ≡ q x) → (xs : List Entry) → find p xs ≡ find q xs
 find-agree p q agree [] = refl
 find-agree p q agree (x ∷ xs) = ap (λ (b : Bool). cond b (Some x) (find p xs)) (agree x) ∙ ap (λ (o : Option Entry). cond (q x) (Some x) o) (find-agree p q agree xs)
 
-and_assoc : (a b c : Bool) → (a && (b && c)) ≡ ((a && b) && c)
+pub and_assoc : (a b c : Bool) → (a && (b && c)) ≡ ((a && b) && c)
 and_assoc true b c = refl
 and_assoc false b c = refl
 
@@ -164,11 +164,11 @@ module _ (segment : ℕ) (log : Log) (t : HalfTable) (well : IsWellFormed (geome
 
   -- ---- origins
 
-  row_there : (k : ℕ) → slice_get t.halves k ≡ option_map (half_of log) (slice_get (filter is_half log.records) k)
+  pub row_there : (k : ℕ) → slice_get t.halves k ≡ option_map (half_of log) (slice_get (filter is_half log.records) k)
   row_there k = ap (λ (rows : List HalfRow). slice_get rows k) are.halves ∙ get-map (half_of log) (filter is_half log.records) k
 
   -- the half message with a number is the one at its index
-  only_there : (h k : ℕ) (o : Option Entry) (p : Entry → Bool) → h ≡ t.low + k → slice_get (filter is_half log.records) k ≡ o
+  pub only_there : (h k : ℕ) (o : Option Entry) (p : Entry → Bool) → h ≡ t.low + k → slice_get (filter is_half log.records) k ≡ o
       → (j : ℕ) (y : Entry) → slice_get (filter is_half log.records) j ≡ Some y → y.queue_offset ≡ h → o ≡ Some y
   only_there h k o p is got j y at same =
       let number = (each_half j y at).0 in

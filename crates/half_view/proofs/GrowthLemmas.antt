@@ -243,7 +243,7 @@ find-map f p (x ∷ xs) = ap (λ o. cond (p (f x)) (Some (f x)) o) (find-map f p
     by_test true = refl
     by_test false = refl
 
-low_number : (e : Entry) → IsRecord e → e.queue_offset < 2 ^ 62
+pub low_number : (e : Entry) → IsRecord e → e.queue_offset < 2 ^ 62
 low_number e layout = (said e layout.entry).queue_offset
 
 module _ (segment : ℕ) (log : Log) (r : Entry) (t : HalfTable) (well : IsWellFormed (geometry segment log.base) log.records)

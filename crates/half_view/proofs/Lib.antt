@@ -5,3 +5,5 @@ pub mod NumberLemmas
 pub mod LogLemmas
 pub mod GrowthLemmas
 pub mod DueLemmas
+pub mod OriginLemmas
+pub mod CutLemmas

@@ -41,7 +41,7 @@ and_same true q is = sym (is refl)
 and_same false q is = refl
 
 -- half messages are the one queue of their topic
-halves_are : (S : Geometry) (log : List Entry) → IsWellFormed S log → filter is_half log ≡ queue_of log half_topic 0
+pub halves_are : (S : Geometry) (log : List Entry) → IsWellFormed S log → filter is_half log ≡ queue_of log half_topic 0
 halves_are S log well = kept_agree is_half (λ (r : Entry). bytes_eq r.topic half_topic && nat_eq r.queue 0) log
     (λ k e got. and_same (is_half e) (nat_eq e.queue 0) (λ is. eq-eqb e.queue 0 (queue_is S.size e (well.each k e got).admissible is)))
 
@@ -106,7 +106,7 @@ past_by S log x e n k end before ends behind low got last lower (inr more) =
     let some : 0 < size x = omega arith in
     omega (arith, ends, some, ap (λ (y : Entry). y.offset) is)
 
-ends_past : (S : Geometry) (log : List Entry) → IsWellFormed S log → (n : ℕ) → n ≤ length log → (k : ℕ) (e : Entry) → k < n → slice_get log k ≡ Some e → e.offset < end_of S.base (take n log)
+pub ends_past : (S : Geometry) (log : List Entry) → IsWellFormed S log → (n : ℕ) → n ≤ length log → (k : ℕ) (e : Entry) → k < n → slice_get log k ≡ Some e → e.offset < end_of S.base (take n log)
 ends_past S log well zero within k e low got = absurd (omega (arith, low))
 ends_past S log well (suc n) within k e low got =
     let last = get_there log n (omega (arith, within)) in
@@ -306,7 +306,7 @@ and_false true = refl
 and_false false = refl
 
 module _ (S : Geometry) (log : List Entry) (well : IsWellFormed S log) (small : S.base.queues half_topic 0 + length (filter is_half log) < 2 ^ 64) where
-  unrenewed : (k : ℕ) (e : Entry) → slice_get log k ≡ Some e → is_renewal (S.base.queues half_topic 0 + length (filter is_half log)) e ≡ false
+  pub unrenewed : (k : ℕ) (e : Entry) → slice_get log k ≡ Some e → is_renewal (S.base.queues half_topic 0 + length (filter is_half log)) e ≡ false
   unrenewed k e got = not_renewed S.size e (S.base.queues half_topic 0 + length (filter is_half log)) (well.each k e got).admissible small (named_low S log well k e got)
 
   pub unnamed : (k : ℕ) (e : Entry) → slice_get log k ≡ Some e → names_it (S.base.queues half_topic 0 + length (filter is_half log)) e ≡ false
@@ -319,7 +319,7 @@ module _ (S : Geometry) (log : List Entry) (well : IsWellFormed S log) (small : 
   pub no_renewals : renewals log (S.base.queues half_topic 0 + length (filter is_half log)) ≡ []
   no_renewals = filter_none (is_renewal (S.base.queues half_topic 0 + length (filter is_half log))) log unrenewed
 
-  not_origin : (k : ℕ) (e : Entry) → slice_get log k ≡ Some e → is_origin (S.base.queues half_topic 0 + length (filter is_half log)) e ≡ false
+  pub not_origin : (k : ℕ) (e : Entry) → slice_get log k ≡ Some e → is_origin (S.base.queues half_topic 0 + length (filter is_half log)) e ≡ false
   not_origin k e got = by_test (is_half e) refl
     where
       by_test : (b : Bool) → is_half e ≡ b → (b && is_none (origin_text e) && nat_eq e.queue_offset (S.base.queues half_topic 0 + length (filter is_half log))) ≡ false

@@ -1,13 +1,16 @@
 -- The table as that of a log.
-use Rattle.std.specs.Prelude.{◌≡◌, ℕ, ◌+◌, ◌-◌, ◌^◌, ◌&&◌, not, min, nat_lt, nat_le, List, [], ◌∷◌, map, filter, find, length, Bool, Option, Some, None, option_map, if◌then◌else◌}
+use Rattle.std.specs.Prelude.{◌≡◌, ℕ, ◌+◌, ◌-◌, ◌^◌, ◌≤◌, ◌&&◌, not, min, nat_lt, nat_le, List, [], ◌∷◌, map, filter, find, length, take, slice_get, Bool, Option, Some, None, option_map, if◌then◌else◌}
 use Rattle.std.specs.Str.Parse.{digits_value}
 use Rattle.record_codec.specs.Entry.{Entry}
 use Rattle.log_model.specs.declared.origin.OriginState.TheVariants.{Committed, RolledBack, Discarded}
 use Rattle.log_model.specs.Admissible.{half_topic, number_of}
+use Rattle.log_model.specs.Bases.{Base}
 use Rattle.log_model.specs.Kinds.{is_half, is_op, is_copy, is_discard, origin_text}
+use Rattle.log_model.specs.Log.{end_from}
 use Rattle.log_model.specs.Numbered.{Log, queue_min}
 use Rattle.log_model.specs.Origins.{told_state}
-use Rattle.log_model.specs.Transactions.{origins, renewals, last_of, settles, is_settled, transaction_state}
+use Rattle.log_model.specs.Queues.{queue_of}
+use Rattle.log_model.specs.Transactions.{origins, renewals, last_of, settles, is_settled, transaction_state, origin_of}
 use Rattle.half_view.specs.declared.check.Check.{Check}
 use Rattle.half_view.specs.declared.row.HalfRow.{HalfRow}
 use Rattle.half_view.specs.Halves.{HalfTable, names_or, family_at, with_settled, if_settled}
@@ -52,10 +55,28 @@ abbrev pub settling_in : Log → Option Entry → Option ℕ
 settling_in log None = None
 settling_in log (Some r) = if_settled (after_last (settles log.records r.queue_offset) log.base.records log.records)
 
+-- the origin of a half message, if one is there
+abbrev pub origin_in : List Entry → Option Entry → Option Entry
+origin_in log None = None
+origin_in log (Some half) = origin_of log half
+
 -- The table is that of the log: it has each half message in order, with what the whole log says of it.
 pub record AreHalvesOf (log : Log) (t : HalfTable) : Type 0 where
   pub low : t.low ≡ queue_min log half_topic 0
   pub halves : t.halves ≡ map (half_of log) (halves_in log)
+
+-- a log without records, from this base on
+abbrev pub empty_log : Base → Log
+empty_log base = record { base = base; records = [] }
+
+-- What a removal of the log's first n records leaves to half messages: the later base counts these records, the half messages
+-- among them too, and its place lies between them and the next one.
+pub record CutsHalves (log : Log) (n : ℕ) (later : Base) : Type 0 where
+  pub long : n ≤ length log.records
+  pub records : later.records ≡ log.base.records + length (take n log.records)
+  pub halves : later.queues half_topic 0 ≡ log.base.queues half_topic 0 + length (queue_of (take n log.records) half_topic 0)
+  pub behind : end_from log.base.place (take n log.records) ≤ later.place
+  pub before : (r : Entry) → slice_get log.records n ≡ Some r → later.place ≤ r.offset
 
 -- ---- what is due
 

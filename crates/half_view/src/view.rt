@@ -4,16 +4,17 @@
 ghost use Rattle.std.specs.Prelude.{◌≡◌, ◌<◌, ◌≤◌, ◌+◌, ◌∷◌, [], ◌^◌, ℕ, OnOk, Some, true, false, find, option_map, IfSome};
 ghost use Rattle.std.specs.List.Sorted.{IsNonDecreasingBy};
 ghost use Rattle.record_codec.specs.Entry.{Entry};
-ghost use Rattle.log_model.specs.Admissible.{number_at};
-ghost use Rattle.log_model.specs.Bases.{geometry};
+ghost use Rattle.log_model.specs.Admissible.{half_topic, number_at};
+ghost use Rattle.log_model.specs.Bases.{Base, geometry, no_base};
 ghost use Rattle.log_model.specs.Kinds.{is_half as is_half_entry, origin_text};
 ghost use Rattle.log_model.specs.Log.{Follows, IsWellFormed};
-ghost use Rattle.log_model.specs.Numbered.{Log, count_of, with_appended};
+ghost use Rattle.log_model.specs.Numbered.{Log, above, count_of, with_appended};
 ghost use Rattle.log_model.specs.Origins.{told_state};
-ghost use Rattle.log_model.specs.Transactions.{is_origin, transaction_state};
+ghost use Rattle.log_model.specs.Transactions.{half_at, is_origin, transaction_state};
 ghost use Rattle.half_view.specs.declared.row.HalfRow.{HalfRow};
 ghost use Rattle.half_view.specs.Halves.{HalfTable, row_at, index_of, renewed_row, changed, with_half, with_settled, cut_at, family_at, due_of, place_of, if_at, origin_at, origin_named, settling_number};
-ghost use Rattle.half_view.specs.OfLog.{AreHalvesOf, due_origin, check_of as check_of_origin, settling_in, committed_by, discarded_by, with_settlement};
+ghost use Rattle.half_view.specs.OfLog.{AreHalvesOf, CutsHalves, empty_log, origin_in, due_origin, check_of as check_of_origin, settling_in};
+ghost use Rattle.half_view.specs.OfLog.{committed_by, discarded_by, with_settlement};
 
 use crate::blocks::{BLOCK, first_due, named_at, push, renew_at, settle_at};
 use crate::check::Check;
@@ -57,6 +58,7 @@ impl HalfView {
     pub fn new(alloc: Global) -> HalfView
         ensures low { result.low ≡ 0 }
         ensures halves { result.halves ≡ [] }
+        ensures records { AreHalvesOf (empty_log no_base) result }
     {
         HalfView {
             low: 0,
@@ -88,14 +90,18 @@ impl HalfView {
         requires low { low ≤ 2 ^ 62 }
         ensures low { self.new.low ≡ low }
         ensures halves { self.new.halves ≡ [] }
+        ensures records { (base : Base) → low ≡ base.queues half_topic 0 → AreHalvesOf (empty_log base) self.new }
     {
         self.low = low;
     }
 
-    /// Removes the half messages that stand below a place; takes no memory. The places must not fall.
+    /// Removes the half messages that stand below a place; takes no memory. The places must not fall. Families may be cut: of
+    /// a renewal that is left `origin_of` then answers `None`.
     pub fn cut(&mut self, place: u64)
         ensures table { IsNonDecreasingBy place_of self.old.halves → self.new ≡ cut_at self.old place self.new.spare }
         ensures spare { self.old.spare ≤ self.new.spare }
+        ensures records { (segment n : ℕ) (log : Log) (later : Base) → IsWellFormed (geometry segment log.base) log.records
+            → AreHalvesOf log self.old → CutsHalves log n later → place ≡ later.place → AreHalvesOf (above log later) self.new }
     {
         let count = first_from(&self.halves, place);
         drop_front(&mut self.halves, count);
@@ -262,6 +268,15 @@ impl HalfView {
     /// there, or a renewal that names no origin.
     pub fn origin_of(&self, queue_offset: u64, place: u64) -> Option<u64>
         ensures table { result ≡ origin_named self.now (if_at place (row_at self.now queue_offset)) }
+        ensures records { (segment : ℕ) (log : Log) → IsWellFormed (geometry segment log.base) log.records → AreHalvesOf log self.now
+            → result ≡ option_map (λ origin. origin.queue_offset) (origin_in log.records (half_at log.records queue_offset place)) }
+    {
+        self.named_origin(queue_offset, place)
+    }
+
+    // The queue offset of the origin of the half message with this queue offset and place.
+    fn named_origin(&self, queue_offset: u64, place: u64) -> Option<u64>
+        ensures { result ≡ origin_named self.now (if_at place (row_at self.now queue_offset)) }
     {
         let row = self.half_at(queue_offset, place)?;
         self.origin(row.names)?;
