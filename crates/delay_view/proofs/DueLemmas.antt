@@ -1,12 +1,12 @@
 -- The level that is due is that of the log.
-use Rattle.std.proofs.Common.{◌≡◌, ◌∙◌, ℕ, zero, suc, ◌+◌, ◌-◌, ◌<◌, ◌≤◌, Bool, true, false, cond, nat_le, nat_lt, List, [], ◌∷◌, ◌++◌, map, length, get_or, take, drop, slice_get, Option, Some, None, refl, sym, ap, subst, arith}
+use Rattle.std.proofs.Common.{◌≡◌, ◌∙◌, ℕ, zero, suc, ◌+◌, ◌-◌, Bool, true, false, cond, nat_le, nat_lt, List, [], ◌∷◌, map, length, take, drop, slice_get, Option, Some, None, refl, sym, ap, subst, arith}
 use Rattle.std.specs.Prelude.{filter, option_map}
-use Rattle.std.proofs.lemmas.List.{take-append-drop, take_at, take-map, drop_more}
+use Rattle.std.proofs.lemmas.List.{take-append-drop, take_at, take-map}
 use Rattle.std.proofs.lemmas.List.Elements.{filter-append}
 use Rattle.mq_bytes.specs.Delays.{level_delay}
 use Rattle.record_codec.specs.Entry.{Entry}
 use Rattle.log_model.specs.Admissible.{level_topic}
-use Rattle.log_model.specs.Numbered.{Log, below, queue_min, records_of, item_at}
+use Rattle.log_model.specs.Numbered.{Log, below, queue_min, records_of}
 use Rattle.log_model.specs.Delays.{progress, next_delayed, due_here, due_among, due_delayed, levels}
 use Rattle.delay_view.specs.Levels.{Level, next_time, has_come, due_from, due_of, empty_level}
 use Rattle.delay_view.specs.OfLog.{delivery_time, IsLevelOf, AreLevelsOf}

@@ -1,5 +1,5 @@
 -- The levels of a log with one record more, and with one dispatched.
-use Rattle.std.proofs.Common.{◌≡◌, ◌∙◌, ◌≢◌, ◌⊎◌, inl, inr, ℕ, zero, suc, ◌+◌, ◌-◌, ◌<◌, ◌≤◌, Bool, true, false, cond, nat_lt, List, [], ◌∷◌, ◌++◌, map, length, set, take, drop, slice_get, Option, Some, None, refl, sym, ap, subst, arith, eq-eqb, length-set, append-nil}
+use Rattle.std.proofs.Common.{◌≡◌, ◌∙◌, ◌≢◌, ◌⊎◌, inl, inr, ℕ, zero, suc, ◌+◌, ◌-◌, ◌<◌, ◌≤◌, Bool, true, false, cond, nat_lt, List, [], ◌∷◌, ◌++◌, map, length, set, take, slice_get, Some, None, refl, sym, ap, subst, arith, eq-eqb, length-set, append-nil}
 use Rattle.std.specs.Prelude.{◌==◌, ◌&&◌, filter, count_by, Result, Ok, Err, OnOk}
 use Rattle.std.specs.Str.{bytes_eq}
 use Rattle.std.proofs.lemmas.Bool.{ne_eqb, ltb-false}
@@ -9,7 +9,7 @@ use Rattle.std.proofs.lemmas.List.Sums.{sum_by-append}
 use Rattle.record_codec.specs.Entry.{Entry}
 use Rattle.log_model.specs.Admissible.{level_topic}
 use Rattle.log_model.specs.Kinds.{is_delivery, is_delayed}
-use Rattle.log_model.specs.Numbered.{Log, below, count_of, queue_min, record_at, records_of, with_appended}
+use Rattle.log_model.specs.Numbered.{Log, count_of, record_at, records_of, with_appended}
 use Rattle.log_model.specs.Delays.{progress}
 use Rattle.delay_view.specs.Levels.{Level, with_room, with_time, with_next_seen, with_next_copied}
 use Rattle.delay_view.specs.OfLog.{delivery_time, IsLevelOf, AreLevelsOf, IsMessageOf, IsCopyOf, IsOther}
@@ -22,7 +22,7 @@ get_there [] k within = absurd (omega (arith, within))
 get_there (x ∷ xs) zero within = (x, refl)
 get_there (x ∷ xs) (suc k) within = get_there xs k (omega (arith, within))
 
-get_within : {A : Type 0} (xs : List A) (k : ℕ) (x : A) → slice_get xs k ≡ Some x → k < length xs
+pub get_within : {A : Type 0} (xs : List A) (k : ℕ) (x : A) → slice_get xs k ≡ Some x → k < length xs
 get_within [] k x at = cc at
 get_within (y ∷ xs) zero x at = omega arith
 get_within (y ∷ xs) (suc k) x at = let low = get_within xs k x at in omega (arith, low)

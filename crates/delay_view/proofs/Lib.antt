@@ -1,2 +1,3 @@
 pub mod DueLemmas
 pub mod GrowthLemmas
+pub mod CutLemmas

@@ -1,5 +1,5 @@
 -- What contracts see of the delay levels, and which is due.
-use Rattle.std.specs.Prelude.{ℕ, Bool, false, ◌+◌, ◌-◌, nat_lt, nat_le, List, [], ◌∷◌, ◌++◌, take, slice_get, Option, Some, None, if◌then◌else◌}
+use Rattle.std.specs.Prelude.{ℕ, Bool, false, ◌+◌, ◌-◌, nat_lt, nat_le, List, [], ◌∷◌, ◌++◌, take, drop, slice_get, Option, Some, None, if◌then◌else◌}
 
 -- A delay level: how many of its messages were removed, the delivery times of those that stand, how many of these were
 -- dispatched, how many messages were ever delivered, and for how many more there is room.
@@ -33,6 +33,10 @@ with_next_seen l = record l { seen = l.seen + 1 }
 -- with one message more that was delivered
 abbrev pub with_next_copied : Level → Level
 with_next_copied l = record l { copied = l.copied + 1 }
+
+-- without the messages below this offset
+abbrev pub cut_at : Level → ℕ → Level
+cut_at l min = record l { low = min; times = drop (min - l.low) l.times; seen = l.seen - (min - l.low) }
 
 -- the delivery time of the level's next message, where it was dispatched
 abbrev pub next_time : Level → Option ℕ

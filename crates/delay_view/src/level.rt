@@ -2,7 +2,7 @@
 //! added when its message is appended, and seen when the message is dispatched.
 
 ghost use Rattle.std.specs.Prelude.{◌≡◌, ◌<◌, ◌≤◌, ◌+◌, ◌^◌, length, OnOk};
-ghost use Rattle.delay_view.specs.Levels.{empty_level, started, with_room, with_time, with_next_seen, with_next_copied, next_time, has_come};
+ghost use Rattle.delay_view.specs.Levels.{empty_level, started, with_room, with_time, with_next_seen, with_next_copied, cut_at, next_time, has_come};
 
 use chunks::Chunks;
 use std::alloc::{AllocError, Global};
@@ -96,6 +96,18 @@ impl LevelTable {
         ensures { self.new ≡ with_next_copied self.old }
     {
         self.copied += 1;
+    }
+
+    // Removes the messages below this offset, which are seen.
+    pub(crate) fn cut(&mut self, min: u64)
+        requires low { self.old.low ≤ min }
+        requires high { min ≤ self.old.low + self.old.seen }
+        ensures { self.new ≡ cut_at self.old min }
+    {
+        let count = (min - self.low) as usize;
+        self.times.cut(count);
+        self.seen -= count;
+        self.low = min;
     }
 
     // How many messages were delivered.

@@ -1,7 +1,7 @@
 //! One level among all, and the lowest that is due.
 
 ghost use Rattle.std.specs.Prelude.{◌≡◌, ◌<◌, ◌≤◌, ◌+◌, ◌^◌, length, slice_get, slice_set, Some, OnOk, vec_len};
-ghost use Rattle.delay_view.specs.Levels.{Level, started, with_room, with_time, with_next_seen, with_next_copied};
+ghost use Rattle.delay_view.specs.Levels.{Level, started, with_room, with_time, with_next_seen, with_next_copied, cut_at};
 
 use crate::level::LevelTable;
 use std::alloc::{AllocError, Global};
@@ -70,4 +70,17 @@ pub(crate) fn copy_one(levels: &mut Vec<LevelTable>, k: usize)
 {
     let level = &mut levels[k];
     level.copy();
+}
+
+// Removes the messages of this level below an offset.
+pub(crate) fn cut_one(levels: &mut Vec<LevelTable>, k: usize, min: u64)
+    requires there { k < vec_len levels.old }
+    requires low { (l : Level) → slice_get levels.old.items k ≡ Some l → l.low ≤ min }
+    requires high { (l : Level) → slice_get levels.old.items k ≡ Some l → min ≤ l.low + l.seen }
+    ensures all { length levels.new.items ≡ length levels.old.items }
+    ensures level { (l : Level) → slice_get levels.old.items k ≡ Some l
+        → levels.new.items ≡ slice_set levels.old.items k (cut_at l min) }
+{
+    let level = &mut levels[k];
+    level.cut(min);
 }

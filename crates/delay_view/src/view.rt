@@ -2,13 +2,15 @@
 
 ghost use Rattle.std.specs.Prelude.{◌≡◌, ◌<◌, ◌≤◌, ◌+◌, ◌-◌, ◌^◌, ◌∷◌, [], ℕ, length, slice_get, slice_set, Some, OnOk, IfOk, option_map};
 ghost use Rattle.record_codec.specs.Entry.{Entry};
-ghost use Rattle.log_model.specs.Numbered.{Log, count_of, record_at, with_appended};
+ghost use Rattle.log_model.specs.Admissible.{level_topic};
+ghost use Rattle.log_model.specs.Bases.{Base, no_base};
+ghost use Rattle.log_model.specs.Numbered.{Log, above, count_of, record_at, with_appended};
 ghost use Rattle.log_model.specs.Delays.{progress as progress_of, due_delayed};
-ghost use Rattle.delay_view.specs.Levels.{Level, empty_level, started, with_room, with_time, with_next_seen, with_next_copied, due_of};
-ghost use Rattle.delay_view.specs.OfLog.{AreLevelsOf, IsMessageOf, IsCopyOf, delivery_time};
+ghost use Rattle.delay_view.specs.Levels.{Level, empty_level, started, with_room, with_time, with_next_seen, with_next_copied, cut_at, due_of};
+ghost use Rattle.delay_view.specs.OfLog.{AreLevelsOf, CutsLevels, IsLevelOf, IsMessageOf, IsCopyOf, delivery_time, empty_log};
 
 use crate::level::LevelTable;
-use crate::levels::{add_time, copy_one, make_room, see_one, start_one};
+use crate::levels::{add_time, copy_one, cut_one, make_room, see_one, start_one};
 use std::alloc::{AllocError, Global};
 use std::marker::Model;
 
@@ -37,7 +39,16 @@ impl Model for DelayView {
 impl DelayView {
     /// No messages, and none delivered.
     pub fn new(alloc: Global) -> Result<DelayView, AllocError>
-        ensures { IfOk result (λ view. (k : ℕ) (l : Level) → slice_get view k ≡ Some l → l ≡ empty_level l.spare) }
+        ensures levels { IfOk result (λ view. (k : ℕ) (l : Level) → slice_get view k ≡ Some l → l ≡ empty_level l.spare) }
+        ensures records { IfOk result (λ view. AreLevelsOf (empty_log no_base) 0 view) }
+    {
+        DelayView::make(alloc)
+    }
+
+    // Eighteen levels that have no messages.
+    fn make(alloc: Global) -> Result<DelayView, AllocError>
+        ensures { IfOk result (λ view. (length view ≡ 18)
+            × ((k : ℕ) (l : Level) → slice_get view k ≡ Some l → l ≡ empty_level l.spare)) }
     {
         let mut levels = Vec::new(alloc);
         for _ in 0..LEVELS {
@@ -53,8 +64,10 @@ impl DelayView {
         requires none { (l : Level) → slice_get self.old (level - 1) ≡ Some l → length l.times ≡ 0 }
         requires items { items ≤ 2 ^ 62 }
         requires copies { copies ≤ 2 ^ 62 }
-        ensures { (l : Level) → slice_get self.old (level - 1) ≡ Some l
+        ensures level { (l : Level) → slice_get self.old (level - 1) ≡ Some l
             → (s : ℕ) × (self.new ≡ slice_set self.old (level - 1) (started l items copies s)) }
+        ensures records { (base : Base) (d : ℕ) (l : Level) → items ≡ base.queues level_topic (level - 1) → copies ≡ base.levels level
+            → slice_get self.new (level - 1) ≡ Some l → IsLevelOf (empty_log base) d level l }
     {
         start_one(&mut self.levels, level as usize - 1, items, copies);
     }
@@ -109,6 +122,21 @@ impl DelayView {
             → self.new ≡ slice_set self.old (level - 1) (with_next_copied l) }
     {
         copy_one(&mut self.levels, level as usize - 1);
+    }
+
+    /// Removes the messages of a level below an offset, which are dispatched; takes no memory.
+    pub fn cut(&mut self, level: u8, min: u64)
+        requires first { 1 ≤ level }
+        requires last { level ≤ 18 }
+        requires low { (l : Level) → slice_get self.old (level - 1) ≡ Some l → l.low ≤ min }
+        requires high { (l : Level) → slice_get self.old (level - 1) ≡ Some l → min ≤ l.low + l.seen }
+        ensures level { (l : Level) → slice_get self.old (level - 1) ≡ Some l
+            → self.new ≡ slice_set self.old (level - 1) (cut_at l min) }
+        ensures records { (log : Log) (d n : ℕ) (later : Base) (l m : Level) → slice_get self.old (level - 1) ≡ Some l → IsLevelOf log d level l
+            → CutsLevels log n later → later.records ≤ d → min ≡ later.queues level_topic (level - 1)
+            → slice_get self.new (level - 1) ≡ Some m → IsLevelOf (above log later) d level m }
+    {
+        cut_one(&mut self.levels, level as usize - 1, min);
     }
 
     /// How many messages of a level were delivered.

@@ -1,7 +1,7 @@
 -- So many levels are made, each with nothing.
 use Rattle.std.proofs.Common.{◌≡◌, ℕ, length, slice_get, Some}
 use Rattle.delay_view.specs.Levels.{Level, empty_level}
-use Rattle.delay_view.proofs.view.DelayView.new.Given as goal
+use Rattle.delay_view.proofs.view.DelayView.make.Given as goal
 
 abbrev pub invariant-loop : goal.invariant-loop
 invariant-loop l = record {
