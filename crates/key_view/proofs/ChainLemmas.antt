@@ -1,7 +1,7 @@
 -- Chains of rows: what one row more, twice as many slots and a cut leave of them.
-use Rattle.std.proofs.Common.{◌≡◌, ◌∙◌, ◌≢◌, ℕ, zero, suc, ◌+◌, ◌-◌, ◌*◌, ◌/◌, ◌%◌, ◌<◌, ◌≤◌, ◌^◌, min, List, [], ◌∷◌, ◌++◌, reverse, length, get_or, set, take, drop, Bool, cond, inl, inr, refl, sym, ap, subst, arith, length-set, get_or-set_same, get_or-set_other}
+use Rattle.std.proofs.Common.{◌≡◌, ◌∙◌, ◌≢◌, ℕ, zero, suc, ◌+◌, ◌-◌, ◌*◌, ◌/◌, ◌%◌, ◌<◌, ◌≤◌, ◌^◌, min, List, [], ◌∷◌, ◌++◌, reverse, length, get_or, set, Bool, cond, inl, inr, refl, sym, ap, subst, arith, length-set, get_or-set_same, get_or-set_other}
 use Rattle.std.proofs.lemmas.Bool.{cases_lt, cases_eq}
-use Rattle.std.proofs.lemmas.List.{reverse-append, length_push, get_or_append_left, get_or-append-add, length-append, length-drop, length-reverse}
+use Rattle.std.proofs.lemmas.List.{reverse-append, length_push, get_or_append_left, get_or-append-add, length-append, length-reverse}
 use Rattle.std.proofs.lemmas.Nat.{mod-mul-add}
 use Rattle.std.proofs.Math.Nat.{div-add-mod}
 use Rattle.std.proofs.Math.Dec.{eqb-suc-zero}

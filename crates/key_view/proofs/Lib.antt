@@ -3,3 +3,4 @@ pub mod PlaceLemmas
 pub mod QueryLemmas
 pub mod RecordLemmas
 pub mod CutLemmas
+pub mod RemovalLemmas

@@ -1,10 +1,10 @@
 -- Places, each once: with one more behind them, and their front.
-use Rattle.std.proofs.Common.{◌≡◌, ◌∙◌, ℕ, zero, suc, ◌+◌, ◌-◌, ◌<◌, ◌≤◌, Bool, true, false, cond, List, [], ◌∷◌, ◌++◌, length, get_or, take, refl, sym, ap, subst, arith, inl, inr}
+use Rattle.std.proofs.Common.{◌≡◌, ◌∙◌, ℕ, suc, ◌-◌, ◌<◌, Bool, true, false, cond, List, [], ◌∷◌, ◌++◌, length, get_or, take, refl, sym, ap, arith}
 use Rattle.std.specs.Prelude.{◌==◌, ◌&&◌, nat_lt}
-use Rattle.std.specs.List.{dedup, dedup_from}
-use Rattle.std.proofs.lemmas.List.{take_at, append_assoc}
+use Rattle.std.specs.List.{dedup_from}
+use Rattle.std.proofs.lemmas.List.{take_at}
 use Rattle.std.proofs.lemmas.Bool.{eqb-true, ltb-false}
-use Rattle.key_view.specs.Entries.{once, is_last, with_place}
+use Rattle.key_view.specs.Entries.{once, with_place}
 
 -- the last of these, where that one stands before them
 abbrev pub last_of : ℕ → List ℕ → ℕ

@@ -1,8 +1,8 @@
 -- What a query has found of the rows that it has passed.
 use Rattle.std.proofs.Common.{◌≡◌, ◌∙◌, ◌≢◌, ℕ, zero, suc, ◌+◌, ◌-◌, ◌<◌, ◌≤◌, Bool, true, false, cond, List, [], ◌∷◌, ◌++◌, reverse, map, length, get_or, take, drop, refl, sym, ap, subst, arith, inl, inr}
-use Rattle.std.specs.Prelude.{◌==◌, ◌&&◌, nat_lt, ℤ, filter, pos, int_le}
+use Rattle.std.specs.Prelude.{◌&&◌, nat_lt, ℤ, filter, pos, int_le}
 use Rattle.std.proofs.lemmas.Bool.{cases_lt, ne_eqb}
-use Rattle.std.proofs.lemmas.List.{drop-drop, map-append, drop_more, take_all, append-nil, take-append-drop, length-reverse, length_push, reverse-append}
+use Rattle.std.proofs.lemmas.List.{drop-drop, map-append, drop_more, take_all, append-nil, take-append-drop, length_push, reverse-append}
 use Rattle.std.proofs.lemmas.List.Elements.{filter-append}
 use Rattle.std.proofs.Math.Seq.{take-add}
 use Rattle.key_view.specs.declared.row.KeyRow.{KeyRow}

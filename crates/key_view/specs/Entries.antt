@@ -1,8 +1,11 @@
 -- What contracts see of the table of the keys, and what a query of it answers.
-use Rattle.std.specs.Prelude.{◌≡◌, ◌<◌, ℕ, slice_get, Some, ◌-◌, ◌==◌, ◌&&◌, nat_lt, List, [], ◌∷◌, ◌++◌, map, filter, reverse, take, length, slice_index, ℤ, pos, int_le, Bool, if◌then◌else◌}
+use Rattle.std.specs.Prelude.{◌≡◌, ◌<◌, ◌≤◌, ◌+◌, ℕ, slice_get, Some, ◌-◌, ◌==◌, ◌&&◌, nat_lt, List, [], ◌∷◌, ◌++◌, map, filter, reverse, take, length, slice_index, ℤ, pos, int_le, Bool, if◌then◌else◌}
 use Rattle.std.specs.List.{dedup, flat_map}
 use Rattle.record_codec.specs.Entry.{Entry}
+use Rattle.log_model.specs.Bases.{Base}
 use Rattle.log_model.specs.Keys.{index_keys, is_match, asked_number}
+use Rattle.log_model.specs.Log.{end_from}
+use Rattle.log_model.specs.Numbered.{Log}
 
 -- a key of a record: its hash, and the record's place and store time
 pub record KeyEntry : Type 0 where
@@ -60,3 +63,11 @@ with_sought sought place places = if sought then with_place place places else pl
 -- each record stands at a later place than those before it
 abbrev pub AreRising : List Entry → Type 0
 AreRising log = (i j : ℕ) (a b : Entry) → i < j → slice_get log i ≡ Some a → slice_get log j ≡ Some b → a.offset < b.offset
+
+-- What a removal of the log's first n records leaves to keys: the later base counts these records, and its place lies between
+-- them and the next one.
+pub record CutsKeys (log : Log) (n : ℕ) (later : Base) : Type 0 where
+  pub long : n ≤ length log.records
+  pub records : later.records ≡ log.base.records + length (take n log.records)
+  pub behind : end_from log.base.place (take n log.records) ≤ later.place
+  pub before : (r : Entry) → slice_get log.records n ≡ Some r → later.place ≤ r.offset

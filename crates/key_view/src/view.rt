@@ -4,7 +4,9 @@
 ghost use Rattle.std.specs.Prelude.{◌≡◌, ◌<◌, ◌≤◌, ◌+◌, ◌-◌, ◌++◌, ◌∷◌, [], ◌^◌, ℕ, List, map, filter, reverse, length, drop, nat_le, OnOk, IfOk};
 ghost use Rattle.std.specs.List.Sorted.{IsNonDecreasingBy};
 ghost use Rattle.record_codec.specs.Entry.{Entry};
-ghost use Rattle.key_view.specs.Entries.{KeyTable, KeyEntry, newest_places, key_entries, newest_records, AreRising};
+ghost use Rattle.log_model.specs.Bases.{Base};
+ghost use Rattle.log_model.specs.Numbered.{Log, above};
+ghost use Rattle.key_view.specs.Entries.{KeyTable, KeyEntry, newest_places, key_entries, newest_records, AreRising, CutsKeys};
 ghost use Rattle.key_view.specs.Rooms.{newest_in};
 
 use crate::places::{Sought, asked, put};
@@ -45,7 +47,8 @@ impl Model for KeyView {
 impl KeyView {
     /// No keys; takes no memory.
     pub fn new(alloc: Global) -> KeyView
-        ensures { result.entries ≡ [] }
+        ensures entries { result.entries ≡ [] }
+        ensures records { result.entries ≡ key_entries [] }
     {
         KeyView {
             rows: Chunks::new(alloc),
@@ -131,6 +134,8 @@ impl KeyView {
         requires { IsNonDecreasingBy (λ e. e.place) self.old.entries }
         ensures entries { self.new.entries ≡ filter (λ e. nat_le place e.place) self.old.entries }
         ensures spare { self.old.spare ≤ self.new.spare }
+        ensures records { (n : ℕ) (log : Log) (later : Base) → self.old.entries ≡ key_entries log.records → AreRising log.records
+            → CutsKeys log n later → place ≡ later.place → self.new.entries ≡ key_entries (above log later).records }
     {
         let count = self.rows.search(self.rows.len(), place);
         self.rows.cut(count);

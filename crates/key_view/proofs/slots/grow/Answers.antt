@@ -1,5 +1,4 @@
 use Rattle.std.proofs.Common.{◌<◌, length, rules}
-use Rattle.key_view.proofs.QueryLemmas.{none_passed}
 use Rattle.key_view.proofs.ChainLemmas.{newest_in_either}
 use Rattle.key_view.proofs.slots.grow.Goals as goal
 

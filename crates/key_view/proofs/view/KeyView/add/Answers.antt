@@ -1,4 +1,4 @@
-use Rattle.std.proofs.Common.{◌≡◌, ◌∙◌, ◌<◌, ◌+◌, ◌-◌, ◌%◌, ◌++◌, ◌∷◌, [], ◌^◌, min, List, length, set, subst, sym, ap, arith}
+use Rattle.std.proofs.Common.{◌≡◌, ◌∙◌, ◌<◌, ◌+◌, ◌-◌, ◌%◌, ◌++◌, ◌∷◌, [], ◌^◌, min, List, length, set, subst, sym, ap}
 use Rattle.key_view.specs.declared.row.KeyRow.{KeyRow}
 use Rattle.key_view.specs.Entries.{KeyTable}
 use Rattle.key_view.specs.Rooms.{IsKept, newest_in}

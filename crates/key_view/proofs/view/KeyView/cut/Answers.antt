@@ -1,12 +1,13 @@
-use Rattle.std.proofs.Common.{◌≡◌, ◌∙◌, ◌≤◌, ℕ, List, map, length, drop, take, nat_le, subst, sym, ap, arith}
+use Rattle.std.proofs.Common.{◌≡◌, ◌∙◌, ℕ, List, map, drop, take, nat_le, subst, sym, ap, arith}
 use Rattle.std.specs.Prelude.{filter}
 use Rattle.std.specs.List.{position_or_len}
 use Rattle.std.specs.List.Sorted.{IsNonDecreasingBy}
 use Rattle.std.proofs.lemmas.List.{take_all}
 use Rattle.key_view.specs.declared.row.KeyRow.{KeyRow}
-use Rattle.key_view.specs.Entries.{KeyEntry, KeyTable, place_of}
+use Rattle.key_view.specs.Entries.{KeyEntry, KeyTable, place_of, key_entries}
 use Rattle.key_view.specs.Rooms.{entry_of}
 use Rattle.key_view.proofs.CutLemmas.{kept_cut, rows_rise, stay_from}
+use Rattle.key_view.proofs.RemovalLemmas.{keys_cut}
 use Rattle.key_view.proofs.view.KeyView.cut.Goals as goal
 
 pub search-count-requires-clause-rising : goal.search-count-requires-clause-rising
@@ -31,3 +32,10 @@ returns-clause-entries c =
     ap (map entry_of) (c.cut.ensures.items ∙ ap (λ (n : ℕ). drop n rows) first)
     ∙ stay_from c.args.place rows (subst (λ (rs : List KeyRow). IsNonDecreasingBy (λ (row : KeyRow). row.place) rs) all rising)
     ∙ ap (λ (t : KeyTable). filter (λ (e : KeyEntry). nat_le c.args.place e.place) t.entries) c.self.view_is
+
+pub returns-clause-records : goal.returns-clause-records
+returns-clause-records c n log later are rising cut at =
+    returns-clause-entries c
+    ∙ ap (λ (es : List KeyEntry). filter (λ (e : KeyEntry). nat_le c.args.place e.place) es) are
+    ∙ ap (λ (p : ℕ). filter (λ (e : KeyEntry). nat_le p e.place) (key_entries log.records)) at
+    ∙ keys_cut log later rising n cut

@@ -1,12 +1,11 @@
-use Rattle.std.proofs.Common.{◌≡◌, ◌∙◌, ◌<◌, ◌≤◌, ◌+◌, ◌-◌, List, length, get_or, reverse, map, drop, take, subst, sym, ap, arith, rules, ℕ, ℤ, to_z, of_z, refl}
+use Rattle.std.proofs.Common.{◌≡◌, ◌∙◌, ◌<◌, ◌≤◌, ◌+◌, ◌-◌, List, length, get_or, reverse, map, take, subst, sym, ap, arith, rules, ℕ, ℤ, to_z, of_z, refl}
 use Rattle.std.proofs.lemmas.Int.{to_z-of_z}
 use Rattle.std.proofs.lemmas.List.{get_or-reverse, length-reverse}
 use Rattle.std.proofs.lemmas.Option.{get_or_from_slice_get}
 use Rattle.std.specs.Int.{w32, w64}
 use Rattle.log_model.specs.Keys.{asked_number}
-use Rattle.key_view.specs.declared.row.KeyRow.{KeyRow}
 use Rattle.key_view.specs.Entries.{KeyEntry, KeyTable, once, place_of, is_sought, newest_places}
-use Rattle.key_view.specs.Rooms.{Covers, entry_of, newest_in}
+use Rattle.key_view.specs.Rooms.{entry_of, newest_in}
 use Rattle.key_view.proofs.ChainLemmas.{covers_same}
 use Rattle.key_view.proofs.QueryLemmas.{next_in, none_passed, chain_next, found_next, once_next, one_more, found_all, map-reverse, places_in}
 use Rattle.std.specs.Prelude.{filter}
