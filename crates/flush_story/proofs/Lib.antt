@@ -1,0 +1,5 @@
+pub mod Steps
+pub mod NextBatch
+pub mod Turns
+pub mod Keeps
+pub mod Placing
