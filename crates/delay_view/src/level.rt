@@ -77,6 +77,7 @@ impl LevelTable {
     pub(crate) fn add(&mut self, time: u64)
         requires { 0 < self.old.spare }
         ensures added { self.new ≡ with_time self.old time self.new.spare }
+        ensures unseen { self.new.seen < length self.new.times }
         ensures spare { self.old.spare ≤ self.new.spare + 1 }
     {
         self.times.push(time);

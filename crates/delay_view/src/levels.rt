@@ -43,6 +43,7 @@ pub(crate) fn add_time(levels: &mut Vec<LevelTable>, k: usize, time: u64)
     ensures all { length levels.new.items ≡ length levels.old.items }
     ensures level { (l : Level) → slice_get levels.old.items k ≡ Some l
         → (s : _) × (l.spare ≤ s + 1) × (levels.new.items ≡ slice_set levels.old.items k (with_time l time s)) }
+    ensures unseen { (l : Level) → slice_get levels.new.items k ≡ Some l → l.seen < length l.times }
 {
     let level = &mut levels[k];
     level.add(time);

@@ -94,6 +94,7 @@ impl DelayView {
             → time ≡ delivery_time level r → AreLevelsOf (with_appended log (r ∷ [])) d self.new }
         ensures level { (l : Level) → slice_get self.old (level - 1) ≡ Some l
             → (s : ℕ) × (l.spare ≤ s + 1) × (self.new ≡ slice_set self.old (level - 1) (with_time l time s)) }
+        ensures unseen { (l : Level) → slice_get self.new (level - 1) ≡ Some l → l.seen < length l.times }
     {
         add_time(&mut self.levels, level as usize - 1, time);
     }

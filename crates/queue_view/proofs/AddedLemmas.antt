@@ -55,10 +55,10 @@ take_within xs ys zero low = refl
 take_within [] ys (suc n) low = absurd (let none : ⊥ = omega (arith, low) in none)
 take_within (x ∷ xs) ys (suc n) low = ap (λ (zs : List _). x ∷ zs) (take_within xs ys n (omega (arith, low)))
 
-in_front : (added : List Added) (n : ℕ) (topic : List ℕ) (queue : ℕ) → queue_in added topic queue ≡ queue_in (take n added) topic queue ++ queue_in (drop n added) topic queue
+pub in_front : (added : List Added) (n : ℕ) (topic : List ℕ) (queue : ℕ) → queue_in added topic queue ≡ queue_in (take n added) topic queue ++ queue_in (drop n added) topic queue
 in_front added n topic queue = ap (λ (rs : List Added). queue_in rs topic queue) (sym (take-append-drop n added)) ∙ queue_in-append (take n added) (drop n added) topic queue
 
-none_in_front : (added : List Added) (n : ℕ) (topic : List ℕ) (queue : ℕ) → queue_in added topic queue ≡ [] → 0 ≡ length (queue_in (take n added) topic queue)
+pub none_in_front : (added : List Added) (n : ℕ) (topic : List ℕ) (queue : ℕ) → queue_in added topic queue ≡ [] → 0 ≡ length (queue_in (take n added) topic queue)
 none_in_front added n topic queue none =
     let total : 0 ≡ length (queue_in (take n added) topic queue) + length (queue_in (drop n added) topic queue) =
     ap length (sym none) ∙ ap length (in_front added n topic queue) ∙ length-append (queue_in (take n added) topic queue) (queue_in (drop n added) topic queue) in
@@ -72,7 +72,7 @@ seen_is low added n t is =
 
 -- ---- one table changes
 
-get_set : {A : Type 0} (xs : List A) (j k : ℕ) (x y : A) → slice_get (slice_set xs k x) j ≡ Some y → ((j ≡ k) × (y ≡ x)) ⊎ ((j ≢ k) × (slice_get xs j ≡ Some y))
+pub get_set : {A : Type 0} (xs : List A) (j k : ℕ) (x y : A) → slice_get (slice_set xs k x) j ≡ Some y → ((j ≡ k) × (y ≡ x)) ⊎ ((j ≢ k) × (slice_get xs j ≡ Some y))
 get_set [] j k x y at = cc at
 get_set (z ∷ xs) zero zero x y at = inl (refl, sym (some_one at))
 get_set (z ∷ xs) zero (suc k) x y at = inr ((λ e. let none : ⊥ = omega (arith, e) in none), at)

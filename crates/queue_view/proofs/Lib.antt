@@ -5,3 +5,4 @@ pub mod AnswerLemmas
 pub mod NumberLemmas
 pub mod NumberedLemmas
 pub mod AddedLemmas
+pub mod RemovalLemmas

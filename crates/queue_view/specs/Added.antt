@@ -1,9 +1,9 @@
 -- The tables as those of a list of records: what each has, told by filters of the whole list.
-use Rattle.std.specs.Prelude.{◌≡◌, ℕ, ◌==◌, ◌&&◌, Bool, List, [], map, filter, length, take, slice_get, Some, None, if◌then◌else◌}
+use Rattle.std.specs.Prelude.{◌≡◌, ℕ, ◌+◌, ◌==◌, ◌&&◌, Bool, List, [], map, filter, length, take, slice_get, Some, None, if◌then◌else◌}
 use Rattle.std.specs.Str.{bytes_eq}
 use Rattle.record_codec.specs.declared.unit.Unit.{Unit as QueueUnit}
 use Rattle.queue_view.specs.declared.stored.StoredUnit.{StoredUnit}
-use Rattle.queue_view.specs.Tables.{Table, number_of}
+use Rattle.queue_view.specs.Tables.{Table, number_of, cut_at}
 
 -- a record as the tables see it
 pub record Added : Type 0 where
@@ -48,3 +48,11 @@ pub record AreTablesOf (low : List ℕ → ℕ → ℕ) (added : List Added) (n 
 -- so many were removed of one queue, and of the others as many as `low` tells
 abbrev pub with_low : (List ℕ → ℕ → ℕ) → List ℕ → ℕ → ℕ → List ℕ → ℕ → ℕ
 with_low low topic queue min other at = if bytes_eq topic other && (queue == at) then min else low other at
+
+-- of each queue as many were removed as `low` tells, and these records too
+abbrev pub AreLowAfter : (List ℕ → ℕ → ℕ) → List Added → (List ℕ → ℕ → ℕ) → Type 0
+AreLowAfter low gone later = (topic : List ℕ) (queue : ℕ) → later topic queue ≡ low topic queue + length (queue_in gone topic queue)
+
+-- the table without the units below its queue's number
+abbrev pub cut_to : (List ℕ → ℕ → ℕ) → Table → Table
+cut_to later t = cut_at t (later t.topic t.queue)

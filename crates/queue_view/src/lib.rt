@@ -4,6 +4,7 @@
 mod absent;
 mod bounds;
 mod examine;
+pub mod laws;
 mod numbers;
 mod pulled;
 mod stored;

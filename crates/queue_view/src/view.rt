@@ -1,12 +1,12 @@
 //! The tables of all queues. A unit is added when its record is appended, and seen by consumers when the record is
 //! dispatched; the number of a table stays the same, so that neither looks a text up.
 
-ghost use Rattle.std.specs.Prelude.{◌≡◌, ◌<◌, ◌≤◌, ◌+◌, ◌++◌, ◌∷◌, [], ◌^◌, ℕ, List, length, take, slice_get, slice_set};
+ghost use Rattle.std.specs.Prelude.{◌≡◌, ◌<◌, ◌≤◌, ◌+◌, ◌-◌, ◌++◌, ◌∷◌, [], ◌^◌, ℕ, List, length, take, drop, slice_get, slice_set};
 ghost use Rattle.std.specs.Prelude.{Some, None, IfOk, OnOk, OnErr};
 ghost use Rattle.std.specs.List.Sorted.{IsNonDecreasingBy};
 ghost use Rattle.queue_view.specs.Tables.{Table, number_of, max_of, added_of, empty_table, with_room, with_unit, with_next_seen, cut_at};
 ghost use Rattle.queue_view.specs.Searches.{first_from, first_among, store_in};
-ghost use Rattle.queue_view.specs.Added.{Added, added_to, queue_in, IsRecordOf, AreTablesOf, with_low};
+ghost use Rattle.queue_view.specs.Added.{Added, added_to, queue_in, IsRecordOf, IsTableOf, AreTablesOf, AreLowAfter, with_low};
 ghost use Rattle.queue_view.specs.Answers.{Answers, pulled_of, pulled_among};
 
 use crate::numbers::{QueueNumbers, number_in, set_number};
@@ -165,8 +165,11 @@ impl QueueView {
         requires there { table < length self.old }
         requires low { (t : Table) → slice_get self.old table ≡ Some t → t.low ≤ min }
         requires high { (t : Table) → slice_get self.old table ≡ Some t → min ≤ max_of t }
-        ensures { (t : Table) → slice_get self.old table ≡ Some t
+        ensures table { (t : Table) → slice_get self.old table ≡ Some t
             → self.new ≡ slice_set self.old table (cut_at t min) }
+        ensures records { (low later : List ℕ → ℕ → ℕ) (added : List Added) (n k : ℕ) (t u : Table) → slice_get self.old table ≡ Some t
+            → IsTableOf low added n t → k ≤ n → AreLowAfter low (take k added) later → min ≡ later t.topic t.queue
+            → slice_get self.new table ≡ Some u → IsTableOf later (drop k added) (n - k) u }
     {
         cut_one(&mut self.tables, table as usize, min);
     }
