@@ -12,7 +12,7 @@ use Rattle.broker_model.specs.Refusals.{plain_reply, refusal_of}
 use Rattle.broker_model.specs.Appended.{is_refused, is_past_end, is_full, drafts_of, made_by, appended}
 use Rattle.broker_model.specs.Answers.{answer_of, refused_answer, carried_out_answer, request_answer, or_refused, done_reply}
 use Rattle.broker_model.specs.Step.{after, changed, request_changed, with_made, with_records}
-use Rattle.broker_events.specs.Replies.{IsReplyOf}
+use Rattle.broker_events.specs.Replies.{IsReplyOf, IsToldAs}
 use Rattle.broker_events.specs.declared.said.Said.TheVariants as said
 use Rattle.broker_core.specs.declared.parts.Parts.{Parts}
 use Rattle.broker_core.specs.Represents.{Represents}
@@ -41,7 +41,7 @@ pub carries_refused : (old : Parts) (host : List ℕ) (now : ℕ) (request : Req
 carries_refused old host now request told reply refused is link s are =
     let a : model.Asked = record { link = link; host = host; now = now; request = request } in
     let h = refused s are in
-    ((told, refused_answers s a told h, is), subst (λ (t : State). Represents old t) (sym (refused_stays s a told h)) are)
+    (subst (λ (w : model.Answer). IsToldAs reply w) (sym (refused_answers s a told h)) is, subst (λ (t : State). Represents old t) (sym (refused_stays s a told h)) are)
 
 -- ---- topics
 

@@ -63,6 +63,8 @@ represents_roomier old rows queues s are first items kept tables =
       room = are.room;
       topics = are.topics;
       clients = are.clients;
+      offsets = are.offsets;
+      locks = are.locks;
     }
 
 -- there is room for one record more of the queue
@@ -186,4 +188,6 @@ represents_appended old s d p table pending queues rows are may layout mine pend
       room = subst (λ (v : PendingPart). IfSome v.out (λ out. HasRoom old.stored)) (sym pending_is) are.room;
       topics = are.topics;
       clients = are.clients;
+      offsets = are.offsets;
+      locks = are.locks;
     }

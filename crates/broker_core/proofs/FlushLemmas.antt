@@ -309,6 +309,8 @@ represents_flushed old s receipt turn stored are e pushed pending =
       room = tt;
       topics = are.topics;
       clients = are.clients;
+      offsets = are.offsets;
+      locks = are.locks;
     }
 
 -- the turn that is out has written its batch

@@ -24,3 +24,4 @@ pub mod StoreLemmas
 pub mod TableLemmas
 pub mod TopicLemmas
 pub mod TurnLemmas
+pub mod GroupLemmas

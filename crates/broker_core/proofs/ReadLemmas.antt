@@ -6,15 +6,15 @@ use Rattle.std.specs.declared.alloc.AllocError.{AllocError}
 use Rattle.record_codec.specs.Layout.{size}
 use Rattle.record_codec.specs.declared.draft.Draft.{Draft}
 use Rattle.log_model.specs.Numbered.{next_records, queue_max, queue_min}
-use Rattle.request_fields.specs.Requests.{QueueSaid, SearchSaid, PullSaid}
+use Rattle.request_fields.specs.Requests.{QueueSaid, SearchSaid, PullSaid, OffsetSaid, SetOffsetSaid}
 use Rattle.request_fields.specs.declared.request.Request.{Request}
-use Rattle.request_fields.specs.declared.request.Request.TheVariants.{MaxOffset, MinOffset, Search, Pull}
-use Rattle.broker_model.specs.Tables.{OffsetRow}
+use Rattle.request_fields.specs.declared.request.Request.TheVariants.{MaxOffset, MinOffset, Search, Pull, OffsetOf, SetOffset}
+use Rattle.broker_model.specs.Tables.{offset_in}
 use Rattle.broker_model.specs.State.{State, seen, pending_bytes}
 use Rattle.broker_model.specs.Events as model
 use Rattle.broker_model.specs.Refusals.{refusal_of, queue_refusal, pull_refusal}
 use Rattle.broker_model.specs.Appended.{drafts_of, made_by, is_past_end, is_full, is_refused, appended}
-use Rattle.broker_model.specs.Answers.{answer_of, or_refused, refused_answer, carried_out_answer, request_answer, offset_reply, offset_at, pulled_reply, pull_of}
+use Rattle.broker_model.specs.Answers.{answer_of, or_refused, refused_answer, carried_out_answer, request_answer, offset_reply, offset_at, pulled_reply, pull_of, stored_reply, done_reply}
 use Rattle.broker_model.specs.Step.{after, changed, request_changed, with_records, stored, pull_offset}
 use Rattle.broker_events.specs.declared.said.Said.{Said}
 use Rattle.broker_events.specs.Steps.{Says}
@@ -66,16 +66,15 @@ answer_refusal s a reply refused =
 
 -- ---- the parts
 
--- time went on, and offsets were stored, of which the parts keep nothing
-pub represents_read : (old new : Parts) (s : State) (offsets : List OffsetRow) (now : ℕ) → Represents old s → new ≡ record old { now = max now old.now } → now < 2 ^ 62
-    → Represents new (record s { offsets = offsets; now = max now s.now })
-represents_read old new s offsets now are is low =
+-- time went on
+pub represents_read : (old new : Parts) (s : State) (now : ℕ) → Represents old s → new ≡ record old { now = max now old.now } → now < 2 ^ 62 → Represents new (record s { now = max now s.now })
+represents_read old new s now are is low =
     let before = are.state.time in
-    let t : State = record s { offsets = offsets; now = max now s.now } in
+    let t : State = record s { now = max now s.now } in
     let core : Parts = record old { now = max now old.now } in
     let n = are.numbers in
     let there : Represents core t = record {
-      state = read_state s offsets (max now s.now) are.state (omega arith) (omega (arith, before, low));
+      state = read_state s s.offsets (max now s.now) are.state (omega arith) (omega (arith, before, low));
       numbers = record {
         setup = n.setup;
         segment = n.segment;
@@ -97,6 +96,8 @@ represents_read old new s offsets now are is low =
       room = are.room;
       topics = are.topics;
       clients = are.clients;
+      offsets = are.offsets;
+      locks = are.locks;
     } in
     subst (λ (p : Parts). Represents p t) (sym is) there
 
@@ -111,22 +112,38 @@ carries_refusal old a refused said is told =
       subst (λ (t : State). Represents old t) (sym (after_refusal s a (refusal_reply refused) (is s are))) are,
     )) told
 
--- what is asked of each state: no record, this reply, and no change but in the stored offsets
-pub record Reads (old : Parts) (a : model.Asked) (told : State → model.Reply) (offsets : State → List OffsetRow) : Type 0 where
+-- What is asked of each state: no record, this answer, and this change.
+pub record Does (old : Parts) (a : model.Asked) (told : State → model.Answer) (next : State → State) : Type 0 where
+  pub none : (s : State) → drafts_of s (model.Asks a) ≡ []
+  pub answer : (s : State) → request_answer s (max a.now s.now) a.request [] ≡ told s
+  pub change : (s : State) → changed s (model.Asks a) ≡ next s
+  pub time : (s : State) → (next s).now ≡ s.now
+  pub allowed : (s : State) → Represents old s → refusal_of s a.request ≡ None
+
+-- It is done, and told.
+pub carries_done : (old mid new : Parts) (a : model.Asked) (told : State → model.Answer) (next : State → State) (what : Said) → Does old a told next → a.now < 2 ^ 62 → new ≡ record mid { now = max a.now mid.now }
+    → ((s : State) → Represents old s → Represents mid (next s) × Says what (told s)) → Carries old (model.Asks a) (Says what) new
+carries_done old mid new a told next what does low moved each s are =
+    let it = each s are in (
+      subst (λ (w : model.Answer). Says what w) (sym (answer_read s a (does.none s) (does.allowed s are) ∙ does.answer s)) it.1,
+      subst (λ (t : State). Represents new t) (sym (after_read s (next s) a (does.none s) (does.allowed s are) (does.change s)))
+          (subst (λ (n : ℕ). Represents new (record (next s) { now = max a.now n })) (does.time s) (represents_read mid new (next s) a.now it.0 moved low)),
+    )
+
+-- what is asked of each state: no record, this reply, and no change
+pub record Reads (old : Parts) (a : model.Asked) (told : State → model.Reply) : Type 0 where
   pub none : (s : State) → drafts_of s (model.Asks a) ≡ []
   pub answer : (s : State) → request_answer s (max a.now s.now) a.request [] ≡ model.Replies (told s)
-  pub change : (s : State) → changed s (model.Asks a) ≡ record s { offsets = offsets s }
+  pub change : (s : State) → changed s (model.Asks a) ≡ s
   pub allowed : (s : State) → Represents old s → refusal_of s a.request ≡ None
 
 -- It is told.
-pub carries_reply : (old new : Parts) (a : model.Asked) (told : State → model.Reply) (offsets : State → List OffsetRow) (said : Result Said AllocError) → Reads old a told offsets → a.now < 2 ^ 62
+pub carries_reply : (old new : Parts) (a : model.Asked) (told : State → model.Reply) (said : Result Said AllocError) → Reads old a told → a.now < 2 ^ 62
     → OnOk said (new ≡ record old { now = max a.now old.now }) → ((s : State) → Represents old s → IfOk said (λ x. Says x (model.Replies (told s)))) → IfOk said (λ x. Carries old (model.Asks a) (Says x) new)
-carries_reply old new a told offsets (Err fault) reads low moved says = tt
-carries_reply old new a told offsets (Ok x) reads low moved says = λ s are. (
-  subst (λ (w : model.Answer). Says x w) (sym (answer_read s a (reads.none s) (reads.allowed s are) ∙ reads.answer s)) (says s are),
-  subst (λ (t : State). Represents new t) (sym (after_read s (record s { offsets = offsets s }) a (reads.none s) (reads.allowed s are) (reads.change s)))
-      (represents_read old new s (offsets s) a.now are moved low),
-)
+carries_reply old new a told (Err fault) reads low moved says = tt
+carries_reply old new a told (Ok x) reads low moved says =
+    carries_done old old new a (λ s. model.Replies (told s)) (λ s. s) x (record { none = reads.none; answer = reads.answer; change = reads.change; time = λ s. refl; allowed = reads.allowed }) low moved
+    (λ s are. (are, says s are))
 
 -- where nothing was told nothing changed
 pub stays_same : (old new : Parts) (said : Result Said AllocError) → OnErr said (new ≡ old) → OnErr said (Stays old new)
@@ -154,29 +171,40 @@ pub is_allowed : (old : Parts) (rows : State → Option model.Reply) (found : Op
 is_allowed old rows found told is s are = told s are ∙ ap refusal_replies is
 
 pub reads_max : (old : Parts) (link : ℕ) (host : List ℕ) (now : ℕ) (q : QueueSaid) → ((s : State) → Represents old s → queue_refusal s q.topic q.queue ≡ None)
-    → Reads old (asked_by link host now (MaxOffset q)) (λ s. offset_reply (queue_max (seen s) q.topic q.queue)) (λ s. s.offsets)
+    → Reads old (asked_by link host now (MaxOffset q)) (λ s. offset_reply (queue_max (seen s) q.topic q.queue))
 unfolding drafts_of request_answer changed request_changed refusal_of
 reads_max old link host now q allowed = record { none = λ s. refl; answer = λ s. refl; change = λ s. refl; allowed = allowed }
 
 pub reads_min : (old : Parts) (link : ℕ) (host : List ℕ) (now : ℕ) (q : QueueSaid) → ((s : State) → Represents old s → queue_refusal s q.topic q.queue ≡ None)
-    → Reads old (asked_by link host now (MinOffset q)) (λ s. offset_reply (queue_min (seen s) q.topic q.queue)) (λ s. s.offsets)
+    → Reads old (asked_by link host now (MinOffset q)) (λ s. offset_reply (queue_min (seen s) q.topic q.queue))
 unfolding drafts_of request_answer changed request_changed refusal_of
 reads_min old link host now q allowed = record { none = λ s. refl; answer = λ s. refl; change = λ s. refl; allowed = allowed }
 
 pub reads_search : (old : Parts) (link : ℕ) (host : List ℕ) (now : ℕ) (q : SearchSaid) → ((s : State) → Represents old s → queue_refusal s q.topic q.queue ≡ None)
-    → Reads old (asked_by link host now (Search q)) (λ s. offset_reply (offset_at (seen s) q.topic q.queue q.time)) (λ s. s.offsets)
+    → Reads old (asked_by link host now (Search q)) (λ s. offset_reply (offset_at (seen s) q.topic q.queue q.time))
 unfolding drafts_of request_answer changed request_changed refusal_of
 reads_search old link host now q allowed = record { none = λ s. refl; answer = λ s. refl; change = λ s. refl; allowed = allowed }
 
 -- a pull stores an offset at most
-stored_is : (s : State) (group topic : List ℕ) (queue : ℕ) (offset : Option ℕ) → stored s group topic queue offset ≡ record s { offsets = (stored s group topic queue offset).offsets }
-stored_is s group topic queue None = refl
-stored_is s group topic queue (Some offset) = refl
+stored_keeps_time : (s : State) (group topic : List ℕ) (queue : ℕ) (offset : Option ℕ) → (stored s group topic queue offset).now ≡ s.now
+stored_keeps_time s group topic queue None = refl
+stored_keeps_time s group topic queue (Some offset) = refl
 
-pub reads_pull : (old : Parts) (link : ℕ) (host : List ℕ) (now : ℕ) (p : PullSaid) → ((s : State) → Represents old s → pull_refusal s p ≡ None)
-    → Reads old (asked_by link host now (Pull p)) (λ s. pulled_reply (pull_of s p)) (λ s. (stored s p.group p.topic p.queue (pull_offset p)).offsets)
+pub does_pull : (old : Parts) (link : ℕ) (host : List ℕ) (now : ℕ) (p : PullSaid) → ((s : State) → Represents old s → pull_refusal s p ≡ None)
+    → Does old (asked_by link host now (Pull p)) (λ s. model.Replies (pulled_reply (pull_of s p))) (λ s. stored s p.group p.topic p.queue (pull_offset p))
 unfolding drafts_of request_answer changed request_changed refusal_of
-reads_pull old link host now p allowed = record { none = λ s. refl; answer = λ s. refl; change = λ s. stored_is s p.group p.topic p.queue (pull_offset p); allowed = allowed }
+does_pull old link host now p allowed =
+    record { none = λ s. refl; answer = λ s. refl; change = λ s. refl; time = λ s. stored_keeps_time s p.group p.topic p.queue (pull_offset p); allowed = allowed }
+
+pub reads_stored : (old : Parts) (link : ℕ) (host : List ℕ) (now : ℕ) (q : OffsetSaid) → ((s : State) → Represents old s → queue_refusal s q.topic q.queue ≡ None)
+    → Reads old (asked_by link host now (OffsetOf q)) (λ s. stored_reply (offset_in s.offsets q.group q.topic q.queue))
+unfolding drafts_of request_answer changed request_changed refusal_of
+reads_stored old link host now q allowed = record { none = λ s. refl; answer = λ s. refl; change = λ s. refl; allowed = allowed }
+
+pub does_set_offset : (old : Parts) (link : ℕ) (host : List ℕ) (now : ℕ) (q : SetOffsetSaid) → ((s : State) → Represents old s → queue_refusal s q.topic q.queue ≡ None)
+    → Does old (asked_by link host now (SetOffset q)) (λ s. model.Replies done_reply) (λ s. stored s q.group q.topic q.queue (Some q.offset))
+unfolding drafts_of request_answer changed request_changed refusal_of
+does_set_offset old link host now q allowed = record { none = λ s. refl; answer = λ s. refl; change = λ s. refl; time = λ s. refl; allowed = allowed }
 
 -- the same of a queue that is named in another way
 pub queue_rows : (old : Parts) (topic other : List ℕ) (queue at : ℕ) (found : Option Refused) → topic ≡ other → queue ≡ at
@@ -203,3 +231,13 @@ pub refusal_pull : (old : Parts) (q : PullSaid) (refused : Refused) → ((s : St
     → (s : State) → Represents old s → refusal_of s (Pull q) ≡ Some (refusal_reply refused)
 unfolding refusal_of
 refusal_pull old q refused told = told
+
+pub refusal_stored : (old : Parts) (q : OffsetSaid) (refused : Refused) → ((s : State) → Represents old s → queue_refusal s q.topic q.queue ≡ Some (refusal_reply refused))
+    → (s : State) → Represents old s → refusal_of s (OffsetOf q) ≡ Some (refusal_reply refused)
+unfolding refusal_of
+refusal_stored old q refused told = told
+
+pub refusal_set_offset : (old : Parts) (q : SetOffsetSaid) (refused : Refused) → ((s : State) → Represents old s → queue_refusal s q.topic q.queue ≡ Some (refusal_reply refused))
+    → (s : State) → Represents old s → refusal_of s (SetOffset q) ≡ Some (refusal_reply refused)
+unfolding refusal_of
+refusal_set_offset old q refused told = told

@@ -47,8 +47,8 @@ unfolding request_answer
 served_answer s now (Send send) records served = append_says s (waits (kept_props send.props)) (reply_with (send_ext send records) []) 1
 served_answer s now (Pull p) records served = tt
 served_answer s now (Query q) records served = cc served
-served_answer s now (OffsetOf q) records served = cc served
-served_answer s now (SetOffset q) records served = cc served
+served_answer s now (OffsetOf q) records served = tt
+served_answer s now (SetOffset q) records served = tt
 served_answer s now (MakeTopic t) records served = tt
 served_answer s now (Search q) records served = tt
 served_answer s now (MaxOffset q) records served = tt
@@ -57,8 +57,8 @@ served_answer s now (ViewById v) records served = cc served
 served_answer s now (Beat b) records served = cc served
 served_answer s now (Unregister u) records served = cc served
 served_answer s now (EndTransaction end) records served = cc served
-served_answer s now (Lock l) records served = cc served
-served_answer s now (Unlock l) records served = cc served
+served_answer s now (Lock l) records served = tt
+served_answer s now (Unlock l) records served = tt
 
 asked_answer : (s : State) (a : events.Asked) → is_served a.request ≡ true → IsRequestAnswer (answer_of s (events.Asks a))
 unfolding answer_of carried_out_answer

@@ -236,6 +236,8 @@ represents_dispatched old s to tables are more within tabled queues = record {
   room = are.room;
   topics = are.topics;
   clients = are.clients;
+  offsets = are.offsets;
+  locks = are.locks;
 }
 
 pub dispatches : (old : Parts) (s : State) (most to : ℕ) (tables : List Table) → Represents old s → to ≡ min old.pending.flushed (old.dispatched + most)

@@ -5,7 +5,7 @@ use Rattle.broker_model.specs.Lawful.{IsState, IsTurn, IfOut}
 use Rattle.broker_model.specs.State.{State, Out}
 
 -- the turn that is out is one of the other state too
-turn_remains : (t s : State) (o : Option Out) → ((out : Out) → IsTurn s out → IsTurn t out) → IfOut o (IsTurn s) → IfOut o (IsTurn t)
+pub turn_remains : (t s : State) (o : Option Out) → ((out : Out) → IsTurn s out → IsTurn t out) → IfOut o (IsTurn s) → IfOut o (IsTurn t)
 turn_remains t s None stays is = tt
 turn_remains t s (Some out) stays is = stays out is
 

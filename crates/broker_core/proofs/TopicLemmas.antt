@@ -126,6 +126,8 @@ represents_later old s now are later time =
       room = are.room;
       topics = are.topics;
       clients = are.clients;
+      offsets = are.offsets;
+      locks = are.locks;
     }
 
 numbers_topics : (old : Parts) (topics : Topics) (s : State) → HasNumbers old s → HasNumbers (record old { topics = topics }) s
@@ -156,6 +158,8 @@ represents_same_topics old topics s are same = record {
   room = are.room;
   topics = λ topic. same topic ∙ are.topics topic;
   clients = are.clients;
+  offsets = are.offsets;
+  locks = are.locks;
 }
 
 -- the parts with a topic more
@@ -190,6 +194,8 @@ represents_made old topics s topic n are plain made =
           ∙ ap (λ rest. made_count (bytes_eq topic other) (queues_in s.topics topic) n rest) (are.topics other)
           ∙ sym (queues_with topic n s.topics other);
       clients = are.clients;
+      offsets = are.offsets;
+      locks = are.locks;
     }
 
 pub row_is : (read write : ℕ) → (0 < read) × (read ≤ 1024) → (0 < write) × (write ≤ 1024) → (0 < max read write) × (max read write ≤ 1024)

@@ -112,6 +112,8 @@ represents_room old s stored none items end are = record {
   room = subst (λ (o : Option Out). IfSome o (λ out. HasRoom stored)) (sym none) tt;
   topics = are.topics;
   clients = are.clients;
+  offsets = are.offsets;
+  locks = are.locks;
 }
 
 empty_list : {A : Type 0} (xs : List A) → length xs ≡ 0 → xs ≡ []
@@ -194,6 +196,8 @@ represents_turn old s stored b count end are none items ends room pending same s
   room = room;
   topics = are.topics;
   clients = are.clients;
+  offsets = are.offsets;
+  locks = are.locks;
 }
 
 -- what a call that may begin a turn says, by its batch
@@ -293,6 +297,8 @@ represents_failed old s count turn out are there is held pending = record {
   room = tt;
   topics = are.topics;
   clients = are.clients;
+  offsets = are.offsets;
+  locks = are.locks;
 }
 
 fails_one : (old : Parts) (s : State) (count : ℕ) (p : Option Out) (o : Option model.Out) → Represents old s → old.pending.out ≡ p → s.out ≡ o → IsSome p → AreOut p o → IsPendingOf s.log (with_failed old.pending count p)
@@ -363,5 +369,7 @@ leaves old s link are = (
     room = are.room;
     topics = are.topics;
     clients = ap (λ (t : ClientTable). after_leave link t) are.clients;
+    offsets = are.offsets;
+    locks = are.locks;
   }),
 )

@@ -1,5 +1,5 @@
 -- What was loaded of a log, told by its records, and when the broker may open over it.
-use Rattle.std.specs.Prelude.{◌≡◌, ℕ, ◌+◌, ◌<◌, ◌^◌, max, List, codes, slice_get, All, Option, Some, None, if◌then◌else◌}
+use Rattle.std.specs.Prelude.{◌≡◌, ℕ, ◌+◌, ◌<◌, ◌^◌, max, List, [], codes, slice_get, All, Option, Some, None, if◌then◌else◌}
 use Rattle.std.specs.Str.{bytes_eq}
 use Rattle.mq_outside.specs.declared.frozen_ranges.FrozenRanges.{FrozenRanges}
 use Rattle.record_codec.specs.Entry.{Entry}
@@ -59,9 +59,10 @@ pub record IsLoadedFrom (saved : List TopicRow) (records : List Entry) (loaded :
 -- ---- when the broker may open
 
 -- The broker may open with these kept files over these records: they are a lawful log, which was loaded, and the pieces cover it;
--- nothing was removed.
+-- nothing was removed, and no offset is kept.
 pub record MayOpen (setup : Setup) (saved : Saved) (records : List Entry) (loaded : Loaded) (stored : FrozenRanges) : Type 0 where
   pub lawful : IsLawful setup.segment (whole_log records)
   pub of_log : IsLoadedFrom saved.topics records loaded
   pub covered : AreCovered stored (whole_log records) (count_of (whole_log records))
   pub base : saved.base ≡ no_base
+  pub offsets : saved.offsets ≡ []

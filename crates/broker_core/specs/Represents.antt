@@ -23,6 +23,8 @@ use Rattle.pending_log.specs.Looks.{Turn, KeepsLast}
 use Rattle.pending_log.specs.declared.turn.Out.{Out}
 use Rattle.pending_log.specs.declared.rows.Row.{Row}
 use Rattle.client_tables.specs.Counts.{queues_of}
+use Rattle.group_tables.specs.Held.{HasLocks}
+use Rattle.group_tables.specs.Offsets.{HasOffsets}
 use Rattle.broker_core.specs.declared.parts.Parts.{Parts}
 
 -- ---- numbers
@@ -112,3 +114,5 @@ pub record Represents (core : Parts) (s : State) : Type 0 where
   pub room : IfSome core.pending.out (λ out. HasRoom core.stored)
   pub topics : (topic : List ℕ) → queues_of core.topics topic ≡ queues_in s.topics topic
   pub clients : s.clients ≡ no_clients
+  pub offsets : HasOffsets core.groups s.offsets
+  pub locks : HasLocks core.groups s.locks

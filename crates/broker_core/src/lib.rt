@@ -5,6 +5,7 @@
 mod alone;
 mod append;
 mod broker;
+mod consumer_offsets;
 mod dispatch;
 mod loaded;
 mod offsets;
@@ -12,6 +13,7 @@ mod open;
 mod parts;
 mod pieces;
 mod pull;
+mod queue_locks;
 mod replies;
 mod request;
 mod send;

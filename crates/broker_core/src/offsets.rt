@@ -7,7 +7,7 @@ ghost use Rattle.broker_model.specs.State.{State, seen};
 ghost use Rattle.broker_model.specs.Events as model;
 ghost use Rattle.broker_model.specs.Refusals.{queue_count as queue_count_of, queue_refusal};
 ghost use Rattle.broker_model.specs.Answers.{offset_at};
-ghost use Rattle.broker_events.specs.Replies.{IsReplyOf};
+ghost use Rattle.broker_events.specs.Replies.{IsReplyOf, IsToldAs};
 ghost use Rattle.broker_events.specs.Steps.{Says};
 ghost use Rattle.broker_core.specs.Carries.{Carries, Stays, RepresentsSome};
 ghost use Rattle.broker_core.specs.Represents.{Represents};
@@ -46,7 +46,16 @@ impl Parts {
         }
     }
 
-    /// The reply is told, at this reading of the clock. Where there is none nothing changes.
+    /// The reply is told, at this reading of the clock.
+    pub(crate) fn told(&mut self, now: u64, reply: Reply) -> Said
+        ensures told { (answer : model.Answer) → IsToldAs reply answer → Says result answer }
+        ensures moved { self.new ≡ record self.old { now = max now self.old.now } }
+    {
+        self.now = now.max(self.now);
+        Said::Reply(reply)
+    }
+
+    /// The same, if there is a reply. Where there is none nothing changes.
     pub(crate) fn tell(
         &mut self,
         now: u64,
@@ -58,16 +67,13 @@ impl Parts {
         ensures same { OnErr result (self.new ≡ self.old) }
     {
         match reply {
-            Ok(reply) => {
-                self.now = now.max(self.now);
-                Ok(Said::Reply(reply))
-            }
+            Ok(reply) => Ok(self.told(now, reply)),
             Err(fault) => Err(fault),
         }
     }
 
-    // The offset after the last record of a queue that consumers see.
-    fn max_of(&self, topic: &str, queue: u32) -> u64
+    /// The offset after the last record of a queue that consumers see.
+    pub(crate) fn max_of(&self, topic: &str, queue: u32) -> u64
         ensures { (s : State) → Represents self.entry.now s → result ≡ queue_max (seen s) topic.now queue }
     {
         match self.queues.find(topic, queue) {

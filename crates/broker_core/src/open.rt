@@ -15,6 +15,7 @@ use crate::dispatch::see;
 use crate::loaded::Loaded;
 use crate::parts::Parts;
 use broker_events::Setup;
+use group_tables::Groups;
 use mq_outside::FrozenRanges;
 use pending_log::Pending;
 use std::alloc::Global;
@@ -49,6 +50,7 @@ impl Parts {
             stored,
             queues,
             topics: loaded.topics,
+            groups: Groups::new(alloc),
             dispatched: count,
             now: loaded.store,
         }

@@ -2,6 +2,7 @@
 
 use broker_events::Setup;
 use client_tables::Topics;
+use group_tables::Groups;
 use mq_outside::FrozenRanges;
 use pending_log::{Pending, Rows};
 use queue_view::QueueView;
@@ -18,6 +19,8 @@ pub struct Parts {
     // The tables of queues, and of topics.
     pub(crate) queues: QueueView,
     pub(crate) topics: Topics,
+    // The offsets that consumer groups stored, and which of their clients has a queue for itself.
+    pub(crate) groups: Groups,
     // How many records consumers see, the removed ones counted, and the greatest time so far, in milliseconds.
     pub(crate) dispatched: u64,
     pub(crate) now: u64,

@@ -164,8 +164,9 @@ impl Parts {
         match self.refuses_pull(asked) {
             Some(refused) => refused.said(alloc),
             None => {
-                let reply = self.pulled(alloc, asked);
-                self.tell(now, reply)
+                let reply = self.pulled(alloc, asked)?;
+                self.commit(asked)?;
+                Ok(self.told(now, reply))
             }
         }
     }

@@ -7,6 +7,7 @@
 //! |   19 |                | pull   | nothing stands at the asked offset yet  |
 //! |   20 |                | pull   | the subscription takes none of those    |
 //! |   21 |                | pull   | the asked offset lies outside the queue |
+//! |   22 |                |        | the group stored no offset              |
 //! |   16 | `system topic` |        | nobody may pull from this topic         |
 //! |   17 | `no topic`     |        | the topic isn't known                   |
 //! |    1 | `queue`        |        | the topic has no such queue             |
@@ -24,7 +25,7 @@ ghost use Rattle.log_model.specs.Pulls.{Pulled as PulledAs, pulled_as};
 ghost use Rattle.queue_view.specs.Answers.{Answers};
 ghost use Rattle.reply_fields.specs.Slices.{body_len};
 ghost use Rattle.broker_model.specs.Events as model;
-ghost use Rattle.broker_model.specs.Answers.{offset_reply as offset_reply_of, pulled_reply as pulled_reply_of};
+ghost use Rattle.broker_model.specs.Answers.{offset_reply as offset_reply_of, stored_reply as stored_reply_of, pulled_reply as pulled_reply_of};
 ghost use Rattle.broker_events.specs.Replies.{IsReplyOf, AreSlicesOf};
 ghost use Rattle.broker_events.specs.Steps.{Says};
 ghost use Rattle.broker_core.specs.Reads.{refusal_reply, offset_ext, pull_ext};
@@ -94,6 +95,16 @@ pub(crate) fn offset_reply(alloc: Global, offset: u64) -> Result<Reply, AllocErr
         ext: offset_fields(alloc, offset)?,
         body: Rows::of(Vec::new(alloc)),
     })
+}
+
+/// The reply that tells an offset that a group stored, or that it stored none.
+pub(crate) fn stored_reply(alloc: Global, offset: Option<u64>) -> Result<Reply, AllocError>
+    ensures { IfOk result (λ reply. IsReplyOf reply (stored_reply_of offset)) }
+{
+    match offset {
+        Some(offset) => offset_reply(alloc, offset),
+        None => Reply::plain(alloc, 22, ""),
+    }
 }
 
 fn pull_fields(

@@ -30,19 +30,19 @@ impl Parts {
         match request {
             Request::Send(send) => self.send(alloc, *host, now, send),
             Request::Pull(asked) => self.pull(alloc, now, asked),
+            Request::OffsetOf(asked) => self.stored_offset(alloc, now, asked),
+            Request::SetOffset(asked) => self.set_offset(alloc, now, asked),
             Request::MakeTopic(fields) => self.make_topic(alloc, *host, now, fields),
             Request::Search(asked) => self.search(alloc, now, asked),
             Request::MaxOffset(asked) => self.max_offset(alloc, now, asked),
             Request::MinOffset(asked) => self.min_offset(alloc, now, asked),
+            Request::Lock(asked) => self.lock_queues(alloc, now, asked),
+            Request::Unlock(asked) => self.unlock_queues(alloc, now, asked),
             Request::Query(_)
-            | Request::OffsetOf(_)
-            | Request::SetOffset(_)
             | Request::ViewById(_)
             | Request::Beat(_)
             | Request::Unregister(_)
-            | Request::EndTransaction(_)
-            | Request::Lock(_)
-            | Request::Unlock(_) => unreachable!(),
+            | Request::EndTransaction(_) => unreachable!(),
         }
     }
 }

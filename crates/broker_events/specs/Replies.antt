@@ -1,5 +1,6 @@
 -- When the reply that is made is the one that the model answers.
 use Rattle.std.specs.Prelude.{◌≡◌, ◌+◌, List, [], ◌∷◌, pos}
+use Rattle.mq_bytes.specs.declared.clients.QueueName.{QueueName}
 use Rattle.record_codec.specs.Entry.{Entry}
 use Rattle.record_codec.specs.Layout.{size, layout}
 use Rattle.mq_outside.specs.Covers.{piece_start}
@@ -9,6 +10,7 @@ use Rattle.reply_fields.specs.declared.slice.Slice.{Slice}
 use Rattle.reply_fields.specs.declared.slice.Slice.TheVariants.{Held, Kept}
 use Rattle.reply_fields.specs.declared.slice.StoredRange.{StoredRange}
 use Rattle.broker_model.specs.Events as model
+use Rattle.lock_body.specs.Granted.{granted_text}
 
 -- the range is where the record stands, all of it, and what its piece holds there is the record
 pub record IsRangeOf (range : StoredRange) (r : Entry) : Type 0 where
@@ -34,3 +36,24 @@ pub record IsReplyOf (reply : ReplyParts) (told : model.Reply) : Type 0 where
   pub remark : reply.remark ≡ told.remark
   pub ext : reply.ext ≡ told.ext
   pub body : AreSlicesOf reply.body told.body
+
+-- the reply tells which queues a client got: code 0, and a held body that is their text
+pub record IsLockReply (reply : ReplyParts) (queues : List QueueName) : Type 0 where
+  pub code : reply.code ≡ pos 0
+  pub remark : reply.remark ≡ []
+  pub ext : reply.ext ≡ []
+  pub body : reply.body ≡ Held (granted_text queues) ∷ []
+
+-- the reply is what the model answers: one of its replies, or the queues that a client got
+abbrev pub IsToldAs : ReplyParts → model.Answer → Type 0
+IsToldAs reply (model.Replies told) = IsReplyOf reply told
+IsToldAs reply (model.Locked queues) = IsLockReply reply queues
+IsToldAs reply (model.After told number turn) = ⊥
+IsToldAs reply (model.Full pending) = ⊥
+IsToldAs reply model.LogEnd = ⊥
+IsToldAs reply (model.Batch batch) = ⊥
+IsToldAs reply model.Done = ⊥
+IsToldAs reply (model.Looked what) = ⊥
+IsToldAs reply (model.Moved number) = ⊥
+IsToldAs reply (model.Delivered what) = ⊥
+IsToldAs reply (model.Checked what) = ⊥

@@ -10,7 +10,7 @@ use Rattle.broker_events.specs.declared.said.Said.{Said}
 use Rattle.broker_events.specs.declared.said.Said.TheVariants as said
 use Rattle.broker_events.specs.declared.said.Awaited.{Awaited}
 use Rattle.broker_events.specs.declared.said.Awaited.TheVariants as awaited
-use Rattle.broker_events.specs.Replies.{IsReplyOf}
+use Rattle.broker_events.specs.Replies.{IsReplyOf, IsToldAs}
 
 -- ---- events
 
@@ -103,7 +103,7 @@ awaited_of awaited.NotYet = model.NotYet
 
 -- what is said is what the model answers
 abbrev pub Says : Said → model.Answer → Type 0
-Says (said.Reply reply) answer = (told : model.Reply) × (answer ≡ model.Replies told) × IsReplyOf reply told
+Says (said.Reply reply) answer = IsToldAs reply answer
 Says (said.After reply number turn) answer = (told : model.Reply) × (answer ≡ model.After told number turn) × IsReplyOf reply told
 Says (said.Full pending) answer = answer ≡ model.Full pending
 Says (said.Batch batch) answer = IsTakenAs batch answer

@@ -40,25 +40,26 @@ fn is_delayed(send: &SendFields) -> bool
     }
 }
 
-/// Whether the core answers the request: a plain message, a pull, a topic to be made, or a question for an offset of a queue.
+/// Whether the core answers the request: a plain message, a pull, a topic to be made, a question for an offset of a queue, a
+/// group's stored offset, or locks.
 pub fn is_served(request: &Request) -> bool
     ensures { result ≡ is_served_of request.now }
 {
     match request {
         Request::Send(send) => !is_half(send) && !is_delayed(send),
         Request::Pull(_)
+        | Request::OffsetOf(_)
+        | Request::SetOffset(_)
         | Request::MakeTopic(_)
         | Request::Search(_)
         | Request::MaxOffset(_)
-        | Request::MinOffset(_) => true,
+        | Request::MinOffset(_)
+        | Request::Lock(_)
+        | Request::Unlock(_) => true,
         Request::Query(_)
-        | Request::OffsetOf(_)
-        | Request::SetOffset(_)
         | Request::ViewById(_)
         | Request::Beat(_)
         | Request::Unregister(_)
-        | Request::EndTransaction(_)
-        | Request::Lock(_)
-        | Request::Unlock(_) => false,
+        | Request::EndTransaction(_) => false,
     }
 }

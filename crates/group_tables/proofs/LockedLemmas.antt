@@ -53,6 +53,19 @@ apart_distinct (x ∷ xs) = (
   apart_filter (λ other. not (is_same_queue x other)) (distinct_queues xs) (apart_distinct xs),
 )
 
+-- where nothing is the same nothing goes
+all_apart : (x : QueueName) (xs : List QueueName) → list_any (is_same_queue x) xs ≡ false → filter (λ other. not (is_same_queue x other)) xs ≡ xs
+all_apart x [] none = refl
+all_apart x (y ∷ xs) none =
+    let parts = or_parts (is_same_queue x y) (list_any (is_same_queue x) xs) none in
+    let rest = filter (λ other. not (is_same_queue x other)) xs in
+    ap (λ (b : Bool). cond (not b) (y ∷ rest) rest) parts.0 ∙ ap (λ (l : List QueueName). y ∷ l) (all_apart x xs parts.1)
+
+-- such a list has each queue as it is first named
+pub distinct_apart : (xs : List QueueName) → IsApart xs → distinct_queues xs ≡ xs
+distinct_apart [] apart = refl
+distinct_apart (x ∷ xs) apart = ap (λ (l : List QueueName). x ∷ filter (λ other. not (is_same_queue x other)) l) (distinct_apart xs apart.1) ∙ ap (λ (l : List QueueName). x ∷ l) (all_apart x xs apart.0)
+
 -- ---- lock
 
 step : (here hit any : Bool) (row one : LockRow) (rest : List LockRow) → ((here && hit) ≡ true → (row ≡ one) × (any ≡ false)) → rest ≡ cond (here && any) (one ∷ []) []

@@ -4,11 +4,11 @@
 ghost use Rattle.std.specs.Prelude.{◌≡◌, ◌==◌, ◌&&◌, ℕ, List, Some, None, if◌then◌else◌, OnOk, OnErr};
 ghost use Rattle.std.specs.Prelude.{IfOk};
 ghost use Rattle.std.specs.Str.{bytes_eq};
-ghost use Rattle.broker_model.specs.Tables.{OffsetRow, LockRow, with_offset, granted, with_locks, without_locks};
+ghost use Rattle.broker_model.specs.Tables.{OffsetRow, LockRow, with_offset, distinct_queues, granted, with_locks, without_locks};
 ghost use Rattle.group_tables.specs.Held.{lock_of, HasLocks};
 ghost use Rattle.group_tables.specs.Offsets.{offset_of, offset_row, HasOffsets};
 
-use crate::locks::{Slots, lock_queues, unlock_all};
+use crate::locks::{Slots, grant, lock_all, unlock_all};
 use crate::table::{ByGroup, set_value, value_of};
 use mq_bytes::QueueName;
 use std::alloc::{AllocError, Global};
@@ -61,8 +61,41 @@ impl Groups {
     {
         set_value(self.alloc, &mut self.offsets, group, topic, queue, offset)
     }
-    /// The client gets those of the queues that are free, its own, or whose lock was last renewed more than 60,000 ms before
-    /// `now`: each once, in the order of the request, under the name of its first broker. At `Err` each lock is as before.
+
+    /// Those of the queues that the client would get: those that are free, its own, or whose lock was last renewed more than
+    /// 60,000 ms before `now`; each once, in the order of the request, under the name of its first broker.
+    pub fn granted(
+        &self,
+        group: &str,
+        client: &str,
+        queues: &[QueueName],
+        now: u64,
+    ) -> Result<Vec<QueueName>, AllocError>
+        ensures granted { IfOk result (λ given. (rows : List LockRow) → HasLocks self.now rows
+            → given.items ≡ granted now group.now client.now rows queues.now) }
+        ensures once { IfOk result (λ given. distinct_queues given.items ≡ given.items) }
+    {
+        grant(self.alloc, &self.slots, group, client, queues, now)
+    }
+
+    /// The client has each of these queues from `now` on, whoever had it. At `Err` each lock is as before.
+    pub fn lock(
+        &mut self,
+        group: &str,
+        client: &str,
+        queues: &[QueueName],
+        now: u64,
+    ) -> Result<(), AllocError>
+        requires once { distinct_queues queues.now ≡ queues.now }
+        ensures locked { OnOk result ((rows : List LockRow) → HasLocks self.old rows
+            → HasLocks self.new (with_locks now group.now client.now queues.now rows)) }
+        ensures same { OnErr result ((g t : List ℕ) (q : ℕ) → lock_of self.new g t q ≡ lock_of self.old g t q) }
+        ensures offsets { (g t : List ℕ) (q : ℕ) → offset_of self.new g t q ≡ offset_of self.old g t q }
+    {
+        lock_all(self.alloc, &mut self.slots, group, client, queues, now)
+    }
+
+    /// The client gets those of the queues that are `granted` to it. At `Err` each lock is as before.
     pub fn lock_batch(
         &mut self,
         group: &str,
@@ -77,7 +110,8 @@ impl Groups {
         ensures same { OnErr result ((g t : List ℕ) (q : ℕ) → lock_of self.new g t q ≡ lock_of self.old g t q) }
         ensures offsets { (g t : List ℕ) (q : ℕ) → offset_of self.new g t q ≡ offset_of self.old g t q }
     {
-        let given = lock_queues(self.alloc, &mut self.slots, group, client, queues, now)?;
+        let given = self.granted(group, client, queues, now)?;
+        self.lock(group, client, given.as_slice(), now)?;
         Ok(given)
     }
 

@@ -73,8 +73,8 @@ fn grant_next(
     Ok(())
 }
 
-// Those of the queues that no other client has, each once.
-fn grant(
+/// Those of the queues that no other client has, each once.
+pub(crate) fn grant(
     alloc: Global,
     slots: &Slots,
     group: &str,
@@ -199,24 +199,21 @@ pub(crate) fn unlock_all(slots: &mut Slots, group: &str, client: &str, queues: &
     }
 }
 
-/// Those of the queues that the client gets, each once. At `Err` each lock is as before.
-pub(crate) fn lock_queues(
+/// The client has each of these queues from now on. At `Err` each lock is as before.
+pub(crate) fn lock_all(
     alloc: Global,
     slots: &mut Slots,
     group: &str,
     client: &str,
     queues: &[QueueName],
     now: u64,
-) -> Result<Vec<QueueName>, AllocError>
-    ensures granted { IfOk result (λ granted. granted.items
-        ≡ filter (λ q. not (keeps_off now client.now (lock_in slots.old group.now q.topic q.queue))) (distinct_queues queues.now)) }
-    ensures locked { IfOk result (λ granted. (g t : List ℕ) (q : ℕ) → lock_in slots.new g t q
-        ≡ (if bytes_eq group.now g && list_any (names_queue t q) granted.items then Some (lock_from client.now now) else lock_in slots.old g t q)) }
+) -> Result<(), AllocError>
+    ensures locked { OnOk result ((g t : List ℕ) (q : ℕ) → lock_in slots.new g t q
+        ≡ (if bytes_eq group.now g && list_any (names_queue t q) queues.now then Some (lock_from client.now now) else lock_in slots.old g t q)) }
     ensures same { OnErr result ((g t : List ℕ) (q : ℕ) → lock_in slots.new g t q ≡ lock_in slots.old g t q) }
 {
-    let granted = grant(alloc, slots, group, client, queues, now)?;
-    let locks = locks_for(alloc, client, now, granted.len())?;
-    make_slots(alloc, slots, group, granted.as_slice())?;
-    put_locks(slots, group, granted.as_slice(), locks);
-    Ok(granted)
+    let locks = locks_for(alloc, client, now, queues.len())?;
+    make_slots(alloc, slots, group, queues)?;
+    put_locks(slots, group, queues, locks);
+    Ok(())
 }

@@ -8,7 +8,8 @@ use Rattle.request_fields.specs.declared.request.Request.TheVariants.{MakeTopic}
 use Rattle.broker_model.specs.State.{State}
 use Rattle.broker_model.specs.Refusals.{plain_reply, refusal_of}
 use Rattle.broker_model.specs.Step.{with_made}
-use Rattle.broker_model.specs.Answers.{done_reply}
+use Rattle.broker_model.specs.Events as model
+use Rattle.broker_events.specs.Replies.{IsToldAs}
 use Rattle.client_tables.specs.Counts.{queues_of}
 use Rattle.broker_core.specs.Represents.{Represents}
 use Rattle.broker_core.proofs.TopicLemmas.{made_count, represents_topic}
@@ -47,7 +48,7 @@ returns-clause-carries c link s are =
     ∙ ap (λ had. made_count (bytes_eq t.topic other) had n (queues_of R other)) (c.reserve.ensures.same t.topic)
     ∙ ap (λ rest. made_count (bytes_eq t.topic other) (queues_of c.args.self.now.topics t.topic) n rest) (c.reserve.ensures.same other)
     ∙ ap (λ (k : ℕ). made_count (bytes_eq t.topic other) (queues_of c.args.self.now.topics t.topic) k (queues_of c.args.self.now.topics other)) (sym counts) in (
-      (done_reply, topic_answers s link c.args.host c.args.now t taken, is_plain_reply c.in_ok-reply.reply 0 (codes "") c.in_ok-reply.ensures),
+      subst (λ (w : model.Answer). IsToldAs c.in_ok-reply.reply w) (sym (topic_answers s link c.args.host c.args.now t taken)) (is_plain_reply c.in_ok-reply.reply 0 (codes "") c.in_ok-reply.ensures),
       subst (λ (u : State). Represents (record c.args.self.now { topics = c.make.new.self; now = c.max-self.result }) u) (sym (topic_after s link c.args.host c.args.now t taken))
           (subst (λ (n : ℕ). Represents (record c.args.self.now { topics = c.make.new.self; now = n }) (record (with_made s t.topic (max t.read t.write)) { now = max c.args.now s.now })) (sym c.max-self.ensures)
           (represents_topic c.args.self.now c.make.new.self s t.topic t.read t.write c.args.now are keeps.read keeps.write own c.requires.now made)),

@@ -26,7 +26,7 @@ returns-in-None-clause-carries c link host =
     let topic : c.as_str-topic.result.now ≡ q.topic = c.as_str-topic.ensures.value ∙ ap (λ (x : QueueSaid). x.topic) c.asked.view_is in
     let queue : c.asked.inside.queue ≡ q.queue = ap (λ (x : QueueSaid). x.queue) c.asked.view_is in
     let rows = queue_rows old c.as_str-topic.result.now q.topic c.asked.inside.queue q.queue c.refuses_queue.result topic queue c.refuses_queue.ensures in
-    carries_reply old c.tell.new.self (asked_by link host c.args.now (MaxOffset q)) (λ (s : State). offset_reply (queue_max (seen s) q.topic q.queue)) (λ (s : State). s.offsets) c.tell.result
+    carries_reply old c.tell.new.self (asked_by link host c.args.now (MaxOffset q)) (λ (s : State). offset_reply (queue_max (seen s) q.topic q.queue)) c.tell.result
     (reads_max old link host c.args.now q (is_allowed old (λ (s : State). queue_refusal s q.topic q.queue) c.refuses_queue.result rows c.in-None.is))
     c.requires.time c.tell.ensures.moved
     (λ s are. c.tell.ensures.told (offset_reply (queue_max (seen s) q.topic q.queue))

@@ -1,10 +1,9 @@
-use Rattle.std.proofs.Common.{rules, ◌≡◌, ◌^◌, ◌+◌, ap, sym, ◌∙◌, refl, ℕ, length, max, nat_lt, true, false, codes}
+use Rattle.std.proofs.Common.{rules, ◌≡◌, ◌^◌, ◌+◌, ap, sym, ◌∙◌, ℕ, length, max, nat_lt, true, false, codes}
 use Rattle.std.specs.Option.{unwrap_or}
 use Rattle.std.proofs.lemmas.Result.{IfOk-weaker}
 use Rattle.log_model.specs.Log.{place_after}
 use Rattle.broker_model.specs.State.{State}
 use Rattle.broker_model.specs.Events as model
-use Rattle.broker_model.specs.Refusals.{plain_reply}
 use Rattle.broker_events.specs.declared.said.Said.{Said}
 use Rattle.broker_events.specs.declared.said.Said.TheVariants as said
 use Rattle.broker_core.specs.Represents.{Represents}
@@ -20,7 +19,7 @@ returns-then-is_past_end-clause-sent c s are =
     let past : nat_lt (2 ^ 62) (place_after core.pending.segment core.pending.end size + size) ≡ true =
     ap (λ (p : ℕ). nat_lt (2 ^ 62) (p + size)) (sym c.next_place.ensures) ∙ sym c.is_past_end.ensures ∙ c.if-is_past_end.true in
     sent_past core s c.args.draft.now (unwrap_or c.args.known c.args.made) (max c.args.now s.now) (said.Reply c.in_ok-plain.field-0) core size are c.size_of-size.ensures past
-    (plain_reply 14 (codes "log end"), refl, is_plain_reply c.in_ok-plain.field-0 14 (codes "log end") c.in_ok-plain.ensures) are
+    (is_plain_reply c.in_ok-plain.field-0 14 (codes "log end") c.in_ok-plain.ensures) are
 
 pub returns-then-is_full-clause-sent : goal.returns-then-is_full-clause-sent
 returns-then-is_full-clause-sent c s are =

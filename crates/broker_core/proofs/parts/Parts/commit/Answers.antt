@@ -1,0 +1,16 @@
+use Rattle.std.proofs.Common.{◌≡◌, ◌∙◌, ap, sym, ℕ, List}
+use Rattle.request_fields.specs.Requests.{PullSaid}
+use Rattle.broker_core.proofs.GroupLemmas.{commit_stored, commit_none}
+use Rattle.broker_core.proofs.parts.Parts.commit.Goals as goal
+
+pub returns-in-Some-clause-stored : goal.returns-in-Some-clause-stored
+returns-in-Some-clause-stored c =
+    let q = c.args.asked.now in
+    commit_stored c.args.self.now c.store_offset.new.self q c.as_str.result.now c.as_str-in-Some.result.now c.asked.inside.queue c.in-Some.offset c.store_offset.result
+    (c.as_str.ensures.value ∙ ap (λ (x : PullSaid). x.group) c.asked.view_is)
+    (c.as_str-in-Some.ensures.value ∙ ap (λ (x : PullSaid). x.topic) c.asked.view_is)
+    (ap (λ (x : PullSaid). x.queue) c.asked.view_is)
+    (sym c.committed.ensures ∙ c.in-Some.is) c.store_offset.ensures.stored
+
+pub returns-in-None-clause-stored : goal.returns-in-None-clause-stored
+returns-in-None-clause-stored c s are = commit_none c.args.self.now c.args.asked.now s (sym c.committed.ensures ∙ c.in-None.is) are

@@ -1,0 +1,92 @@
+//! A client of a consumer group has queues for itself. The locks expire by the time of the requests; no clock runs here.
+
+ghost use Rattle.std.specs.Prelude.{◌≡◌, ◌<◌, ◌≤◌, ◌^◌, ◌∷◌, [], length, All, IfOk, OnErr};
+ghost use Rattle.request_fields.specs.declared.request.Request.TheVariants.{Lock, Unlock};
+ghost use Rattle.reply_fields.specs.Slices.{body_len};
+ghost use Rattle.reply_fields.specs.declared.slice.Slice.TheVariants.{Held};
+ghost use Rattle.lock_body.specs.Granted.{HasShortNames, granted_text};
+ghost use Rattle.broker_events.specs.Replies.{IsLockReply};
+ghost use Rattle.broker_core.specs.Carries.{Stays, RepresentsSome};
+ghost use Rattle.broker_core.specs.Asked.{CarriesAsked};
+
+use crate::parts::Parts;
+use broker_events::Said;
+use bytes::Bytes;
+use lock_body::granted_body;
+use mq_bytes::{QueueName, Rows, Text};
+use reply_fields::{Reply, Slice};
+use request_fields::LockFields;
+use std::alloc::{AllocError, Global};
+
+// The body of the reply to a request for locks.
+fn lock_slices(alloc: Global, granted: &[QueueName]) -> Result<Rows<Slice>, AllocError>
+    requires names { All HasShortNames granted.now }
+    requires few { length granted.now ≤ 4096 }
+    ensures body { IfOk result (λ body. body ≡ Held (granted_text granted.now) ∷ []) }
+    ensures short { IfOk result (λ body. body_len body < 2 ^ 30) }
+{
+    let text = Bytes::from_vec(granted_body(alloc, granted)?)?;
+    let slices = vec![in alloc; Slice::Held(text)]?;
+    Ok(Rows::of(slices))
+}
+
+// The reply that tells which queues a client got.
+#[tactic(auto, using(reply_fields::proofs::ReplyLemmas::none_in_order))]
+fn lock_reply(alloc: Global, granted: &[QueueName]) -> Result<Reply, AllocError>
+    requires names { All HasShortNames granted.now }
+    requires few { length granted.now ≤ 4096 }
+    ensures { IfOk result (λ reply. IsLockReply reply granted.now) }
+{
+    Ok(Reply {
+        code: 0,
+        remark: Text::of(String::new(alloc)),
+        ext: Rows::of(Vec::new(alloc)),
+        body: lock_slices(alloc, granted)?,
+    })
+}
+
+impl Parts {
+    /// A client gets those of the queues that no other client of its group has. At `Err` nothing changes.
+    pub(crate) fn lock_queues(
+        &mut self,
+        alloc: Global,
+        now: u64,
+        asked: &LockFields,
+    ) -> Result<Said, AllocError>
+        requires some { RepresentsSome self.old }
+        requires time { now < 2 ^ 62 }
+        ensures carries { CarriesAsked self.old now (Lock asked.now) result self.new }
+        ensures stays { OnErr result (Stays self.old self.new) }
+    {
+        let moment = now.max(self.now);
+        let group = asked.group.as_str();
+        let client = asked.client.as_str();
+        let granted = self
+            .groups
+            .granted(group, client, asked.queues.as_slice(), moment)?;
+        let reply = lock_reply(alloc, granted.as_slice())?;
+        self.groups.lock(group, client, granted.as_slice(), moment)?;
+        Ok(self.told(now, reply))
+    }
+
+    /// Those of the queues that the client has are free then. At `Err` nothing changes.
+    pub(crate) fn unlock_queues(
+        &mut self,
+        alloc: Global,
+        now: u64,
+        asked: &LockFields,
+    ) -> Result<Said, AllocError>
+        requires some { RepresentsSome self.old }
+        requires time { now < 2 ^ 62 }
+        ensures carries { CarriesAsked self.old now (Unlock asked.now) result self.new }
+        ensures stays { OnErr result (Stays self.old self.new) }
+    {
+        let reply = Reply::plain(alloc, 0, "")?;
+        self.groups.unlock_batch(
+            asked.group.as_str(),
+            asked.client.as_str(),
+            asked.queues.as_slice(),
+        );
+        Ok(self.told(now, reply))
+    }
+}
