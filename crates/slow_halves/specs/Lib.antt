@@ -1,0 +1,3 @@
+pub mod Settling
+pub mod Due
+pub mod Checks
