@@ -1,0 +1,4 @@
+pub mod GroupLemmas
+pub mod Kept
+pub mod Lists
+pub mod PairLemmas

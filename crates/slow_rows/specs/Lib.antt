@@ -1,0 +1,4 @@
+pub mod Records
+pub mod Replies
+pub mod Rows
+pub mod Sends
