@@ -8,12 +8,12 @@ ghost use Rattle.broker_model.specs.Appended.{is_asked_at as is_asked_at_of, is_
 ghost use Rattle.broker_model.specs.State.{State};
 ghost use Rattle.slow_halves.specs.Checks.{is_due_record, is_closed as is_closed_state, again_drafts};
 
-use crate::copies::copy_of;
 use crate::halves::{is_any_origin, renewals_of};
 use crate::made::{discard_draft, op_draft, renewal_draft};
 use log_model::OriginState;
 use log_replay::state_of;
 use record_codec::{Draft, Record};
+use slow_rows::copy_of;
 use std::alloc::{AllocError, Global};
 
 // How long after its store time an origin is first asked for, and after its last renewal again, in milliseconds.

@@ -7,11 +7,11 @@ ghost use Rattle.log_model.specs.Told.{base_of};
 ghost use Rattle.log_replay.specs.Told.{log_of};
 ghost use Rattle.slow_halves.specs.Due.{told_due, due_of as due_of_log};
 
-use crate::copies::copy_of;
 use log_model::Base;
 use log_replay::{delays_of, item_at};
 use mq_bytes::level_delay;
 use record_codec::Record;
+use slow_rows::copy_of;
 use std::alloc::{AllocError, Global};
 
 /// A delayed message whose time has come: its level, the number of its delivery in the level, and its record.

@@ -6,9 +6,9 @@ ghost use Rattle.log_model.specs.Kinds.{is_half as is_half_entry, is_text, origi
 ghost use Rattle.log_model.specs.Queues.{said_by, entries_of};
 ghost use Rattle.log_model.specs.Transactions.{half_at as half_at_of, origin_of as origin_of_half, is_origin as is_origin_of, renewals};
 
-use crate::copies::copy_of;
 use crate::numbers::{digits, writes};
 use record_codec::Record;
+use slow_rows::copy_of;
 use std::alloc::{AllocError, Global};
 
 fn is_half(r: &Record) -> bool

@@ -3,15 +3,16 @@
 #![tactic(auto)]
 
 mod checks;
-mod copies;
+mod deliveries;
 mod due;
 mod halves;
 mod made;
 mod numbers;
 mod settling;
+mod verdicts;
 
 pub use checks::{check_drafts, due_origin};
-pub use copies::{copy_draft, copy_of, text_of};
+pub use deliveries::delivery_drafts;
 pub use due::{Due, due_of};
 pub use halves::{half_at, is_any_origin, origin_of, renewals_of};
 pub use made::{
@@ -19,3 +20,4 @@ pub use made::{
     renewal_draft,
 };
 pub use settling::last_settling;
+pub use verdicts::{named_half, open_drafts, verdict_origin};

@@ -8,10 +8,10 @@ ghost use Rattle.record_codec.specs.Props.{value_of, with_prop, without};
 ghost use Rattle.log_model.specs.Drafts.{copy_draft as copy_draft_of, op_draft as op_draft_of, renewal_draft as renewal_draft_of, discard_draft as discard_draft_of, delivery_draft as delivery_draft_of, draft_again as draft_again_of, message_draft as message_draft_of, text_in as text_in_of, without_real as without_real_of, without_transaction as without_transaction_of, delivery_text as delivery_text_of};
 ghost use Rattle.log_model.specs.Queues.{said_by};
 
-use crate::copies::{copy_draft, text_of};
-use crate::numbers::{digits, number, number_in};
+use crate::numbers::{digits, number_in};
 use mq_bytes::Rows;
 use record_codec::{COMMITTED, Draft, Props, Record, TRANSACTION_BITS};
+use slow_rows::{copy_draft, number, text_of};
 use std::alloc::{AllocError, Global};
 
 // The value of a property, and nothing where it is absent.

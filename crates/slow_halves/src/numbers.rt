@@ -5,7 +5,7 @@ ghost use Rattle.std.specs.Char.{digit_value as digit_value_of};
 ghost use Rattle.std.specs.Str.Parse.{digits_value};
 ghost use Rattle.mq_bytes.specs.Decimal.{digits_of};
 
-use mq_bytes::{Text, write_number};
+use mq_bytes::write_number;
 use std::alloc::{AllocError, Global};
 
 // The value of a digit or a letter, 36 for any other byte.
@@ -46,18 +46,11 @@ pub(crate) fn writes(text: &[u8], number: u64) -> bool
     }
 }
 
-/// The number in decimal, as bytes.
+/// The number in decimal.
 pub(crate) fn digits(alloc: Global, number: u64) -> Result<Vec<u8>, AllocError>
     ensures { IfOk result (λ digits. digits.items ≡ digits_of number) }
 {
     let mut digits = Vec::new(alloc);
     write_number(number, &mut digits)?;
     Ok(digits)
-}
-
-/// The number in decimal, as a text.
-pub(crate) fn number(alloc: Global, number: u64) -> Result<Text, AllocError>
-    ensures { IfOk result (λ text. text ≡ digits_of number) }
-{
-    Ok(Text::of(format!(in alloc; "{number}")?))
 }
