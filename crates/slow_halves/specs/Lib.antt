@@ -1,0 +1,4 @@
+pub mod Settling
+pub mod Due
+pub mod Checks
+pub mod Verdicts
