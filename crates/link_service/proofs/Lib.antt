@@ -1,0 +1,2 @@
+pub mod Transcribing
+pub mod Went

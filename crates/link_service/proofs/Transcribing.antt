@@ -1,0 +1,84 @@
+-- What a link did from its beginning on is a transcript.
+use Rattle.std.proofs.Common.{◌≡◌, ℕ, List, [], ◌∷◌, ◌++◌, Bool, true, false, refl, sym, ap, ◌∙◌, subst, append-nil}
+use Rattle.mq_outside.specs.Readings.{Giving}
+use Rattle.session.specs.Serving.{Made}
+use Rattle.session.specs.Sessions.{Call, fed, served, gave_up, settled, sent, AreCalls, IsNew, RepliesInOrder, sent_in, stream_of, sent_of, made_of}
+use Rattle.session.specs.declared.session.Session.{Session}
+use Rattle.link_service.specs.Transcripts.{Seen, FindsNoMemory, IsCallOf, AreCallsOf, WentOn, IsFresh, Ends, IsTranscript}
+use Rattle.link_service.proofs.Went.{sent_append}
+
+-- calls of which memory sufficed, and at the end maybe one for which it didn't
+record Splits (gives : Giving) (old : Session) (calls : List Call) (breaks : Bool) (new : Session) : Type 0 where
+  front : List Call
+  last : Session
+  end : List Call
+  are : AreCalls gives old front last
+  ends : Ends gives last end breaks new
+  both : calls ≡ front ++ end
+
+-- no call is made once a link is broken
+broken_calls : (gives : Giving) (old : Session) (call : Call) (after : Session) (rest : List Call) (breaks : Bool) (new : Session) → FindsNoMemory gives old call after
+    → AreCallsOf gives true after rest breaks new → Splits gives old (call ∷ rest) breaks new
+broken_calls gives old call after [] breaks new is are = record {
+  front = [];
+  last = old;
+  end = call ∷ [];
+  are = refl;
+  ends = (refl, are.1 refl, subst (λ (s : Session). FindsNoMemory gives old call s) (sym are.0) is);
+  both = refl;
+}
+broken_calls gives old call after (next ∷ rest) breaks new is are = let not = are.0 in cc
+
+split_first : (gives : Giving) (old : Session) (call : Call) (after : Session) (at : Bool) (rest : List Call) (breaks : Bool) (new : Session)
+    → IsCallOf gives old call at after → AreCallsOf gives at after rest breaks new → (AreCallsOf gives false after rest breaks new → Splits gives after rest breaks new)
+    → Splits gives old (call ∷ rest) breaks new
+split_first gives old call after true rest breaks new is are later = broken_calls gives old call after rest breaks new is are
+split_first gives old call after false rest breaks new is are later =
+    let more = later are in record {
+      front = call ∷ more.front;
+      last = more.last;
+      end = more.end;
+      are = (after, is, more.are);
+      ends = more.ends;
+      both = ap (λ (l : List Call). call ∷ l) more.both;
+    }
+
+split_calls : (gives : Giving) (old : Session) (calls : List Call) (breaks : Bool) (new : Session) → AreCallsOf gives false old calls breaks new → Splits gives old calls breaks new
+split_calls gives old [] breaks new are = record { front = []; last = old; end = []; are = refl; ends = are.0; both = refl }
+split_calls gives old (call ∷ calls) breaks new are =
+    split_first gives old call are.1 are.2 calls breaks new are.3 are.4 (λ whole. split_calls gives are.1 calls breaks new whole)
+
+-- a call that finds no memory sends nothing
+sends_nothing : (gives : Giving) (old : Session) (call : Call) (new : Session) → FindsNoMemory gives old call new → sent_in call ≡ []
+sends_nothing gives old (fed piece) new is = refl
+sends_nothing gives old (served now made result) new is = refl
+sends_nothing gives old (gave_up count) new is = refl
+sends_nothing gives old (settled made) new is = refl
+sends_nothing gives old (sent count bytes) new is = absurd is
+
+ends_sending : (gives : Giving) (last : Session) (end : List Call) (broken : Bool) (new : Session) → Ends gives last end broken new → sent_of end ≡ []
+ends_sending gives last [] broken new ends = refl
+ends_sending gives last (call ∷ more) broken new ends =
+    ap (λ (l : List ℕ). l ++ sent_of more) (sends_nothing gives last call new ends.2) ∙ ap (λ (l : List Call). sent_of l) ends.0
+
+pub transcribed : (tells : Type 0) (gives : Giving) (number : ℕ) (host : List ℕ) (first : Seen) (made : Made) (now : Seen)
+    → ((old : Session) (calls : List Call) (new : Session) → IsNew old → AreCalls gives old calls new → RepliesInOrder gives old calls new)
+    → IsFresh tells number host first → WentOn tells gives first made now → IsTranscript tells gives number host made now
+transcribed tells gives number host first made now law fresh went =
+    let are : AreCallsOf gives false first.session went.calls now.broken now.session =
+    subst (λ (b : Bool). AreCallsOf gives b first.session went.calls now.broken now.session) fresh.whole went.are in
+    let split = split_calls gives first.session went.calls now.broken now.session are in
+    record {
+      first = first;
+      fresh = fresh;
+      calls = split.front;
+      last = split.last;
+      replies = law first.session split.front split.last fresh.session split.are;
+      end = split.end;
+      ends = split.ends;
+      steps = went.steps ∙ ap (λ (l : List Call). made_of l) split.both;
+      given = λ told. went.given told ∙ ap (λ (l : List ℕ). l ++ stream_of went.calls) (fresh.given told) ∙ ap (λ (l : List Call). stream_of l) split.both;
+      taken = λ told. went.taken told ∙ ap (λ (l : List ℕ). l ++ sent_of went.calls) (fresh.taken told) ∙ ap (λ (l : List Call). sent_of l) split.both
+          ∙ sent_append split.front split.end ∙ ap (λ (l : List ℕ). sent_of split.front ++ l) (ends_sending gives split.last split.end now.broken now.session split.ends)
+          ∙ append-nil (sent_of split.front);
+    }

@@ -1,0 +1,106 @@
+-- What passes do for a link: the calls of its session, what these heard of the link and sent to it, and the steps of the broker that
+-- they made.
+use Rattle.std.specs.Prelude.{◌≡◌, ◌++◌, ℕ, List, [], ◌∷◌, Bool, true, false, None, Err}
+use Rattle.mq_outside.specs.Readings.{Giving}
+use Rattle.session.specs.Serving.{Made, KeepsLink, KeepsOut, KeepsRest, ServesNext, GivesUp}
+use Rattle.session.specs.Settling.{IsBroken}
+use Rattle.session.specs.Sessions.{Call, fed, served, gave_up, settled, sent, IsCall, IsNew, RepliesInOrder, stream_of, sent_of, made_of}
+use Rattle.session.specs.declared.session.Session.{Session}
+use Rattle.session.specs.declared.serving.Halt.{Halt}
+use Rattle.session.specs.declared.serving.Halt.TheVariants as halts
+use Rattle.link_service.specs.declared.linked.Linked.{Linked}
+
+-- ---- a link at one time
+
+-- its session, whether it broke, and what it gave and took so far
+pub record Seen : Type 0 where
+  pub session : Session
+  pub broken : Bool
+  pub given : List ℕ
+  pub taken : List ℕ
+
+abbrev pub seen_of : {L : Type 0} → (L → List ℕ) → (L → List ℕ) → Linked L → Seen
+seen_of given taken linked =
+    record { session = linked.session; broken = linked.broken; given = given linked.link; taken = taken linked.link }
+
+-- ---- calls
+
+-- What a call that found no memory leaves. Nothing of the piece was fed; the next request is not heard yet, or its answer is lost; what
+-- found no room is not answered; or the next reply has left and has no bytes.
+abbrev pub FindsNoMemory : Giving → Session → Call → Session → Type 0
+FindsNoMemory gives old (fed piece) new = (new.talk.cutter ≡ old.talk.cutter) × KeepsRest old new
+FindsNoMemory gives old (served now made result) new =
+    (result ≡ Err halts.Memory) × ServesNext now old made result new × KeepsLink old new × KeepsOut old new
+FindsNoMemory gives old (gave_up count) new =
+    ((halt : Halt) × GivesUp old.held count old (Err halt) new) × (new.held ≡ None) × (new.talk ≡ old.talk) × KeepsOut old new
+FindsNoMemory gives old (settled made) new =
+    IsBroken gives old made new × (new.held ≡ old.held) × (new.talk ≡ old.talk) × (new.sent ≡ old.sent)
+FindsNoMemory gives old (sent count bytes) new = ⊥
+
+-- what a call of a link's session leaves, by whether the link is broken then
+abbrev pub IsCallOf : Giving → Session → Call → Bool → Session → Type 0
+IsCallOf gives old call false new = IsCall gives old call new
+IsCallOf gives old call true new = FindsNoMemory gives old call new
+
+-- These calls, in this order, lead from the old session to the new one, and from a link that is broken or not to one that is or not.
+-- One that is broken stays so, and makes no call. A call that finds no memory breaks it, and it may break without a call.
+abbrev pub AreCallsOf : Giving → Bool → Session → List Call → Bool → Session → Type 0
+AreCallsOf gives broken old [] breaks new = (new ≡ old) × (broken ≡ true → breaks ≡ true)
+AreCallsOf gives broken old (call ∷ calls) breaks new = (broken ≡ false) × (after : Session) × (breaks_at : Bool)
+    × IsCallOf gives old call breaks_at after × AreCallsOf gives breaks_at after calls breaks new
+
+-- The link went on by calls of its session, which made these steps. What they fed is what it gave, and what they sent is what it took,
+-- where it tells so.
+pub record WentOn (tells : Type 0) (gives : Giving) (old : Seen) (made : Made) (new : Seen) : Type 0 where
+  pub calls : List Call
+  pub are : AreCallsOf gives old.broken old.session calls new.broken new.session
+  pub steps : made ≡ made_of calls
+  pub given : tells → new.given ≡ old.given ++ stream_of calls
+  pub taken : tells → new.taken ≡ old.taken ++ sent_of calls
+
+-- none of these calls settled replies
+abbrev pub NoneSettled : List Call → Type 0
+NoneSettled [] = Unit {0}
+NoneSettled (fed piece ∷ calls) = NoneSettled calls
+NoneSettled (served now made result ∷ calls) = NoneSettled calls
+NoneSettled (gave_up count ∷ calls) = NoneSettled calls
+NoneSettled (settled made ∷ calls) = ⊥
+NoneSettled (sent count bytes ∷ calls) = NoneSettled calls
+
+-- a reader that gives nothing
+abbrev pub gives_nothing : Giving
+gives_nothing piece at bytes = ⊥
+
+-- the same by calls that settled no reply, so that it holds whatever a reader gives
+pub record WentOnUnread (tells : Type 0) (old : Seen) (made : Made) (new : Seen) : Type 0 where
+  pub went : WentOn tells gives_nothing old made new
+  pub none : NoneSettled went.calls
+
+-- ---- the transcript of a link
+
+-- nothing came of it yet
+pub record IsFresh (tells : Type 0) (number : ℕ) (host : List ℕ) (first : Seen) : Type 0 where
+  pub session : IsNew first.session
+  pub link : (first.session.talk.link ≡ number) × (first.session.talk.host ≡ host)
+  pub whole : first.broken ≡ false
+  pub given : tells → first.given ≡ []
+  pub taken : tells → first.taken ≡ []
+
+-- no call is left, or one that found no memory, and the link is broken
+abbrev pub Ends : Giving → Session → List Call → Bool → Session → Type 0
+Ends gives last [] broken new = new ≡ last
+Ends gives last (call ∷ more) broken new = (more ≡ []) × (broken ≡ true) × FindsNoMemory gives last call new
+
+-- What passes did for a link from its beginning on: calls of its session, and at the end maybe one that found no memory. What it was sent
+-- are the replies to the first requests of what it gave, in order.
+pub record IsTranscript (tells : Type 0) (gives : Giving) (number : ℕ) (host : List ℕ) (made : Made) (now : Seen) : Type 0 where
+  pub first : Seen
+  pub fresh : IsFresh tells number host first
+  pub calls : List Call
+  pub last : Session
+  pub replies : RepliesInOrder gives first.session calls last
+  pub end : List Call
+  pub ends : Ends gives last end now.broken now.session
+  pub steps : made ≡ made_of (calls ++ end)
+  pub given : tells → now.given ≡ stream_of (calls ++ end)
+  pub taken : tells → now.taken ≡ sent_of calls

@@ -1,0 +1,19 @@
+//! What holds of every link. The functions do nothing: each stands for its law.
+
+ghost use Rattle.std.specs.Prelude.{ℕ, List};
+ghost use Rattle.session.specs.Serving.{Made};
+ghost use Rattle.link_service.specs.Transcripts.{Seen, WentOn, IsFresh, IsTranscript};
+
+use mq_outside::Reader;
+use mq_peers::Link;
+use session::replies_leave_in_the_order_of_the_requests;
+
+/// Whatever passes did for a link from its beginning on, and by whatever steps of the broker: what it was sent are the replies to the
+/// first requests of what it gave, in order, one each, and none to those that want none; each was applied by one of the steps, in
+/// order, or refused. Where there was no memory for a call this holds up to that call, and the link made no other since.
+pub fn a_link_is_answered_in_order<L: Link, R: Reader>()
+    ensures { (number : ℕ) (host : List ℕ) (first : Seen) (made : Made) (now : Seen) → IsFresh L.tells number host first
+        → WentOn L.tells R.gives first made now → IsTranscript L.tells R.gives number host made now }
+{
+    replies_leave_in_the_order_of_the_requests::<R>();
+}

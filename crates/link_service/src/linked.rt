@@ -1,0 +1,292 @@
+//! A link with its session: what one pass of a loop does for it.
+//!
+//! `whole -> broken [read, serve, settle, write, hear]`, where the link fails or there is no memory. A broken link makes no further call.
+
+ghost use Rattle.std.specs.Prelude.{◌≡◌, ◌<◌, ◌^◌, [], false, true, IfOk};
+ghost use Rattle.session.specs.Serving.{Leads};
+ghost use Rattle.link_service.specs.Transcripts.{WentOn, WentOnUnread, IsFresh, seen_of};
+
+use broker_events::Calls;
+use mq_outside::Reader;
+use mq_peers::{Incoming, Link};
+use session::{Halt, Session, Step};
+use std::alloc::Global;
+
+/// So many reads of one link are made in one pass at most.
+const READS_MAX: usize = 16;
+
+/// So many requests of one link are served in one pass at most.
+const REQUESTS_MAX: usize = 4096;
+
+/// So many writes to one link are made in one pass at most.
+const WRITES_MAX: usize = 64;
+
+/// A link that a loop serves.
+#[derive(Drop)]
+pub struct Linked<L: Link + Drop> {
+    pub(crate) link: L,
+    pub(crate) session: Session,
+    // It may have more to say, or may take more, than it said and took so far.
+    pub(crate) readable: bool,
+    pub(crate) writable: bool,
+    // Its peer has ended its side: reads go on until one says so.
+    pub(crate) ended: bool,
+    // Nothing more is read: its stream ended, or what it says is no frame.
+    pub(crate) deaf: bool,
+    // It may hold a whole request that was not served yet.
+    pub(crate) behind: bool,
+    // Further replies may be due at once.
+    pub(crate) owes: bool,
+    // It failed, or there was no memory for it.
+    pub(crate) broken: bool,
+}
+
+impl<L: Link + Drop> Linked<L> {
+    /// A new link with this number.
+    pub fn new(alloc: Global, number: u32, link: L) -> Linked<L>
+        requires given { L.tells → L.given link ≡ [] }
+        requires taken { L.tells → L.taken link ≡ [] }
+        ensures fresh { IsFresh L.tells number (L.peer link) (seen_of L.given L.taken result) }
+    {
+        let host = link.peer();
+        Linked {
+            link,
+            session: Session::new(alloc, number, host),
+            readable: true,
+            writable: true,
+            ended: false,
+            deaf: false,
+            behind: false,
+            owes: false,
+            broken: false,
+        }
+    }
+
+    /// The link's number.
+    pub fn number(&self) -> u32
+        ensures { result ≡ self.now.session.talk.link }
+    {
+        self.session.link()
+    }
+
+    /// Ends the link: its peer sees the end.
+    pub fn close(&mut self)
+        ensures { WentOnUnread L.tells (seen_of L.given L.taken self.old) [] (seen_of L.given L.taken self.new) }
+    {
+        self.link.close();
+        self.broken = true;
+    }
+
+    /// It was reported. Where its peer has ended its side, it is read until a read says so.
+    pub fn report(&mut self, readable: bool, writable: bool, ended: bool)
+        ensures { seen_of L.given L.taken self.new ≡ seen_of L.given L.taken self.old }
+    {
+        self.readable = self.readable || readable || ended;
+        self.writable = self.writable || writable || ended;
+        self.ended = self.ended || ended;
+    }
+
+    // Whether it is read on.
+    fn is_heard(&self) -> bool
+        ensures { result ≡ true → self.now.broken ≡ false }
+    {
+        self.readable && !self.deaf && !self.broken && !self.session.is_loaded()
+    }
+
+    // Takes in what one read brings.
+    fn read_once(&mut self, buffer: &mut [u8])
+        requires whole { self.old.broken ≡ false }
+        ensures went { WentOnUnread L.tells (seen_of L.given L.taken self.old) [] (seen_of L.given L.taken self.new) }
+    {
+        match self.link.read(buffer) {
+            Ok(Incoming::Bytes(n)) => match self.session.feed(&buffer[..n]) {
+                Ok(()) => self.readable = (n == buffer.len()) | self.ended,
+                Err(_) => self.broken = true,
+            },
+            Ok(Incoming::NotNow) => self.readable = false,
+            Ok(Incoming::End) => self.deaf = true,
+            Err(_) => self.broken = true,
+        }
+    }
+
+    // Takes in what the link says now, at most as much as one pass reads.
+    fn read(&mut self, buffer: &mut [u8])
+        ensures went { WentOnUnread L.tells (seen_of L.given L.taken self.old) [] (seen_of L.given L.taken self.new) }
+    {
+        for _ in 0..READS_MAX {
+            if !self.is_heard() {
+                return;
+            }
+            self.read_once(buffer);
+        }
+    }
+
+    // Gives the next request that was heard to the broker.
+    fn serve_once<C: Calls>(&mut self, alloc: Global, calls: &mut C, now: u64) -> Result<Step, Halt>
+        requires now { now < 2 ^ 62 }
+        requires whole { self.old.broken ≡ false }
+        ensures went { Leads C.makes calls.old calls.new
+            (λ made. WentOnUnread L.tells (seen_of L.given L.taken self.old) made (seen_of L.given L.taken self.new)) }
+        ensures whole { IfOk result (λ step. self.new.broken ≡ false) }
+    {
+        let end = self.session.serve_next(alloc, calls, now);
+        match end {
+            Ok(_) => {}
+            Err(Halt::BadFrame(_)) => self.deaf = true,
+            Err(Halt::Memory) => self.broken = true,
+        }
+        end
+    }
+
+    // Gives each whole request that was heard to the broker. Answers whether any was.
+    fn serve<C: Calls>(&mut self, alloc: Global, calls: &mut C, now: u64) -> bool
+        requires now { now < 2 ^ 62 }
+        requires whole { self.old.broken ≡ false }
+        ensures went { Leads C.makes calls.old calls.new
+            (λ made. WentOnUnread L.tells (seen_of L.given L.taken self.old) made (seen_of L.given L.taken self.new)) }
+    {
+        let mut any = false;
+        self.behind = false;
+        for _ in 0..REQUESTS_MAX {
+            if self.session.is_loaded() {
+                self.behind = true;
+                return any;
+            }
+            match self.serve_once(alloc, calls, now) {
+                Ok(Step::Request) => any = true,
+                Ok(Step::Nothing) | Err(Halt::BadFrame(_)) => return any,
+                // For want of memory a request may have been answered of which nothing is owed.
+                Ok(Step::Full) | Err(Halt::Memory) => return true,
+            }
+        }
+        self.behind = true;
+        any
+    }
+
+    // Where the last flush turn failed, with the disk's count, refuses a request that found no room.
+    fn give_up(&mut self, alloc: Global, failed: Option<u64>)
+        requires whole { self.old.broken ≡ false }
+        ensures went { WentOnUnread L.tells (seen_of L.given L.taken self.old) [] (seen_of L.given L.taken self.new) }
+    {
+        let Some(count) = failed else {
+            return;
+        };
+        match self.session.give_up(alloc, count) {
+            Ok(()) => {}
+            Err(_) => self.broken = true,
+        }
+    }
+
+    /// Reads and serves what came. Answers whether a request was given to the broker. Where the last flush turn failed, with the
+    /// disk's count, a request that found no room before it is refused.
+    pub fn hear<C: Calls>(
+        &mut self,
+        alloc: Global,
+        calls: &mut C,
+        buffer: &mut [u8],
+        now: u64,
+        failed: Option<u64>,
+    ) -> bool
+        requires { now < 2 ^ 62 }
+        ensures went { Leads C.makes calls.old calls.new
+            (λ made. WentOnUnread L.tells (seen_of L.given L.taken self.old) made (seen_of L.given L.taken self.new)) }
+    {
+        if self.broken {
+            return false;
+        }
+        self.give_up(alloc, failed);
+        self.read(buffer);
+        if self.broken {
+            return false;
+        }
+        self.serve(alloc, calls, now)
+    }
+
+    // Writes the replies that are due.
+    fn settle<C: Calls, R: Reader>(&mut self, alloc: Global, calls: &mut C, reader: &mut R)
+        requires whole { self.old.broken ≡ false }
+        ensures went { Leads C.makes calls.old calls.new
+            (λ made. WentOn L.tells R.gives (seen_of L.given L.taken self.old) made (seen_of L.given L.taken self.new)) }
+    {
+        match self.session.settle(alloc, calls, reader) {
+            Ok(()) => {}
+            Err(_) => self.broken = true,
+        }
+    }
+
+    // Whether something is to be sent, and it takes it.
+    fn is_sent(&self) -> bool
+        ensures { result ≡ true → self.now.broken ≡ false }
+    {
+        self.writable && !self.broken && !self.session.unsent().is_empty()
+    }
+
+    // Sends as much as one write takes.
+    fn write_once(&mut self)
+        requires whole { self.old.broken ≡ false }
+        ensures went { WentOnUnread L.tells (seen_of L.given L.taken self.old) [] (seen_of L.given L.taken self.new) }
+    {
+        match self.link.write(self.session.unsent()) {
+            Ok(Some(n)) => self.session.sent(n),
+            Ok(None) => self.writable = false,
+            Err(_) => self.broken = true,
+        }
+    }
+
+    // Sends what is to be sent, as far as the link takes it.
+    fn write(&mut self)
+        ensures went { WentOnUnread L.tells (seen_of L.given L.taken self.old) [] (seen_of L.given L.taken self.new) }
+    {
+        for _ in 0..WRITES_MAX {
+            if !self.is_sent() {
+                return;
+            }
+            self.write_once();
+        }
+    }
+
+    /// Writes and sends the replies that are due.
+    pub fn reply<C: Calls, R: Reader>(&mut self, alloc: Global, calls: &mut C, reader: &mut R)
+        ensures went { Leads C.makes calls.old calls.new
+            (λ made. WentOn L.tells R.gives (seen_of L.given L.taken self.old) made (seen_of L.given L.taken self.new)) }
+    {
+        self.owes = false;
+        for _ in 0..WRITES_MAX {
+            if self.broken {
+                return;
+            }
+            self.settle(alloc, calls, reader);
+            if self.session.unsent().is_empty() {
+                return;
+            }
+            self.write();
+            if !self.session.unsent().is_empty() {
+                return;
+            }
+        }
+        self.owes = true;
+    }
+
+    /// Whether a flush turn may bring it on.
+    pub fn awaits(&self) -> bool {
+        self.session.awaits()
+    }
+
+    /// Whether it can go on at once.
+    pub fn has_more(&self) -> bool {
+        if self.broken {
+            return false;
+        }
+        self.owes || ((self.behind || (self.readable && !self.deaf)) && !self.session.is_loaded())
+    }
+
+    /// Whether nothing more is to be done for it.
+    pub fn has_ended(&self) -> bool {
+        self.broken
+            || (self.deaf
+                && !self.behind
+                && !self.owes
+                && !self.session.awaits()
+                && self.session.unsent().is_empty())
+    }
+}
