@@ -47,7 +47,8 @@ fn queues(queues: u32, asks: u32) -> bool {
                 found.push((unit.offset, unit.size));
             }
         }
-        if found.len() != 32 {
+        let place = (from as u64 * u64::from(queues) + u64::from(queue)) * 108;
+        if found.len() != 32 || found[0].0 != place {
             return false;
         }
     }
@@ -65,9 +66,10 @@ fn keys(asks: u32) -> bool {
     let mut number = 1u64;
     for _ in 0..asks {
         number = after(number);
-        let hash = ((number >> 20) as u32 % UNITS).wrapping_mul(2_654_435_761);
+        let at = ((number >> 20) % u64::from(UNITS)) as u32;
+        let hash = at.wrapping_mul(2_654_435_761);
         let places: Vec<u64> = table[&hash].iter().rev().take(32).map(|entry| entry.0).collect();
-        if places.len() != 1 {
+        if places.len() != 1 || places[0] != u64::from(at) * 108 {
             return false;
         }
     }
@@ -99,13 +101,24 @@ fn halves(asks: u32) -> bool {
     true
 }
 
+// The times of each level's messages, and how many of them were delivered.
 fn levels(asks: u32) -> bool {
-    let times: Vec<u64> = (0..u64::from(UNITS)).collect();
-    let seen = std::hint::black_box(0usize);
+    let mut levels: Vec<(Vec<u64>, usize)> = vec![(Vec::new(), 0); 18];
+    for at in 0..UNITS {
+        levels[at as usize % 18].0.push(u64::from(at));
+    }
+    let now = u64::from(UNITS);
+    let mut last = (0, 0);
     for _ in 0..asks {
-        if std::hint::black_box(&times[..seen]).first().is_some() {
+        let due = levels.iter().position(|level| level.0.get(level.1).is_some_and(|time| *time <= now));
+        let Some(next) = due.map(|level| (level, levels[level].1)) else {
+            return false;
+        };
+        if next != last && next != (last.0 + 1, 0) {
             return false;
         }
+        levels[next.0].1 += 1;
+        last = (next.0, next.1 + 1);
     }
     true
 }

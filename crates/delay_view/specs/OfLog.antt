@@ -35,8 +35,10 @@ empty_log base = record { base = base; records = [] }
 pub record CutsLevels (log : Log) (n : ℕ) (later : Base) : Type 0 where
   pub long : n ≤ length log.records
   pub records : later.records ≡ log.base.records + length (take n log.records)
-  pub queues : (queue : ℕ) → later.queues level_topic queue ≡ log.base.queues level_topic queue + length (queue_of (take n log.records) level_topic queue)
-  pub levels : (level : ℕ) → 1 ≤ level → level ≤ 18 → later.levels level ≡ log.base.levels level + count_by (is_delivery level) (take n log.records)
+  pub queues : (queue : ℕ)
+      → later.queues level_topic queue ≡ log.base.queues level_topic queue + length (queue_of (take n log.records) level_topic queue)
+  pub levels : (level : ℕ) → 1 ≤ level → level ≤ 18
+      → later.levels level ≡ log.base.levels level + count_by (is_delivery level) (take n log.records)
 
 -- ---- what one record is to the levels
 

@@ -133,8 +133,8 @@ impl DelayView {
         requires high { (l : Level) → slice_get self.old (level - 1) ≡ Some l → min ≤ l.low + l.seen }
         ensures level { (l : Level) → slice_get self.old (level - 1) ≡ Some l
             → self.new ≡ slice_set self.old (level - 1) (cut_at l min) }
-        ensures records { (log : Log) (d n : ℕ) (later : Base) (l m : Level) → slice_get self.old (level - 1) ≡ Some l → IsLevelOf log d level l
-            → CutsLevels log n later → later.records ≤ d → min ≡ later.queues level_topic (level - 1)
+        ensures records { (log : Log) (d n : ℕ) (later : Base) (l m : Level) → slice_get self.old (level - 1) ≡ Some l
+            → IsLevelOf log d level l → CutsLevels log n later → later.records ≤ d → min ≡ later.queues level_topic (level - 1)
             → slice_get self.new (level - 1) ≡ Some m → IsLevelOf (above log later) d level m }
     {
         cut_one(&mut self.levels, level as usize - 1, min);
