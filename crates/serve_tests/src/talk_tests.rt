@@ -1,8 +1,8 @@
 //! A response, a request and a bad length, in two pieces.
 
-use crate::Talk;
 use remoting_frame::FrameFault;
 use request_fields::Request;
+use session::Talk;
 use std::test::Fail;
 
 /// The request starts at 38, and the bad length at 117.

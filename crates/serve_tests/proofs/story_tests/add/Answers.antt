@@ -1,7 +1,7 @@
 use Rattle.std.proofs.Common.{ℕ, ◌+◌, ◌%◌, ◌^◌, ap, ◌∙◌}
-use Rattle.story_lock.specs.declared.tests.Counter.{Counter}
+use Rattle.serve_tests.specs.declared.story_tests.Counter.{Counter}
 use Rattle.story_lock.proofs.Counting.{counts_snoc}
-use Rattle.story_lock.proofs.tests.add.Goals as goal
+use Rattle.serve_tests.proofs.story_tests.add.Goals as goal
 
 pub end-requires-clause-represented : goal.end-requires-clause-represented
 end-requires-clause-represented g c = let was = ap (λ (x : Counter). x.count) c.state.ensures.value in let adds = c.add-before.ensures in

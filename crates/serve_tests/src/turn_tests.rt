@@ -3,7 +3,6 @@
 ghost use Rattle.std.specs.Prelude.{◌≡◌, ◌≤◌, [], ◌∷◌, None, IfSome, length};
 ghost use Rattle.std.proofs.Props.{props};
 
-use crate::{FlushEnd, dispatch_turn, flush_turn};
 use broker_events::{Awaited, Calls, Event, Said};
 use bytes::Bytes;
 use group_flush::Flusher;
@@ -12,6 +11,7 @@ use mq_outside::{MemDisk, Room};
 use segment_files::LastFile;
 use std::alloc::{AllocError, Global};
 use std::test::Fail;
+use worker_turns::{FlushEnd, dispatch_turn, flush_turn};
 
 const ROOM: Room = Room {
     bytes: 4096,

@@ -4,11 +4,10 @@ ghost use Rattle.std.specs.Prelude.{◌≡◌, ◌==◌, ◌+◌, ◌%◌, ◌^�
 ghost use Rattle.story_lock.specs.Counting.{Counts};
 ghost use Rattle.story_lock.specs.Passes.{IsPassOf, HasSeat, HasKey, Adds, seen_by, numbers_of};
 
-use crate::chronicle::Chronicle;
-use crate::story::{Pass, Story};
 use std::sync::Wait;
 use std::test::Fail;
 use std::thread::join;
+use story_lock::{Chronicle, Pass, Story};
 
 #[derive(Drop)]
 struct Counter {
