@@ -1,4 +1,4 @@
--- The half message of the tests is one that can be asked for.
+-- The half message of the tests of check-backs is one that can be asked for.
 use Rattle.std.proofs.Common.{◌≡◌, lit<, ℕ, pos, List, [], ◌∷◌, codes, refl, sym, subst, ap}
 use Rattle.std.proofs.lemmas.Fmt.{decimal_digit}
 use Rattle.std.specs.Prelude.{Some}

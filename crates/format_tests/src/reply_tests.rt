@@ -3,10 +3,10 @@
 ghost use Rattle.std.specs.Prelude.{◌≡◌, ◌+◌, ◌<◌, ◌≤◌, ◌^◌, IfOk};
 ghost use Rattle.reply_fields.specs.Slices.{slice_len, body_len};
 
-use crate::{Reply, Slice, StoredRange};
 use mq_bytes::{LogFile, Rows, Text};
 use mq_outside::{Disk, DiskFault, Frozen, MemDisk, MemReader, Room};
 use remoting_frame::Form;
+use reply_fields::{Reply, Slice, StoredRange};
 use request_fields::RequestFault;
 use std::alloc::{AllocError, Global};
 use std::test::Fail;
@@ -22,7 +22,7 @@ const REFUSAL: &[u8] =
     b"\0\0\0\x85\0\0\0\x81{\"code\":3,\"extFields\":{},\"flag\":1,\"language\":\"OTHER\",\"opaque\":7,\"remark\":\"code 999\",\"serializeTypeCurrentRPC\":\"JSON\",\"version\":0}";
 
 // The offset 1, as a reply tells it.
-#[tactic(auto, using(crate::proofs::ReplyLemmas::one_in_order))]
+#[tactic(auto, using(reply_fields::proofs::ReplyLemmas::one_in_order))]
 fn max_offset(alloc: Global) -> Result<Reply, AllocError> {
     let name = Text::of(String::from_str(alloc, "offset")?);
     let value = Text::of(String::from_str(alloc, "1")?);
@@ -60,7 +60,7 @@ fn digits(alloc: Global, at: u64, len: u32) -> Result<Slice, Fail>
     Ok(Slice::Kept(StoredRange { piece, at, len }))
 }
 
-#[tactic(auto, using(crate::proofs::ReplyLemmas::none_in_order))]
+#[tactic(auto, using(reply_fields::proofs::ReplyLemmas::none_in_order))]
 fn reply_of(alloc: Global, slices: Vec<Slice>) -> Reply
     requires { body_len slices.items < 2 ^ 30 }
 {

@@ -1,4 +1,4 @@
-use Rattle.remoting_frame.proofs.tests.say.Goals as goal
+use Rattle.format_tests.proofs.frame_tests.say.Goals as goal
 
 pub write-requires-clause-bits : goal.write-requires-clause-bits
 write-requires-clause-bits c = λ binary. absurd cc

@@ -2,9 +2,9 @@
 
 ghost use Rattle.std.specs.Prelude.{◌≡◌, ◌∷◌, [], codes, IfOk};
 
-use crate::Ask;
 use mq_bytes::{Rows, Text};
 use record_codec::{Draft, Place, Props, Record};
+use reply_fields::Ask;
 use std::alloc::{AllocError, Global};
 use std::test::Fail;
 

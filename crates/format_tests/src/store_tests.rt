@@ -1,12 +1,9 @@
 //! The command line, word by word, and the opening of stores in memory.
 
-use crate::opening::open_format;
-use crate::serve_words::{ServeCommand, read_serve_words};
-use crate::status::Status;
-use crate::words::{Command, read_words};
 use mq_outside::{Disk, MemDisk, MemKeep, Room};
 use std::alloc::{AllocError, Global};
 use std::test::Fail;
+use store_open::{Command, ServeCommand, Status, open_format, read_serve_words, read_words};
 
 const LOG: &str = "commitlog/00000000000000000000";
 

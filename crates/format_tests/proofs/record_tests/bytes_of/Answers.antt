@@ -1,7 +1,7 @@
 use Rattle.std.proofs.Common.{codes, ap, ◌∙◌, arith, lit<, lit≤}
 use Rattle.record_codec.specs.Props.{has_name}
 use Rattle.record_codec.proofs.DraftLemmas.{IsEncodable-from}
-use Rattle.record_codec.proofs.tests.bytes_of.Goals as goal
+use Rattle.format_tests.proofs.record_tests.bytes_of.Goals as goal
 
 pub encode-requires : goal.encode-requires
 encode-requires c =

@@ -4,8 +4,8 @@ ghost use Rattle.std.specs.Prelude.{◌≤◌, length, IfOk};
 ghost use Rattle.remoting_frame.specs.Head.{IsShort};
 ghost use Rattle.remoting_frame.specs.BinaryText.{Has16Bits, FitsLengths};
 
-use crate::{Cutter, Form, Frame, FrameFault, Header, HeaderFault};
 use mq_bytes::{Rows, Text};
+use remoting_frame::{Cutter, Form, Frame, FrameFault, Header, HeaderFault};
 use std::alloc::{AllocError, Global};
 use std::test::Fail;
 

@@ -1,8 +1,8 @@
 //! Each code once, the worked requests, and the bounds.
 
-use crate::{PullFields, Request, RequestFault};
 use mq_bytes::Rows;
 use remoting_frame::{Form, Frame, Header};
+use request_fields::{PullFields, Request, RequestFault};
 use std::alloc::{AllocError, Global};
 use std::process::Abort;
 use std::test::Fail;
