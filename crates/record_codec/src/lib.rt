@@ -27,6 +27,3 @@ pub use sysflag::{COMMITTED, HOSTS_LONG, PREPARED, TRANSACTION_BITS};
 pub use topic::is_legal_topic;
 pub use unit::{Unit, tag_code, unit_of};
 pub use view::View;
-
-#[cfg(test)]
-mod tests;

@@ -27,6 +27,3 @@ pub use spellings::{
 pub use streams::{
     each_stream_is_cut, faults_stay, frames_stay, one_reading, pieces_do_not_matter,
 };
-
-#[cfg(test)]
-mod tests;

@@ -1,4 +1,3 @@
 pub mod BodyLemmas
 pub mod ReplyLemmas
 pub mod AskLemmas
-pub mod TestLemmas

@@ -11,8 +11,3 @@ mod slice;
 pub use ask::Ask;
 pub use reply::Reply;
 pub use slice::{Slice, StoredRange};
-
-#[cfg(test)]
-mod ask_tests;
-#[cfg(test)]
-mod tests;

@@ -31,6 +31,3 @@ pub use laws::{
 };
 pub use request::Request;
 pub use send_fields::SendFields;
-
-#[cfg(test)]
-mod tests;

@@ -19,6 +19,3 @@ pub use owed::{Applied, Awaits, Owed, apply, look, write_reply};
 pub use serving::{Halt, Step};
 pub use session::Session;
 pub use talk::Talk;
-
-#[cfg(test)]
-mod tests;

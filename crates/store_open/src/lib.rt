@@ -14,6 +14,3 @@ pub use opening::open_format;
 pub use serve_words::{ServeCommand, read_serve_words};
 pub use status::Status;
 pub use words::{Command, read_words};
-
-#[cfg(test)]
-mod tests;

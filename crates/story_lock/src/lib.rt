@@ -6,8 +6,6 @@ mod chronicle;
 mod state;
 mod steps;
 mod story;
-#[cfg(test)]
-mod tests;
 mod turns;
 mod view;
 

@@ -3,8 +3,6 @@
 
 mod dispatch;
 mod flush;
-#[cfg(test)]
-mod tests;
 
 pub use dispatch::dispatch_turn;
 pub use flush::{FlushEnd, flush_turn};
