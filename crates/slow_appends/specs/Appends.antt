@@ -1,5 +1,6 @@
 -- Records that are appended one behind the other, or find no room.
-use Rattle.std.specs.Prelude.{◌≡◌, ℕ, ◌+◌, ◌^◌, ◌&&◌, not, nat_lt, List, length, sum_by, All, is_some, Option, Some, None, Bool, true, false, Vec}
+use Rattle.std.specs.Prelude.{◌≡◌, ℕ, ◌+◌, ◌^◌, ◌&&◌, not, nat_lt, List, length, sum_by, All, is_some, Option, Some, None}
+use Rattle.std.specs.Prelude.{Bool, true, false, Vec}
 use Rattle.std.specs.List.{list_any}
 use Rattle.record_codec.specs.Drafts.{draft_fault}
 use Rattle.record_codec.specs.Entry.{Entry}

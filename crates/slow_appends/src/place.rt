@@ -45,7 +45,8 @@ pub fn place_behind(
     requires placed { All IsKept placed.now }
     requires added { length placed.now ≤ 2 ^ 62 }
     requires size { size ≡ draft_size draft.now }
-    ensures { entry_of draft.now result ≡ next_record segment now (with_appended (log_of base.now log.now) (entries_of placed.now)) draft.now }
+    ensures { entry_of draft.now result
+        ≡ next_record segment now (with_appended (log_of base.now log.now) (entries_of placed.now)) draft.now }
 {
     let topic = draft.topic.as_str();
     let bounds = bounds_of(log, base, topic, draft.queue);

@@ -87,7 +87,8 @@ fn is_due(alloc: Global, log: &[Record], now: u64, r: &Record) -> Result<bool, A
 
 /// The first origin that is due at this time, copied.
 pub fn due_origin(alloc: Global, log: &[Record], now: u64) -> Result<Option<Record>, AllocError>
-    ensures { IfOk result (λ due. option_map (λ r. said_by r) due ≡ find (is_due_origin_of (entries_of log.now) now) (origins (entries_of log.now))) }
+    ensures { IfOk result (λ due. option_map (λ r. said_by r) due
+        ≡ find (is_due_origin_of (entries_of log.now) now) (origins (entries_of log.now))) }
 {
     for record in log {
         if is_due(alloc, log, now, record)? {

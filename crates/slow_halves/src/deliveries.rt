@@ -33,7 +33,8 @@ pub fn delivery_drafts(
     host: [u8; 8],
     due: &Due,
 ) -> Result<Option<Vec<Draft>>, AllocError>
-    ensures { IfOk result (AreDeliveries (delivery_draft_of host due.now.level due.now.count (said_by due.now.message) ∷ []) (said_by due.now.message)) }
+    ensures { IfOk result (AreDeliveries
+        (delivery_draft_of host due.now.level due.now.count (said_by due.now.message) ∷ []) (said_by due.now.message)) }
 {
     match real_queue(&due.message) {
         None => Ok(None),

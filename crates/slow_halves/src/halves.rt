@@ -40,7 +40,8 @@ fn is_origin(r: &Record, digits: &[u8]) -> bool
 
 // The half message with this queue offset at this place.
 fn is_at(r: &Record, queue_offset: u64, place: u64) -> bool
-    ensures { result ≡ (is_half_entry (said_by r.now) && ((said_by r.now).queue_offset == queue_offset) && ((said_by r.now).offset == place)) }
+    ensures { result ≡ (is_half_entry (said_by r.now)
+        && ((said_by r.now).queue_offset == queue_offset) && ((said_by r.now).offset == place)) }
 {
     is_half(r) && r.place.queue_offset == queue_offset && r.place.offset == place
 }

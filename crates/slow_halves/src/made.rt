@@ -184,7 +184,8 @@ fn drop_delay(props: &mut Props)
 
 /// A delivery tells its level and number in a property; the message has none of that name yet.
 pub fn can_be_delivered(alloc: Global, r: &Record) -> Result<bool, AllocError>
-    ensures { IfOk result (λ free. free ≡ is_none (value_of (codes "DELAY_FROM") (without (codes "DELAY") (without_real_of (said_by r.now).props)))) }
+    ensures { IfOk result (λ free. free
+        ≡ is_none (value_of (codes "DELAY_FROM") (without (codes "DELAY") (without_real_of (said_by r.now).props)))) }
 {
     let mut props = r.draft.props.copy(alloc)?;
     drop_delay(&mut props);
