@@ -1,5 +1,4 @@
 pub mod Events
-pub mod Lists
 pub mod Refused
 pub mod Sent
 pub mod Sounds

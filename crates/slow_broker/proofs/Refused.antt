@@ -1,12 +1,13 @@
 -- What the model answers to requests that are refused, and to those that append nothing.
-use Rattle.std.proofs.Common.{◌≡◌, ◌∙◌, refl, ap, ℕ, ◌+◌, ◌^◌, ◌||◌, ◌&&◌, nat_lt, sum_by, max, List, [], ◌∷◌, ⊎_elim, map, option_map, length, Bool, true, false, Option, Some, None, is_some, if◌then◌else◌}
+use Rattle.std.proofs.Common.{◌≡◌, ◌∙◌, refl, ap, ℕ, ◌+◌, ◌^◌, ◌||◌, ◌&&◌, nat_lt, sum_by, max, not, List, [], ◌∷◌, ⊎_elim, map, option_map, length, Bool, true, false, Option, Some, None, is_some, codes, ◌==◌, if◌then◌else◌}
 use Rattle.std.specs.List.{list_any}
 use Rattle.record_codec.specs.Entry.{Entry}
-use Rattle.record_codec.specs.Layout.{size}
+use Rattle.record_codec.specs.Layout.{size, is_legal, are_hosts_short}
 use Rattle.request_fields.specs.declared.request.Request.{Request}
-use Rattle.request_fields.specs.declared.request.Request.TheVariants.{Send, EndTransaction, MakeTopic, OffsetOf, MaxOffset, MinOffset}
-use Rattle.slow_broker.specs.Requests.{is_built, is_quiet, refusal_reply}
-use Rattle.slow_broker.specs.Sends.{rows_of, refusal_by}
+use Rattle.request_fields.specs.declared.request.Request.TheVariants.{Send, EndTransaction}
+use Rattle.slow_broker.specs.Requests.{is_built, is_quiet}
+use Rattle.slow_rows.specs.Replies.{refusal_reply}
+use Rattle.slow_rows.specs.Sends.{rows_of, refusal_by}
 use Rattle.std.proofs.lemmas.Bool.{cases_Bool}
 use Rattle.record_codec.specs.Drafts.{first_that_holds}
 use Rattle.request_fields.specs.Requests.{SendSaid}
@@ -15,7 +16,10 @@ use Rattle.record_codec.specs.declared.draft.Draft.{Draft}
 use Rattle.log_model.specs.Numbered.{next_records}
 use Rattle.broker_model.specs.State.{State, pending_bytes}
 use Rattle.broker_model.specs.Events as model
-use Rattle.broker_model.specs.Refusals.{refusal_of, send_refusal}
+use Rattle.broker_model.specs.Refusals.{refusal_of, send_refusal, send_queues, plain_reply}
+use Rattle.broker_model.specs.Sends.{flag_of, queue_named}
+use Rattle.log_model.specs.Admissible.{is_system_topic}
+use Rattle.std.specs.Prelude.{is_none}
 use Rattle.broker_model.specs.Appended.{is_refused, is_past_end, is_full, drafts_of, request_drafts, made_by, appended}
 use Rattle.broker_model.specs.Answers.{answer_of, refused_answer, carried_out_answer, request_answer, or_refused}
 use Rattle.broker_model.specs.Step.{after, changed, request_changed, with_records}
@@ -83,11 +87,8 @@ no_drafts s now host _ quiet = refl
 -- a request that is built is a send, or quiet
 pub quiet_else : (r : Request) → is_built r ≡ true → ((send : SendSaid) → r ≡ Send send → ⊥) → is_quiet r ≡ true
 quiet_else (Send send) built other = absurd (other send refl)
-quiet_else (MakeTopic t) built other = refl
-quiet_else (OffsetOf q) built other = refl
-quiet_else (MaxOffset q) built other = refl
-quiet_else (MinOffset q) built other = refl
-quiet_else _ built other = absurd cc
+quiet_else (EndTransaction end) built other = absurd cc
+quiet_else _ built other = refl
 
 -- the first row that holds, with what is made of it
 first_mapped : {A B : Type 0} (f : A → B) (rows : List (Bool × A)) → option_map f (first_that_holds rows) ≡ first_that_holds (map (λ (row : Bool × A). (row.0, f row.1)) rows)
@@ -101,3 +102,20 @@ first_mapped f (row ∷ rows) = ⊎_elim
 pub rows_are : (s : State) (send : SendSaid) → option_map refusal_reply (refusal_by s.setup.segment (queues_in s.topics send.topic) send) ≡ send_refusal s send
 unfolding refusal_by
 rows_are s send = first_mapped refusal_reply (rows_of s.setup.segment (queues_in s.topics send.topic) send)
+
+not_none : {A : Type 0} (b : Bool) (x : A) (rows : List (Bool × A)) → first_that_holds ((not b, x) ∷ rows) ≡ None → b ≡ true
+not_none true x rows none = refl
+not_none false x rows none = absurd cc
+
+-- a send that isn't refused names a legal topic
+pub legal_of : (s : State) (send : SendSaid) → refusal_of s (Send send) ≡ None → is_legal send.topic ≡ true
+unfolding refusal_of
+legal_of s send taken = not_none (is_legal send.topic) (plain_reply 13 (codes "topic")) (
+    (not (are_hosts_short (flag_of send)), plain_reply 13 (codes "sysFlag"))
+    ∷ (nat_lt 4194304 (length send.body), plain_reply 13 (codes "body"))
+    ∷ (nat_lt 31999 (length send.props), plain_reply 13 (codes "properties"))
+    ∷ (nat_lt s.setup.segment (length send.body + length send.props + 1024), plain_reply 13 (codes "record"))
+    ∷ (is_system_topic send.topic, plain_reply 16 (codes "system topic"))
+    ∷ (is_none (queues_in s.topics send.topic) && (length send.default_topic == 0), plain_reply 17 (codes "no topic"))
+    ∷ (not (nat_lt (queue_named send.queue) (send_queues s send)), plain_reply 1 (codes "queue"))
+    ∷ []) taken

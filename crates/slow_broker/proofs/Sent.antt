@@ -1,4 +1,4 @@
--- What the model answers to a send of a plain message that isn't refused, and the state after it.
+-- What the model answers to a send that isn't refused, and the state after it.
 use Rattle.std.proofs.Common.{◌≡◌, ◌∙◌, refl, ap, sym, ℕ, ◌+◌, ◌^◌, ◌||◌, ◌&&◌, not, max, nat_lt, sum_by, arith, Bool, true, false, List, [], ◌∷◌, length, codes, Option, Some, None, is_some, if◌then◌else◌}
 use Rattle.std.specs.List.{list_any}
 use Rattle.std.proofs.lemmas.List.Sums.{sum_by-cons}
@@ -10,27 +10,16 @@ use Rattle.request_fields.specs.Requests.{SendSaid}
 use Rattle.request_fields.specs.declared.request.Request.TheVariants.{Send}
 use Rattle.broker_model.specs.State.{State, pending_bytes}
 use Rattle.broker_model.specs.Events as model
-use Rattle.broker_model.specs.Sends.{send_draft, plain_draft, half_draft, delayed_or_plain, is_half_send, level_of}
+use Rattle.broker_model.specs.Sends.{send_draft}
 use Rattle.broker_model.specs.Refusals.{plain_reply, refusal_of, send_queues}
 use Rattle.broker_model.specs.Appended.{is_refused, is_past_end, is_full, drafts_of, made_by, appended}
 use Rattle.broker_model.specs.Answers.{answer_of, refused_answer, carried_out_answer, request_answer, or_refused, send_answer}
 use Rattle.broker_model.specs.Step.{after, changed, request_changed, with_records, with_made}
-use Rattle.broker_events.specs.Served.{is_plain_send}
 use Rattle.slow_broker.specs.Sends.{placed_answer, placed_after}
 
 or_false : (b : Bool) → (b || false) ≡ b
 or_false true = refl
 or_false false = refl
-
-plain_by : (half : Bool) (level : Option ℕ) (d h : Draft) → (not half && not (is_some level)) ≡ true → (if half then h else delayed_or_plain level d) ≡ d
-plain_by true level d h plain = absurd cc
-plain_by false None d h plain = refl
-plain_by false (Some level) d h plain = absurd cc
-
--- the record of a plain message is the message as it was sent
-pub plain_is : (store_host born_host : List ℕ) (send : SendSaid) → is_plain_send send ≡ true → send_draft store_host born_host send ≡ plain_draft store_host born_host send
-plain_is store_host born_host send plain =
-    plain_by (is_half_send send) (level_of send) (plain_draft store_host born_host send) (half_draft send.group (plain_draft store_host born_host send)) plain
 
 chosen : {A : Type 0} (past full : Bool) (x y : A) (z : List Entry → A) (rs : List Entry)
     → (if past || full then (if past then x else y) else z (if past || full then [] else rs)) ≡ (if past then x else (if full then y else z rs))

@@ -2,10 +2,10 @@
 use Rattle.std.proofs.Common.{◌≡◌, refl, ap, ℕ, ◌+◌, ◌<◌, ◌≤◌, List, [], ◌∷◌, ◌++◌, map, Option, Some, None, option_map, arith}
 use Rattle.broker_model.specs.State as model
 use Rattle.broker_model.specs.Step.{IsOut, failed_turns}
-use Rattle.slow_broker.specs.declared.broker.Out.{Out}
+use Rattle.slow_rows.specs.declared.rows.Out.{Out}
 use Rattle.slow_broker.specs.declared.broker.SlowBroker.{SlowBroker}
 use Rattle.slow_broker.specs.Sound.{IsSound, IsTurn}
-use Rattle.slow_broker.specs.States.{out_of}
+use Rattle.slow_rows.specs.Rows.{out_of}
 
 -- with another number of dispatched records
 pub sound_dispatched : (b : SlowBroker) (n : ℕ) → IsSound b → IsSound (record b { dispatched = n })

@@ -1,15 +1,12 @@
 -- Answers, as the model has them.
-use Rattle.std.specs.Prelude.{ℕ, Option, Some, None, option_map, Result, Ok, Err}
+use Rattle.std.specs.Prelude.{Option, Some, None, option_map, Result, Ok, Err}
 use Rattle.log_model.specs.Queues.{entries_of}
 use Rattle.broker_model.specs.Events as model
 use Rattle.broker_events.specs.Steps.{awaited_of}
-use Rattle.slow_broker.specs.declared.answer.Reply.{Reply}
+use Rattle.slow_rows.specs.Replies.{reply_of}
 use Rattle.slow_broker.specs.declared.answer.Taken.{Taken}
 use Rattle.slow_broker.specs.declared.answer.Answer.{Answer}
-use Rattle.slow_broker.specs.declared.answer.Answer.TheVariants.{Replies, After, Full, Batch, Done, Looked, Moved}
-
-abbrev pub reply_of : Reply → model.Reply
-reply_of reply = record { code = reply.code; remark = reply.remark; ext = reply.ext; body = entries_of reply.body }
+use Rattle.slow_broker.specs.declared.answer.Answer.TheVariants.{Replies, After, Locked, Full, Batch, Done, Looked, Moved}
 
 abbrev pub taken_of : Taken → model.Taken
 taken_of taken = record { from = taken.from; records = entries_of taken.records; blank = taken.blank }
@@ -18,6 +15,7 @@ taken_of taken = record { from = taken.from; records = entries_of taken.records;
 abbrev pub told : Answer → model.Answer
 told (Replies reply) = model.Replies (reply_of reply)
 told (After reply number turn) = model.After (reply_of reply) number turn
+told (Locked queues) = model.Locked queues
 told (Full pending) = model.Full pending
 told (Batch taken) = model.Batch (option_map taken_of taken)
 told Done = model.Done

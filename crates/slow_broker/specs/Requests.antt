@@ -1,15 +1,11 @@
 -- Which requests are built, and what one does that isn't refused and appends nothing.
-use Rattle.std.specs.Prelude.{◌≡◌, ℕ, ◌^◌, ◌<◌, max, List, [], codes, Bool, true, false}
+use Rattle.std.specs.Prelude.{◌≡◌, ℕ, ◌^◌, ◌<◌, max, [], Bool, true, false}
 use Rattle.request_fields.specs.declared.request.Request.{Request}
 use Rattle.request_fields.specs.declared.request.Request.TheVariants.{Send, Pull, Query, OffsetOf, SetOffset, MakeTopic, Search, MaxOffset, MinOffset, ViewById, Beat, Unregister, EndTransaction, Lock, Unlock}
-use Rattle.broker_events.specs.Served.{is_plain_send}
 use Rattle.broker_model.specs.Events as model
-use Rattle.broker_model.specs.Refusals.{plain_reply}
 use Rattle.broker_model.specs.Answers.{request_answer}
 use Rattle.broker_model.specs.Step.{request_changed}
 use Rattle.slow_broker.specs.declared.broker.SlowBroker.{SlowBroker}
-use Rattle.slow_broker.specs.declared.refusals.Refusal.{Refusal}
-use Rattle.slow_broker.specs.declared.refusals.Refusal.TheVariants as refusal
 use Rattle.slow_broker.specs.declared.event.Event.{Event}
 use Rattle.slow_broker.specs.declared.event.Event.TheVariants.{Asks, Take, Flushed, FlushFailed, Look, Dispatch, Leave}
 use Rattle.slow_broker.specs.States.{state_of}
@@ -22,34 +18,34 @@ is_quiet (OffsetOf q) = true
 is_quiet (MaxOffset q) = true
 is_quiet (MinOffset q) = true
 is_quiet (Send send) = false
-is_quiet (Pull p) = false
-is_quiet (Query q) = false
-is_quiet (SetOffset q) = false
-is_quiet (Search q) = false
-is_quiet (ViewById v) = false
-is_quiet (Beat b) = false
-is_quiet (Unregister u) = false
+is_quiet (Pull p) = true
+is_quiet (Query q) = true
+is_quiet (SetOffset q) = true
+is_quiet (Search q) = true
+is_quiet (ViewById v) = true
+is_quiet (Beat b) = true
+is_quiet (Unregister u) = true
 is_quiet (EndTransaction end) = false
-is_quiet (Lock l) = false
-is_quiet (Unlock l) = false
+is_quiet (Lock l) = true
+is_quiet (Unlock l) = true
 
--- the request is of a kind that is carried out: of sends, plain messages are
+-- the request is of a kind that is carried out
 abbrev pub is_built : Request → Bool
 is_built (MakeTopic t) = true
 is_built (OffsetOf q) = true
 is_built (MaxOffset q) = true
 is_built (MinOffset q) = true
-is_built (Send send) = is_plain_send send
-is_built (Pull p) = false
-is_built (Query q) = false
-is_built (SetOffset q) = false
-is_built (Search q) = false
-is_built (ViewById v) = false
-is_built (Beat b) = false
-is_built (Unregister u) = false
+is_built (Send send) = true
+is_built (Pull p) = true
+is_built (Query q) = true
+is_built (SetOffset q) = true
+is_built (Search q) = true
+is_built (ViewById v) = true
+is_built (Beat b) = true
+is_built (Unregister u) = true
 is_built (EndTransaction end) = false
-is_built (Lock l) = false
-is_built (Unlock l) = false
+is_built (Lock l) = true
+is_built (Unlock l) = true
 
 -- the event is built: a request is of such a kind, and its reading of the clock is below 2^62
 abbrev pub IsBuilt : Event → Type 0
@@ -60,17 +56,6 @@ IsBuilt (FlushFailed count) = Unit {0}
 IsBuilt (Look number turn) = Unit {0}
 IsBuilt (Dispatch most) = Unit {0}
 IsBuilt (Leave link) = Unit {0}
-
--- what is answered to a refused request
-abbrev pub refusal_reply : Refusal → model.Reply
-refusal_reply refusal.Topic = plain_reply 13 (codes "topic")
-refusal_reply refusal.SysFlag = plain_reply 13 (codes "sysFlag")
-refusal_reply refusal.Body = plain_reply 13 (codes "body")
-refusal_reply refusal.Properties = plain_reply 13 (codes "properties")
-refusal_reply refusal.Record = plain_reply 13 (codes "record")
-refusal_reply refusal.SystemTopic = plain_reply 16 (codes "system topic")
-refusal_reply refusal.NoTopic = plain_reply 17 (codes "no topic")
-refusal_reply refusal.Queue = plain_reply 1 (codes "queue")
 
 -- a request that appends nothing has this answer at this time, and leaves what it changes
 pub record Carries (old : SlowBroker) (link now : ℕ) (request : Request) (answer : model.Answer) (new : SlowBroker) : Type 0 where

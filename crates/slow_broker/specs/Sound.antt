@@ -1,16 +1,9 @@
 -- What holds of the numbers that the slow broker keeps, so that all its sums fit.
-use Rattle.std.specs.Prelude.{◌≡◌, ℕ, ◌+◌, ◌^◌, ◌<◌, ◌≤◌, List, length, All, Option, Some, None, vec_len, vec_capacity}
-use Rattle.record_codec.specs.Layout.{size}
-use Rattle.record_codec.specs.declared.draft.Record.{Record}
-use Rattle.log_model.specs.Queues.{said_by}
+use Rattle.std.specs.Prelude.{ℕ, ◌+◌, ◌^◌, ◌<◌, ◌≤◌, List, length, All, Option, Some, None, vec_len, vec_capacity}
 use Rattle.log_model.specs.Told.{counts_in}
-use Rattle.slow_broker.specs.declared.broker.Out.{Out}
+use Rattle.slow_rows.specs.Records.{IsKept}
+use Rattle.slow_rows.specs.declared.rows.Out.{Out}
 use Rattle.slow_broker.specs.declared.broker.SlowBroker.{SlowBroker}
-
--- the record says how many bytes it has, and ends at 2^62 or before
-pub record IsKept (r : Record) : Type 0 where
-  pub size : r.size ≡ size (said_by r)
-  pub low : r.place.offset + r.size ≤ 2 ^ 62
 
 -- The batch that is out is pending: from the flushed number on, up to the end. There is room to note that it failed.
 abbrev pub IsTurn : (flushed end noted room : ℕ) → Option Out → Type 0

@@ -7,7 +7,6 @@ ghost use Rattle.slow_broker.specs.States.{state_of, event_of};
 
 use crate::broker::SlowBroker;
 use crate::event::Event;
-use broker_events::is_served;
 use request_fields::Request;
 
 // Whether the request is of a kind that is carried out.
@@ -15,21 +14,21 @@ fn is_built(request: &Request) -> bool
     ensures { result ≡ is_built_request request.now }
 {
     match request {
-        Request::Send(_) => is_served(request),
-        Request::MakeTopic(_)
-        | Request::OffsetOf(_)
-        | Request::MaxOffset(_)
-        | Request::MinOffset(_) => true,
-        Request::Pull(_)
+        Request::EndTransaction(_) => false,
+        Request::Send(_)
+        | Request::Pull(_)
         | Request::Query(_)
+        | Request::OffsetOf(_)
         | Request::SetOffset(_)
+        | Request::MakeTopic(_)
         | Request::Search(_)
+        | Request::MaxOffset(_)
+        | Request::MinOffset(_)
         | Request::ViewById(_)
         | Request::Beat(_)
         | Request::Unregister(_)
-        | Request::EndTransaction(_)
         | Request::Lock(_)
-        | Request::Unlock(_) => false,
+        | Request::Unlock(_) => true,
     }
 }
 

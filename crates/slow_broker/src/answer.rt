@@ -1,17 +1,9 @@
 //! What the slow broker answers.
 
 use broker_events::Awaited;
-use mq_bytes::{Rows, Text};
+use mq_bytes::{QueueName, Rows};
 use record_codec::Record;
-
-/// A reply, whose body is the layouts of these records, one after another.
-#[derive(Drop)]
-pub struct Reply {
-    pub code: u32,
-    pub remark: Text,
-    pub ext: Rows<(Text, Text)>,
-    pub body: Rows<Record>,
-}
+use slow_rows::Reply;
 
 /// A flush turn that begins.
 #[derive(Drop)]
@@ -34,6 +26,8 @@ pub enum Answer {
         number: u64,
         turn: u64,
     },
+    /// The queues that the client gets.
+    Locked(Rows<QueueName>),
     /// The buffer has no room, and nothing changed. The first pending record has this number.
     Full {
         pending: u64,

@@ -1,6 +1,5 @@
 //! Dispatch: consumers see records that are on the disk, in the order of the log.
 
-ghost use Rattle.std.specs.Prelude.{◌≡◌};
 ghost use Rattle.broker_model.specs.Events as model;
 ghost use Rattle.slow_broker.specs.Sound.{IsSound};
 ghost use Rattle.slow_broker.specs.Steps.{Makes};

@@ -6,26 +6,26 @@ mod accepts;
 mod answer;
 mod apply;
 mod broker;
+mod clients;
 mod dispatch;
 mod event;
 mod fault;
+mod groups;
 mod leave;
+mod locks;
 mod offsets;
 mod open;
-mod records;
+mod pull;
 mod refusals;
-mod replies;
 mod request;
+mod search;
 mod send;
-mod send_draft;
-mod send_rows;
 mod store;
 mod topics;
 mod turns;
+mod views;
 
-pub use answer::{Answer, Reply, Taken};
-pub use broker::{
-    ClientRow, FailedTurn, HeardRow, LockRow, OffsetRow, Out, Saved, SlowBroker, TopicRow,
-};
+pub use answer::{Answer, Taken};
+pub use broker::{Saved, SlowBroker};
 pub use event::Event;
 pub use fault::SlowFault;

@@ -1,42 +1,23 @@
 //! Offsets of a queue, as consumers see it, and the one that a group stored.
 
-ghost use Rattle.std.specs.Prelude.{◌≡◌, ℕ, ◌-◌, ◌^◌, ◌<◌, ◌≤◌, map, take, length, max, IfOk, OnErr, Some};
+ghost use Rattle.std.specs.Prelude.{◌≡◌, ℕ, ◌-◌, ◌^◌, ◌<◌, take, max, IfOk, OnErr};
 ghost use Rattle.log_model.specs.Numbered.{queue_min, queue_max};
 ghost use Rattle.request_fields.specs.declared.request.Request.TheVariants.{OffsetOf, MaxOffset, MinOffset};
 ghost use Rattle.broker_model.specs.State.{seen as seen_of};
-ghost use Rattle.broker_model.specs.Tables.{offset_in as offset_in_rows, is_row_of as is_row_of_group};
 ghost use Rattle.slow_broker.specs.Answers.{told};
 ghost use Rattle.slow_broker.specs.Requests.{Carries};
 ghost use Rattle.slow_broker.specs.Sound.{IsSound};
-ghost use Rattle.slow_broker.specs.States.{state_of, offset_of};
+ghost use Rattle.slow_broker.specs.States.{state_of};
 ghost use Rattle.slow_broker.specs.Steps.{Stays};
 
 use crate::answer::Answer;
-use crate::broker::{OffsetRow, SlowBroker};
-use crate::replies::{offset_reply, stored_reply};
+use crate::broker::SlowBroker;
 use log_replay::bounds_of;
 use record_codec::Record;
 use request_fields::{OffsetFields, QueueFields};
+use slow_rows::{offset_reply, stored_reply};
+use slow_tables::offset_in;
 use std::alloc::{AllocError, Global};
-
-// Whether the row is that of this group and queue.
-fn is_row_of(row: &OffsetRow, group: &str, topic: &str, queue: u32) -> bool
-    ensures { result ≡ is_row_of_group group.now topic.now queue (offset_of row.now) }
-{
-    row.group.as_str() == group && row.topic.as_str() == topic && row.queue == queue
-}
-
-// The offset that a group stored for a queue.
-fn offset_in(rows: &[OffsetRow], group: &str, topic: &str, queue: u32) -> Option<u64>
-    ensures { result ≡ offset_in_rows (map offset_of rows.now) group.now topic.now queue }
-{
-    for row in rows {
-        if is_row_of(row, group, topic, queue) {
-            return Some(row.offset);
-        }
-    }
-    None
-}
 
 impl SlowBroker {
     // The records that consumers see.

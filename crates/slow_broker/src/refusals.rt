@@ -1,98 +1,16 @@
 //! Why a request is refused: of the rows, in their order, the first that holds.
-//!
-//! The rows of a send stand in `send_rows.rt`.
-//!
-//! | code | remark         | when                                                                  |
-//! |-----:|----------------|-----------------------------------------------------------------------|
-//! |   13 | `topic`        | the topic is empty, longer than 127 bytes or has an illegal character |
-//! |   16 | `system topic` | the topic is one that the broker keeps for itself                     |
-//! |   17 | `no topic`     | the topic isn't known                                                 |
-//! |    1 | `queue`        | the topic has no such queue                                           |
 
-ghost use Rattle.std.specs.Prelude.{◌≡◌, map, option_map, true, IfOk};
-ghost use Rattle.log_model.specs.Admissible.{most_queues as most_of, is_system_topic as is_system_topic_of};
-ghost use Rattle.broker_model.specs.Refusals.{queue_count as queue_count_of, queue_refusal, topic_refusal, send_refusal, refusal_of};
-ghost use Rattle.broker_model.specs.Tables.{queues_in as queues_in_rows};
-ghost use Rattle.slow_broker.specs.Answers.{reply_of};
-ghost use Rattle.slow_broker.specs.Requests.{is_built, refusal_reply};
-ghost use Rattle.slow_broker.specs.States.{state_of, topic_of};
+ghost use Rattle.std.specs.Prelude.{◌≡◌, option_map, true};
+ghost use Rattle.broker_model.specs.Refusals.{queue_count as queue_count_of, queue_refusal, pull_refusal, send_refusal, refusal_of};
+ghost use Rattle.slow_broker.specs.Requests.{is_built};
+ghost use Rattle.slow_rows.specs.Replies.{refusal_reply};
+ghost use Rattle.slow_broker.specs.States.{state_of};
 
-use crate::answer::Reply;
-use crate::broker::{SlowBroker, TopicRow};
-use crate::replies::plain_reply;
-use crate::send_rows::send_fault;
+use crate::broker::SlowBroker;
 use log_model::is_system_topic;
-use record_codec::is_legal_topic;
-use request_fields::{Request, SendFields, TopicFields};
-use std::alloc::{AllocError, Global};
-
-/// Why a request is refused: a row of the table.
-#[derive(Debug, Clone, Copy, PartialEq, Eq)]
-pub(crate) enum Refusal {
-    Topic,
-    SysFlag,
-    Body,
-    Properties,
-    Record,
-    SystemTopic,
-    NoTopic,
-    Queue,
-}
-
-impl Refusal {
-    /// What is answered.
-    pub(crate) fn reply(self, alloc: Global) -> Result<Reply, AllocError>
-        ensures { IfOk result (λ reply. reply_of reply ≡ refusal_reply self) }
-    {
-        match self {
-            Refusal::Topic => plain_reply(alloc, 13, "topic"),
-            Refusal::SysFlag => plain_reply(alloc, 13, "sysFlag"),
-            Refusal::Body => plain_reply(alloc, 13, "body"),
-            Refusal::Properties => plain_reply(alloc, 13, "properties"),
-            Refusal::Record => plain_reply(alloc, 13, "record"),
-            Refusal::SystemTopic => plain_reply(alloc, 16, "system topic"),
-            Refusal::NoTopic => plain_reply(alloc, 17, "no topic"),
-            Refusal::Queue => plain_reply(alloc, 1, "queue"),
-        }
-    }
-}
-
-// How many queues a topic of clients has, where it is known.
-pub(crate) fn queues_in(topics: &[TopicRow], topic: &str) -> Option<u32>
-    ensures { result ≡ queues_in_rows (map topic_of topics.now) topic.now }
-{
-    for row in topics {
-        if row.topic.as_str() == topic {
-            return Some(row.queues);
-        }
-    }
-    None
-}
-
-// How many queues a topic of the broker's own has.
-fn most_queues(topic: &str) -> u32
-    requires { is_system_topic_of topic.now ≡ true }
-    ensures { result ≡ most_of topic.now }
-{
-    if topic == "SCHEDULE_TOPIC_XXXX" {
-        18
-    } else {
-        1
-    }
-}
-
-fn topic_fault(fields: &TopicFields) -> Option<Refusal>
-    ensures { option_map refusal_reply result ≡ topic_refusal fields.now }
-{
-    let topic = fields.topic.as_str();
-    if !is_legal_topic(topic) {
-        return Some(Refusal::Topic);
-    }
-    if is_system_topic(topic) {
-        return Some(Refusal::SystemTopic);
-    }
-    None
-}
+use request_fields::{PullFields, Request, SendFields};
+use slow_rows::{Refusal, is_by_tags, is_closed, most_queues, send_fault, topic_fault};
+use slow_tables::queues_in;
 
 impl SlowBroker {
     // How many queues a topic has.
@@ -122,6 +40,21 @@ impl SlowBroker {
         }
     }
 
+    // Why a pull is refused, if it is.
+    fn pull_fault(&self, asked: &PullFields) -> Option<Refusal>
+        ensures { option_map refusal_reply result ≡ pull_refusal (state_of self.entry.now) asked.now }
+    {
+        let topic = asked.topic.as_str();
+        if is_closed(topic) {
+            return Some(Refusal::SystemTopic);
+        }
+        match self.queue_fault(topic, asked.queue) {
+            Some(refusal) => Some(refusal),
+            None if is_by_tags(asked.expression.as_str()) => None,
+            None => Some(Refusal::Expression),
+        }
+    }
+
     // Why a send is refused, if it is.
     fn send_fault_of(&self, send: &SendFields) -> Option<Refusal>
         ensures { option_map refusal_reply result ≡ send_refusal (state_of self.entry.now) send.now }
@@ -142,16 +75,16 @@ impl SlowBroker {
             Request::OffsetOf(asked) => self.queue_fault(asked.topic.as_str(), asked.queue),
             Request::MaxOffset(asked) => self.queue_fault(asked.topic.as_str(), asked.queue),
             Request::MinOffset(asked) => self.queue_fault(asked.topic.as_str(), asked.queue),
-            Request::Pull(_)
-            | Request::Query(_)
-            | Request::SetOffset(_)
-            | Request::Search(_)
+            Request::Pull(asked) => self.pull_fault(asked),
+            Request::SetOffset(asked) => self.queue_fault(asked.topic.as_str(), asked.queue),
+            Request::Search(asked) => self.queue_fault(asked.topic.as_str(), asked.queue),
+            Request::Query(_)
             | Request::ViewById(_)
             | Request::Beat(_)
             | Request::Unregister(_)
-            | Request::EndTransaction(_)
             | Request::Lock(_)
-            | Request::Unlock(_) => unreachable!(),
+            | Request::Unlock(_) => None,
+            Request::EndTransaction(_) => unreachable!(),
         }
     }
 }

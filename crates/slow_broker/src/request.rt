@@ -1,6 +1,6 @@
 //! Requests: refused by the first row that holds, or carried out by a call of their own.
 
-ghost use Rattle.std.specs.Prelude.{◌≡◌, ◌^◌, ◌<◌, ℕ, true, None, Err, IfOk, OnErr};
+ghost use Rattle.std.specs.Prelude.{◌≡◌, ◌^◌, ◌<◌, true, None, Err, IfOk, OnErr};
 ghost use Rattle.broker_model.specs.Events as model;
 ghost use Rattle.broker_model.specs.Refusals.{refusal_of};
 ghost use Rattle.slow_broker.specs.Answers.{told};
@@ -22,13 +22,14 @@ impl SlowBroker {
     fn read_or_note(
         &mut self,
         alloc: Global,
+        link: u32,
         now: u64,
         request: &Request,
     ) -> Result<Answer, AllocError>
         requires sound { IsSound self.old }
         requires now { now < 2 ^ 62 }
         requires quiet { is_quiet request.now ≡ true }
-        ensures carries { (link : ℕ) → IfOk result (λ answer. Carries self.old link now request.now (told answer) self.new) }
+        ensures carries { IfOk result (λ answer. Carries self.old link now request.now (told answer) self.new) }
         ensures stays { OnErr result (Stays self.old self.new) }
     {
         match request {
@@ -36,17 +37,16 @@ impl SlowBroker {
             Request::OffsetOf(asked) => self.offset_stored(alloc, now, asked),
             Request::MaxOffset(asked) => self.max_offset(alloc, now, asked),
             Request::MinOffset(asked) => self.min_offset(alloc, now, asked),
-            Request::Send(_)
-            | Request::Pull(_)
-            | Request::Query(_)
-            | Request::SetOffset(_)
-            | Request::Search(_)
-            | Request::ViewById(_)
-            | Request::Beat(_)
-            | Request::Unregister(_)
-            | Request::EndTransaction(_)
-            | Request::Lock(_)
-            | Request::Unlock(_) => unreachable!(),
+            Request::Pull(asked) => self.pull(alloc, now, asked),
+            Request::Query(asked) => self.query(alloc, now, asked),
+            Request::SetOffset(asked) => self.set_offset(alloc, now, asked),
+            Request::Search(asked) => self.search(alloc, now, asked),
+            Request::ViewById(asked) => self.view_by_id(alloc, now, asked),
+            Request::Beat(beat) => self.beat(alloc, link, now, beat),
+            Request::Unregister(asked) => self.unregister(alloc, now, asked),
+            Request::Lock(asked) => self.lock(alloc, now, asked),
+            Request::Unlock(asked) => self.unlock(alloc, now, asked),
+            Request::Send(_) | Request::EndTransaction(_) => unreachable!(),
         }
     }
 
@@ -69,11 +69,9 @@ impl SlowBroker {
         ensures unwritable { result ≡ Err SlowFault.Unwritable → MakesUnwritable (state_of self.old)
             (model.Asks (record { link = link; host = host.now; now = now; request = request.now })) }
     {
-        // The link counts for heartbeats alone.
-        let _link = link;
         match request {
             Request::Send(send) => self.send(alloc, *host, now, send),
-            _ => match self.read_or_note(alloc, now, request) {
+            _ => match self.read_or_note(alloc, link, now, request) {
                 Ok(answer) => Ok(answer),
                 Err(_) => Err(SlowFault::Memory),
             },

@@ -1,52 +1,21 @@
 //! One record more: where it stands, whether there is room for it, and the record behind the log.
 
-ghost use Rattle.std.specs.Prelude.{◌≡◌, ◌+◌, ◌^◌, ◌<◌, ◌≤◌, ◌++◌, ◌∷◌, [], All, map, nat_lt, length, sum_by, vec_len, vec_capacity, OnOk};
+ghost use Rattle.std.specs.Prelude.{◌≡◌, ◌+◌, ◌^◌, ◌<◌, ◌∷◌, [], map, nat_lt, length, vec_len, vec_capacity, OnOk};
 ghost use Rattle.record_codec.specs.Drafts.{draft_size, entry_of};
-ghost use Rattle.record_codec.specs.Layout.{size as size_of};
 ghost use Rattle.log_model.specs.Numbered.{next_record, with_appended};
-ghost use Rattle.log_model.specs.Queues.{entries_of};
 ghost use Rattle.broker_model.specs.State.{pending_bytes as pending_bytes_of};
-ghost use Rattle.slow_broker.specs.Sound.{IsKept, IsSound};
-ghost use Rattle.slow_broker.specs.States.{state_of, topic_of};
+ghost use Rattle.slow_rows.specs.Records.{IsKept};
+ghost use Rattle.slow_broker.specs.Sound.{IsSound};
+ghost use Rattle.slow_broker.specs.States.{state_of};
+ghost use Rattle.slow_rows.specs.Rows.{topic_of};
 ghost use Rattle.slow_broker.specs.Steps.{Stays};
 
-use crate::broker::{SlowBroker, TopicRow};
-use crate::records::end_behind;
+use crate::broker::SlowBroker;
 use log_model::next_place;
 use log_replay::bounds_of;
 use record_codec::{Draft, Place, Record};
+use slow_rows::{TopicRow, bytes_of, end_behind, put_record};
 use std::alloc::AllocError;
-
-// How many bytes these records have.
-fn bytes_of(log: &[Record]) -> u128
-    requires kept { All IsKept log.now }
-    requires few { length log.now ≤ 2 ^ 62 }
-    ensures value { result ≡ sum_by size_of (entries_of log.now) }
-    ensures low { result ≤ 2 ^ 96 }
-{
-    let mut bytes = 0;
-    for record in log {
-        bytes += u128::from(record.size);
-    }
-    bytes
-}
-
-/// A record of this size at this place would end past all places.
-pub(crate) fn is_past_end(place: u64, size: u32) -> bool
-    ensures { result ≡ nat_lt (2 ^ 62) (place + size) }
-{
-    u128::from(place) + u128::from(size) > 1 << 62
-}
-
-// Adds a record for which there is room.
-fn put_record(log: &mut Vec<Record>, added: Record)
-    requires { vec_len log.old < vec_capacity log.old }
-    ensures { log.new.items ≡ log.old.items ++ added ∷ [] }
-{
-    if log.push(added).is_err() {
-        unreachable!();
-    }
-}
 
 impl SlowBroker {
     /// Where the record of this draft stands, if it is the next one, and is stored at this time.

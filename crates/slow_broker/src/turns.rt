@@ -1,9 +1,9 @@
 //! Flush turns: one begins, ends or fails, and what became of a record.
 
-ghost use Rattle.std.specs.Prelude.{◌≡◌, ◌-◌, ◌+◌, ◌<◌, ◌≤◌, ◌++◌, ◌∷◌, [], List, length, drop, map, filter, option_map, Some, None, if◌then◌else◌, IfSome, IfOk, OnErr, vec_len, vec_capacity};
+ghost use Rattle.std.specs.Prelude.{◌≡◌, ◌-◌, ◌+◌, ◌<◌, ◌≤◌, [], length, drop, option_map, Some, None, IfSome, IfOk, OnErr, vec_len, vec_capacity};
 ghost use Rattle.log_model.specs.Batches.{blank_between as blank_of};
 ghost use Rattle.broker_model.specs.Events as model;
-ghost use Rattle.broker_model.specs.Answers.{last_count, holds_up as holds_up_of, taken as taken_of_state};
+ghost use Rattle.broker_model.specs.Answers.{taken as taken_of_state};
 ghost use Rattle.broker_model.specs.Step.{IsOut, SomeOut, next_turn};
 ghost use Rattle.broker_model.specs.State.{next_batch as next_batch_of};
 ghost use Rattle.log_model.specs.Numbered.{count_of};
@@ -11,15 +11,16 @@ ghost use Rattle.log_model.specs.Queues.{entries_of};
 ghost use Rattle.broker_events.specs.Steps.{awaited_of};
 ghost use Rattle.slow_broker.specs.Answers.{taken_of};
 ghost use Rattle.slow_broker.specs.Sound.{IsSound};
-ghost use Rattle.slow_broker.specs.States.{state_of, failed_of, out_of};
+ghost use Rattle.slow_broker.specs.States.{state_of};
 ghost use Rattle.slow_broker.specs.Steps.{Makes, Stays};
 
 use crate::answer::Taken;
-use crate::broker::{FailedTurn, Out, SlowBroker};
-use crate::records::{end_behind, front_in};
+use crate::broker::SlowBroker;
 use broker_events::Awaited;
 use mq_bytes::Rows;
 use record_codec::Record;
+use slow_rows::{FailedTurn, Out, end_behind, front_in};
+use slow_tables::{last_failure, put_turn};
 use std::alloc::{AllocError, Global};
 
 // The blank between an end and the next place.
@@ -30,38 +31,6 @@ fn blank_between(end: u64, place: u64) -> Option<(u64, u64)>
         None
     } else {
         Some((end, place.saturating_sub(end)))
-    }
-}
-
-// What became of the record by this failed turn, where it is a later one than `turn` and held the record up, else what is known so far.
-fn by_turn(f: &FailedTurn, number: u64, turn: u64, known: Awaited) -> Awaited
-    ensures { awaited_of result ≡ (if holds_up_of number turn (failed_of f.now) then model.HasFailed f.now.count else awaited_of known) }
-{
-    if turn < f.turn && f.from <= number && number < f.held {
-        Awaited::Failed { count: f.count }
-    } else {
-        known
-    }
-}
-
-// What became of a record that is not on the disk, by the turns after `turn`: the last one that held it up and failed.
-fn last_failure(failed: &[FailedTurn], number: u64, turn: u64) -> Awaited
-    ensures { awaited_of result ≡ last_count (filter (holds_up_of number turn) (map failed_of failed.now)) }
-{
-    let mut last = Awaited::NotYet;
-    for f in failed {
-        last = by_turn(f, number, turn, last);
-    }
-    last
-}
-
-// Adds a turn for which there is room.
-fn put(failed: &mut Vec<FailedTurn>, turn: FailedTurn)
-    requires { vec_len failed.old < vec_capacity failed.old }
-    ensures { failed.new.items ≡ failed.old.items ++ turn ∷ [] }
-{
-    if failed.push(turn).is_err() {
-        unreachable!();
     }
 }
 
@@ -188,7 +157,7 @@ impl SlowBroker {
         let Some(out) = self.out else {
             return;
         };
-        put(
+        put_turn(
             &mut self.failed,
             FailedTurn {
                 turn: self.turns,

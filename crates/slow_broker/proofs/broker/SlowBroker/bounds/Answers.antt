@@ -3,7 +3,7 @@ use Rattle.record_codec.specs.Entry.{Entry}
 use Rattle.record_codec.specs.declared.draft.Record.{Record}
 use Rattle.log_model.specs.Queues.{said_by, entries_of, queue_end}
 use Rattle.log_model.specs.Told.{base_of}
-use Rattle.slow_broker.proofs.Lists.{map_take}
+use Rattle.slow_rows.proofs.Lists.{map_take}
 use Rattle.slow_broker.proofs.broker.SlowBroker.bounds.Goals as goal
 
 pub returns-clause-high : goal.returns-clause-high

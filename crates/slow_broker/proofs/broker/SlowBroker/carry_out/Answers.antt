@@ -9,7 +9,7 @@ returns-in-Ok c =
     let s = state_of c.args.self.now in
     let a : model.Asked = record { link = c.args.link; host = c.args.host.now; now = c.args.now; request = c.args.request.now } in
     let none = no_drafts s (max a.now s.now) a.host a.request (quiet_else a.request c.requires.built (λ send is. c.in_default.not-Send send is)) in
-    let carries = c.in-Ok.ensures.carries c.args.link in
+    let carries = c.in-Ok.ensures.carries in
     record {
       makes = record {
         answer_is = carries.answer_is ∙ sym (carried_answers s a c.requires.taken none);

@@ -4,7 +4,7 @@ use Rattle.record_codec.specs.Entry.{Entry}
 use Rattle.record_codec.specs.Layout.{size}
 use Rattle.record_codec.specs.declared.draft.Record.{Record}
 use Rattle.log_model.specs.Queues.{said_by, entries_of}
-use Rattle.slow_broker.proofs.Lists.{map_drop}
+use Rattle.slow_rows.proofs.Lists.{map_drop}
 use Rattle.slow_broker.proofs.broker.SlowBroker.is_full.Goals as goal
 
 pub returns : goal.returns

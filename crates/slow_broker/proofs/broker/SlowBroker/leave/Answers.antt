@@ -2,8 +2,9 @@ use Rattle.std.proofs.Common.{◌≡◌, ◌∙◌, sym, ap, List, map, not}
 use Rattle.std.specs.Prelude.{filter}
 use Rattle.broker_model.specs.Clients as clients
 use Rattle.broker_model.specs.Clients.{is_heard_on}
-use Rattle.slow_broker.specs.declared.broker.ClientRow.{ClientRow}
-use Rattle.slow_broker.specs.States.{state_of, client_of, heard_of}
+use Rattle.slow_rows.specs.declared.rows.ClientRow.{ClientRow}
+use Rattle.slow_broker.specs.States.{state_of}
+use Rattle.slow_rows.specs.Rows.{client_of, heard_of}
 use Rattle.slow_broker.proofs.Events.{leave_answer, leave_after}
 use Rattle.slow_broker.proofs.broker.SlowBroker.leave.Goals as goal
 

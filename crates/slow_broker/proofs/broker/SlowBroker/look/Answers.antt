@@ -3,8 +3,9 @@ use Rattle.std.specs.Prelude.{filter}
 use Rattle.std.proofs.lemmas.Bool.{lt-ltb, le-ltb}
 use Rattle.broker_model.specs.Events as model
 use Rattle.broker_model.specs.Answers.{last_count, holds_up}
-use Rattle.slow_broker.specs.States.{state_of, failed_of}
-use Rattle.slow_broker.specs.declared.broker.FailedTurn.{FailedTurn}
+use Rattle.slow_broker.specs.States.{state_of}
+use Rattle.slow_rows.specs.Rows.{failed_of}
+use Rattle.slow_rows.specs.declared.rows.FailedTurn.{FailedTurn}
 use Rattle.slow_broker.proofs.Events.{look_answer, look_after}
 use Rattle.slow_broker.proofs.broker.SlowBroker.look.Goals as goal
 

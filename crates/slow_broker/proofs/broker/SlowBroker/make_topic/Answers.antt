@@ -5,8 +5,9 @@ use Rattle.broker_model.specs.Answers.{request_answer}
 use Rattle.broker_model.specs.Step.{request_changed}
 use Rattle.broker_model.specs.Tables as tables
 use Rattle.broker_model.specs.Tables.{with_topic}
-use Rattle.slow_broker.specs.declared.broker.TopicRow.{TopicRow}
-use Rattle.slow_broker.specs.States.{state_of, topic_of}
+use Rattle.slow_rows.specs.declared.rows.TopicRow.{TopicRow}
+use Rattle.slow_broker.specs.States.{state_of}
+use Rattle.slow_rows.specs.Rows.{topic_of}
 use Rattle.slow_broker.proofs.broker.SlowBroker.make_topic.Goals as goal
 
 pub returns-clause-carries : goal.returns-clause-carries

@@ -4,7 +4,7 @@ use Rattle.record_codec.specs.Entry.{Entry}
 use Rattle.record_codec.specs.declared.draft.Record.{Record}
 use Rattle.broker_model.specs.State.{same_segment}
 use Rattle.slow_broker.specs.States.{state_of}
-use Rattle.slow_broker.proofs.Lists.{map_drop, ok_by}
+use Rattle.slow_rows.proofs.Lists.{map_drop, ok_by}
 use Rattle.slow_broker.proofs.TurnLemmas.{segment_front}
 use Rattle.slow_broker.proofs.broker.SlowBroker.next_batch.Goals as goal
 

@@ -4,8 +4,9 @@ use Rattle.broker_model.specs.Events as model
 use Rattle.broker_model.specs.Answers.{request_answer, stored_reply}
 use Rattle.broker_model.specs.Step.{request_changed}
 use Rattle.broker_model.specs.Tables.{offset_in}
-use Rattle.slow_broker.specs.declared.broker.OffsetRow.{OffsetRow}
-use Rattle.slow_broker.specs.States.{state_of, offset_of}
+use Rattle.slow_rows.specs.declared.rows.OffsetRow.{OffsetRow}
+use Rattle.slow_broker.specs.States.{state_of}
+use Rattle.slow_rows.specs.Rows.{offset_of}
 use Rattle.slow_broker.proofs.broker.SlowBroker.offset_stored.Goals as goal
 
 pub returns-clause-carries : goal.returns-clause-carries

@@ -1,7 +1,7 @@
 use Rattle.std.proofs.Common.{◌≡◌, ◌∙◌, sym, ap, Some}
 use Rattle.broker_model.specs.Events as model
 use Rattle.broker_model.specs.Refusals.{refusal_of}
-use Rattle.slow_broker.specs.Requests.{refusal_reply}
+use Rattle.slow_rows.specs.Replies.{refusal_reply}
 use Rattle.slow_broker.specs.States.{state_of}
 use Rattle.slow_broker.proofs.Refused.{refused_answers, refused_after}
 use Rattle.slow_broker.proofs.broker.SlowBroker.request.Goals as goal

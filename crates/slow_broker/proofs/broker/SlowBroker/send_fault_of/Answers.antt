@@ -1,11 +1,12 @@
 use Rattle.std.proofs.Common.{◌≡◌, ◌∙◌, ap, ℕ, List, map, Option, option_map}
 use Rattle.request_fields.specs.Requests.{SendSaid}
 use Rattle.broker_model.specs.Tables.{queues_in}
-use Rattle.slow_broker.specs.declared.broker.TopicRow.{TopicRow}
-use Rattle.slow_broker.specs.declared.refusals.Refusal.{Refusal}
-use Rattle.slow_broker.specs.Requests.{refusal_reply}
-use Rattle.slow_broker.specs.Sends.{refusal_by}
-use Rattle.slow_broker.specs.States.{state_of, topic_of}
+use Rattle.slow_rows.specs.declared.rows.TopicRow.{TopicRow}
+use Rattle.slow_rows.specs.declared.refusals.Refusal.{Refusal}
+use Rattle.slow_rows.specs.Replies.{refusal_reply}
+use Rattle.slow_rows.specs.Sends.{refusal_by}
+use Rattle.slow_broker.specs.States.{state_of}
+use Rattle.slow_rows.specs.Rows.{topic_of}
 use Rattle.slow_broker.proofs.Refused.{rows_are}
 use Rattle.slow_broker.proofs.broker.SlowBroker.send_fault_of.Goals as goal
 

@@ -1,8 +1,9 @@
 use Rattle.std.proofs.Common.{◌≡◌, ◌∙◌, sym, ap, Option, option_map}
 use Rattle.broker_model.specs.Events as model
 use Rattle.broker_model.specs.Step.{out_of as model_out}
-use Rattle.slow_broker.specs.declared.broker.Out.{Out}
-use Rattle.slow_broker.specs.States.{state_of, out_of}
+use Rattle.slow_rows.specs.declared.rows.Out.{Out}
+use Rattle.slow_broker.specs.States.{state_of}
+use Rattle.slow_rows.specs.Rows.{out_of}
 use Rattle.slow_broker.proofs.Events.{take_answer, take_after}
 use Rattle.slow_broker.proofs.TurnLemmas.{none_taken}
 use Rattle.slow_broker.proofs.broker.SlowBroker.take.Goals as goal

@@ -7,12 +7,13 @@ use Rattle.broker_model.specs.State.{State}
 use Rattle.broker_model.specs.Events as model
 use Rattle.broker_model.specs.Answers.{taken}
 use Rattle.broker_model.specs.Step.{out_of, next_turn}
-use Rattle.slow_broker.specs.declared.broker.Out.{Out}
-use Rattle.slow_broker.specs.declared.broker.FailedTurn.{FailedTurn}
+use Rattle.slow_rows.specs.declared.rows.Out.{Out}
+use Rattle.slow_rows.specs.declared.rows.FailedTurn.{FailedTurn}
 use Rattle.slow_broker.specs.Sound.{IsTurn}
-use Rattle.slow_broker.specs.States.{state_of, failed_of}
+use Rattle.slow_broker.specs.States.{state_of}
+use Rattle.slow_rows.specs.Rows.{failed_of}
 use Rattle.slow_broker.proofs.Events.{take_answer, take_after}
-use Rattle.slow_broker.proofs.Lists.{length_map}
+use Rattle.slow_rows.proofs.Lists.{length_map}
 use Rattle.slow_broker.proofs.broker.SlowBroker.take_next.Goals as goal
 
 pub returns-in-None-clause-makes : goal.returns-in-None-clause-makes

@@ -3,9 +3,10 @@ use Rattle.log_model.specs.Log.{end_from}
 use Rattle.log_model.specs.Queues.{said_by, entries_of}
 use Rattle.record_codec.specs.Entry.{Entry}
 use Rattle.record_codec.specs.declared.draft.Record.{Record}
-use Rattle.slow_broker.specs.declared.broker.Out.{Out}
-use Rattle.slow_broker.specs.States.{state_of, out_of}
-use Rattle.slow_broker.proofs.Lists.{map_take}
+use Rattle.slow_rows.specs.declared.rows.Out.{Out}
+use Rattle.slow_broker.specs.States.{state_of}
+use Rattle.slow_rows.specs.Rows.{out_of}
+use Rattle.slow_rows.proofs.Lists.{map_take}
 use Rattle.slow_broker.proofs.TurnLemmas.{taken_is}
 use Rattle.slow_broker.proofs.broker.SlowBroker.taken_with.Goals as goal
 
