@@ -31,6 +31,8 @@ pub(crate) struct Linked<L: Link + Drop> {
     deaf: bool,
     // It may hold a whole request that was not served yet.
     behind: bool,
+    // Replies may be due, or unsent and taken at once, that its last pass did not come to.
+    owes: bool,
     // It failed.
     broken: bool,
 }
@@ -47,6 +49,7 @@ impl<L: Link + Drop> Linked<L> {
             ended: false,
             deaf: false,
             behind: false,
+            owes: false,
             broken: false,
         }
     }
@@ -176,6 +179,7 @@ impl<L: Link + Drop> Linked<L> {
         calls: &mut C,
         reader: &mut R,
     ) {
+        self.owes = false;
         for _ in 0..WRITES_MAX {
             if self.session.settle(alloc, calls, reader).is_err() {
                 self.broken = true;
@@ -186,9 +190,11 @@ impl<L: Link + Drop> Linked<L> {
             }
             self.write();
             if !self.session.unsent().is_empty() {
+                self.owes = self.writable;
                 return;
             }
         }
+        self.owes = true;
     }
 
     /// Whether a flush turn may bring it on.
@@ -198,7 +204,10 @@ impl<L: Link + Drop> Linked<L> {
 
     /// Whether it can go on at once.
     pub(crate) fn has_more(&self) -> bool {
-        (self.behind || (self.readable && !self.deaf)) && !self.broken && !self.session.is_loaded()
+        if self.broken {
+            return false;
+        }
+        self.owes || ((self.behind || (self.readable && !self.deaf)) && !self.session.is_loaded())
     }
 
     /// Whether nothing more is to be done for it.
@@ -206,6 +215,7 @@ impl<L: Link + Drop> Linked<L> {
         self.broken
             || (self.deaf
                 && !self.behind
+                && !self.owes
                 && !self.session.awaits()
                 && self.session.unsent().is_empty())
     }
