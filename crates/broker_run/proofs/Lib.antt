@@ -1,2 +1,3 @@
-mod ActLemmas
-mod TurningLemmas
+mod KeepLemmas
+mod RunLemmas
+mod StateLemmas

@@ -1,2 +1,3 @@
-pub mod Acts
-pub mod Turning
+pub mod Closing
+pub mod Keeping
+pub mod Promise

@@ -1,0 +1,4 @@
+pub mod ActLemmas
+mod AskLemmas
+mod RemarkLemmas
+mod TurningLemmas

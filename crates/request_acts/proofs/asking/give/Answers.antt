@@ -1,0 +1,7 @@
+use Rattle.request_acts.proofs.ActLemmas.{free_step, request_out}
+use Rattle.request_acts.proofs.asking.give.Goals as goal
+
+pub returns-clause-free : goal.returns-clause-free
+returns-clause-free g c =
+    free_step _ _ _ _ c.args.event.now c.apply.ensures.what _ g.met.C.Calls.key_stays g.met.C.Calls.shown_moves c.apply.ensures.made
+    (request_out _ c.args.event.now c.apply.ensures.what c.requires.request) c.requires.free
