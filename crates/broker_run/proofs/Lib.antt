@@ -1,3 +1,3 @@
-mod KeepLemmas
+mod CauseLemmas
+mod ClosingLemmas
 mod RunLemmas
-mod StateLemmas

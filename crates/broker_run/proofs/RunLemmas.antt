@@ -3,14 +3,14 @@ use Rattle.std.proofs.Common.{◌≡◌, inl, inr, ◌∙◌, ℕ, ◌+◌, ◌-
 use Rattle.mq_outside.specs.Counts.{Rises}
 use Rattle.mq_outside.specs.Files.{Files, Same}
 use Rattle.mq_outside.specs.Disk.{DiskState, EachImage, Moves, Rests, Throughout}
-use Rattle.mq_outside.proofs.Moments.{each_same, at_start, goes_on, weaker, chained, rests_start, rests_call, rests_then}
+use Rattle.mq_outside.proofs.Moments.{each_same, at_start, at_end, goes_on, weaker, chained, rests_start, rests_call, rests_then}
 use Rattle.record_codec.specs.Entry.{Entry}
 use Rattle.log_model.specs.Bases.{Geometry, geometry, whole}
 use Rattle.log_model.specs.Log.{IsWellFormed}
 use Rattle.log_model.specs.Numbered.{Log}
 use Rattle.log_model.specs.Segments.{IsLogFile}
 use Rattle.log_model.specs.Store.{Keeps as RecoveryKeeps, IsDamagedAt, IsHonest, StoresLog}
-use Rattle.log_model.specs.Stored.{HasRecords, HasFirst, KeepsAtLeast, stored, turned_by, turned_in}
+use Rattle.log_model.specs.Stored.{HasRecords, HasFirst, FlushTurn, KeepsAtLeast, stored, turned_by, turned_in}
 use Rattle.log_model.proofs.OutsideLemmas.{stays_start, stays_same}
 use Rattle.log_model.proofs.StoredLemmas.{first_keeps, keeps_then, has_less}
 use Rattle.segment_files.specs.Turn.{IsReady, Growing, growing}
@@ -30,16 +30,25 @@ use Rattle.request_acts.specs.Acts.{Act, Acts, Acted, DiskView, Place, place_of,
 use Rattle.request_acts.specs.Turning.{AreAllTurns}
 use Rattle.request_stream.specs.Serving.{Sides, Point, point_of, sides_of}
 use Rattle.request_stream.specs.Piping.{RanBy, acts_in, SourceSeen, Piped}
+use Rattle.log_recovery.specs.Recovered.{OnDamage, StaysFlushed}
+use Rattle.log_recovery.specs.declared.fault.RecoverFault.{RecoverFault}
+use Rattle.log_recovery.specs.declared.fault.RecoverFault.TheVariants.{Damaged, Failed as DiskFailed, Memory as NoMemory}
+use Rattle.store_open.specs.Openings.{IsOpened}
 use Rattle.broker_run.specs.Closing.{ServesToEnd}
-use Rattle.broker_run.specs.Keeping.{alone, flushed_in, log_in, AreInOrder, Keeps, Reaches}
-use Rattle.broker_run.specs.Promise.{AreMoves, RunsTo, opened_over, pipe_setup, Seen, before, behind, sides_for, Leaves, Survives, RunFrom, BeginsWithKept, KeepsOn, RunsFromSome, KeepsAfter, StatusOf, ServedOver}
+use Rattle.flush_story.specs.Story.{Reaches}
+use Rattle.flush_story.specs.Keeping.{flushed_in, geometry_of, log_in, IsOpenFor, AreInOrder, AreExact, Keeps}
+use Rattle.flush_story.proofs.Keeps.{kept_as}
+use Rattle.flush_story.proofs.Turns.{order_on, exact_later, turned_most}
+use Rattle.kept_log.specs.Leads.{alone}
+use Rattle.kept_log.proofs.ActStory.{acts_lead}
+use Rattle.broker_run.specs.Promise.{AreMoves, RunsTo, opened_over, pipe_setup, Seen, before, behind, sides_for, Leaves, Survives, RunFrom, BeginsWithKept, KeepsOn, RunsFromSome, KeepsAfter, StatusOf, StatusTellsFault, ServedOver, Unrecovered, KeepSeen}
+use Rattle.broker_run.proofs.CauseLemmas.{damage_told}
 use Rattle.request_stream.specs.declared.stop.Halt.{Halt}
 use Rattle.request_stream.specs.declared.stop.Halt.TheVariants.{BadFrame, Read, Stopped}
 use Rattle.request_stream.specs.declared.stop.Stop.{Stop}
 use Rattle.store_open.specs.declared.status.Status.{Status}
 use Rattle.broker_run.specs.declared.ended.Ended.{Ended}
 use Rattle.request_acts.proofs.ActLemmas.{acts_then}
-use Rattle.broker_run.proofs.KeepLemmas.{keeps_start, gets_acts, kept_as, order_on, turned_most}
 
 -- ---- the model's run
 
@@ -47,9 +56,9 @@ pub moves_of : (steps : List (Event × Option Said)) (s t : State) (before : Lis
     → (moves : List Move) × (boot : Boot) × AreMoves steps moves × Run (record { now = s; before = before }) moves boot × (boot.now ≡ t)
 moves_of [] s t before reaches = ([], record { now = s; before = before }, tt, refl, sym reaches)
 moves_of (it ∷ steps) s t before reaches =
-    let next : Boot = record { now = reaches.1; before = s ∷ before } in
-    let rest = moves_of steps reaches.1 t (s ∷ before) reaches.4 in
-    (Steps (event_of it.0) reaches.0 ∷ rest.0, rest.1, ((reaches.0, refl, reaches.2), rest.2), (next, (reaches.3, refl), tt, rest.3), rest.4)
+    let next : Boot = record { now = reaches.0; before = s ∷ before } in
+    let rest = moves_of steps reaches.0 t (s ∷ before) reaches.2 in
+    (Steps (event_of it.0) reaches.1.answer ∷ rest.0, rest.1, ((reaches.1.answer, refl, reaches.1.says), rest.2), (next, (reaches.1.step, refl), tt, rest.3), rest.4)
 
 -- ---- what happened
 
@@ -63,37 +72,49 @@ ran_happened sides (Err (Stopped stop)) frames x y old new ran = ran.happened
 -- ---- the reader is given back
 
 -- a call that changes nothing, behind acts
-keeps_same : (s u : State) (acts : List Act) (p : DiskState) (r : Growing) (disk : DiskState) → Moves Same r.disk disk → Keeps s u acts p r → Keeps s u acts p (growing r.file disk)
-keeps_same s u acts p r disk moves kept =
-    let S = geometry u.setup.segment u.log.base in
-    let first = ready_first_records (log_in u) kept.behind r.file r.disk kept.ready in
+keeps_same : (s u : State) (turns : List FlushTurn) (p : DiskState) (r : Growing) (disk : DiskState) → Moves Same r.disk disk → Keeps s u turns p r → Keeps s u turns p (growing r.file disk)
+keeps_same s u turns p r disk moves kept =
+    let S = geometry_of u in
+    let first = ready_first_records (log_in u) kept.still_open.behind r.file r.disk kept.still_open.ready in
     let still = goes_on (at_start r.disk (HasFirst S u.log.records (flushed_in u)) first) moves (each_same moves first) in
     let during : KeepsAtLeast S u.log.records (λ m. flushed_in u) r.disk disk = record { continues = weaker still (λ files has. tt); each = still.each } in
     record {
       grows = kept.grows;
       flushed = kept.flushed;
-      kept = keeps_then S u.log.records (λ m. flushed_in s + turned_by (turns_of acts) m) p r.disk disk kept.kept
-          (kept_as S u.log.records (λ m. flushed_in u) (λ m. flushed_in s + turned_by (turns_of acts) m) r.disk disk (λ m. omega (arith, kept.flushed, turned_most (turns_of acts) m)) during);
-      order = order_on p.moment r.disk.moment disk.moment (turns_of acts) moves.later kept.order;
-      behind = kept.behind;
-      ready = ready_as (log_in u) kept.behind r.file r.disk disk (stays_same (stays_start IsLogFile r.disk) moves) kept.ready;
+      kept = keeps_then S u.log.records (λ m. flushed_in s + turned_by turns m) p r.disk disk kept.kept
+          (kept_as S u.log.records (λ m. flushed_in u) (λ m. flushed_in s + turned_by turns m) r.disk disk (λ m. omega (arith, kept.flushed, turned_most turns m)) during);
+      order = order_on p.moment r.disk.moment disk.moment turns moves.later kept.order;
+      exact = exact_later S u.log.records (flushed_in s) p.moment turns r.disk disk during.continues kept.order kept.exact;
+      still_open = record {
+        behind = kept.still_open.behind;
+        few = kept.still_open.few;
+        ready = ready_as (log_in u) kept.still_open.behind r.file r.disk disk (stays_same (stays_start IsLogFile r.disk) moves) kept.still_open.ready;
+      };
     }
 
 -- ---- a run from a log that is open
 
-keeps_after : (segment : ℕ) (log : List Entry) (acts : List Act) (u : State) (p : DiskState) (r : Growing) → Keeps (opened_over segment log).now u acts p r → KeepsAfter segment log acts u p r.disk
+keeps_after : (segment : ℕ) (log : List Entry) (acts : List Act) (u : State) (p : DiskState) (r : Growing) → Keeps (opened_over segment log).now u (turns_of acts) p r → KeepsAfter segment log acts u p r.disk
 keeps_after segment log acts u p r kept =
     let s = (opened_over segment log).now in
     let all : flushed_in s ≡ length log = omega arith in
-    let S : geometry u.setup.segment u.log.base ≡ whole segment = λ i. geometry ((kept.grows.setup i).segment) ((kept.grows.log i).base) in
+    let S : geometry_of u ≡ whole segment = λ i. geometry ((kept.grows.setup i).segment) ((kept.grows.log i).base) in
     record {
       kept = subst (λ (n : ℕ). KeepsAtLeast (whole segment) u.log.records (λ m. n + turned_by (turns_of acts) m) p r.disk) all
           (subst (λ (G : Geometry). KeepsAtLeast G u.log.records (λ m. flushed_in s + turned_by (turns_of acts) m) p r.disk) S kept.kept);
       order = kept.order;
+      exact = subst (λ (n : ℕ). AreExact (whole segment) u.log.records n (turns_of acts) r.disk) all
+          (subst (λ (G : Geometry). AreExact G u.log.records (flushed_in s) (turns_of acts) r.disk) S kept.exact);
       stores = subst (λ (n : ℕ). StoresLog (whole segment) u.log.records n r.disk) (kept.flushed ∙ ap (λ (n : ℕ). n + turned_in (turns_of acts)) all)
           (subst (λ (G : Geometry). StoresLog G u.log.records (flushed_in u) r.disk) S
-          (record { shape = kept.ready.shape; reach = kept.ready.reach; at = kept.ready.writes.stores }));
+          (record { shape = kept.still_open.ready.shape; reach = kept.still_open.ready.reach; at = kept.still_open.ready.writes.stores }));
     }
+
+-- all of the log is flushed
+open_for : (segment : ℕ) (log : List Entry) (at : Growing) → IsReady (stored (whole segment) log (length log)) 0 at → IsOpenFor (opened_over segment log).now at
+open_for segment log at ready =
+    let none : length log ≡ flushed_in (opened_over segment log).now = omega arith in
+    record { behind = 0; few = omega arith; ready = subst (λ (n : ℕ). IsReady (stored (whole segment) log n) 0 at) none ready }
 
 pub run_from : {D : Type 0} (it : Opened) (ended : Ended) (seen : Seen D) (segment : ℕ) (log : List Entry) (x y : Alone) (reads : ℕ) → OpensOver (pipe_setup segment) log it → x.core ≡ it.core
     → ServesToEnd (sides_for seen) ended seen.source x (point_of (place_of it.flusher.file seen.old) reads seen.taken seen.readings) y seen.new seen.taken_then seen.readings_then
@@ -110,11 +131,8 @@ run_from {D = D} it ended seen segment log x y reads opens same served =
     let acts = first ++ served.flushed.acts in
     let happened = acts_then alone seen.disk first served.flushed.acts x served.served y place served.mid served.final
     (ran_happened sides ended.reading served.piped.frames x served.served start mid served.piped.ran) served.flushed.happened in
-    let Ready = IsReady (stored (whole segment) log (length log)) 0 (growing it.flusher.file (before seen)) in
-    let none : length log ≡ flushed_in s = omega arith in
-    let got = gets_acts seen.disk (seen.disk.tells × Ready) (λ so. so.0) s s [] acts x y (before seen) place served.final are happened
-    (λ so. keeps_start x.core s 0 (growing it.flusher.file (before seen)) are (subst (λ (n : ℕ). IsReady (stored (whole segment) log n) 0 (growing it.flusher.file (before seen))) none so.1)) in
-    let moves = moves_of (steps_of acts) s got.0 [] got.2 in
+    let led = acts_lead seen.disk acts s x y place served.final are happened in
+    let moves = moves_of (steps_of acts) s led.reached [] led.steps in
     record {
       calls = x;
       served = served.served;
@@ -128,10 +146,11 @@ run_from {D = D} it ended seen segment log x y reads opens same served =
       piped = served.piped;
       first_is = refl;
       flushed = served.flushed;
-      reached = got.0;
+      reached = led.reached;
       runs = record { moves = moves.0; boot = moves.1; are = moves.2; run = moves.3; reached_is = moves.4 };
-      done = λ told ready. keeps_after segment log acts got.0 (before seen) (growing served.final.file (behind seen))
-          (keeps_same s got.0 acts (before seen) (growing_at seen.disk served.final) (behind seen) (served.back told) (got.3 (told, ready)));
+      done = λ told ready. keeps_after segment log acts led.reached (before seen) (growing served.final.file (behind seen))
+          (keeps_same s led.reached (turns_of acts) (before seen) (growing_at seen.disk served.final) (behind seen) (served.back told)
+          (led.keeps told (open_for segment log (growing it.flusher.file (before seen)) ready)));
     }
 
 -- ---- seen from before the opening
@@ -215,6 +234,7 @@ survives segment log flushed opening acts reached old mid new leaves kept = reco
       let least : ℕ = length opening + turned_by (turns_of acts) m in
       let first = kept.kept.each m files low high image in
       record { has = first; keeps = first_keeps (whole segment) reached.log.records least files kept.stores.at.well_formed first };
+  exact = kept.exact;
   stores = kept.stores;
 }
 
@@ -247,3 +267,42 @@ module _ {D : Type 0} (it : Opened) (status : Status) (seen : Seen D) (disk : D)
             (kept told (subst (λ (n : ℕ). IsReady (stored (whole segment) opening n) 0 (growing it.flusher.file (seen.disk.state disk))) long opens.ready)))
             (served.runs segment opening opens.opens);
       }
+
+-- ---- a log that was not recovered
+
+-- damage is told of the files as they were read, and they rest
+both_told : (fault : RecoverFault) (P Q : ℕ → List ℕ → Type 0) → OnDamage {A = Opened} (Err fault) P → OnDamage {A = Opened} (Err fault) Q
+    → OnDamage {A = Unit {0}} (Err fault) (λ place name. P place name × Q place name)
+both_told (Damaged place name) P Q p q = (p, q)
+both_told DiskFailed P Q p q = tt
+both_told NoMemory P Q p q = tt
+
+pub unrecovered : {D : Type 0} (asked : Option ℕ) (status : Status) (seen : Seen D) (keep : KeepSeen) (first mid after : DiskState) (fault : RecoverFault) (segment : ℕ)
+    → StatusTellsFault status fault → IsOpened asked segment seen.disk.tells (before seen).reads keep.tells keep.old keep.new
+    → (seen.disk.tells → Moves Same (before seen) first) → (seen.disk.tells → Moves Same first mid)
+    → (seen.disk.tells → OnDamage {A = Opened} (Err fault) (IsDamagedAt (whole segment) mid.reads)) → (seen.disk.tells → OnDamage {A = Opened} (Err fault) (λ place name. Rests mid after))
+    → (seen.disk.tells → StaysFlushed (whole segment) mid after) → (seen.disk.tells → Moves Same after (behind seen))
+    → Unrecovered asked status seen keep
+unrecovered asked status seen keep first mid after fault segment tells opened_as moves reads damaged rests flushed back =
+    let S : Geometry = whole segment in
+    record {
+      fault = fault;
+      tells = tells;
+      segment = segment;
+      opened_as = opened_as;
+      damaged = λ told code.
+          let both = damage_told status fault (λ place name. IsDamagedAt S mid.reads place name × Rests mid after) tells (both_told fault _ _ (damaged told) (rests told)) code in
+          let quiet = rests_call (rests_call (rests_start (before seen)) (moves told)) (reads told) in (
+            subst (λ (files : Files). IsDamagedAt S files status.place status.name) ((reads told).reads ∙ (moves told).reads) both.0,
+            rests_call (rests_then quiet both.1) (back told),
+          );
+      stores = λ told log flushed_number stores honest.
+          let mid_stores = stores_same S log flushed_number first mid (reads told) (stores_same S log flushed_number (before seen) first (moves told) stores) in
+          let mid_honest = honest_same S log flushed_number first mid (reads told) (honest_same S log flushed_number (before seen) first (moves told) honest) in
+          stores_same S log flushed_number after (behind seen) (back told) (flushed told log flushed_number mid_stores mid_honest).still;
+      leaves = λ told log flushed_number stores honest.
+          let mid_stores = stores_same S log flushed_number first mid (reads told) (stores_same S log flushed_number (before seen) first (moves told) stores) in
+          let mid_honest = honest_same S log flushed_number first mid (reads told) (honest_same S log flushed_number (before seen) first (moves told) honest) in
+          let kept = (flushed told log flushed_number mid_stores mid_honest).any_moment in
+          leaves_from S log flushed_number (before seen) first mid (behind seen) (moves told) (reads told) stores (goes_on kept (back told) (each_same (back told) (at_end kept)));
+    }

@@ -15,7 +15,6 @@ use Rattle.store_open.specs.Words.{IsCommand}
 use Rattle.store_open.specs.Openings.{FORMAT, IsOpened, PutsOnly, own_format}
 use Rattle.store_open.specs.declared.status.Status.{Status}
 use Rattle.broker_model.specs.State.{State}
-use Rattle.broker_model.specs.State as model
 use Rattle.broker_model.specs.Events as model
 use Rattle.broker_model.specs.Run.{Boot, Move, Steps, Run, opened}
 use Rattle.broker_events.specs.declared.event.Event.{Event}
@@ -31,7 +30,8 @@ use Rattle.request_acts.specs.Acts.{Act, Acted, DiskView, Place, steps_of, turns
 use Rattle.request_acts.specs.Turning.{AreAllTurns}
 use Rattle.request_stream.specs.Serving.{Sides, sides_of, point_of}
 use Rattle.request_stream.specs.Piping.{SourceSeen, Piped, acts_in}
-use Rattle.broker_run.specs.Keeping.{AreInOrder, alone}
+use Rattle.flush_story.specs.Keeping.{AreInOrder, AreExact}
+use Rattle.kept_log.specs.Leads.{alone}
 use Rattle.request_stream.specs.declared.stop.Stop.{Stop}
 use Rattle.request_stream.specs.declared.stop.Halt.{Halt}
 use Rattle.request_stream.specs.declared.stop.Halt.TheVariants.{BadFrame, Read, Stopped}
@@ -50,7 +50,7 @@ StatusTells status (Err (Stopped stops.Memory)) last = status.code ≡ 7
 StatusTells status (Err (Stopped stops.Clock)) last = ((status.code ≡ 10) × (status.name ≡ codes "clock")) ⊎ (status.code ≡ 7)
 
 -- the same where memory may run out in the last flush turns
-abbrev pub StatusOf : {D A E : Type 0} → Status → Result A Halt → Result (Option ℕ) E → Type 0
+abbrev pub StatusOf : {A E : Type 0} → Status → Result A Halt → Result (Option ℕ) E → Type 0
 StatusOf status ended (Ok last) = StatusTells status ended last
 StatusOf status ended (Err fault) = status.code ≡ 7
 
@@ -141,13 +141,14 @@ pub record Leaves (S : Geometry) (log : List Entry) (least : ℕ) (files : Files
 
 -- What every crash leaves of a store that had a log with so many records flushed, when a run from `log` on ended with this log.
 -- Up to a moment it was being opened. From then on the turns that ended Ok came one behind another, and each record that a turn
--- flushed stays from its moment on.
+-- flushed stays from its moment on: at that moment a crash leaves exactly the files of what was flushed.
 pub record Survives (S : Geometry) (stored : List Entry) (flushed : ℕ) (log : List Entry) (turns : List FlushTurn) (reached : List Entry) (old new : DiskState) : Type 0 where
   pub opening : ℕ
   pub later : old.moment ≤ opening
   pub order : AreInOrder opening turns new.moment
   pub before : (m : ℕ) (files : Files) → old.moment ≤ m → m ≤ opening → new.image_at m files → Leaves S stored flushed files
   pub after : (m : ℕ) (files : Files) → opening ≤ m → m ≤ new.moment → new.image_at m files → Leaves S reached (length log + turned_by turns m) files
+  pub exact : AreExact S reached (length log) turns new
   pub stores : StoresLog S reached (length log + turned_in turns) new
 
 -- The requests of the source were served by a core that was opened over this log, and then flush turns were made. All that
@@ -251,6 +252,7 @@ pub record Causes (status : Status) (old new : AllFaults) : Type 0 where
 pub record KeepsAfter (segment : ℕ) (log : List Entry) (acts : List Act) (reached : State) (old new : DiskState) : Type 0 where
   pub kept : KeepsAtLeast (whole segment) reached.log.records (λ m. length log + turned_by (turns_of acts) m) old new
   pub order : AreInOrder old.moment (turns_of acts) new.moment
+  pub exact : AreExact (whole segment) reached.log.records (length log) (turns_of acts) new
   pub stores : StoresLog (whole segment) reached.log.records (length log + turned_in (turns_of acts)) new
 
 -- The requests were served from each log over which this was opened.

@@ -1,9 +1,9 @@
 -- The acts of a broker that one caller has alone are a story of the model and the disk.
-use Rattle.std.proofs.Common.{◌≡◌, ℕ, ◌++◌, ◌≤◌, List, [], ◌∷◌, map, Option, Some, None, Result, Ok, Err, refl, sym, ap, ◌∙◌, subst, arith}
+use Rattle.std.proofs.Common.{◌≡◌, ℕ, ◌≤◌, List, [], ◌∷◌, map, Option, Some, Ok, Err, refl, sym, ap, subst, arith}
 use Rattle.log_model.specs.Stored.{Stored, FlushTurn}
 use Rattle.log_model.specs.declared.batch.Batch.{Batch}
 use Rattle.log_model.specs.declared.batch.Receipt.{Receipt}
-use Rattle.segment_files.specs.Turn.{Growing, HasTurned, PlacesOn, GoesToPlace}
+use Rattle.segment_files.specs.Turn.{Growing, HasTurned, PlacesOn}
 use Rattle.segment_files.specs.declared.last_file.LastFile.{LastFile}
 use Rattle.group_flush.specs.declared.flusher.FlushFault.{FlushFault}
 use Rattle.broker_model.specs.State.{State}
@@ -16,10 +16,10 @@ use Rattle.broker_core.specs.Represents.{Represents}
 use Rattle.broker_core.specs.declared.alone.Alone.{Alone}
 use Rattle.broker_core.specs.declared.parts.Parts.{Parts}
 use Rattle.worker_turns.specs.Turns.{TakesFrom}
-use Rattle.request_acts.specs.Acts.{Act, Made, Wrote, Missed, Acts, Acted, DiskView, Place, growing_at, steps_in, steps_of, turns_in, turns_of, IsBetween, Happens, HasMade, HasWritten, HasMissed}
+use Rattle.request_acts.specs.Acts.{Act, Made, Wrote, Missed, Acts, Acted, DiskView, Place, growing_at, steps_of, turns_of, IsBetween, Happens, HasMade, HasWritten, HasMissed}
 use Rattle.flush_story.specs.Story as story
 use Rattle.flush_story.specs.Story.{StepsAs, Happening, Stepped, Ended, Broke, Story, Reaches}
-use Rattle.flush_story.specs.Keeping.{IsOpenFor, IsPlacedFor, Keeps}
+use Rattle.flush_story.specs.Keeping.{IsPlacedFor, Keeps}
 use Rattle.flush_story.proofs.Keeps.{keeps_start, keeps_story, story_reaches}
 use Rattle.flush_story.proofs.Placing.{placed_story, takes_to_place}
 use Rattle.kept_log.specs.Leads.{alone, LeadsTo, Led}

@@ -1,10 +1,6 @@
 -- What the acts of a broker that one caller has alone are for the model, and what they leave of its log.
-use Rattle.std.specs.Prelude.{◌≡◌, ◌≢◌, ℕ, ◌+◌, List, [], ◌∷◌, Option}
-use Rattle.log_model.specs.Stored.{FlushTurn}
-use Rattle.segment_files.specs.Turn.{Growing}
+use Rattle.std.specs.Prelude.{List}
 use Rattle.broker_model.specs.State.{State}
-use Rattle.broker_events.specs.declared.event.Event.{Event}
-use Rattle.broker_events.specs.declared.said.Said.{Said}
 use Rattle.broker_core.specs.Makes.{MakesStep}
 use Rattle.broker_core.specs.Represents.{Represents}
 use Rattle.broker_core.specs.declared.alone.Alone.{Alone}
