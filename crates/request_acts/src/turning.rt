@@ -1,9 +1,9 @@
 //! Flush turns, one after another, until nothing is pending or one failed.
 
-ghost use Rattle.std.specs.Prelude.{◌≡◌};
+ghost use Rattle.std.specs.Prelude.{◌≡◌, ◌≢◌};
 ghost use Rattle.log_model.specs.Stored.{StaysOutside};
 ghost use Rattle.segment_files.specs.Turn.{IsInside};
-ghost use Rattle.worker_turns.specs.Turns.{CountsEnd};
+ghost use Rattle.worker_turns.specs.Turns.{CountsEnd, TakesFrom};
 ghost use Rattle.request_acts.specs.Acts.{IsFree, Acted, place_of, view_of};
 ghost use Rattle.request_acts.specs.Turning.{IsTurn, AreAllTurns, AllTurnsDispatched, IsDispatch, CountsAll};
 
@@ -28,6 +28,7 @@ pub fn turn<C: Calls, D: Disk>(
     ensures free { IsFree (C.has_key calls.new) (C.shown calls.new) }
     ensures inside { D.tells → IsInside flusher.new.file.base flusher.new.file.offset (D.state disk.new) }
     ensures outside { D.tells → StaysOutside (D.state disk.old) (D.state disk.new) }
+    ensures placed { TakesFrom C.makes calls.old flusher.old.file → result ≢ FlushEnd.Misplaced }
     ensures cause { CountsEnd result (D.faults disk.old) (D.faults disk.new) }
 {
     flush_turn(alloc, calls, flusher, disk)
