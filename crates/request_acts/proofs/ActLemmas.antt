@@ -43,6 +43,10 @@ module _ {C D : Type 0} (makes : Steps C) (view : DiskView D) where
   pub acted_as : (P Q : List Act → Type 0) (x y : C) (p q : Place D) → ((acts : List Act) → P acts → Q acts) → Acted makes view P x p y q → Acted makes view Q x p y q
   acted_as P Q x y p q as_well acted = record { acts = acted.acts; kind = as_well acted.acts acted.kind; happened = acted.happened }
 
+  -- of any kind
+  pub acted_any : (P : List Act → Type 0) (x y : C) (p q : Place D) → Acted makes view P x p y q → Acted makes view (λ acts. Unit {0}) x p y q
+  acted_any P x y p q acted = record { acts = acted.acts; kind = tt; happened = acted.happened }
+
   -- no act
   pub acted_none : (P : List Act → Type 0) (x : C) (p : Place D) → P [] → Acted makes view P x p x p
   acted_none P x p none = record { acts = []; kind = none; happened = still x p }

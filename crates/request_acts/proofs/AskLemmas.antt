@@ -15,12 +15,12 @@ use Rattle.session.specs.declared.owed.Awaits.{Awaits}
 use Rattle.session.specs.declared.owed.Applied.{Applied}
 use Rattle.session.specs.declared.owed.Applied.TheVariants.{Owes, Full}
 use Rattle.worker_turns.specs.Turns.{Steps}
-use Rattle.worker_turns.specs.declared.flush.FlushEnd.TheVariants.{Done, Failed}
+use Rattle.worker_turns.specs.declared.flush.FlushEnd.TheVariants.{Failed}
 use Rattle.request_acts.specs.Acts.{Turn, Act, Made, Wrote, Missed, DiskView, Place, Acted}
 use Rattle.request_acts.specs.Turning.{IsTurn, AreTurnsAndDispatch}
-use Rattle.request_acts.specs.Asking.{Try, try_of, tries_of, no_room, refusal, IsSaid, IsGivenUp, IsLastTry, GivesUp, MakesRoom, IsTry, AreTries, IsAsked, Asks, IsRefused, Chooses, IsGiven, Gives, event_for, IsDue, IsLooked, Looks, Tells}
+use Rattle.request_acts.specs.Asking.{Try, IsOneTry, try_of, tries_of, no_room, refusal, IsSaid, IsGivenUp, IsLastTry, GivesUp, MakesRoom, IsTry, AreTries, IsAsked, Asks, IsRefused, Chooses, IsGiven, Gives, event_for, IsDue, IsLooked, Looks, Tells}
 use Rattle.request_acts.specs.declared.answer.Answer.{Answer}
-use Rattle.request_acts.proofs.ActLemmas.{acted_then, acted_as, acted_none, one_step, request_between}
+use Rattle.request_acts.proofs.ActLemmas.{acted_then, acted_as, acted_any, acted_none, one_step, request_between}
 
 -- what was said where there was no room
 full_said : (what : Option Said) (pending : ℕ) → applied_of what ≡ Some (Full pending) → what ≡ Some (said.Full pending)
@@ -44,14 +44,14 @@ module _ {C D : Type 0} (makes : Steps C) (view : DiskView D) where
       record { acts = Made event what ∷ []; kind = refl; happened = one_step makes view event what x y p p (request_between event is) made refl }
 
   -- memory ran out for telling what was said
-  pub given_err : {E F : Type 0} (x y : C) (p : Place D) (event : Event) (fault : E) (other : F) → IsRequest event → IsApplied makes x event (Err fault) y
-      → Acted makes view (IsTry event (Err other)) x p y p
-  given_err x y p event fault other is it =
-      acted_as makes view (λ acts. acts ≡ Made event it.what ∷ []) (λ acts. Unit {0}) x y p p (λ acts are. tt) (step_acted x y p event it.what is it.made)
+  pub given_err : {E : Type 0} (x y : C) (p : Place D) (event : Event) (fault : E) → IsRequest event → IsApplied makes x event (Err fault) y
+      → Acted makes view (λ acts. Unit {0}) x p y p
+  given_err x y p event fault is it =
+      acted_any makes view (λ acts. acts ≡ Made event it.what ∷ []) x y p p (step_acted x y p event it.what is it.made)
 
   -- it was answered
-  pub given_owes : {E F : Type 0} (x y : C) (p : Place D) (event : Event) (reply : ReplyParts) (awaits : Option Awaits) → IsRequest event
-      → IsApplied {E = E} makes x event (Ok (Owes reply awaits)) y → Acted makes view (IsTry {E = F} event (Ok (Some (record { reply = reply; awaits = awaits })))) x p y p
+  pub given_owes : {E : Type 0} (x y : C) (p : Place D) (event : Event) (reply : ReplyParts) (awaits : Option Awaits) → IsRequest event
+      → IsApplied {E = E} makes x event (Ok (Owes reply awaits)) y → Acted makes view (IsLastTry event (record { reply = reply; awaits = awaits })) x p y p
   given_owes x y p event reply awaits is it =
       acted_as makes view (λ acts. acts ≡ Made event it.what ∷ []) (IsLastTry event (record { reply = reply; awaits = awaits })) x y p p
       (λ acts are. inl (record { what = it.what; told = it.told; given = are })) (step_acted x y p event it.what is it.made)
@@ -77,10 +77,7 @@ module _ {C D : Type 0} (makes : Steps C) (view : DiskView D) where
       acted_then makes view (λ acts. acts ≡ Made event (Some (said.Full pending)) ∷ []) (MakesRoom result) (IsTry event result) x y z p p r
       (step_acted x y p event (Some (said.Full pending)) is (subst (λ (w : Option Said). makes x event w y) full it.made)) room (tried event pending result)
 
-  -- a flush turn for room
-  pub made_room : {E : Type 0} (x y : C) (p q : Place D) → Acted makes view (IsTurn Done) x p y q → Acted makes view (MakesRoom {E = E} (Ok None)) x p y q
-  made_room {E} x y p q turn = acted_as makes view (IsTurn Done) (MakesRoom {E = E} (Ok None)) x y p q (λ acts is. is) turn
-
+  -- the flush turn for room failed
   gave_up : {E : Type 0} (count : ℕ) (result : Result (Option Answer) E) (acts : List Act) → GivesUp count result → IsTurn (Failed count) acts → MakesRoom result acts
   gave_up count (Ok None) acts up is = absurd up
   gave_up count (Ok (Some answer)) acts up is = (is.0, count, up, is.1)
@@ -90,27 +87,17 @@ module _ {C D : Type 0} (makes : Steps C) (view : DiskView D) where
       → Acted makes view (MakesRoom result) x p y q
   no_room_made count result x y p q up turn = acted_as makes view (IsTurn (Failed count)) (MakesRoom result) x y p q (λ acts is. gave_up count result acts up is) turn
 
-  pub room_err : {E : Type 0} (P : List Act → Type 0) (fault : E) (x y : C) (p q : Place D) → Acted makes view P x p y q → Acted makes view (MakesRoom (Err fault)) x p y q
-  room_err P fault x y p q turn = acted_as makes view P (λ acts. Unit {0}) x y p q (λ acts is. tt) turn
-
   -- ---- until it is answered
 
-  pub tries_more : {E : Type 0} (event : Event) (x y z : C) (p q r : Place D) → Acted makes view (AreTries event) x p y q → Acted makes view (IsTry {E = E} event (Ok None)) y q z r
+  pub tries_more : (event : Event) (x y z : C) (p q r : Place D) → Acted makes view (AreTries event) x p y q → Acted makes view (IsOneTry event) y q z r
       → Acted makes view (AreTries event) x p z r
-  tries_more {E} event x y z p q r first once = acted_then makes view (AreTries event) (IsTry {E = E} event (Ok None)) (AreTries event) x y z p q r first once (λ before later are is.
+  tries_more event x y z p q r first once = acted_then makes view (AreTries event) (IsOneTry event) (AreTries event) x y z p q r first once (λ before later are is.
       (are.0 ++ is.0 ∷ [], ap (λ (l : List Act). l ++ later) are.1 ∙ ap (λ (l : List Act). tries_of event are.0 ++ l) is.1 ∙ sym (tries_push event are.0 is.0)))
 
-  pub tries_answered : {E F : Type 0} (event : Event) (answer : Answer) (x y z : C) (p q r : Place D) → Acted makes view (AreTries event) x p y q
-      → Acted makes view (IsTry {E = E} event (Ok (Some answer))) y q z r → Acted makes view (Asks {E = F} event (Ok answer)) x p z r
-  tries_answered {E} event answer x y z p q r first once = acted_then makes view (AreTries event) (IsTry {E = E} event (Ok (Some answer))) (IsAsked event answer) x y z p q r first once (λ before later are is.
+  pub tries_answered : (event : Event) (answer : Answer) (x y z : C) (p q r : Place D) → Acted makes view (AreTries event) x p y q
+      → Acted makes view (IsLastTry event answer) y q z r → Acted makes view (IsAsked event answer) x p z r
+  tries_answered event answer x y z p q r first once = acted_then makes view (AreTries event) (IsLastTry event answer) (IsAsked event answer) x y z p q r first once (λ before later are is.
       record { tries = are.0; last = later; ended = is; are_all = ap (λ (l : List Act). l ++ later) are.1 })
-
-  pub tries_err : {E : Type 0} (event : Event) (P Q : List Act → Type 0) (fault : E) (x y z : C) (p q r : Place D) → Acted makes view P x p y q → Acted makes view Q y q z r
-      → Acted makes view (Asks event (Err fault)) x p z r
-  tries_err event P Q fault x y z p q r first once = acted_then makes view P Q (λ acts. Unit {0}) x y z p q r first once (λ before later are is. tt)
-
-  pub tries_end : {E : Type 0} (event : Event) (P : List Act → Type 0) (fault : E) (x y : C) (p q : Place D) → Acted makes view P x p y q → Acted makes view (Asks event (Err fault)) x p y q
-  tries_end event P fault x y p q first = acted_as makes view P (λ acts. Unit {0}) x y p q (λ acts are. tt) first
 
   -- ---- what was read
 
@@ -131,9 +118,9 @@ module _ {C D : Type 0} (makes : Steps C) (view : DiskView D) where
   -- it doesn't
   pub gives_unserved : {E : Type 0} (code : ℤ) (now : ℕ) (request : Request) (result : Result Answer E) (x : C) (p : Place D) → is_served request ≡ false
       → IfOk result (λ answer. answer ≡ refusal (Unsupported code)) → Acted makes view (Gives code now (Ok request) result) x p x p
-  gives_unserved code now request (Ok answer) x p unserved told =
-      acted_none makes view (Gives code now (Ok request) (Ok answer)) x p (chosen (is_served request) false _ _ unserved (record { told = told; none = refl }))
-  gives_unserved code now request (Err fault) x p unserved told = acted_none makes view (λ acts. Unit {0}) x p tt
+  gives_unserved {E} code now request (Ok answer) x p unserved told =
+      acted_none makes view (Gives {E = E} code now (Ok request) (Ok answer)) x p (chosen (is_served request) false _ _ unserved (record { told = told; none = refl }))
+  gives_unserved {E} code now request (Err fault) x p unserved told = acted_none makes view (λ acts. Unit {0}) x p tt
 
   -- it is none
   pub gives_fault : {E : Type 0} (code : ℤ) (now : ℕ) (fault : RequestFault) (result : Result Answer E) (x : C) (p : Place D) → IfOk result (λ answer. answer ≡ refusal fault)
@@ -162,7 +149,3 @@ module _ {C D : Type 0} (makes : Steps C) (view : DiskView D) where
       acted_then makes view AreTurnsAndDispatch (λ acts. acts ≡ act ∷ []) (Looks reply awaits result) x y z p q q first
       (record { acts = act ∷ []; kind = refl; happened = one_step makes view (Look awaits.number awaits.turn) (Some (said.Awaited what)) y z q q tt made refl })
       (λ before later are is. looked reply awaits what result before later are is tells)
-
-  pub looks_err : {E : Type 0} (reply : ReplyParts) (awaits : Awaits) (P : List Act → Type 0) (fault : E) (x y : C) (p q : Place D) → Acted makes view P x p y q
-      → Acted makes view (Looks reply awaits (Err fault)) x p y q
-  looks_err reply awaits P fault x y p q first = acted_as makes view P (λ acts. Unit {0}) x y p q (λ acts are. tt) first

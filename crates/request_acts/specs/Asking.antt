@@ -82,9 +82,13 @@ GivesUp count (Ok None) = ⊥
 GivesUp count (Ok (Some answer)) = answer ≡ no_room count
 GivesUp count (Err fault) = Unit {0}
 
+-- a flush turn made room
+abbrev pub IsOneTry : Event → List Act → Type 0
+IsOneTry event acts = (t : Try) × (acts ≡ try_of event t)
+
 -- one time: no answer where a flush turn made room
 abbrev pub IsTry : {E : Type 0} → Event → Result (Option Answer) E → List Act → Type 0
-IsTry event (Ok None) acts = (t : Try) × (acts ≡ try_of event t)
+IsTry event (Ok None) acts = IsOneTry event acts
 IsTry event (Ok (Some answer)) acts = IsLastTry event answer acts
 IsTry event (Err fault) acts = Unit {0}
 

@@ -116,7 +116,7 @@ fn try_once<C: Calls, D: Disk>(
 {
     match give(alloc, calls, event) {
         Err(fault) => Err(fault),
-        Ok(Applied::Full(_)) => make_room(alloc, calls, flusher, disk),
+        Ok(Applied::Full(_pending)) => make_room(alloc, calls, flusher, disk),
         Ok(Applied::Owes(reply, awaits)) => Ok(Some(Answer { reply, awaits })),
     }
 }
