@@ -13,9 +13,9 @@ ghost use Rattle.flush_story.specs.Keeping.{IsPlacedFor};
 ghost use Rattle.kept_log.specs.Leads.{Led};
 
 use broker_core::Alone;
-use request_acts::{flush_all, turn};
 use group_flush::Flusher;
 use mq_outside::Disk;
+use request_acts::{flush_all, turn};
 use std::alloc::{AllocError, Global};
 use worker_turns::FlushEnd;
 
