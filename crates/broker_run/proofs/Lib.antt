@@ -1,2 +1,0 @@
-mod ActLemmas
-mod TurningLemmas
