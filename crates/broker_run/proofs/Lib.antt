@@ -1,0 +1,3 @@
+mod CauseLemmas
+mod ClosingLemmas
+mod RunLemmas
