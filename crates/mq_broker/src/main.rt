@@ -3,25 +3,10 @@
 //! nothing else is printed.
 #![tactic(auto)]
 
-mod action;
-mod answer;
-mod broker;
-mod carry;
-mod held;
-mod laws;
-mod pipe;
-mod reply;
-mod request;
-mod run;
-mod stop;
-#[cfg(test)]
-mod tests;
-mod writing;
-
+use broker_run::run_pipe;
 use broker_serve::{World, run_serve};
 use mq_outside::{FolderDisk, FolderKeep, MachineClock, StdSink, StdSource};
 use mq_peers::{TcpDoor, TcpReady};
-use run::run_pipe;
 use std::alloc::{AllocError, Global};
 use std::process::ExitCode;
 use std::sync::Wait;

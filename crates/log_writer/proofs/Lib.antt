@@ -1,4 +1,0 @@
-pub mod FollowLemmas
-pub mod TurnLemmas
-pub mod DurableLemmas
-pub mod OpeningLemmas

@@ -1,4 +1,0 @@
-pub mod Places
-pub mod Outcomes
-pub mod Durable
-pub mod Openings

@@ -1,4 +1,0 @@
-pub mod Kinds
-pub mod Refusals
-pub mod Records
-pub mod Decisions
