@@ -1,2 +1,3 @@
-mod ActLemmas
-mod TurningLemmas
+mod CauseLemmas
+mod ClosingLemmas
+mod RunLemmas

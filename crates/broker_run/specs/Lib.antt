@@ -1,2 +1,2 @@
-pub mod Acts
-pub mod Turning
+pub mod Closing
+pub mod Promise

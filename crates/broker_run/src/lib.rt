@@ -1,6 +1,8 @@
-//! What does one call of `pipe` do, from its arguments to its status? So far: the flush turns that it makes, one after another.
+//! What does one call of `pipe` do, from its arguments to its status?
 #![tactic(auto)]
 
-mod turning;
+mod ended;
+mod run;
+mod serving;
 
-pub use turning::{flush_all, flush_and_dispatch, turn};
+pub use run::run_pipe;

@@ -16,7 +16,7 @@ use Rattle.broker_core.specs.Represents.{Represents}
 use Rattle.broker_core.specs.declared.alone.Alone.{Alone}
 use Rattle.broker_core.specs.declared.parts.Parts.{Parts}
 use Rattle.worker_turns.specs.Turns.{TakesFrom}
-use Rattle.broker_run.specs.Acts.{Act, Made, Wrote, Missed, Acts, Acted, DiskView, Place, growing_at, steps_of, turns_of, IsBetween, Happens, HasMade, HasWritten, HasMissed}
+use Rattle.request_acts.specs.Acts.{Act, Made, Wrote, Missed, Acts, Acted, DiskView, Place, growing_at, steps_of, turns_of, IsBetween, Happens, HasMade, HasWritten, HasMissed}
 use Rattle.flush_story.specs.Story as story
 use Rattle.flush_story.specs.Story.{StepsAs, Happening, Stepped, Ended, Broke, Story, Reaches}
 use Rattle.flush_story.specs.Keeping.{IsPlacedFor, Keeps}

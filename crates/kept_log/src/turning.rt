@@ -7,13 +7,13 @@ ghost use Rattle.broker_model.specs.State.{State};
 ghost use Rattle.broker_core.specs.Makes.{shown_of};
 ghost use Rattle.broker_core.specs.Represents.{Represents};
 ghost use Rattle.worker_turns.specs.Turns.{CountsEnd};
-ghost use Rattle.broker_run.specs.Acts.{place_of, view_of};
-ghost use Rattle.broker_run.specs.Turning.{IsTurn, AreAllTurns, CountsAll};
+ghost use Rattle.request_acts.specs.Acts.{place_of, view_of};
+ghost use Rattle.request_acts.specs.Turning.{IsTurn, AreAllTurns, CountsAll};
 ghost use Rattle.flush_story.specs.Keeping.{IsPlacedFor};
 ghost use Rattle.kept_log.specs.Leads.{Led};
 
 use broker_core::Alone;
-use broker_run::{flush_all, turn};
+use request_acts::{flush_all, turn};
 use group_flush::Flusher;
 use mq_outside::Disk;
 use std::alloc::{AllocError, Global};

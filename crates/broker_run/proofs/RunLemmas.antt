@@ -1,0 +1,308 @@
+-- A run of `pipe` from a log that is open, and what every crash leaves of it.
+use Rattle.std.proofs.Common.{◌≡◌, inl, inr, ◌∙◌, ℕ, ◌+◌, ◌-◌, ◌≤◌, ◌++◌, List, [], ◌∷◌, Option, Some, None, Result, Ok, Err, length, take, refl, ap, sym, subst, arith, length-take}
+use Rattle.mq_outside.specs.Counts.{Rises}
+use Rattle.mq_outside.specs.Files.{Files, Same}
+use Rattle.mq_outside.specs.Disk.{DiskState, EachImage, Moves, Rests, Throughout}
+use Rattle.mq_outside.proofs.Moments.{each_same, at_start, at_end, goes_on, weaker, chained, rests_start, rests_call, rests_then}
+use Rattle.record_codec.specs.Entry.{Entry}
+use Rattle.log_model.specs.Bases.{Geometry, geometry, whole}
+use Rattle.log_model.specs.Log.{IsWellFormed}
+use Rattle.log_model.specs.Numbered.{Log}
+use Rattle.log_model.specs.Segments.{IsLogFile}
+use Rattle.log_model.specs.Store.{Keeps as RecoveryKeeps, IsDamagedAt, IsHonest, StoresLog}
+use Rattle.log_model.specs.Stored.{HasRecords, HasFirst, FlushTurn, KeepsAtLeast, stored, turned_by, turned_in}
+use Rattle.log_model.proofs.OutsideLemmas.{stays_start, stays_same}
+use Rattle.log_model.proofs.StoredLemmas.{first_keeps, keeps_then, has_less}
+use Rattle.segment_files.specs.Turn.{IsReady, Growing, growing}
+use Rattle.segment_files.proofs.Ready.{ready_as, ready_first_records}
+use Rattle.remoting_frame.specs.declared.frame.Frame.{Frame}
+use Rattle.broker_model.specs.State.{State}
+use Rattle.broker_model.specs.Run.{Boot, Move, Steps, Run}
+use Rattle.broker_events.specs.declared.event.Event.{Event}
+use Rattle.broker_events.specs.declared.said.Said.{Said}
+use Rattle.broker_events.specs.Steps.{event_of}
+use Rattle.broker_core.specs.declared.alone.Alone.{Alone}
+use Rattle.broker_core.specs.declared.parts.Parts.{Parts}
+use Rattle.broker_core.specs.Represents.{Represents}
+use Rattle.log_opening.specs.Opens.{OpensOver, OpensKept, OpensOurs, OpensLog}
+use Rattle.log_opening.specs.declared.opening.Opened.{Opened}
+use Rattle.request_acts.specs.Acts.{Act, Acts, Acted, DiskView, Place, place_of, growing_at, turns_of, steps_of}
+use Rattle.request_acts.specs.Turning.{AreAllTurns}
+use Rattle.request_stream.specs.Serving.{Sides, Point, point_of, sides_of}
+use Rattle.request_stream.specs.Piping.{RanBy, acts_in, SourceSeen, Piped}
+use Rattle.log_recovery.specs.Recovered.{OnDamage, StaysFlushed}
+use Rattle.log_recovery.specs.declared.fault.RecoverFault.{RecoverFault}
+use Rattle.log_recovery.specs.declared.fault.RecoverFault.TheVariants.{Damaged, Failed as DiskFailed, Memory as NoMemory}
+use Rattle.store_open.specs.Openings.{IsOpened}
+use Rattle.broker_run.specs.Closing.{ServesToEnd}
+use Rattle.flush_story.specs.Story.{Reaches}
+use Rattle.flush_story.specs.Keeping.{flushed_in, geometry_of, log_in, IsOpenFor, AreInOrder, AreExact, Keeps}
+use Rattle.flush_story.proofs.Keeps.{kept_as}
+use Rattle.flush_story.proofs.Turns.{order_on, exact_later, turned_most}
+use Rattle.kept_log.specs.Leads.{alone}
+use Rattle.kept_log.proofs.ActStory.{acts_lead}
+use Rattle.broker_run.specs.Promise.{AreMoves, RunsTo, opened_over, pipe_setup, Seen, before, behind, sides_for, Leaves, Survives, RunFrom, BeginsWithKept, KeepsOn, RunsFromSome, KeepsAfter, StatusOf, StatusTellsFault, ServedOver, Unrecovered, KeepSeen}
+use Rattle.broker_run.proofs.CauseLemmas.{damage_told}
+use Rattle.request_stream.specs.declared.stop.Halt.{Halt}
+use Rattle.request_stream.specs.declared.stop.Halt.TheVariants.{BadFrame, Read, Stopped}
+use Rattle.request_stream.specs.declared.stop.Stop.{Stop}
+use Rattle.store_open.specs.declared.status.Status.{Status}
+use Rattle.broker_run.specs.declared.ended.Ended.{Ended}
+use Rattle.request_acts.proofs.ActLemmas.{acts_then}
+
+-- ---- the model's run
+
+pub moves_of : (steps : List (Event × Option Said)) (s t : State) (before : List State) → Reaches s steps t
+    → (moves : List Move) × (boot : Boot) × AreMoves steps moves × Run (record { now = s; before = before }) moves boot × (boot.now ≡ t)
+moves_of [] s t before reaches = ([], record { now = s; before = before }, tt, refl, sym reaches)
+moves_of (it ∷ steps) s t before reaches =
+    let next : Boot = record { now = reaches.0; before = s ∷ before } in
+    let rest = moves_of steps reaches.0 t (s ∷ before) reaches.2 in
+    (Steps (event_of it.0) reaches.1.answer ∷ rest.0, rest.1, ((reaches.1.answer, refl, reaches.1.says), rest.2), (next, (reaches.1.step, refl), tt, rest.3), rest.4)
+
+-- ---- what happened
+
+ran_happened : {C D A : Type 0} (sides : Sides C D) (result : Result A Halt) (frames : List Frame) (x y : C) (old new : Point D) (ran : RanBy sides result frames x old y new)
+    → Acts sides.makes sides.disk (acts_in sides result frames x old y new ran) x old.place y new.place
+ran_happened sides (Ok done) frames x y old new ran = ran.happened
+ran_happened sides (Err (BadFrame place)) frames x y old new ran = ran.happened
+ran_happened sides (Err Read) frames x y old new ran = ran.happened
+ran_happened sides (Err (Stopped stop)) frames x y old new ran = ran.happened
+
+-- ---- the reader is given back
+
+-- a call that changes nothing, behind acts
+keeps_same : (s u : State) (turns : List FlushTurn) (p : DiskState) (r : Growing) (disk : DiskState) → Moves Same r.disk disk → Keeps s u turns p r → Keeps s u turns p (growing r.file disk)
+keeps_same s u turns p r disk moves kept =
+    let S = geometry_of u in
+    let first = ready_first_records (log_in u) kept.still_open.behind r.file r.disk kept.still_open.ready in
+    let still = goes_on (at_start r.disk (HasFirst S u.log.records (flushed_in u)) first) moves (each_same moves first) in
+    let during : KeepsAtLeast S u.log.records (λ m. flushed_in u) r.disk disk = record { continues = weaker still (λ files has. tt); each = still.each } in
+    record {
+      grows = kept.grows;
+      flushed = kept.flushed;
+      kept = keeps_then S u.log.records (λ m. flushed_in s + turned_by turns m) p r.disk disk kept.kept
+          (kept_as S u.log.records (λ m. flushed_in u) (λ m. flushed_in s + turned_by turns m) r.disk disk (λ m. omega (arith, kept.flushed, turned_most turns m)) during);
+      order = order_on p.moment r.disk.moment disk.moment turns moves.later kept.order;
+      exact = exact_later S u.log.records (flushed_in s) p.moment turns r.disk disk during.continues kept.order kept.exact;
+      still_open = record {
+        behind = kept.still_open.behind;
+        few = kept.still_open.few;
+        ready = ready_as (log_in u) kept.still_open.behind r.file r.disk disk (stays_same (stays_start IsLogFile r.disk) moves) kept.still_open.ready;
+      };
+    }
+
+-- ---- a run from a log that is open
+
+keeps_after : (segment : ℕ) (log : List Entry) (acts : List Act) (u : State) (p : DiskState) (r : Growing) → Keeps (opened_over segment log).now u (turns_of acts) p r → KeepsAfter segment log acts u p r.disk
+keeps_after segment log acts u p r kept =
+    let s = (opened_over segment log).now in
+    let all : flushed_in s ≡ length log = omega arith in
+    let S : geometry_of u ≡ whole segment = λ i. geometry ((kept.grows.setup i).segment) ((kept.grows.log i).base) in
+    record {
+      kept = subst (λ (n : ℕ). KeepsAtLeast (whole segment) u.log.records (λ m. n + turned_by (turns_of acts) m) p r.disk) all
+          (subst (λ (G : Geometry). KeepsAtLeast G u.log.records (λ m. flushed_in s + turned_by (turns_of acts) m) p r.disk) S kept.kept);
+      order = kept.order;
+      exact = subst (λ (n : ℕ). AreExact (whole segment) u.log.records n (turns_of acts) r.disk) all
+          (subst (λ (G : Geometry). AreExact G u.log.records (flushed_in s) (turns_of acts) r.disk) S kept.exact);
+      stores = subst (λ (n : ℕ). StoresLog (whole segment) u.log.records n r.disk) (kept.flushed ∙ ap (λ (n : ℕ). n + turned_in (turns_of acts)) all)
+          (subst (λ (G : Geometry). StoresLog G u.log.records (flushed_in u) r.disk) S
+          (record { shape = kept.still_open.ready.shape; reach = kept.still_open.ready.reach; at = kept.still_open.ready.writes.stores }));
+    }
+
+-- all of the log is flushed
+open_for : (segment : ℕ) (log : List Entry) (at : Growing) → IsReady (stored (whole segment) log (length log)) 0 at → IsOpenFor (opened_over segment log).now at
+open_for segment log at ready =
+    let none : length log ≡ flushed_in (opened_over segment log).now = omega arith in
+    record { behind = 0; few = omega arith; ready = subst (λ (n : ℕ). IsReady (stored (whole segment) log n) 0 at) none ready }
+
+pub run_from : {D : Type 0} (it : Opened) (ended : Ended) (seen : Seen D) (segment : ℕ) (log : List Entry) (x y : Alone) (reads : ℕ) → OpensOver (pipe_setup segment) log it → x.core ≡ it.core
+    → ServesToEnd (sides_for seen) ended seen.source x (point_of (place_of it.flusher.file seen.old) reads seen.taken seen.readings) y seen.new seen.taken_then seen.readings_then
+    → RunFrom segment log ended.reading ended.last seen
+    (λ acts reached. seen.disk.tells → IsReady (stored (whole segment) log (length log)) 0 (growing it.flusher.file (before seen)) → KeepsAfter segment log acts reached (before seen) (behind seen))
+run_from {D = D} it ended seen segment log x y reads opens same served =
+    let sides = sides_for seen in
+    let s = (opened_over segment log).now in
+    let place : Place D = place_of it.flusher.file seen.old in
+    let start = point_of place reads seen.taken seen.readings in
+    let mid = point_of served.mid served.reads seen.taken_then seen.readings_then in
+    let are : Represents x.core s = subst (λ (c : Parts). Represents c s) (sym same) opens.represents in
+    let first = acts_in sides ended.reading served.piped.frames x start served.served mid served.piped.ran in
+    let acts = first ++ served.flushed.acts in
+    let happened = acts_then alone seen.disk first served.flushed.acts x served.served y place served.mid served.final
+    (ran_happened sides ended.reading served.piped.frames x served.served start mid served.piped.ran) served.flushed.happened in
+    let led = acts_lead seen.disk acts s x y place served.final are happened in
+    let moves = moves_of (steps_of acts) s led.reached [] led.steps in
+    record {
+      calls = x;
+      served = served.served;
+      closed = y;
+      place = place;
+      mid = served.mid;
+      final = served.final;
+      reads = reads;
+      reads_then = served.reads;
+      first = first;
+      piped = served.piped;
+      first_is = refl;
+      flushed = served.flushed;
+      reached = led.reached;
+      runs = record { moves = moves.0; boot = moves.1; are = moves.2; run = moves.3; reached_is = moves.4 };
+      done = λ told ready. keeps_after segment log acts led.reached (before seen) (growing served.final.file (behind seen))
+          (keeps_same s led.reached (turns_of acts) (before seen) (growing_at seen.disk served.final) (behind seen) (served.back told)
+          (led.keeps told (open_for segment log (growing it.flusher.file (before seen)) ready)));
+    }
+
+-- ---- seen from before the opening
+
+-- what is seen of a call from the moment on at which the log was open
+abbrev pub seen_open : {D : Type 0} → Seen D → D → Seen D
+seen_open seen disk = record {
+  source = seen.source;
+  gives = seen.gives;
+  disk = seen.disk;
+  sink = seen.sink;
+  clock = seen.clock;
+  old = disk;
+  new = seen.new;
+  taken = seen.taken;
+  taken_then = seen.taken_then;
+  readings = seen.readings;
+  readings_then = seen.readings_then;
+}
+
+run_as : {D A E : Type 0} (segment : ℕ) (log : List Entry) (ended : Result A Halt) (last : Result (Option ℕ) E) (seen : Seen D) (disk : D) (P Q : List Act → State → Type 0)
+    → ((acts : List Act) (reached : State) → P acts reached → Q acts reached) → RunFrom segment log ended last (seen_open seen disk) P → RunFrom segment log ended last seen Q
+run_as segment log ended last seen disk P Q as_well ran = record {
+  calls = ran.calls;
+  served = ran.served;
+  closed = ran.closed;
+  place = ran.place;
+  mid = ran.mid;
+  final = ran.final;
+  reads = ran.reads;
+  reads_then = ran.reads_then;
+  first = ran.first;
+  piped = ran.piped;
+  first_is = ran.first_is;
+  flushed = ran.flushed;
+  reached = ran.reached;
+  runs = ran.runs;
+  done = as_well (ran.first ++ ran.flushed.acts) ran.reached ran.done;
+}
+
+-- each image of a disk that stores a log has what is flushed of it
+each_has : (S : Geometry) (log : List Entry) (flushed : ℕ) (disk : DiskState) → StoresLog S log flushed disk → EachImage (HasRecords S (take flushed log)) disk
+each_has S log flushed disk stores = record {
+  at = λ files image. record { shape = stores.shape; reach = stores.reach; laid = stores.at.laid; stands = stores.at.each.at files image };
+}
+
+-- which a crash leaves
+leaves_front : (S : Geometry) (log : List Entry) (flushed : ℕ) (files : Files) → IsWellFormed S log → flushed ≤ length log → HasRecords S (take flushed log) files → Leaves S log flushed files
+leaves_front S log flushed files well within has =
+    let first : HasFirst S log flushed files = record { number = flushed; low = omega arith; high = within; has = has } in
+    record { has = first; keeps = first_keeps S log flushed files well first }
+
+-- a call that changes nothing
+pub stores_same : (S : Geometry) (log : List Entry) (flushed : ℕ) (old new : DiskState) → Moves Same old new → StoresLog S log flushed old → StoresLog S log flushed new
+stores_same S log flushed old new moves stores = record {
+  shape = stores.shape;
+  reach = stores.reach;
+  at = record { well_formed = stores.at.well_formed; within = stores.at.within; laid = stores.at.laid; each = each_same moves stores.at.each };
+}
+
+pub honest_same : (S : Geometry) (log : List Entry) (flushed : ℕ) (old new : DiskState) → Moves Same old new → IsHonest S log flushed old.reads → IsHonest S log flushed new.reads
+honest_same S log flushed old new moves honest = subst (λ (files : Files). IsHonest S log flushed files) (sym moves.reads) honest
+
+pub leaves_from : (S : Geometry) (log : List Entry) (flushed : ℕ) (old first mid new : DiskState) → Moves Same old first → Moves Same first mid → StoresLog S log flushed old
+    → Throughout mid new (HasRecords S (take flushed log)) → Throughout old new (Leaves S log flushed)
+leaves_from S log flushed old first mid new opened read stores has =
+    let each = each_has S log flushed old stores in
+    let before = goes_on (at_start old (HasRecords S (take flushed log)) each) opened (each_same opened each) in
+    let all = chained (goes_on before read (each_same read (each_same opened each))) has in
+    weaker all (λ files front. leaves_front S log flushed files stores.at.well_formed stores.at.within front)
+
+survives : (segment : ℕ) (log : List Entry) (flushed : ℕ) (opening : List Entry) (acts : List Act) (reached : State) (old mid new : DiskState)
+    → Throughout old mid (Leaves (whole segment) log flushed) → KeepsAfter segment opening acts reached mid new
+    → Survives (whole segment) log flushed opening (turns_of acts) reached.log.records old new
+survives segment log flushed opening acts reached old mid new leaves kept = record {
+  opening = mid.moment;
+  later = leaves.later;
+  order = kept.order;
+  before = λ m files low high image. leaves.each m files low high (kept.kept.continues.past m files high image);
+  after = λ m files low high image.
+      let least : ℕ = length opening + turned_by (turns_of acts) m in
+      let first = kept.kept.each m files low high image in
+      record { has = first; keeps = first_keeps (whole segment) reached.log.records least files kept.stores.at.well_formed first };
+  exact = kept.exact;
+  stores = kept.stores;
+}
+
+module _ {D : Type 0} (it : Opened) (status : Status) (seen : Seen D) (disk : D) (segment : ℕ) (served : ServedOver it status (seen_open seen disk)) where
+  pub runs_some : OpensLog (pipe_setup segment) it → RunsFromSome segment served.ended served.last seen
+  runs_some opens = record {
+    log = opens.records;
+    ran = run_as segment opens.records served.ended served.last seen disk _ (λ acts reached. Unit {0}) (λ acts reached kept. tt) (served.runs segment opens.records opens.opens);
+  }
+
+  pub begins_with : (files : Files) → files ≡ (before seen).reads → OpensKept (pipe_setup segment) files it → BeginsWithKept segment served.ended served.last seen
+  begins_with files same opens = record {
+    records = opens.records;
+    keeps = subst (λ (f : Files). RecoveryKeeps (whole segment) opens.records f) same opens.keeps;
+    ran = run_as segment opens.records served.ended served.last seen disk _ (λ acts reached. Unit {0}) (λ acts reached kept. tt) (served.runs segment opens.records opens.opens);
+  }
+
+  pub keeps_on : seen.disk.tells → (log : List Entry) (flushed : ℕ) → OpensOurs (pipe_setup segment) log flushed (seen.disk.state disk) it → Throughout (before seen) (seen.disk.state disk) (Leaves (whole segment) log flushed)
+      → KeepsOn segment log flushed served.ended served.last seen
+  keeps_on told log flushed opens leaves =
+      let opening = take opens.number log in
+      let long : opens.number ≡ length opening = omega (arith, opens.high, length-take opens.number log) in
+      record {
+        number = opens.number;
+        low = opens.low;
+        high = opens.high;
+        ran = run_as segment opening served.ended served.last seen disk _
+            (λ acts reached. Survives (whole segment) log flushed opening (turns_of acts) reached.log.records (before seen) (behind seen))
+            (λ acts reached kept. survives segment log flushed opening acts reached (before seen) (seen.disk.state disk) (behind seen) leaves
+            (kept told (subst (λ (n : ℕ). IsReady (stored (whole segment) opening n) 0 (growing it.flusher.file (seen.disk.state disk))) long opens.ready)))
+            (served.runs segment opening opens.opens);
+      }
+
+-- ---- a log that was not recovered
+
+-- damage is told of the files as they were read, and they rest
+both_told : (fault : RecoverFault) (P Q : ℕ → List ℕ → Type 0) → OnDamage {A = Opened} (Err fault) P → OnDamage {A = Opened} (Err fault) Q
+    → OnDamage {A = Unit {0}} (Err fault) (λ place name. P place name × Q place name)
+both_told (Damaged place name) P Q p q = (p, q)
+both_told DiskFailed P Q p q = tt
+both_told NoMemory P Q p q = tt
+
+pub unrecovered : {D : Type 0} (asked : Option ℕ) (status : Status) (seen : Seen D) (keep : KeepSeen) (first mid after : DiskState) (fault : RecoverFault) (segment : ℕ)
+    → StatusTellsFault status fault → IsOpened asked segment seen.disk.tells (before seen).reads keep.tells keep.old keep.new
+    → (seen.disk.tells → Moves Same (before seen) first) → (seen.disk.tells → Moves Same first mid)
+    → (seen.disk.tells → OnDamage {A = Opened} (Err fault) (IsDamagedAt (whole segment) mid.reads)) → (seen.disk.tells → OnDamage {A = Opened} (Err fault) (λ place name. Rests mid after))
+    → (seen.disk.tells → StaysFlushed (whole segment) mid after) → (seen.disk.tells → Moves Same after (behind seen))
+    → Unrecovered asked status seen keep
+unrecovered asked status seen keep first mid after fault segment tells opened_as moves reads damaged rests flushed back =
+    let S : Geometry = whole segment in
+    record {
+      fault = fault;
+      tells = tells;
+      segment = segment;
+      opened_as = opened_as;
+      damaged = λ told code.
+          let both = damage_told status fault (λ place name. IsDamagedAt S mid.reads place name × Rests mid after) tells (both_told fault _ _ (damaged told) (rests told)) code in
+          let quiet = rests_call (rests_call (rests_start (before seen)) (moves told)) (reads told) in (
+            subst (λ (files : Files). IsDamagedAt S files status.place status.name) ((reads told).reads ∙ (moves told).reads) both.0,
+            rests_call (rests_then quiet both.1) (back told),
+          );
+      stores = λ told log flushed_number stores honest.
+          let mid_stores = stores_same S log flushed_number first mid (reads told) (stores_same S log flushed_number (before seen) first (moves told) stores) in
+          let mid_honest = honest_same S log flushed_number first mid (reads told) (honest_same S log flushed_number (before seen) first (moves told) honest) in
+          stores_same S log flushed_number after (behind seen) (back told) (flushed told log flushed_number mid_stores mid_honest).still;
+      leaves = λ told log flushed_number stores honest.
+          let mid_stores = stores_same S log flushed_number first mid (reads told) (stores_same S log flushed_number (before seen) first (moves told) stores) in
+          let mid_honest = honest_same S log flushed_number first mid (reads told) (honest_same S log flushed_number (before seen) first (moves told) honest) in
+          let kept = (flushed told log flushed_number mid_stores mid_honest).any_moment in
+          leaves_from S log flushed_number (before seen) first mid (behind seen) (moves told) (reads told) stores (goes_on kept (back told) (each_same (back told) (at_end kept)));
+    }

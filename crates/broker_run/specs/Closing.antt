@@ -1,0 +1,33 @@
+-- A source that was served to its end, with the last flush turns behind it.
+use Rattle.std.specs.Prelude.{◌≡◌, ◌⊎◌, ℕ, ◌≤◌, List, Option, Some, None, Result, Ok, Err}
+use Rattle.mq_outside.specs.Counts.{Rises}
+use Rattle.mq_outside.specs.Files.{Same}
+use Rattle.mq_outside.specs.Disk.{DiskState, Moves}
+use Rattle.request_acts.specs.Acts.{Acted, Place}
+use Rattle.request_acts.specs.Turning.{AreAllTurns}
+use Rattle.request_stream.specs.Serving.{Sides, Point, point_of}
+use Rattle.request_stream.specs.Piping.{SourceSeen, Piped, CountsPipe}
+use Rattle.broker_run.specs.declared.ended.Ended.{Ended}
+use Rattle.request_stream.specs.declared.stop.Halt.{Halt}
+
+-- The requests of the source were served, then flush turns were made, and the reader was given back.
+pub record ServesToEnd {C D : Type 0} (sides : Sides C D) (ended : Ended) (source : SourceSeen) (x : C) (old : Point D) (y : C) (disk : D) (taken readings : List ℕ) : Type 0 where
+  pub served : C
+  pub mid : Place D
+  pub final : Place D
+  pub reads : ℕ
+  pub piped : Piped sides ended.reading source x old served (point_of mid reads taken readings)
+  pub flushed : Acted sides.makes sides.disk (AreAllTurns ended.last) served mid y final
+  pub back : sides.disk.tells → Moves Same (sides.disk.state final.disk) (sides.disk.state disk)
+
+-- the last flush turn failed
+abbrev pub IsFailed : {E : Type 0} → Result (Option ℕ) E → Type 0
+IsFailed (Ok None) = ⊥
+IsFailed (Ok (Some count)) = Unit {0}
+IsFailed (Err fault) = ⊥
+
+-- the counts of the source, the sink and the clock rise as the reading says; the disk's rises where the last flush turn failed
+pub record CountsRun (ended : Ended) (source source_then sink sink_then disk disk_then clock clock_then : ℕ) : Type 0 where
+  pub reading : CountsPipe ended.reading source source_then sink sink_then clock clock_then
+  pub disk_rises : IsFailed ended.last → Rises disk disk_then
+  pub disk_grows : disk ≤ disk_then

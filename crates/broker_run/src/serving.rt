@@ -1,0 +1,165 @@
+//! Serves the requests of a source from a log that is open, and flushes what is left at the end.
+
+ghost use Rattle.std.specs.Prelude.{◌≡◌, List, ℕ, None};
+ghost use Rattle.record_codec.specs.Entry.{Entry};
+ghost use Rattle.log_model.specs.Stored.{StaysOutside};
+ghost use Rattle.segment_files.specs.Turn.{IsInside};
+ghost use Rattle.store_open.specs.Statuses.{FitsTable};
+ghost use Rattle.log_opening.specs.Opens.{OpensOver};
+ghost use Rattle.request_acts.specs.Acts.{IsFree, Acted, place_of, view_of};
+ghost use Rattle.request_stream.specs.Serving.{sides_of, point_of};
+ghost use Rattle.request_acts.specs.Turning.{AreAllTurns, CountsAll};
+ghost use Rattle.request_stream.specs.Piping.{source_of};
+ghost use Rattle.broker_run.specs.Closing.{ServesToEnd, CountsRun};
+ghost use Rattle.broker_run.specs.Promise.{StatusOf, StatusTells, ServedOver, CountsStatus, pipe_setup};
+
+use crate::ended::Ended;
+use broker_core::Alone;
+use broker_events::Calls;
+use group_flush::Flusher;
+use log_opening::Opened;
+use mq_outside::{Clock, Disk, Sink, Source};
+use request_acts::flush_all;
+use request_stream::{Halt, Stop, serve_source};
+use std::alloc::Global;
+use store_open::Status;
+
+// The last flush turns of a run.
+#[tactic(auto, using(log_model::proofs::OutsideLemmas::outside_start))]
+fn flush_last<C: Calls, D: Disk>(
+    alloc: Global,
+    calls: &mut C,
+    flusher: &mut Flusher,
+    disk: &mut D,
+) -> Result<Option<u64>, Stop>
+    requires free { IsFree (C.has_key calls.old) (C.shown calls.old) }
+    requires inside { D.tells → IsInside flusher.old.file.base flusher.old.file.offset (D.state disk.old) }
+    ensures acted { Acted C.makes (view_of D.tells D.state D.faults D.syncs) (AreAllTurns result)
+        calls.old (place_of flusher.old.file disk.old)
+        calls.new (place_of flusher.new.file disk.new) }
+    ensures outside { D.tells → StaysOutside (D.state disk.old) (D.state disk.new) }
+    ensures cause { CountsAll result (D.faults disk.old) (D.faults disk.new) }
+{
+    match flush_all(alloc, calls, flusher, disk) {
+        Ok(failed) => Ok(failed),
+        Err(_) => Err(Stop::Memory),
+    }
+}
+
+// Serves the requests of the source, and makes the last flush turns whatever ended the reading.
+#[tactic(auto, using(log_model::proofs::OutsideLemmas::outside_start))]
+fn serve_to_end<S: Source, C: Calls, D: Disk, K: Sink, T: Clock>(
+    alloc: Global,
+    source: &mut S,
+    calls: &mut C,
+    flusher: &mut Flusher,
+    disk: &mut D,
+    reader: D::Reader,
+    sink: &mut K,
+    clock: &mut T,
+) -> Ended
+    requires free { IsFree (C.has_key calls.old) (C.shown calls.old) }
+    requires inside { D.tells → IsInside flusher.old.file.base flusher.old.file.offset (D.state disk.old) }
+    ensures served { ServesToEnd (sides_of C.makes D.Reader.gives (view_of D.tells D.state D.faults D.syncs) K.tells T.tells) result
+        (source_of S.tells (S.given source.old) (S.given source.new) (S.left source.new))
+        calls.old (point_of (place_of flusher.old.file disk.old)
+            (D.Reader.faults reader) (K.taken sink.old) (T.readings clock.old))
+        calls.new disk.new (K.taken sink.new) (T.readings clock.new) }
+    ensures outside { D.tells → StaysOutside (D.state disk.old) (D.state disk.new) }
+    ensures cause { CountsRun result (S.faults source.old) (S.faults source.new) (K.faults sink.old) (K.faults sink.new)
+        (D.faults disk.old) (D.faults disk.new) (T.faults clock.old) (T.faults clock.new) }
+{
+    let mut reader = reader;
+    let mut buffer = Vec::new(alloc);
+    let reading = serve_source(
+        alloc,
+        source,
+        calls,
+        flusher,
+        disk,
+        &mut reader,
+        &mut buffer,
+        sink,
+        clock,
+    );
+    let last = flush_last(alloc, calls, flusher, disk);
+    disk.take_back(reader);
+    Ended { reading, last }
+}
+
+// The status that tells what ended the reading, and behind a source that ended the last flush turn.
+fn status_of_reading(alloc: Global, reading: Result<(), Halt>, last: Option<u64>) -> Status
+    ensures tells { StatusTells result reading last }
+    ensures table { FitsTable result }
+{
+    match reading {
+        Ok(()) => match last {
+            None => Status::plain(alloc, 0),
+            Some(_) => Status::plain(alloc, 5),
+        },
+        Err(Halt::BadFrame(place)) => Status::at(alloc, 2, place),
+        Err(Halt::Read) => Status::plain(alloc, 3),
+        Err(Halt::Stopped(Stop::Sink)) => Status::plain(alloc, 4),
+        Err(Halt::Stopped(Stop::Memory)) => Status::plain(alloc, 7),
+        Err(Halt::Stopped(Stop::Clock)) => Status::named(alloc, 10, "clock"),
+    }
+}
+
+// The status of a run: out of memory in the last flush turns comes before all else.
+fn status_of(alloc: Global, ended: Ended) -> Status
+    ensures tells { StatusOf result ended.reading ended.last }
+    ensures table { FitsTable result }
+{
+    match ended.last {
+        Err(_) => Status::plain(alloc, 7),
+        Ok(last) => status_of_reading(alloc, ended.reading, last),
+    }
+}
+
+/// Serves the requests of the source from a log that is open, and answers the status.
+#[tactic(auto, using(log_model::proofs::OutsideLemmas::outside_start))]
+pub(crate) fn serve_log<S: Source, K: Sink, D: Disk, T: Clock>(
+    alloc: Global,
+    opened: Opened,
+    reader: D::Reader,
+    source: &mut S,
+    sink: &mut K,
+    disk: &mut D,
+    clock: &mut T,
+) -> Status
+    requires over { (segment : ℕ) × (log : List Entry) × OpensOver (pipe_setup segment) log opened }
+    requires inside { D.tells → IsInside opened.flusher.file.base opened.flusher.file.offset (D.state disk.old) }
+    ensures served { ServedOver opened result
+        (record {
+          source = record { tells = S.tells; given = S.given source.old; given_then = S.given source.new; left_then = S.left source.new };
+          gives = D.Reader.gives;
+          disk = view_of D.tells D.state D.faults D.syncs;
+          sink = K.tells;
+          clock = T.tells;
+          old = disk.old;
+          new = disk.new;
+          taken = K.taken sink.old;
+          taken_then = K.taken sink.new;
+          readings = T.readings clock.old;
+          readings_then = T.readings clock.new;
+        }) }
+    ensures outside { D.tells → StaysOutside (D.state disk.old) (D.state disk.new) }
+    ensures table { FitsTable result }
+    ensures cause { CountsStatus result (S.faults source.old) (S.faults source.new) (K.faults sink.old) (K.faults sink.new)
+        (D.faults disk.old) (D.faults disk.new) (T.faults clock.old) (T.faults clock.new) }
+{
+    let Opened { core, flusher } = opened;
+    let mut calls = Alone::new(core);
+    let mut flusher = flusher;
+    let ended = serve_to_end(
+        alloc,
+        source,
+        &mut calls,
+        &mut flusher,
+        disk,
+        reader,
+        sink,
+        clock,
+    );
+    status_of(alloc, ended)
+}

@@ -1,0 +1,5 @@
+pub mod ActLemmas
+mod AskLemmas
+pub mod CountLemmas
+mod RemarkLemmas
+mod TurningLemmas

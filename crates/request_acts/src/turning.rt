@@ -1,0 +1,100 @@
+//! Flush turns, one after another, until nothing is pending or one failed.
+
+ghost use Rattle.std.specs.Prelude.{◌≡◌, ◌≢◌};
+ghost use Rattle.log_model.specs.Stored.{StaysOutside};
+ghost use Rattle.segment_files.specs.Turn.{IsInside};
+ghost use Rattle.worker_turns.specs.Turns.{CountsEnd, TakesFrom};
+ghost use Rattle.request_acts.specs.Acts.{IsFree, Acted, place_of, view_of};
+ghost use Rattle.request_acts.specs.Turning.{IsTurn, AreAllTurns, AllTurnsDispatched, IsDispatch, CountsAll};
+
+use broker_events::Calls;
+use group_flush::Flusher;
+use mq_outside::Disk;
+use std::alloc::{AllocError, Global};
+use worker_turns::{FlushEnd, dispatch_turn, flush_turn};
+
+/// One flush turn.
+pub fn turn<C: Calls, D: Disk>(
+    alloc: Global,
+    calls: &mut C,
+    flusher: &mut Flusher,
+    disk: &mut D,
+) -> FlushEnd
+    requires free { IsFree (C.has_key calls.old) (C.shown calls.old) }
+    requires inside { D.tells → IsInside flusher.old.file.base flusher.old.file.offset (D.state disk.old) }
+    ensures acted { Acted C.makes (view_of D.tells D.state D.faults D.syncs) (IsTurn result)
+        calls.old (place_of flusher.old.file disk.old)
+        calls.new (place_of flusher.new.file disk.new) }
+    ensures free { IsFree (C.has_key calls.new) (C.shown calls.new) }
+    ensures inside { D.tells → IsInside flusher.new.file.base flusher.new.file.offset (D.state disk.new) }
+    ensures outside { D.tells → StaysOutside (D.state disk.old) (D.state disk.new) }
+    ensures placed { TakesFrom C.makes calls.old flusher.old.file → result ≢ FlushEnd.Misplaced }
+    ensures cause { CountsEnd result (D.faults disk.old) (D.faults disk.new) }
+{
+    flush_turn(alloc, calls, flusher, disk)
+}
+
+/// Makes flush turns until nothing is pending, or one fails: then its count of the disk's faults is answered.
+#[tactic(auto, using(log_model::proofs::OutsideLemmas::outside_start))]
+pub fn flush_all<C: Calls, D: Disk>(
+    alloc: Global,
+    calls: &mut C,
+    flusher: &mut Flusher,
+    disk: &mut D,
+) -> Result<Option<u64>, AllocError>
+    requires free { IsFree (C.has_key calls.old) (C.shown calls.old) }
+    requires inside { D.tells → IsInside flusher.old.file.base flusher.old.file.offset (D.state disk.old) }
+    ensures acted { Acted C.makes (view_of D.tells D.state D.faults D.syncs) (AreAllTurns result)
+        calls.old (place_of flusher.old.file disk.old)
+        calls.new (place_of flusher.new.file disk.new) }
+    ensures free { IsFree (C.has_key calls.new) (C.shown calls.new) }
+    ensures inside { D.tells → IsInside flusher.new.file.base flusher.new.file.offset (D.state disk.new) }
+    ensures outside { D.tells → StaysOutside (D.state disk.old) (D.state disk.new) }
+    ensures cause { CountsAll result (D.faults disk.old) (D.faults disk.new) }
+{
+    for _i in 0..u64::MAX {
+        match turn(alloc, calls, flusher, disk) {
+            FlushEnd::Idle => return Ok(None),
+            FlushEnd::Failed(count) => return Ok(Some(count)),
+            FlushEnd::Misplaced => return Err(AllocError),
+            FlushEnd::Memory => return Err(AllocError),
+            FlushEnd::Done => {}
+        }
+    }
+    Err(AllocError)
+}
+
+// Consumers see what is flushed.
+fn dispatch<C: Calls>(alloc: Global, calls: &mut C)
+    requires free { IsFree (C.has_key calls.old) (C.shown calls.old) }
+    ensures acted { IsDispatch C.makes calls.old calls.new }
+    ensures free { IsFree (C.has_key calls.new) (C.shown calls.new) }
+{
+    dispatch_turn(alloc, calls, u32::MAX);
+}
+
+/// Makes flush turns until nothing is pending or one fails, and then consumers see what is flushed.
+#[tactic(auto, using(log_model::proofs::OutsideLemmas::outside_start))]
+pub fn flush_and_dispatch<C: Calls, D: Disk>(
+    alloc: Global,
+    calls: &mut C,
+    flusher: &mut Flusher,
+    disk: &mut D,
+) -> Result<(), AllocError>
+    requires free { IsFree (C.has_key calls.old) (C.shown calls.old) }
+    requires inside { D.tells → IsInside flusher.old.file.base flusher.old.file.offset (D.state disk.old) }
+    ensures acted { Acted C.makes (view_of D.tells D.state D.faults D.syncs) (AllTurnsDispatched result)
+        calls.old (place_of flusher.old.file disk.old)
+        calls.new (place_of flusher.new.file disk.new) }
+    ensures free { IsFree (C.has_key calls.new) (C.shown calls.new) }
+    ensures inside { D.tells → IsInside flusher.new.file.base flusher.new.file.offset (D.state disk.new) }
+    ensures outside { D.tells → StaysOutside (D.state disk.old) (D.state disk.new) }
+{
+    match flush_all(alloc, calls, flusher, disk) {
+        Err(fault) => Err(fault),
+        Ok(_failed) => {
+            dispatch(alloc, calls);
+            Ok(())
+        }
+    }
+}

@@ -1,0 +1,5 @@
+mod HeldLemmas
+mod PipeLemmas
+mod RemarkLemmas
+mod ServingLemmas
+mod TellingLemmas

@@ -1,0 +1,221 @@
+-- Answers that are told, and what happened for them.
+use Rattle.std.proofs.Common.{◌≡◌, inl, inr, ℕ, ℤ, ◌++◌, List, [], ◌∷◌, Bool, true, false, Option, Some, None, Result, Ok, Err, refl, sym, ap, ◌∙◌, subst, append-nil, append_assoc, ⊎_elim}
+use Rattle.mq_outside.specs.Counts.{Rises}
+use Rattle.mq_outside.specs.Readings.{Giving}
+use Rattle.remoting_frame.specs.declared.frame.Frame.{Frame}
+use Rattle.reply_fields.specs.Parts.{ReplyParts}
+use Rattle.request_fields.specs.Reading.{Reads, request_of}
+use Rattle.request_fields.specs.declared.request.Request.{Request}
+use Rattle.request_fields.specs.declared.fault.RequestFault.{RequestFault}
+use Rattle.session.specs.Hearing.{IsHeard, is_one_way}
+use Rattle.session.specs.declared.caller.Caller.{Caller}
+use Rattle.session.specs.declared.heard.Heard.{Heard}
+use Rattle.session.specs.declared.owed.Awaits.{Awaits}
+use Rattle.request_acts.specs.Acts.{Act, Acts, Acted, Place}
+use Rattle.request_acts.specs.Turning.{AreTurnsAndDispatch}
+use Rattle.request_acts.specs.Asking.{Chooses, IsGiven, Gives, IsLooked, Looks}
+use Rattle.request_stream.specs.Telling.{Appends, IsTold, HasTold, HasToldPart, TookPart, Tells, WritesReply}
+use Rattle.request_stream.specs.Serving.{Sides, sides_of, Point, point_of, caller_of, IsSettled, IsFollowed, IsAnswered, IsServed, IsPartly, served_as, HasAnswered, HasPartly, HasBroken, Answers, HasServed, HasPartlyServed, ServesAt}
+use Rattle.request_acts.specs.declared.answer.Answer.{Answer}
+use Rattle.request_stream.specs.declared.stop.Stop.{Stop}
+use Rattle.request_stream.specs.declared.stop.Stop.TheVariants as stops
+use Rattle.request_acts.proofs.ActLemmas.{still, acts_then}
+
+-- nothing was written of a piece
+pub took_none : (taken taken_then piece : List ℕ) → taken_then ≡ taken → TookPart taken taken_then piece
+took_none taken taken_then piece same = record { part = []; unwritten = piece; front = refl; taken_is = same ∙ sym (append-nil taken) }
+
+-- and all of it was
+pub took_all : (taken taken_then piece : List ℕ) → taken_then ≡ taken ++ piece → TookPart taken taken_then piece
+took_all taken taken_then piece whole = record { part = piece; unwritten = []; front = append-nil piece; taken_is = whole }
+
+-- ---- somebody waits, or nobody does
+
+waits_for : (gives : Giving) (caller : Caller) (reply : ReplyParts) (faults faults_then : ℕ) (bytes : List ℕ) → caller.one_way ≡ false
+    → Appends gives caller reply faults faults_then [] bytes → IsTold gives caller reply faults faults_then bytes
+waits_for gives caller reply faults faults_then bytes waits appends =
+    subst (λ (b : Bool). Chooses b (bytes ≡ []) (Appends gives caller reply faults faults_then [] bytes)) (sym waits) appends
+
+pub told_by : {A : Type 0} (gives : Giving) (caller : Caller) (reply : ReplyParts) (faults faults_then : ℕ) (sink : Type 0) (taken taken_then : List ℕ) (result : Result A Stop)
+    → caller.one_way ≡ false → WritesReply gives caller reply faults faults_then sink taken taken_then result → Tells gives caller reply faults faults_then sink taken taken_then result
+told_by gives caller reply faults faults_then sink taken taken_then (Ok done) waits wrote =
+    record { bytes = wrote.bytes; told = waits_for gives caller reply faults faults_then wrote.bytes waits wrote.are; taken_is = wrote.taken_is }
+told_by gives caller reply faults faults_then sink taken taken_then (Err stops.Clock) waits wrote = wrote
+told_by gives caller reply faults faults_then sink taken taken_then (Err stops.Sink) waits wrote =
+    record { bytes = wrote.bytes; told = waits_for gives caller reply faults faults_then wrote.bytes waits wrote.are; took = wrote.took }
+told_by gives caller reply faults faults_then sink taken taken_then (Err stops.Memory) waits wrote = wrote
+
+pub told_nobody : (gives : Giving) (caller : Caller) (reply : ReplyParts) (faults : ℕ) (sink : Type 0) (taken : List ℕ) → caller.one_way ≡ true
+    → HasTold gives caller reply faults faults sink taken taken
+told_nobody gives caller reply faults sink taken alone = record {
+  bytes = [];
+  told = subst (λ (b : Bool). Chooses b ([] ≡ []) (Appends gives caller reply faults faults [] [])) (sym alone) refl;
+  taken_is = λ tells. sym (append-nil taken);
+}
+
+module _ {C D : Type 0} (sides : Sides C D) (caller : Caller) where
+  -- ---- at once
+
+  -- telling it broke off
+  pub broken_at_once : (reply : ReplyParts) (stop : Stop) (x : C) (place : Place D) (reads reads_then : ℕ) (taken taken_then readings : List ℕ)
+      → Tells {A = Unit {0}} sides.gives caller reply reads reads_then sides.sink taken taken_then (Err stop)
+      → Answers {A = Unit {0}} sides caller (record { reply = reply; awaits = None }) (Err stop) x (point_of place reads taken readings) x (point_of place reads_then taken_then readings)
+  broken_at_once reply stops.Clock x place reads reads_then taken taken_then readings told = absurd told
+  broken_at_once reply stops.Sink x place reads reads_then taken taken_then readings told = record {
+    settled = [];
+    followed = [];
+    reply = reply;
+    bytes = told.bytes;
+    is_settled = (refl, refl);
+    told = told.told;
+    happened = still sides.makes sides.disk x place;
+    took = told.took;
+  }
+  broken_at_once reply stops.Memory x place reads reads_then taken taken_then readings told =
+      inr (record { acts = []; happened = still sides.makes sides.disk x place; still = told })
+
+  -- it was told, and turns came behind it
+  pub told_at_once : (reply : ReplyParts) (x y : C) (old new : Place D) (reads reads_then : ℕ) (taken taken_then readings : List ℕ)
+      → HasTold sides.gives caller reply reads reads_then sides.sink taken taken_then → Acted sides.makes sides.disk AreTurnsAndDispatch x old y new
+      → HasAnswered sides caller (record { reply = reply; awaits = None }) x (point_of old reads taken readings) y (point_of new reads_then taken_then readings)
+  told_at_once reply x y old new reads reads_then taken taken_then readings told turned = record {
+    settled = [];
+    followed = turned.acts;
+    reply = reply;
+    bytes = told.bytes;
+    is_settled = (refl, refl);
+    is_followed = turned.kind;
+    told = told.told;
+    happened = turned.happened;
+    taken_is = told.taken_is;
+  }
+
+  -- it was told, and the turns broke off
+  pub broken_behind : (reply : ReplyParts) (IsKind : List Act → Type 0) (x y : C) (old new : Place D) (reads reads_then : ℕ) (taken taken_then readings : List ℕ)
+      → HasTold sides.gives caller reply reads reads_then sides.sink taken taken_then → Acted sides.makes sides.disk IsKind x old y new
+      → HasPartly sides caller (record { reply = reply; awaits = None }) x (point_of old reads taken readings) y (point_of new reads_then taken_then readings)
+  broken_behind reply IsKind x y old new reads reads_then taken taken_then readings told turned = record {
+    settled = [];
+    followed = turned.acts;
+    reply = reply;
+    bytes = told.bytes;
+    is_settled = (refl, refl);
+    told = told.told;
+    happened = turned.happened;
+    took = λ tells. took_all taken taken_then told.bytes (told.taken_is tells);
+  }
+
+  -- ---- behind a look
+
+  nothing_more : (acts : List Act) (x y : C) (old new : Place D) → Acts sides.makes sides.disk acts x old y new → Acts sides.makes sides.disk (acts ++ []) x old y new
+  nothing_more acts x y old new = subst (λ (l : List Act). Acts sides.makes sides.disk l x old y new) (sym (append-nil acts))
+
+  pub told_behind : {A : Type 0} (reply told : ReplyParts) (awaits : Awaits) (result : Result A Stop) (x y : C) (old new : Place D) (reads reads_then : ℕ) (taken taken_then readings : List ℕ)
+      → Acted sides.makes sides.disk (IsLooked reply awaits told) x old y new → Tells sides.gives caller told reads reads_then sides.sink taken taken_then result
+      → Answers sides caller (record { reply = reply; awaits = Some awaits }) result x (point_of old reads taken readings) y (point_of new reads_then taken_then readings)
+  told_behind reply told awaits (Ok done) x y old new reads reads_then taken taken_then readings looked tells = record {
+    settled = looked.acts;
+    followed = [];
+    reply = told;
+    bytes = tells.bytes;
+    is_settled = looked.kind;
+    is_followed = refl;
+    told = tells.told;
+    happened = nothing_more looked.acts x y old new looked.happened;
+    taken_is = tells.taken_is;
+  }
+  told_behind reply told awaits (Err stops.Clock) x y old new reads reads_then taken taken_then readings looked tells = absurd tells
+  told_behind reply told awaits (Err stops.Sink) x y old new reads reads_then taken taken_then readings looked tells = record {
+    settled = looked.acts;
+    followed = [];
+    reply = told;
+    bytes = tells.bytes;
+    is_settled = looked.kind;
+    told = tells.told;
+    happened = nothing_more looked.acts x y old new looked.happened;
+    took = tells.took;
+  }
+  told_behind reply told awaits (Err stops.Memory) x y old new reads reads_then taken taken_then readings looked tells =
+      inr (record { acts = looked.acts; happened = looked.happened; still = tells })
+
+-- ---- a request that was given, and its answer
+
+-- what was heard waits as its frame does
+caller_is : (heard : Heard) (frame : Frame) → IsHeard heard frame → record { form = heard.form; opaque = heard.opaque; one_way = heard.one_way } ≡ caller_of frame
+caller_is heard frame is = λ i. record { form = is.form i; opaque = is.opaque i; one_way = is.one_way i }
+
+module _ {C D : Type 0} (sides : Sides C D) (frame : Frame) (now : ℕ) where
+  answered : (request : Result Request RequestFault) (answer : Answer) (reply : ReplyParts) (given settled : List Act) (bytes : List ℕ) (faults faults_then : ℕ)
+      → Reads request (request_of frame.header frame.body) → IsGiven frame.header.code now request answer given → IsSettled answer.reply answer.awaits reply settled
+      → IsTold sides.gives (caller_of frame) reply faults faults_then bytes → IsAnswered sides.gives frame now answer (given ++ settled) bytes faults faults_then
+  answered request answer reply given settled bytes faults faults_then read is_given is_settled told = record {
+    request = request;
+    given = given;
+    settled = settled;
+    reply = reply;
+    read = read;
+    is_given = is_given;
+    is_settled = is_settled;
+    told = told;
+    are_all = refl;
+  }
+
+  partly : (request : Result Request RequestFault) (answer : Answer) (given : List Act) (x y z : C) (old mid new : Point D) → Reads request (request_of frame.header frame.body)
+      → IsGiven frame.header.code now request answer given → Acts sides.makes sides.disk given x old.place y mid.place → mid.reads ≡ old.reads → mid.taken ≡ old.taken
+      → HasPartly sides (caller_of frame) answer y mid z new → HasPartlyServed sides frame now x old z new
+  partly request answer given x y z old mid new read is_given gave reads taken it = record {
+    acts = given ++ (it.settled ++ it.followed);
+    bytes = it.bytes;
+    served = record {
+      answer = answer;
+      first = given ++ it.settled;
+      later = it.followed;
+      answered = answered request answer it.reply given it.settled it.bytes old.reads new.reads read is_given it.is_settled
+          (subst (λ (n : ℕ). IsTold sides.gives (caller_of frame) it.reply n new.reads it.bytes) reads it.told);
+      are_both = sym (append_assoc given it.settled it.followed);
+    };
+    happened = acts_then sides.makes sides.disk given (it.settled ++ it.followed) x y z old.place mid.place new.place gave it.happened;
+    took = λ tells. subst (λ (l : List ℕ). TookPart l new.taken it.bytes) taken (it.took tells);
+  }
+
+  broken : (given : List Act) (x y z : C) (old mid new : Point D) → Acts sides.makes sides.disk given x old.place y mid.place → mid.taken ≡ old.taken → HasBroken sides y mid z new → HasBroken sides x old z new
+  broken given x y z old mid new gave taken it = record {
+    acts = given ++ it.acts;
+    happened = acts_then sides.makes sides.disk given it.acts x y z old.place mid.place new.place gave it.happened;
+    still = λ tells. it.still tells ∙ taken;
+  }
+
+  by_caller : {A : Type 0} (request : Result Request RequestFault) (answer : Answer) (given : List Act) (result : Result A Stop) (x y z : C) (old mid new : Point D)
+      → Reads request (request_of frame.header frame.body) → IsGiven frame.header.code now request answer given
+      → Acts sides.makes sides.disk given x old.place y mid.place → mid.reads ≡ old.reads → mid.taken ≡ old.taken
+      → Answers sides (caller_of frame) answer result y mid z new → ServesAt sides frame now result x old z new
+  by_caller request answer given (Ok done) x y z old mid new read is_given gave reads taken it = record {
+    acts = given ++ (it.settled ++ it.followed);
+    bytes = it.bytes;
+    served = record {
+      answer = answer;
+      first = given ++ it.settled;
+      later = it.followed;
+      answered = answered request answer it.reply given it.settled it.bytes old.reads new.reads read is_given it.is_settled
+          (subst (λ (n : ℕ). IsTold sides.gives (caller_of frame) it.reply n new.reads it.bytes) reads it.told);
+      followed = it.is_followed;
+      are_both = sym (append_assoc given it.settled it.followed);
+    };
+    happened = acts_then sides.makes sides.disk given (it.settled ++ it.followed) x y z old.place mid.place new.place gave it.happened;
+    taken_is = λ tells. it.taken_is tells ∙ ap (λ (l : List ℕ). l ++ it.bytes) taken;
+  }
+  by_caller request answer given (Err stops.Clock) x y z old mid new read is_given gave reads taken it = it
+  by_caller request answer given (Err stops.Sink) x y z old mid new read is_given gave reads taken it = partly request answer given x y z old mid new read is_given gave reads taken it
+  by_caller request answer given (Err stops.Memory) x y z old mid new read is_given gave reads taken it = ⊎_elim
+      (λ (some : HasPartly sides (caller_of frame) answer y mid z new). inl (partly request answer given x y z old mid new read is_given gave reads taken some))
+      (λ (none : HasBroken sides y mid z new). inr (broken given x y z old mid new gave taken none))
+      it
+
+  -- what was heard was given to the broker, and its answer told
+  pub served_by : {A : Type 0} (heard : Heard) (answer : Answer) (result : Result A Stop) (x y z : C) (old mid new : Point D) → IsHeard heard frame
+      → Acted sides.makes sides.disk (IsGiven heard.code now heard.request answer) x old.place y mid.place → mid.reads ≡ old.reads → mid.taken ≡ old.taken
+      → Answers sides (record { form = heard.form; opaque = heard.opaque; one_way = heard.one_way }) answer result y mid z new → ServesAt sides frame now result x old z new
+  served_by heard answer result x y z old mid new is gave reads taken it =
+      by_caller heard.request answer gave.acts result x y z old mid new is.request
+      (subst (λ (code : ℤ). IsGiven code now heard.request answer gave.acts) is.code gave.kind) gave.happened reads taken
+      (subst (λ (caller : Caller). Answers sides caller answer result y mid z new) (caller_is heard frame is) it)

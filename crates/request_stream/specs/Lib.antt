@@ -1,0 +1,3 @@
+pub mod Piping
+pub mod Serving
+pub mod Telling
