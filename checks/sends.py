@@ -1,6 +1,6 @@
 #!/usr/bin/env python3
 """What the real program answers to sends of every kind, in both forms of headers and by both codes: checks/sends.py PROGRAM."""
-from wire import LETTERS, SYSTEM_TOPICS, check, frame, properties, records, replies, run, send
+from wire import LETTERS, SYSTEM_TOPICS, check, frame, properties, pull, records, replies, run, send
 
 KINDS = [(binary, short) for binary in (False, True) for short in (False, True)]
 
@@ -41,9 +41,14 @@ def _(folder):
         ({"producerGroup": "g" * 121}, 1, "field producerGroup"), ({"batch": "true"}, 1, "field batch"),
         ({"reconsumeTimes": "x", "without": ("flag",)}, 1, "field flag"), ({"topic": "a b", "reconsumeTimes": "x"}, 1, "field reconsumeTimes"),
     ]
-    later = [{"queueId": "1"}, {"defaultTopic": ""}, {"without": ("defaultTopic",)}, {"properties": half}, {"sysFlag": "4"},
-             {"properties": properties([("WAIT", "FALSE")])}, {"properties": properties([("DELAY", "1")])},
-             {"queueId": "1", "topic": "a b"}]
+    rows += [
+        ({"defaultTopic": ""}, 17, "no topic"), ({"without": ("defaultTopic",)}, 17, "no topic"),
+        ({"defaultTopic": "", "topic": SYSTEM_TOPICS[0]}, 16, "system topic"), ({"defaultTopic": "", "queueId": "9"}, 17, "no topic"),
+        ({"queueId": "4"}, 1, "queue"), ({"queueId": "1", "defaultTopicQueueNums": "1"}, 1, "queue"),
+        ({"queueId": "8", "defaultTopicQueueNums": "9"}, 1, "queue"), ({"queueId": "1", "defaultTopicQueueNums": "-1"}, 1, "queue"),
+    ]
+    later = [{"properties": half}, {"sysFlag": "4"}, {"properties": properties([("DELAY", "1")])},
+             {"properties": half, "topic": "a b"}, {"sysFlag": "4", "queueId": "4"}]
     for binary, short in KINDS:
         code = 310 if short else 10
         table = [(fields, status, as_named(remark, short)) for fields, status, remark in rows]
@@ -90,8 +95,31 @@ def _(folder):
     assert [r["sysflag"] for r in stored] == [0, 3]
 
 
-@check("other requests are answered with 3, whatever their fields")
+@check("each queue of a topic counts its own messages, and a topic that is made has the queues that it was made with")
 def _(folder):
-    codes = [11, 12, 14, 15, 17, 29, 30, 31, 33, 34, 35, 36, 37, 41, 42, 320, 999, -5]
+    made = frame({"code": 17, "opaque": 0, "extFields": {"topic": "M", "readQueueNums": "3", "writeQueueNums": "3", "perm": "6",
+                                                         "topicFilterType": "SINGLE_TAG", "topicSysFlag": "0", "order": "false",
+                                                         "defaultTopic": "TBW102"}})
+    rows = [("T", 3), ("T", 0), ("T", 3), ("M", 2), ("M", 0), ("T", 1), ("M", 2)]
+    told = answers(made + b"".join(send(1 + k, b"%d" % k, topic=topic, queueId=str(queue)) for k, (topic, queue) in enumerate(rows))
+                   + send(9, b"", topic="M", queueId="3"), folder)
+    assert [r["code"] for r in told] == [0] * 8 + [1] and told[8]["remark"] == "queue", told
+    assert [r["extFields"]["queueOffset"] for r in told[1:8]] == ["0", "0", "1", "0", "0", "0", "1"]
+    assert [r["body"] for r in records(folder)] == [b"%d" % k for k in range(7)]
+
+
+@check("a message that doesn't wait is answered, stands in its place, and is pulled")
+def _(folder):
+    told = answers(send(0, b"a", properties=properties([("WAIT", "FALSE")])) + send(1, b"b") + pull(2, "T", 0), folder)
+    assert [r["code"] for r in told] == [0, 0, 0] and told[2]["extFields"]["nextBeginOffset"] == "2"
+    assert [r["body"] for r in records(folder)] == [b"a", b"b"]
+
+
+@check("requests of codes that nobody knows, and whole ones that aren't served, are answered with 3")
+def _(folder):
+    codes = [320, 999, -5, 0, 13, 32767]
     told = answers(b"".join(frame({"code": code, "opaque": k, "extFields": {}}, binary=k % 2 == 1) for k, code in enumerate(codes)), folder)
     assert [(r["code"], r["remark"]) for r in told] == [(3, f"code {code}") for code in codes]
+    whole = [frame({"code": 33, "opaque": k, "extFields": {"offset": "0"}}, binary=k == 1) for k in range(2)]
+    told = answers(b"".join(whole), folder)
+    assert [(r["code"], r["remark"]) for r in told] == [(3, "code 33")] * 2

@@ -82,6 +82,17 @@ def replies(data):
     return found
 
 
+def all_replies(data, whole=True):
+    """The replies, each with its body; of a stream that isn't `whole` those that have come."""
+    found = []
+    while len(data) >= 4 and len(data) >= 4 + int.from_bytes(data[:4], "big"):
+        size = 4 + int.from_bytes(data[:4], "big")
+        found.append(reply_of(data[:size]))
+        data = data[size:]
+    assert not data or not whole
+    return found
+
+
 def reply_of(data):
     """The reply that this one frame is, with its body."""
     head = int.from_bytes(data[5:8], "big")

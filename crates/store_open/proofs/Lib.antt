@@ -2,6 +2,7 @@ pub mod ForeignLemmas
 pub mod FormatLemmas
 pub mod HostLemmas
 pub mod KeepLemmas
+pub mod LeftLemmas
 pub mod ServeLemmas
 pub mod SettingLemmas
 pub mod WordLemmas

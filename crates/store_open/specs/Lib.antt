@@ -1,4 +1,5 @@
 pub mod Formats
+pub mod Left
 pub mod Openings
 pub mod ServeWords
 pub mod Statuses

@@ -3,6 +3,7 @@
 
 mod format;
 mod host;
+mod laws;
 mod number;
 mod opening;
 mod serve_words;
@@ -10,6 +11,7 @@ mod settings;
 mod status;
 mod words;
 
+pub use laws::a_cut_off_opening_leaves_a_store;
 pub use opening::open_format;
 pub use serve_words::{ServeCommand, read_serve_words};
 pub use status::Status;
