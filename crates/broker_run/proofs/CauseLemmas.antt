@@ -90,6 +90,16 @@ pub counts_status : (status : Status) (ended : Ended) (source source_then sink s
 counts_status status ended source source_then sink sink_then disk disk_then clock clock_then tells counts =
     ended_counts status source source_then sink sink_then disk disk_then clock clock_then counts.disk_grows ended.reading ended.last tells counts.reading counts.disk_rises
 
+-- the status of a run that was served is none of a foreign store
+pub is_ours : (code : ℕ) → (code ≡ 0) ⊎ ((code ≡ 2) ⊎ ((code ≡ 3) ⊎ ((code ≡ 4) ⊎ ((code ≡ 5) ⊎ ((code ≡ 7) ⊎ (code ≡ 10)))))) → code ≢ 6
+is_ours code (inl e) six = omega (arith, e, six)
+is_ours code (inr (inl e)) six = omega (arith, e, six)
+is_ours code (inr (inr (inl e))) six = omega (arith, e, six)
+is_ours code (inr (inr (inr (inl e)))) six = omega (arith, e, six)
+is_ours code (inr (inr (inr (inr (inl e))))) six = omega (arith, e, six)
+is_ours code (inr (inr (inr (inr (inr (inl e)))))) six = omega (arith, e, six)
+is_ours code (inr (inr (inr (inr (inr (inr e)))))) six = omega (arith, e, six)
+
 -- ---- a whole call
 
 -- the status names none of the devices' faults

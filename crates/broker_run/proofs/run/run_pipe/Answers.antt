@@ -4,7 +4,7 @@ use Rattle.log_model.specs.Bases.{whole}
 use Rattle.log_model.proofs.OutsideLemmas.{outside_start, outside_same, outside_then}
 use Rattle.store_open.specs.Openings.{FORMAT, IsForeign}
 use Rattle.store_open.proofs.WordLemmas.{one_command}
-use Rattle.broker_run.proofs.CauseLemmas.{opening_causes, refused_by}
+use Rattle.broker_run.proofs.CauseLemmas.{opening_causes, refused_by, is_ours}
 use Rattle.broker_run.proofs.RunLemmas.{runs_some, begins_with, keeps_on, unrecovered, stores_same, honest_same, leaves_from}
 use Rattle.broker_run.proofs.run.run_pipe.Goals as goal
 
@@ -85,3 +85,6 @@ pub returns-clause-outside : goal.returns-clause-outside
 returns-clause-outside g c tells =
     let read = outside_same (outside_same (outside_start _) (c.in-Ok-open_format.ensures.rests tells)) (c.in-Ok-reader.ensures.moves tells) in
     outside_then (outside_then read (c.in-Ok-open_log.ensures.outside tells)) (c.serve_log.ensures.outside tells)
+
+pub returns-clause-foreign : goal.returns-clause-foreign
+returns-clause-foreign g c = λ told kept six asked command. absurd (is_ours _ c.serve_log.ensures.cause.known six)
