@@ -3,8 +3,6 @@
 
 mod chunks;
 mod keyed;
-#[cfg(test)]
-mod tests;
 
 pub use chunks::{CHUNK, Chunks};
 pub use keyed::Keyed;

@@ -7,6 +7,3 @@ mod levels;
 mod view;
 
 pub use view::{DelayView, LEVELS};
-
-#[cfg(test)]
-mod tests;

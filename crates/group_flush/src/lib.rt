@@ -2,7 +2,5 @@
 #![tactic(auto)]
 
 mod flusher;
-#[cfg(test)]
-mod tests;
 
 pub use flusher::{FlushFault, Flusher};

@@ -6,6 +6,3 @@ mod locks;
 mod table;
 
 pub use groups::Groups;
-
-#[cfg(test)]
-mod tests;

@@ -13,6 +13,3 @@ mod view;
 pub use check::Check;
 pub use row::HalfRow;
 pub use view::HalfView;
-
-#[cfg(test)]
-mod tests;

@@ -7,6 +7,3 @@ mod slots;
 mod view;
 
 pub use view::KeyView;
-
-#[cfg(test)]
-mod tests;

@@ -32,6 +32,3 @@ pub use laws::{
 pub use origin::OriginState;
 pub use place::next_place;
 pub use queues::queue_of;
-
-#[cfg(test)]
-mod tests;

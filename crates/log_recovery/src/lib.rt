@@ -13,6 +13,3 @@ mod window;
 pub use fault::RecoverFault;
 pub use recovery::recover;
 pub use visitor::Visit;
-
-#[cfg(test)]
-mod tests;

@@ -23,6 +23,3 @@ pub use queries::{query_of, query_reply};
 pub use queues::{bounds_of, item_at};
 pub use replays::replay;
 pub use said::Replay;
-
-#[cfg(test)]
-mod tests;

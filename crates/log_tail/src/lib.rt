@@ -3,7 +3,5 @@
 
 mod counts;
 mod tail;
-#[cfg(test)]
-mod tests;
 
 pub use tail::LogTail;

@@ -3,8 +3,6 @@
 
 mod clock;
 mod disk;
-#[cfg(test)]
-mod disk_tests;
 mod fails;
 mod faults;
 mod folder_disk;
@@ -14,8 +12,6 @@ mod folder_reader;
 mod frozen;
 mod frozen_ranges;
 mod keep;
-#[cfg(test)]
-mod keep_tests;
 mod machine_clock;
 mod mem_buffer;
 mod mem_calls;
@@ -30,8 +26,6 @@ mod pieces;
 mod reader;
 mod std_streams;
 mod stream;
-#[cfg(test)]
-mod stream_tests;
 
 pub use clock::Clock;
 pub use disk::Disk;

@@ -64,15 +64,32 @@ pub(crate) fn write_some<W: Write>(writer: &mut W, piece: &[u8]) -> Result<usize
     Err(Failed)
 }
 
+impl<R: Read + Drop> StdSource<R> {
+    /// This reader, from where it stands.
+    pub fn over(input: R) -> StdSource<R>
+        ensures given { result.input ≡ input }
+        ensures fresh { result.faults ≡ 0 }
+    {
+        StdSource { input, faults: 0 }
+    }
+}
+
+impl<W: Write + Drop> StdSink<W> {
+    /// This writer.
+    pub fn over(output: W) -> StdSink<W>
+        ensures given { result.output ≡ output }
+        ensures fresh { result.faults ≡ 0 }
+    {
+        StdSink { output, faults: 0 }
+    }
+}
+
 impl StdSource<Stdin> {
     /// Standard input of this process, from where it stands.
     pub fn new(rt: HostRuntime) -> StdSource<Stdin>
         ensures { result.faults ≡ 0 }
     {
-        StdSource {
-            input: rt.stdin(),
-            faults: 0,
-        }
+        StdSource::over(rt.stdin())
     }
 }
 
@@ -81,10 +98,7 @@ impl StdSink<Stdout> {
     pub fn new(rt: HostRuntime) -> StdSink<Stdout>
         ensures { result.faults ≡ 0 }
     {
-        StdSink {
-            output: rt.stdout(),
-            faults: 0,
-        }
+        StdSink::over(rt.stdout())
     }
 }
 

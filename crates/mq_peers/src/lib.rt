@@ -3,23 +3,17 @@
 
 mod calls;
 mod door;
-#[cfg(test)]
-mod echo;
 mod event;
 mod incoming;
 mod link;
 mod mem_door;
 mod mem_link;
 mod mem_ready;
-#[cfg(test)]
-mod mem_tests;
 mod ready;
 mod rest;
 mod tcp_door;
 mod tcp_link;
 mod tcp_ready;
-#[cfg(test)]
-mod tcp_tests;
 mod wake;
 
 pub use calls::Calls;

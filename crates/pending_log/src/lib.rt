@@ -7,8 +7,6 @@ mod extent;
 mod laws;
 mod pending;
 mod rows;
-#[cfg(test)]
-mod tests;
 mod turn;
 
 pub use laws::{removal_leaves_what_is_pending, the_pending_bytes_are_the_sizes_of_their_records};

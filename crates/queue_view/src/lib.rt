@@ -18,6 +18,3 @@ pub use pulled::{FOUND, NONE_TAKEN, NOT_YET, OUTSIDE, Pulled};
 pub use stored::StoredUnit;
 pub use tags::Tags;
 pub use view::QueueView;
-
-#[cfg(test)]
-mod tests;

@@ -5,8 +5,6 @@ mod blank;
 mod last_file;
 mod laws;
 mod read;
-#[cfg(test)]
-mod tests;
 
 pub use last_file::LastFile;
 pub use laws::{
