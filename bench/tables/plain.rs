@@ -19,32 +19,39 @@ fn after(number: u64) -> u64 {
         .wrapping_add(1_442_695_040_888_963_407)
 }
 
+// The table of a queue, found without a text made.
+fn table<'a>(tables: &'a mut HashMap<String, HashMap<u32, Vec<Unit>>>, topic: &str, queue: u32) -> &'a mut Vec<Unit> {
+    if !tables.contains_key(topic) {
+        tables.insert(topic.to_string(), HashMap::new());
+    }
+    tables.get_mut(topic).unwrap().entry(queue).or_default()
+}
+
 fn queues(queues: u32, asks: u32) -> bool {
-    let mut tables: HashMap<(String, u32), Vec<Unit>> = HashMap::new();
+    let mut tables: HashMap<String, HashMap<u32, Vec<Unit>>> = HashMap::new();
     for at in 0..UNITS {
-        tables.entry(("T".to_string(), at % queues)).or_default().push(Unit {
+        table(&mut tables, "T", at % queues).push(Unit {
             offset: u64::from(at) * 108,
             size: 108,
             tag: 0,
             store: u64::from(at),
         });
     }
-    let topic = "T".to_string();
     let mut number = 1u64;
     for _ in 0..asks {
         number = after(number);
         let queue = (number >> 40) as u32 % queues;
         let from = ((number >> 20) % u64::from(UNITS / queues - 31)) as usize;
-        let table = &tables[&(topic.clone(), queue)];
+        let table = &tables["T"][&queue];
         let mut size = 0;
-        let mut found: Vec<(u64, u32)> = Vec::new();
+        let mut found: Vec<(u64, u32, i64)> = Vec::new();
         for unit in &table[from..] {
             if found.len() == 32 || size + unit.size > 262_144 {
                 break;
             }
             if unit.tag == 0 {
                 size += unit.size;
-                found.push((unit.offset, unit.size));
+                found.push((unit.offset, unit.size, unit.tag));
             }
         }
         let place = (from as u64 * u64::from(queues) + u64::from(queue)) * 108;

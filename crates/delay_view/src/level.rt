@@ -111,6 +111,20 @@ impl LevelTable {
         self.low = min;
     }
 
+    // The offset of the first message.
+    pub(crate) fn min(&self) -> u64
+        ensures { result ≡ self.now.low }
+    {
+        self.low
+    }
+
+    // The offset after the last message that is seen.
+    pub(crate) fn max(&self) -> u64
+        ensures { result ≡ self.now.low + self.now.seen }
+    {
+        self.low + self.seen as u64
+    }
+
     // How many messages were delivered.
     pub(crate) fn progress(&self) -> u64
         ensures { result ≡ self.now.copied }

@@ -4,7 +4,7 @@ ghost use Rattle.std.specs.Prelude.{◌≡◌, ◌<◌, ◌≤◌, ◌+◌, ◌-
 ghost use Rattle.record_codec.specs.Entry.{Entry};
 ghost use Rattle.log_model.specs.Admissible.{level_topic};
 ghost use Rattle.log_model.specs.Bases.{Base, no_base};
-ghost use Rattle.log_model.specs.Numbered.{Log, above, count_of, record_at, with_appended};
+ghost use Rattle.log_model.specs.Numbered.{Log, above, below, count_of, queue_min, record_at, records_of, with_appended};
 ghost use Rattle.log_model.specs.Delays.{progress as progress_of, due_delayed};
 ghost use Rattle.delay_view.specs.Levels.{Level, empty_level, started, with_room, with_time, with_next_seen, with_next_copied, cut_at, due_of};
 ghost use Rattle.delay_view.specs.OfLog.{AreLevelsOf, CutsLevels, IsLevelOf, IsMessageOf, IsCopyOf, delivery_time, empty_log};
@@ -138,6 +138,27 @@ impl DelayView {
             → slice_get self.new (level - 1) ≡ Some m → IsLevelOf (above log later) d level m }
     {
         cut_one(&mut self.levels, level as usize - 1, min);
+    }
+
+    /// The offset of a level's first message: how many were removed.
+    pub fn min(&self, level: u8) -> u64
+        requires low { 1 ≤ level }
+        requires high { level ≤ 18 }
+        ensures level { (l : Level) → slice_get self.now (level - 1) ≡ Some l → result ≡ l.low }
+        ensures records { (log : Log) (d : ℕ) → AreLevelsOf log d self.now → result ≡ queue_min log level_topic (level - 1) }
+    {
+        self.levels[level as usize - 1].min()
+    }
+
+    /// The offset after a level's last message that is dispatched.
+    pub fn max(&self, level: u8) -> u64
+        requires low { 1 ≤ level }
+        requires high { level ≤ 18 }
+        ensures level { (l : Level) → slice_get self.now (level - 1) ≡ Some l → result ≡ l.low + l.seen }
+        ensures records { (log : Log) (d : ℕ) → AreLevelsOf log d self.now → result
+            ≡ queue_min log level_topic (level - 1) + length (records_of (below log d) level_topic (level - 1)) }
+    {
+        self.levels[level as usize - 1].max()
     }
 
     /// How many messages of a level were delivered.

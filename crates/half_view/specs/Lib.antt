@@ -1,4 +1,5 @@
 pub mod Blocks
 pub mod Halves
+pub mod Heads
 pub mod OfLog
 pub mod Rooms

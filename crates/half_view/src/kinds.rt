@@ -1,7 +1,8 @@
 //! What a record is to the half messages.
 
-ghost use Rattle.std.specs.Prelude.{◌≡◌, ◌==◌, ◌&&◌, not};
-ghost use Rattle.log_model.specs.Admissible.{is_bare as bare, number_in as number_of_text, number_of as number_of_bytes, number_at};
+ghost use Rattle.std.specs.Prelude.{◌≡◌, ◌==◌, ◌&&◌, not, bit_and};
+ghost use Rattle.std.specs.Str.{bytes_eq};
+ghost use Rattle.log_model.specs.Admissible.{half_topic, discard_topic, is_bare as bare, number_in as number_of_text, number_of as number_of_bytes, number_at};
 ghost use Rattle.log_model.specs.Kinds.{is_half as is_half_entry, is_op as is_op_entry, is_discard as is_discard_entry, is_copy as is_copy_entry, origin_text};
 ghost use Rattle.half_view.specs.OfLog.{rolled_back_by};
 
@@ -11,10 +12,33 @@ use record_codec::{COMMITTED, TRANSACTION_BITS, View};
 /// Numbers in records are below this one.
 const LIMIT: u64 = 1 << 62;
 
+// ---- by topic and flag
+
+pub(crate) fn is_half_topic(topic: &str) -> bool
+    ensures { result ≡ bytes_eq topic.now half_topic }
+{
+    topic == "RMQ_SYS_TRANS_HALF_TOPIC"
+}
+
+pub(crate) fn is_discard_topic(topic: &str) -> bool
+    ensures { result ≡ bytes_eq topic.now discard_topic }
+{
+    topic == "TRANS_CHECK_MAX_TIME_TOPIC"
+}
+
+// The flag of a copy that a Commit appended.
+pub(crate) fn is_copy_flag(sysflag: u32) -> bool
+    ensures { result ≡ (bit_and sysflag 12 == 8) }
+{
+    sysflag & TRANSACTION_BITS == COMMITTED
+}
+
+// ---- records
+
 pub(crate) fn is_half(view: &View<'_>) -> bool
     ensures { result ≡ is_half_entry view.now }
 {
-    view.topic() == "RMQ_SYS_TRANS_HALF_TOPIC"
+    is_half_topic(view.topic())
 }
 
 fn is_op(view: &View<'_>) -> bool
@@ -26,14 +50,14 @@ fn is_op(view: &View<'_>) -> bool
 pub(crate) fn is_discard(view: &View<'_>) -> bool
     ensures { result ≡ is_discard_entry view.now }
 {
-    view.topic() == "TRANS_CHECK_MAX_TIME_TOPIC"
+    is_discard_topic(view.topic())
 }
 
 // A copy that a Commit appended.
 pub(crate) fn is_copy(view: &View<'_>) -> bool
     ensures { result ≡ is_copy_entry view.now }
 {
-    view.sysflag() & TRANSACTION_BITS == COMMITTED
+    is_copy_flag(view.sysflag())
 }
 
 // The text has no sign and no leading zero.
@@ -44,7 +68,7 @@ fn is_bare(text: &[u8]) -> bool
 }
 
 // The number that the text writes.
-fn number_in(text: &str) -> Option<u64>
+pub(crate) fn number_in(text: &str) -> Option<u64>
     ensures { result ≡ number_of_text text.now }
 {
     if !is_bare(text.as_bytes()) {

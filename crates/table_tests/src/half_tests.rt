@@ -1,7 +1,7 @@
 //! The worked rows on half messages, as records that were made apart, with the sums of zlib. Each was born at 1000 and stored
 //! at 2000.
 
-use half_view::{Check, HalfView};
+use half_view::{Check, HalfView, Head};
 use log_model::OriginState;
 use record_codec::test as test_record;
 use std::alloc::Global;
@@ -54,6 +54,20 @@ fn add(view: &mut HalfView, alloc: Global, bytes: &[u8], number: u32) -> Result<
     Ok(())
 }
 
+// Adds the same record, of which the body is not told.
+fn add_head(view: &mut HalfView, alloc: Global, bytes: &[u8], number: u32) -> Result<(), Fail> {
+    let Some(record) = test_record(bytes) else {
+        return Err(Fail::from("no record"));
+    };
+    let head = Head::of(alloc, &record)?;
+    if head.store >= 1 << 62 {
+        return Err(Fail::from("no time"));
+    }
+    view.reserve(alloc)?;
+    view.add_head(&head, u64::from(number));
+    Ok(())
+}
+
 // A check of the origin 0.
 fn check(checks: u32, given_up: Option<u64>) -> Option<Check> {
     Some(Check {
@@ -99,6 +113,22 @@ fn a_renewal_puts_the_check_off_and_its_discarded_copy_settles_the_origin(
     add(&mut view, alloc, DISCARD, 2)?;
     assert_eq!(rt; view.state_of(0), Some(OriginState::Discarded));
     assert_eq!(rt; view.due(62_000), None);
+    Ok(())
+}
+
+#[test]
+fn heads_answer_as_their_records(rt: HostRuntime) -> Result<(), Fail> {
+    let alloc = rt.alloc();
+    let mut view = HalfView::new(alloc);
+    add_head(&mut view, alloc, HALF, 0)?;
+    assert_eq!(rt; view.origin_of(0, 0), Some(0));
+    assert_eq!(rt; view.due(8_000), check(0, None));
+    add_head(&mut view, alloc, COPY, 1)?;
+    assert_eq!(rt; view.state_of(0), Some(OriginState::Committed));
+    assert_eq!(rt; view.due(8_000), None);
+    add_head(&mut view, alloc, OP, 2)?;
+    assert_eq!(rt; view.state_of(0), Some(OriginState::Committed));
+    assert_eq!(rt; view.settled_by(0), Some(2));
     Ok(())
 }
 
