@@ -1,5 +1,5 @@
 -- Requests that are refused, and topics that are made, as the model answers them.
-use Rattle.std.proofs.Common.{◌≡◌, refl, ap, sym, ◌∙◌, subst, ℕ, ◌||◌, max, Bool, true, false, not, cond, List, [], ◌∷◌, codes, pos, Option, Some, None, is_some, if◌then◌else◌}
+use Rattle.std.proofs.Common.{◌≡◌, refl, ap, sym, subst, ℕ, ◌||◌, max, true, false, List, codes, pos, Option, Some, None, is_some, if◌then◌else◌}
 use Rattle.record_codec.specs.Layout.{is_legal}
 use Rattle.log_model.specs.Admissible.{is_system_topic}
 use Rattle.request_fields.specs.Requests.{TopicSaid}

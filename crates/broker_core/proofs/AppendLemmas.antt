@@ -1,16 +1,15 @@
 -- The core with more room, and with a record more behind the log.
-use Rattle.std.proofs.Common.{◌≡◌, ◌≢◌, ◌⊎◌, ⊎_elim, inl, inr, refl, ap, sym, ◌∙◌, subst, arith, ℕ, zero, suc, ◌+◌, ◌-◌, ◌*◌, ◌^◌, ◌<◌, ◌≤◌, Bool, true, false, List, [], ◌∷◌, ◌++◌, length, take, map, slice_get, slice_set, Option, Some, None, IfSome, Result, Ok, Err, IfOk}
-use Rattle.std.proofs.lemmas.List.{length-append, take-append-le, length-map}
+use Rattle.std.proofs.Common.{◌≡◌, ⊎_elim, refl, ap, sym, ◌∙◌, subst, arith, ℕ, suc, ◌+◌, ◌-◌, ◌^◌, ◌<◌, ◌≤◌, List, [], ◌∷◌, ◌++◌, length, map, slice_get, slice_set, Some, IfSome, Result, Ok, Err, IfOk}
+use Rattle.std.proofs.lemmas.List.{take-append-le, length-map}
 use Rattle.record_codec.specs.Entry.{Entry}
-use Rattle.record_codec.specs.Layout.{size, IsRecord}
+use Rattle.record_codec.specs.Layout.{IsRecord}
 use Rattle.record_codec.specs.Units.{unit_of}
 use Rattle.record_codec.specs.declared.unit.Unit.{Unit as QueueUnit}
 use Rattle.record_codec.specs.Drafts.{entry_of, draft_size}
 use Rattle.record_codec.specs.declared.draft.Draft.{Draft}
 use Rattle.record_codec.specs.declared.draft.Place.{Place}
-use Rattle.log_model.specs.Bases.{Base, geometry}
-use Rattle.log_model.specs.Log.{end_of, Follows}
-use Rattle.log_model.specs.Numbered.{Log, count_of, place_end, with_appended, below}
+use Rattle.log_model.specs.Log.{end_of}
+use Rattle.log_model.specs.Numbered.{count_of, place_end, with_appended}
 use Rattle.log_model.proofs.Places.{end_of-append}
 use Rattle.broker_model.specs.State.{State}
 use Rattle.broker_model.specs.Step.{with_records}
@@ -26,7 +25,7 @@ use Rattle.pending_log.specs.Rows.{AreAlike, AreRowsOf}
 use Rattle.pending_log.specs.declared.rows.Row.{Row}
 use Rattle.pending_log.proofs.LogLemmas.{place_past}
 use Rattle.broker_core.specs.declared.parts.Parts.{Parts}
-use Rattle.broker_core.specs.Represents.{Represents, HasNumbers, AreOut, AreTabled, AreTablesOf, AreCovered, IsCovered, HasRoom, turn_of}
+use Rattle.broker_core.specs.Represents.{Represents, AreOut, AreTabled, AreCovered, HasRoom, turn_of}
 use Rattle.broker_core.specs.Appends.{HasRoomFor, MayStand}
 use Rattle.broker_core.proofs.TableLemmas.{MoreRoom, NewTable, room_made, there_is, as_added, is_its_table, to_view, from_view, map_push, tabled_kept, tabled_push}
 use Rattle.broker_core.proofs.StateLemmasB.{get_push, count_with, follows, state_with}

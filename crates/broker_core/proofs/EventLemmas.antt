@@ -1,5 +1,5 @@
 -- What the model answers to a request with one record, and the state after it: past the end of all places, into the full buffer, and stored.
-use Rattle.std.proofs.Common.{◌≡◌, refl, ap, sym, ◌∙◌, subst, arith, ℕ, ◌+◌, ◌^◌, ◌||◌, ◌&&◌, max, nat_lt, sum_by, Bool, true, false, List, [], ◌∷◌, length, codes, Option, Some, None, is_some, if◌then◌else◌}
+use Rattle.std.proofs.Common.{◌≡◌, ap, ◌∙◌, arith, ℕ, ◌+◌, ◌^◌, ◌||◌, ◌&&◌, max, nat_lt, sum_by, Bool, true, false, List, [], ◌∷◌, length, codes, Option, None, is_some, if◌then◌else◌}
 use Rattle.std.specs.List.{list_any}
 use Rattle.std.proofs.lemmas.List.Sums.{sum_by-cons}
 use Rattle.record_codec.specs.Entry.{Entry}

@@ -1,17 +1,17 @@
 -- What consumer groups keep, in the parts and in the state: stored offsets, and locks.
-use Rattle.std.proofs.Common.{◌≡◌, refl, ap, sym, ◌∙◌, subst, arith, ℕ, suc, ◌^◌, ◌<◌, ◌≤◌, max, min, nat_lt, Bool, true, false, cond, List, [], ◌∷◌, length, not, filter, All, Some, None, Option, Result, OnOk, OnErr, Ok, Err}
+use Rattle.std.proofs.Common.{◌≡◌, refl, ap, sym, ◌∙◌, subst, arith, ℕ, suc, ◌≤◌, max, min, nat_lt, Bool, true, false, cond, List, [], ◌∷◌, length, not, filter, All, Some, None, Option, Result, OnOk, OnErr, Ok, Err}
 use Rattle.std.specs.Option.{option_map, option_to_list}
 use Rattle.std.proofs.lemmas.List.Elements.{All-filter, All-cons, All-head, All-tail}
 use Rattle.std.proofs.lemmas.Bool.{and_parts, ltb-true}
 use Rattle.mq_bytes.specs.declared.clients.QueueName.{QueueName}
-use Rattle.record_codec.specs.Layout.{is_named, is_legal}
+use Rattle.record_codec.specs.Layout.{is_named}
 use Rattle.log_model.specs.Numbered.{queue_max}
 use Rattle.request_fields.specs.Requests.{LockSaid, IsQueueName, PullSaid}
 use Rattle.request_fields.specs.declared.request.Request.TheVariants as request
 use Rattle.broker_model.specs.State.{State, seen}
 use Rattle.broker_model.specs.Events as model
 use Rattle.broker_model.specs.Lawful.{IsState}
-use Rattle.broker_model.specs.Tables.{OffsetRow, LockRow, offset_in, with_offset, is_same_queue, distinct_queues, is_held_by_other, granted, with_locks, without_locks}
+use Rattle.broker_model.specs.Tables.{OffsetRow, LockRow, with_offset, is_same_queue, distinct_queues, is_held_by_other, granted, with_locks, without_locks}
 use Rattle.broker_model.specs.Answers.{request_answer, done_reply}
 use Rattle.broker_model.specs.Appended.{drafts_of}
 use Rattle.broker_model.specs.Refusals.{refusal_of}

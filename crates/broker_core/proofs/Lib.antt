@@ -25,3 +25,4 @@ pub mod TableLemmas
 pub mod TopicLemmas
 pub mod TurnLemmas
 pub mod GroupLemmas
+pub mod HeartbeatLemmas

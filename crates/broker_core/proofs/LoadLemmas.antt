@@ -1,7 +1,9 @@
 -- One record more is loaded.
-use Rattle.std.proofs.Common.{◌≡◌, ⊎_elim, refl, ap, sym, ◌∙◌, subst, arith, ℕ, zero, suc, ◌+◌, ◌<◌, ◌≤◌, ◌^◌, max, true, false, List, [], ◌∷◌, ◌++◌, length, map, codes, slice_get, slice_set, All, Option, Some, None}
+use Rattle.std.proofs.Common.{◌≡◌, ⊎_elim, refl, ap, sym, ◌∙◌, subst, arith, ℕ, zero, suc, ◌+◌, ◌<◌, ◌≤◌, ◌^◌, ◌==◌, ◌&&◌, max, min, cond, find, Bool, true, false, List, [], ◌∷◌, ◌++◌, length, map, codes, slice_get, slice_set, All, Option, Some, None, Result, Ok, Err, OnOk}
 use Rattle.std.specs.Str.{bytes_eq}
 use Rattle.std.proofs.lemmas.Bool.{cases_Bool, false_from_ne_true}
+use Rattle.std.specs.Option.{option_map}
+use Rattle.std.proofs.lemmas.List.{length-map}
 use Rattle.std.proofs.lemmas.List.Elements.{All-nil, All-cons, All-head, All-tail}
 use Rattle.std.proofs.lemmas.Slice.Eq.{bytes_eq-Decides}
 use Rattle.record_codec.specs.Entry.{Entry}
@@ -11,23 +13,30 @@ use Rattle.record_codec.specs.Units.{unit_of}
 use Rattle.record_codec.specs.declared.unit.Unit.{Unit as QueueUnit}
 use Rattle.log_model.specs.Admissible.{is_system_topic}
 use Rattle.log_model.specs.Bases.{no_base}
+use Rattle.log_model.specs.Numbered.{queue_max}
+use Rattle.log_model.specs.Queues.{queue_of}
 use Rattle.log_model.specs.Transactions.{last_of}
 use Rattle.log_model.proofs.Places.{end_of-append}
 use Rattle.pending_log.specs.Rows.{AreAlike, AreRowsOf}
 use Rattle.pending_log.specs.declared.rows.Row.{Row}
 use Rattle.queue_view.specs.Added as view
 use Rattle.queue_view.specs.Added.{Added, added_to}
-use Rattle.queue_view.specs.Tables.{Table, number_of, with_unit}
+use Rattle.queue_view.specs.Tables.{Table, number_of, with_unit, added_of}
 use Rattle.queue_view.proofs.Lists.{some_one}
 use Rattle.queue_view.proofs.NumberedLemmas.{number_of-set, number_within}
-use Rattle.broker_model.specs.Tables.{TopicRow, queues_in, with_topic}
+use Rattle.broker_model.specs.Tables.{TopicRow, OffsetRow, queues_in, with_topic, is_row_of}
 use Rattle.broker_model.specs.Lawful.{IsTopic}
-use Rattle.broker_model.specs.Run.{store_time, with_queue, with_own_queue, with_real_queue, with_topics_of}
+use Rattle.broker_model.specs.Run.{store_time, with_queue, with_own_queue, with_real_queue, with_topics_of, cut_offsets}
 use Rattle.client_tables.specs.Counts.{queues_of}
+use Rattle.group_tables.specs.Held.{lock_of}
+use Rattle.group_tables.specs.Offsets.{offset_of, offset_row, HasOffsets}
+use Rattle.group_tables.specs.declared.groups.Groups.{Groups}
+use Rattle.group_tables.proofs.OffsetLemmas.{in_turn}
 use Rattle.broker_core.specs.declared.loaded.Loaded.{Loaded}
-use Rattle.broker_core.specs.Represents.{AreTabled, AreTablesOf}
-use Rattle.broker_core.specs.Loads.{whole_log, known_with, own_with, AreForOwnTopics, IsLoadedFrom}
+use Rattle.broker_core.specs.Represents.{AreTabled, AreTablesOf, stored_unit}
+use Rattle.broker_core.specs.Loads.{whole_log, known_with, own_with, AreForOwnTopics, IsLoadedFrom, IsLoadedWith}
 use Rattle.broker_core.proofs.TableLemmas.{there_is, as_added, is_its_table, to_view, from_view, map_push, tabled_kept, tabled_push}
+use Rattle.broker_core.proofs.SeenLemmas.{number_at, none_of}
 use Rattle.broker_core.proofs.TopicLemmas.{made_count, queues_with}
 
 -- ---- topics
@@ -121,9 +130,9 @@ pub loads : (saved : List TopicRow) (records : List Entry) (r : Entry) (old new 
     → AreRowsOf (whole_log (records ++ r ∷ [])) new.rows → new.rows.items ≡ old.rows.items ++ row ∷ []
     → AreTabled new.queues (records ++ r ∷ []) (old.rows.items ++ row ∷ []) × AreTablesOf no_base (records ++ r ∷ []) 0 new.queues
     → ((other : List ℕ) → queues_of new.topics other ≡ own_with (queues_of old.topics) r.topic r.queue other)
-    → new.end ≡ r.offset + size r → new.store ≡ r.store → new.store < 2 ^ 62
+    → new.end ≡ r.offset + size r → new.store ≡ r.store → new.store < 2 ^ 62 → new.groups ≡ old.groups
     → IsLoadedFrom saved (records ++ r ∷ []) new
-loads saved records r old new row is own rows items tables topics end store low = record {
+loads saved records r old new row is own rows items tables topics end store low groups = record {
   rows = rows;
   tabled = subst (λ (xs : List Row). AreTabled new.queues (records ++ r ∷ []) xs) (sym items) tables.0;
   queues = tables.1;
@@ -134,6 +143,8 @@ loads saved records r old new row is own rows items tables topics end store low 
   end = end ∙ sym (end_of-append no_base records r);
   store = store ∙ ap store_time (sym (last_push records r));
   low = low;
+  offsets = subst (λ (g : Groups). HasOffsets g []) (sym groups) is.offsets;
+  locks = subst (λ (g : Groups). (group topic : List ℕ) (queue : ℕ) → lock_of g group topic queue ≡ None) (sym groups) is.locks;
 }
 
 -- ---- topics of the kept file
@@ -166,4 +177,64 @@ loads_topic saved old new topic n is plain others made = subst (λ (l : Loaded).
   end = is.end;
   store = is.store;
   low = is.low;
+  offsets = is.offsets;
+  locks = is.locks;
 })
+
+-- ---- offsets of the kept file
+
+-- a queue's table ends where its records do
+pub end_found : (saved : List TopicRow) (records : List Entry) (kept : List OffsetRow) (loaded : Loaded) (topic : List ℕ) (queue k result : ℕ) → IsLoadedWith saved records kept loaded
+    → number_of loaded.queues topic queue ≡ Some k → ((t : Table) → slice_get loaded.queues k ≡ Some t → result ≡ added_of t) → result ≡ queue_max (whole_log records) topic queue
+end_found saved records kept loaded topic queue k result is at told =
+    let there = number_at loaded.queues topic queue k at in
+    let t = there.0 in
+    let of_it = is.queues.each k t there.1 in
+    let named : queue_of records t.topic t.queue ≡ queue_of records topic queue =
+    ap (λ (name : List ℕ). queue_of records name t.queue) there.2 ∙ ap (λ q. queue_of records topic q) there.3 in
+    told t there.1 ∙ ap (λ n. n + length t.units) of_it.low
+    ∙ ap (λ n. 0 + n) (ap length of_it.units ∙ length-map (queue_of records t.topic t.queue) stored_unit ∙ ap length named)
+
+-- a queue without a table has no records
+pub end_unknown : (saved : List TopicRow) (records : List Entry) (kept : List OffsetRow) (loaded : Loaded) (topic : List ℕ) (queue : ℕ) → IsLoadedWith saved records kept loaded
+    → number_of loaded.queues topic queue ≡ None → 0 ≡ queue_max (whole_log records) topic queue
+end_unknown saved records kept loaded topic queue is none =
+    ap (λ (rs : List Entry). 0 + length rs) (sym (none_of loaded.queues records loaded.rows.items topic queue is.rows.items is.tabled none))
+
+first_row : (b : Bool) (row : OffsetRow) (o : Option OffsetRow) → cond b (Some row.offset) (option_map (λ r. r.offset) o) ≡ option_map (λ r. r.offset) (cond b (Some row) o)
+first_row true row o = refl
+first_row false row o = refl
+
+-- an offset that is stored comes before the others
+pub offset_first : (old new : Groups) (row : OffsetRow) (rows : List OffsetRow)
+    → ((g t : List ℕ) (q : ℕ) → offset_of new g t q ≡ cond (bytes_eq row.group g && (bytes_eq row.topic t && (row.queue == q))) (Some row.offset) (offset_of old g t q))
+    → HasOffsets old rows → HasOffsets new (row ∷ rows)
+offset_first old new row rows set has g t q =
+    set g t q
+    ∙ (λ i. cond (in_turn (bytes_eq row.group g) (bytes_eq row.topic t) (row.queue == q) i) (Some row.offset) (has g t q i))
+    ∙ first_row (bytes_eq row.group g && bytes_eq row.topic t && (row.queue == q)) row (find (is_row_of g t q) rows)
+
+-- an offset was loaded
+pub loads_offset : {A E : Type 0} (saved : List TopicRow) (records : List Entry) (kept : List OffsetRow) (old : Loaded) (groups : Groups) (group topic : List ℕ) (queue offset end cut : ℕ) (result : Result A E)
+    → IsLoadedWith saved records kept old → end ≡ queue_max (whole_log records) topic queue → cut ≡ min offset end
+    → OnOk result ((g t : List ℕ) (q : ℕ) → offset_of groups g t q ≡ cond (bytes_eq group g && (bytes_eq topic t && (queue == q))) (Some cut) (offset_of old.groups g t q))
+    → ((g t : List ℕ) (q : ℕ) → lock_of groups g t q ≡ lock_of old.groups g t q)
+    → OnOk result (IsLoadedWith saved records (offset_row group topic queue offset ∷ kept) (record old { groups = groups }))
+loads_offset saved records kept old groups group topic queue offset end cut (Ok u) is end_is cut_is set locks =
+    let row = offset_row group topic queue cut in
+    let low : cut ≡ min offset (queue_max (whole_log records) topic queue) = cut_is ∙ ap (λ n. min offset n) end_is in
+    record {
+      rows = is.rows;
+      tabled = is.tabled;
+      queues = is.queues;
+      topics = is.topics;
+      plain = is.plain;
+      own = is.own;
+      end = is.end;
+      store = is.store;
+      low = is.low;
+      offsets = subst (λ (n : ℕ). HasOffsets groups (offset_row group topic queue n ∷ cut_offsets (whole_log records) kept)) low
+          (offset_first old.groups groups row (cut_offsets (whole_log records) kept) set is.offsets);
+      locks = λ g t q. locks g t q ∙ is.locks g t q;
+    }
+loads_offset saved records kept old groups group topic queue offset end cut (Err fault) is end_is cut_is set locks = tt

@@ -25,15 +25,15 @@ use Rattle.mq_outside.specs.declared.frozen_ranges.FrozenRanges.{FrozenRanges}
 use Rattle.broker_events.specs.declared.event.Setup.{Setup}
 use Rattle.broker_model.specs.State as model
 use Rattle.broker_model.specs.State.{State, Saved, FailedTurn}
-use Rattle.broker_model.specs.Tables.{TopicRow, OffsetRow}
+use Rattle.broker_model.specs.Tables.{TopicRow}
 use Rattle.broker_model.specs.Lawful.{IsState, IsTopic, IsFailedTurn}
 use Rattle.broker_model.specs.Removal.{IsCutAt}
-use Rattle.broker_model.specs.Run.{opened, cut_offsets, store_time, with_queue, with_own_queue, with_real_queue, with_topics_of}
+use Rattle.broker_model.specs.Run.{opened, store_time, with_queue, with_own_queue, with_real_queue, with_topics_of}
 use Rattle.std.specs.Option.{option_map, option_to_list}
-use Rattle.group_tables.specs.Held.{lock_of}
+use Rattle.group_clients.specs.Held.{HasClients}
+use Rattle.group_clients.specs.declared.clients.Clients.{Clients}
+use Rattle.broker_model.specs.Clients.{no_clients}
 use Rattle.group_tables.specs.Locks.{lock_row}
-use Rattle.group_tables.specs.Offsets.{offset_of, HasOffsets}
-use Rattle.group_tables.specs.declared.groups.Groups.{Groups}
 use Rattle.group_tables.specs.declared.locks.Lock.{Lock}
 use Rattle.broker_core.specs.declared.loaded.Loaded.{Loaded}
 use Rattle.broker_core.specs.Represents.{Represents, AreOut, AreTabled, AreTablesOf, HasRoom, setup_of}
@@ -179,14 +179,14 @@ has_loaded setup saved records loaded stored count may is =
     record { some = omega (arith, least); segment_low = may.lawful.segment.high; few = omega (arith, same, few, end); low = omega (arith, low, end) }
 
 -- the parts of an opening represent its state
-pub represents_opened : (setup : Setup) (saved : Saved) (records : List Entry) (loaded : Loaded) (stored : FrozenRanges) (pending : PendingPart) (queues : List Table) (groups : Groups) (count : ℕ)
+pub represents_opened : (setup : Setup) (saved : Saved) (records : List Entry) (loaded : Loaded) (stored : FrozenRanges) (pending : PendingPart) (queues : List Table) (clients : Clients) (count : ℕ)
     → MayOpen setup saved records loaded stored → IsHost setup.host → count ≡ loaded.rows.first + length loaded.rows.items → pending ≡ new_part setup.segment count loaded.end
     → ((log : Log) → count_of log ≡ count → place_end log ≡ loaded.end → IsPendingOf log pending)
     → AreTabled queues records loaded.rows.items × AreTablesOf no_base records (count - 0) queues
-    → ((group topic : List ℕ) (queue : ℕ) → offset_of groups group topic queue ≡ None) → ((group topic : List ℕ) (queue : ℕ) → lock_of groups group topic queue ≡ None)
-    → Represents (record { setup = setup; rows = loaded.rows; pending = pending; stored = stored; queues = queues; topics = loaded.topics; groups = groups; dispatched = count; now = loaded.store })
+    → HasClients clients no_clients
+    → Represents (record { setup = setup; rows = loaded.rows; pending = pending; stored = stored; queues = queues; topics = loaded.topics; groups = loaded.groups; clients = clients; dispatched = count; now = loaded.store })
     (opened (setup_of setup) (whole_log records) saved)
-represents_opened setup saved records loaded stored pending queues groups count may host is pending_is is_pending tables no_offset no_lock =
+represents_opened setup saved records loaded stored pending queues clients count may host is pending_is is_pending tables nobody =
     let s = opened (setup_of setup) (whole_log records) saved in
     let same = count_is setup saved records loaded stored count may is in
     let numbers = has_loaded setup saved records loaded stored count may is in
@@ -215,7 +215,7 @@ represents_opened setup saved records loaded stored pending queues groups count 
       stored = may.covered;
       room = subst (λ (p : PendingPart). IfSome p.out (λ out. HasRoom stored)) (sym pending_is) tt;
       topics = may.of_log.topics;
-      clients = refl;
-      offsets = subst (λ (rows : List OffsetRow). HasOffsets groups (cut_offsets (whole_log records) rows)) (sym may.offsets) no_offset;
-      locks = λ group q. ap (λ (lock : Option Lock). option_to_list (option_map (lock_row group q.topic q.queue) lock)) (sym (no_lock group q.topic q.queue));
+      clients = nobody;
+      offsets = may.of_log.offsets;
+      locks = λ group q. ap (λ (lock : Option Lock). option_to_list (option_map (lock_row group q.topic q.queue) lock)) (sym (may.of_log.locks group q.topic q.queue));
     }

@@ -34,11 +34,10 @@ use Rattle.queue_view.specs.Tables.{Table, seen_units, unit_in, number_of}
 use Rattle.queue_view.specs.declared.stored.StoredUnit.{StoredUnit}
 use Rattle.queue_view.proofs.Lists.{some_one}
 use Rattle.broker_model.specs.State.{State, seen}
-use Rattle.broker_model.specs.Clients.{ClientTable, heard_words}
 use Rattle.broker_model.specs.Answers.{pull_words, pull_of}
 use Rattle.broker_events.specs.Replies.{IsSliceOf, AreSlicesOf}
 use Rattle.broker_core.specs.declared.parts.Parts.{Parts}
-use Rattle.broker_core.specs.Reads.{IsSliceAt, AreSlicesAt, words_of}
+use Rattle.broker_core.specs.Reads.{IsSliceAt, AreSlicesAt}
 use Rattle.broker_core.specs.Represents.{Represents, IsCovered, stored_unit}
 use Rattle.broker_core.proofs.SeenLemmas.{found, unknown}
 
@@ -261,15 +260,13 @@ slices_next stored units slices new i slice d low are is_new is =
 
 -- ---- the subscription
 
-pub own_words : (p : PullSaid) (own : Bool) (text : List ℕ) → own ≡ (bit_and (cast_unsigned w32 p.sysflag) 4 == 4) → own ≡ true → text ≡ p.subscription → text ≡ words_of p
-own_words p own text is yes_own same = same ∙ ap (λ (b : Bool). if b then p.subscription else []) (sym yes_own ∙ is)
+pub own_words : (p : PullSaid) (own : Bool) (text other : List ℕ) → own ≡ (bit_and (cast_unsigned w32 p.sysflag) 4 == 4) → own ≡ true → text ≡ p.subscription
+    → text ≡ (if bit_and (cast_unsigned w32 p.sysflag) 4 == 4 then p.subscription else other)
+own_words p own text other is yes_own same = same ∙ ap (λ (b : Bool). if b then p.subscription else other) (sym yes_own ∙ is)
 
-pub no_words : (p : PullSaid) (own : Bool) → own ≡ (bit_and (cast_unsigned w32 p.sysflag) 4 == 4) → own ≡ false → [] ≡ words_of p
-no_words p own is not_own = ap (λ (b : Bool). if b then p.subscription else []) (sym not_own ∙ is)
-
--- nobody was heard
-words_are : (s : State) (core : Parts) (p : PullSaid) → Represents core s → pull_words s p ≡ words_of p
-words_are s core p are = ap (λ (t : ClientTable). if bit_and (cast_unsigned w32 p.sysflag) 4 == 4 then p.subscription else heard_words t p.group p.topic) are.clients
+pub group_words : (p : PullSaid) (own : Bool) (text other : List ℕ) → own ≡ (bit_and (cast_unsigned w32 p.sysflag) 4 == 4) → own ≡ false → text ≡ other
+    → text ≡ (if bit_and (cast_unsigned w32 p.sysflag) 4 == 4 then p.subscription else other)
+group_words p own text other is not_own same = same ∙ ap (λ (b : Bool). if b then p.subscription else other) (sym not_own ∙ is)
 
 -- ---- the table of a queue
 
@@ -339,7 +336,7 @@ pulled_unknown core s topic queue from most tags a are e code next low high none
 -- ---- the reply
 
 -- the answer is that of the records
-pub answers_pull : (core : Parts) (s : State) (p : PullSaid) (tags : Tags) (a : Answer) → Represents core s → tags_take tags ≡ takes (words_of p)
+pub answers_pull : (core : Parts) (s : State) (p : PullSaid) (tags : Tags) (a : Answer) → Represents core s → tags_take tags ≡ takes (pull_words s p)
     → Answers (pull_in s p.topic p.queue p.from p.most tags) a → Answers (pulled_as unit_of (pull_of s p)) a
 answers_pull core s p tags a are takes_it answers =
     let low = queue_min (seen s) p.topic p.queue in
@@ -347,8 +344,7 @@ answers_pull core s p tags a are takes_it answers =
     let n = asked_number 32 p.most in
     let same : pull_in s p.topic p.queue p.from p.most tags ≡ pulled_as unit_of (pull_of s p) =
     ap (λ (test : QueueUnit → Bool). pulled this low (map unit_of rs) p.from n test) takes_it
-    ∙ (pulled_map unit_of low rs p.from n (takes (words_of p))
-    ∙ ap (λ (words : List ℕ). pulled_as unit_of (pulled unit_of low rs p.from n (takes words))) (sym (words_are s core p are))) in
+    ∙ pulled_map unit_of low rs p.from n (takes (pull_words s p)) in
     subst (λ (q : Pulled QueueUnit). Answers q a) same answers
 
 pub pull_told : (core : Parts) (s : State) (p : PullSaid) → Represents core s → IsPulled (IsTold core.stored) (pull_of s p)

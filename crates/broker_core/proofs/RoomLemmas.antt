@@ -1,14 +1,11 @@
 -- A send that isn't refused by a row: there is no place for its record, no room in the buffer, or it is stored.
 use Rattle.std.proofs.Common.{◌≡◌, refl, ap, sym, ◌∙◌, subst, arith, ℕ, ◌+◌, ◌^◌, ◌<◌, ◌≤◌, max, nat_lt, Bool, true, false, List, [], ◌∷◌, length, codes, ℤ, pos, negsuc, Option, Some, None, All, option_map, if◌then◌else◌}
 use Rattle.std.specs.Option.{unwrap_or}
-use Rattle.std.proofs.lemmas.Bool.{ltb-false}
 use Rattle.record_codec.specs.Entry.{Entry}
-use Rattle.record_codec.specs.Layout.{size}
 use Rattle.record_codec.specs.Drafts.{draft_size}
 use Rattle.record_codec.specs.declared.draft.Draft.{Draft}
 use Rattle.log_model.specs.Log.{place_after}
 use Rattle.log_model.specs.Numbered.{place_end, next_record, records_from}
-use Rattle.log_model.specs.Segments.{layouts}
 use Rattle.request_fields.specs.Requests.{SendSaid}
 use Rattle.request_fields.specs.declared.request.Request.TheVariants.{Send}
 use Rattle.reply_fields.specs.Parts.{ReplyParts, plain}
@@ -20,7 +17,7 @@ use Rattle.broker_model.specs.Lawful.{IsTopic}
 use Rattle.broker_model.specs.Events as model
 use Rattle.broker_model.specs.Refusals.{plain_reply, refusal_of, send_queues, made_queues}
 use Rattle.broker_model.specs.Appended.{request_drafts}
-use Rattle.broker_model.specs.Sends.{is_half_send, level_of, plain_draft, queue_named}
+use Rattle.broker_model.specs.Sends.{is_half_send, level_of, plain_draft}
 use Rattle.broker_model.specs.Answers.{answer_of, request_answer}
 use Rattle.broker_model.specs.Step.{after, request_changed}
 use Rattle.broker_events.specs.Replies.{IsReplyOf}
@@ -36,7 +33,7 @@ use Rattle.broker_core.specs.Asked.{CarriesRequest}
 use Rattle.broker_core.specs.Stores.{IsPlainDraft, IsStored, IsSent, is_past, is_over, stored_reply, stored_state, sent_reply, sent_state}
 use Rattle.broker_core.proofs.AnswerLemmas.{is_plain_reply, carries_refused}
 use Rattle.broker_core.proofs.EventLemmas.{log_end_answer, full_answer, stored_says, stored_after}
-use Rattle.broker_core.proofs.SendLemmas.{rows_are, IsTaken, is_taken, plain_is}
+use Rattle.broker_core.proofs.SendLemmas.{rows_are, is_taken, plain_is}
 use Rattle.broker_core.proofs.SendDraftLemmas.{writable}
 use Rattle.broker_core.proofs.StoreLemmas.{found_topic}
 

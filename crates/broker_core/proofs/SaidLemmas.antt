@@ -54,8 +54,8 @@ served_answer s now (Search q) records served = tt
 served_answer s now (MaxOffset q) records served = tt
 served_answer s now (MinOffset q) records served = tt
 served_answer s now (ViewById v) records served = cc served
-served_answer s now (Beat b) records served = cc served
-served_answer s now (Unregister u) records served = cc served
+served_answer s now (Beat b) records served = tt
+served_answer s now (Unregister u) records served = tt
 served_answer s now (EndTransaction end) records served = cc served
 served_answer s now (Lock l) records served = tt
 served_answer s now (Unlock l) records served = tt
@@ -80,7 +80,7 @@ is_of_request (said.Moved number) answer says is = absurd (subst (λ (a : events
 
 -- a request's call says what may be said to it
 pub request_says : {E : Type 0} (old new : Parts) (link : ℕ) (host : List ℕ) (now : ℕ) (request : ARequest) (result : Result Said E) → is_served request ≡ true
-    → ((link : ℕ) → IfOk result (λ what. Carries old (events.Asks (record { link = link; host = host; now = now; request = request })) (Says what) new)) → RepresentsSome old → IfOk result IsOfRequest
+    → IfOk result (λ what. Carries old (events.Asks (record { link = link; host = host; now = now; request = request })) (Says what) new) → RepresentsSome old → IfOk result IsOfRequest
 request_says old new link host now request (Ok what) served carries some =
-    is_of_request what _ (carries link some.0 some.1).0 (asked_answer some.0 (record { link = link; host = host; now = now; request = request }) served)
+    is_of_request what _ (carries some.0 some.1).0 (asked_answer some.0 (record { link = link; host = host; now = now; request = request }) served)
 request_says old new link host now request (Err fault) served carries some = tt

@@ -1,5 +1,5 @@
 -- The table of a queue, and the records of the queue that consumers see.
-use Rattle.std.proofs.Common.{◌≡◌, ◌⊎◌, ⊎_elim, refl, ap, sym, ◌∙◌, subst, arith, ℕ, suc, ◌+◌, ◌-◌, ◌<◌, ◌≤◌, ◌==◌, ◌&&◌, not, ltb, leb, Bool, true, false, cond, List, [], ◌∷◌, ◌++◌, length, take, drop, map, slice_get, get_or, ℤ, pos, negsuc, int_lt, int_le, Some, None}
+use Rattle.std.proofs.Common.{◌≡◌, ⊎_elim, refl, ap, sym, ◌∙◌, subst, arith, ℕ, suc, ◌+◌, ◌-◌, ◌<◌, ◌≤◌, ◌==◌, ◌&&◌, not, ltb, leb, Bool, true, false, cond, List, [], ◌∷◌, ◌++◌, length, take, drop, map, slice_get, get_or, ℤ, pos, negsuc, int_lt, int_le, Some, None}
 use Rattle.std.specs.List.{prefix_len, position_or_len, take_while}
 use Rattle.std.specs.List.Sorted.{IsNonDecreasingBy}
 use Rattle.std.specs.Str.{bytes_eq}
@@ -61,7 +61,7 @@ seen_front base records n t is =
     ap (λ m. take m t.units) many ∙ ap (λ (us : List StoredUnit). take (length (map stored_unit front)) us) units ∙ take_front (map stored_unit front) (map stored_unit rest)
 
 -- a queue without a table has no records
-none_of : (tables : List Table) (records : List Entry) (rows : List Row) (topic : List ℕ) (queue : ℕ) → AreAlike rows records → AreTabled tables records rows → number_of tables topic queue ≡ None → queue_of records topic queue ≡ []
+pub none_of : (tables : List Table) (records : List Entry) (rows : List Row) (topic : List ℕ) (queue : ℕ) → AreAlike rows records → AreTabled tables records rows → number_of tables topic queue ≡ None → queue_of records topic queue ≡ []
 none_of tables [] rows topic queue alike tabled none = refl
 none_of tables (r ∷ records) [] topic queue alike tabled none = absurd alike
 none_of tables (r ∷ records) (row ∷ rows) topic queue alike tabled none =
@@ -78,7 +78,7 @@ none_of tables (r ∷ records) (row ∷ rows) topic queue alike tabled none =
 -- ---- the table of a queue
 
 -- a table that is found is the queue's
-number_at : (tables : List Table) (topic : List ℕ) (queue k : ℕ) → number_of tables topic queue ≡ Some k → (t : Table) × (slice_get tables k ≡ Some t) × (t.topic ≡ topic) × (t.queue ≡ queue)
+pub number_at : (tables : List Table) (topic : List ℕ) (queue k : ℕ) → number_of tables topic queue ≡ Some k → (t : Table) × (slice_get tables k ≡ Some t) × (t.topic ≡ topic) × (t.queue ≡ queue)
 number_at [] topic queue k e = cc e
 number_at (x ∷ xs) topic queue k e =
     let found = position-Some (is_of topic queue) (x ∷ xs) k x e in

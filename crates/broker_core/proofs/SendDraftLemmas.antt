@@ -1,5 +1,5 @@
 -- The draft of a send that isn't refused can be written.
-use Rattle.std.proofs.Common.{◌≡◌, ◌≢◌, ℕ, ◌+◌, ◌^◌, ◌<◌, ◌≤◌, ◌++◌, List, [], ◌∷◌, length, codes, Bool, true, false, not, eqb, cond, Option, Some, None, refl, ap, sym, ◌∙◌, ⊎_elim, arith, length-append}
+use Rattle.std.proofs.Common.{◌≡◌, ℕ, ◌+◌, ◌^◌, ◌<◌, ◌≤◌, ◌++◌, List, [], ◌∷◌, length, codes, Bool, true, false, not, eqb, Option, Some, None, refl, ap, sym, ◌∙◌, ⊎_elim, arith, length-append}
 use Rattle.std.specs.Prelude.{filter, bit_and}
 use Rattle.std.specs.List.{filter_map, cons_option}
 use Rattle.std.specs.Str.{bytes_eq}
@@ -8,7 +8,7 @@ use Rattle.std.proofs.lemmas.Nat.{and_assoc}
 use Rattle.std.proofs.lemmas.Slice.Eq.{bytes_eq-Decides}
 use Rattle.record_codec.specs.Props.{written, pair_text, pair_in, with_prop, without, has_name, value_of}
 use Rattle.record_codec.specs.LaxProps.{in_front, pieces, with_all, read_props}
-use Rattle.record_codec.specs.Layout.{is_named, is_legal, are_hosts_short}
+use Rattle.record_codec.specs.Layout.{is_named, are_hosts_short}
 use Rattle.record_codec.specs.Drafts.{draft_fault, draft_size}
 use Rattle.record_codec.proofs.PairTexts.{pair_takes}
 use Rattle.record_codec.proofs.LastLemmas.{value_of-dropped}

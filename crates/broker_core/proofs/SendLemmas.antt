@@ -1,23 +1,20 @@
 -- What refuses a send, and that the draft of one that isn't refused can be written.
-use Rattle.std.proofs.Common.{◌≡◌, ◌⊎◌, ⊎_elim, refl, ap, sym, ◌∙◌, subst, arith, ℕ, ◌+◌, ◌^◌, ◌<◌, ◌≤◌, ◌==◌, ◌&&◌, Bool, true, false, not, cond, List, [], ◌∷◌, length, map, codes, Option, Some, None, is_none, option_map}
-use Rattle.std.specs.Prelude.{bit_and, nat_lt}
+use Rattle.std.proofs.Common.{◌≡◌, ⊎_elim, refl, ap, ◌∙◌, ℕ, ◌+◌, ◌<◌, ◌≤◌, Bool, true, false, cond, List, [], ◌∷◌, length, map, Option, Some, None, option_map}
+use Rattle.std.specs.Prelude.{bit_and}
 use Rattle.std.specs.Option.{unwrap_or}
 use Rattle.std.specs.Int.Bits.{and_zero_r}
 use Rattle.std.proofs.lemmas.Nat.{and_assoc}
 use Rattle.std.proofs.lemmas.Bool.{cases_Bool, not-false, ltb-false, ltb-true}
 use Rattle.record_codec.specs.Layout.{is_legal, are_hosts_short}
 use Rattle.record_codec.specs.Drafts.{first_that_holds}
-use Rattle.record_codec.specs.declared.draft.Draft.{Draft}
 use Rattle.log_model.specs.Admissible.{is_system_topic}
 use Rattle.log_model.specs.Drafts.{plain_flag}
 use Rattle.request_fields.specs.Requests.{SendSaid}
 use Rattle.request_fields.specs.declared.request.Request.TheVariants.{Send}
 use Rattle.broker_model.specs.State.{State}
-use Rattle.broker_model.specs.Events as model
 use Rattle.broker_model.specs.Tables.{queues_in}
-use Rattle.broker_model.specs.Refusals.{send_refusal, refusal_of, made_queues}
+use Rattle.broker_model.specs.Refusals.{refusal_of, made_queues}
 use Rattle.broker_model.specs.Sends.{flag_of, queue_named, send_draft, plain_draft, is_half_send, level_of, half_draft, delayed_or_plain}
-use Rattle.broker_core.specs.declared.send_rows.Refusal.{Refusal}
 use Rattle.broker_core.specs.SendRows.{rows_of, refusal_by, refused}
 
 -- the first row that holds, with what is made of it

@@ -1,8 +1,7 @@
 -- The fields of the reply to a send are in order, and short.
-use Rattle.std.proofs.Common.{◌≡◌, ℕ, ◌^◌, ◌<◌, ◌≤◌, ◌++◌, List, codes, length, refl, arith, length-append}
+use Rattle.std.proofs.Common.{◌≡◌, ℕ, ◌^◌, ◌<◌, ◌≤◌, ◌++◌, List, length, refl, arith, length-append}
 use Rattle.std.specs.List.Sorted.{IsStrictlySortedBy}
 use Rattle.std.specs.Int.{w64, to_be_bytes}
-use Rattle.mq_bytes.specs.Decimal.{digits_of}
 use Rattle.mq_bytes.specs.Ids.{message_id_of}
 use Rattle.mq_bytes.proofs.HexLemmas.{length-hex_of}
 use Rattle.remoting_frame.specs.Head.{IsInOrder, pairs_size}

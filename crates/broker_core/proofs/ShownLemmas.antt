@@ -140,9 +140,9 @@ shown_keeps old new s t keeps are is =
 
 -- so what is shown stays, whatever the call says
 pub request_shown : {E : Type 0} (old new : Parts) (link : ℕ) (host : List ℕ) (now : ℕ) (request : Request) (result : Result Said E)
-    → ((link : ℕ) → IfOk result (λ what. Carries old (events.Asks (record { link = link; host = host; now = now; request = request })) (Says what) new)) → OnErr result (Stays old new)
+    → IfOk result (λ what. Carries old (events.Asks (record { link = link; host = host; now = now; request = request })) (Says what) new) → OnErr result (Stays old new)
     → RepresentsSome old → shown_of new ≡ shown_of old
 request_shown old new link host now request (Ok what) carries stays some =
     let a : events.Asked = record { link = link; host = host; now = now; request = request } in
-    shown_keeps old new some.0 (after some.0 (events.Asks a)) (asked_keeps some.0 a) some.1 (carries link some.0 some.1).1
+    shown_keeps old new some.0 (after some.0 (events.Asks a)) (asked_keeps some.0 a) some.1 (carries some.0 some.1).1
 request_shown old new link host now request (Err fault) carries stays some = shown_keeps old new some.0 some.0 (none_keeps some.0) some.1 (stays some.0 some.1)

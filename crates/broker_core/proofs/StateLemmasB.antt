@@ -1,19 +1,19 @@
 -- A state with one record more is a state.
-use Rattle.std.proofs.Common.{◌||◌, ◌≡◌, ◌⊎◌, ⊎_elim, inl, inr, refl, ap, sym, ◌∙◌, subst, arith, ℕ, zero, suc, ◌+◌, ◌-◌, ◌*◌, ◌^◌, ◌<◌, ◌≤◌, Bool, true, false, List, [], ◌∷◌, ◌++◌, length, take, slice_get, Option, Some, None, All}
+use Rattle.std.proofs.Common.{◌||◌, ◌≡◌, ◌⊎◌, ⊎_elim, inl, inr, refl, ap, sym, subst, arith, ℕ, zero, suc, ◌+◌, ◌^◌, ◌<◌, ◌≤◌, List, [], ◌∷◌, ◌++◌, length, take, slice_get, Option, Some, None}
 use Rattle.std.proofs.lemmas.List.{length-append, take-append-le}
 use Rattle.record_codec.specs.Entry.{Entry}
-use Rattle.record_codec.specs.Layout.{size, IsRecord}
-use Rattle.record_codec.specs.Drafts.{entry_of, draft_size}
+use Rattle.record_codec.specs.Layout.{IsRecord}
+use Rattle.record_codec.specs.Drafts.{entry_of}
 use Rattle.record_codec.specs.declared.draft.Draft.{Draft}
 use Rattle.record_codec.specs.declared.draft.Place.{Place}
 use Rattle.log_model.specs.Bases.{Base, geometry}
 use Rattle.log_model.specs.Log.{end_from, Follows}
-use Rattle.log_model.specs.Numbered.{Log, IsLawful, count_of, place_end, with_appended}
+use Rattle.log_model.specs.Numbered.{Log, count_of, place_end, with_appended}
 use Rattle.log_model.proofs.Places.{end_of-append}
 use Rattle.log_model.proofs.Recovery.{well_formed_push}
-use Rattle.broker_model.specs.State.{State, Out, FailedTurn}
+use Rattle.broker_model.specs.State.{State, Out}
 use Rattle.broker_model.specs.Step.{with_records}
-use Rattle.broker_model.specs.Lawful.{IsState, IsTurn, IsFailedTurn, IsSaved, IfOut}
+use Rattle.broker_model.specs.Lawful.{IsState, IsTurn, IfOut}
 use Rattle.broker_model.specs.Removal.{IsCutAt, IsBaseAfter, is_named, has_queue}
 use Rattle.broker_core.specs.Appends.{MayStand}
 

@@ -42,9 +42,9 @@ some_state s e what new makes = (makes.reached, makes.represents)
 
 -- a request
 pub request_made : {E : Type 0} (old new : Parts) (s : State) (link : ℕ) (host : List ℕ) (now : ℕ) (request : ARequest) (result : Result Said E)
-    → ((link : ℕ) → IfOk result (λ what. Carries old (events.Asks (record { link = link; host = host; now = now; request = request })) (Says what) new)) → OnErr result (Stays old new)
+    → IfOk result (λ what. Carries old (events.Asks (record { link = link; host = host; now = now; request = request })) (Says what) new) → OnErr result (Stays old new)
     → Represents old s → Makes s (Request link host now request) (said_in result) new
-request_made old new s link host now request (Ok what) carries stays are = made s (Request link host now request) what new tt (carries link s are)
+request_made old new s link host now request (Ok what) carries stays are = made s (Request link host now request) what new tt (carries s are)
 request_made old new s link host now request (Err fault) carries stays are = unmade s (Request link host now request) new tt (stays s are)
 
 -- a turn that begins
@@ -78,8 +78,8 @@ take_state old new (Ok batch) carries stays some = (after some.0 events.Take, (c
 take_state old new (Err fault) carries stays some = (some.0, stays some.0 some.1)
 
 -- what a request's own call says of it, of the request that was matched
-pub carried : {E : Type 0} (old new : Parts) (host : List ℕ) (now : ℕ) (request own : ARequest) (result : Result Said E) → request ≡ own
-    → ((link : ℕ) → IfOk result (λ what. Carries old (events.Asks (record { link = link; host = host; now = now; request = own })) (Says what) new))
-    → (link : ℕ) → IfOk result (λ what. Carries old (events.Asks (record { link = link; host = host; now = now; request = request })) (Says what) new)
-carried old new host now request own result same carries =
-    subst (λ (r : ARequest). (link : ℕ) → IfOk result (λ what. Carries old (events.Asks (record { link = link; host = host; now = now; request = r })) (Says what) new)) (sym same) carries
+pub carried : {E : Type 0} (old new : Parts) (link : ℕ) (host : List ℕ) (now : ℕ) (request own : ARequest) (result : Result Said E) → request ≡ own
+    → IfOk result (λ what. Carries old (events.Asks (record { link = link; host = host; now = now; request = own })) (Says what) new)
+    → IfOk result (λ what. Carries old (events.Asks (record { link = link; host = host; now = now; request = request })) (Says what) new)
+carried old new link host now request own result same carries =
+    subst (λ (r : ARequest). IfOk result (λ what. Carries old (events.Asks (record { link = link; host = host; now = now; request = r })) (Says what) new)) (sym same) carries

@@ -1,6 +1,5 @@
 -- A plain message that is stored.
-use Rattle.std.proofs.Common.{◌≡◌, ◌⊎◌, ⊎_elim, refl, ap, sym, ◌∙◌, subst, arith, ℕ, zero, suc, ◌+◌, ◌-◌, ◌*◌, ◌^◌, ◌<◌, ◌≤◌, ◌==◌, ◌&&◌, max, Bool, true, false, List, [], ◌∷◌, ◌++◌, length, slice_get, codes, pos, Option, Some, None, All, is_some, Result, Ok, Err, OnOk, OnErr, if◌then◌else◌}
-use Rattle.std.specs.Prelude.{bit_and}
+use Rattle.std.proofs.Common.{◌≡◌, ⊎_elim, refl, ap, sym, ◌∙◌, subst, arith, ℕ, ◌+◌, ◌-◌, ◌^◌, ◌<◌, ◌≤◌, ◌==◌, ◌&&◌, max, Bool, true, false, List, [], ◌∷◌, length, slice_get, Option, Some, None, All, is_some, Result, Ok, Err, OnOk, OnErr, if◌then◌else◌}
 use Rattle.std.specs.Option.{unwrap_or}
 use Rattle.std.specs.Str.{bytes_eq}
 use Rattle.std.proofs.lemmas.Bool.{cases_Bool}
@@ -14,14 +13,14 @@ use Rattle.record_codec.specs.declared.draft.Place.{Place}
 use Rattle.record_codec.proofs.DraftLemmas.{HasNoFault-from, IsEncodable-from}
 use Rattle.log_model.specs.Admissible.{is_system_topic, half_topic}
 use Rattle.log_model.specs.Log.{place_after}
-use Rattle.log_model.specs.Numbered.{Log, count_of, place_end, queue_max, next_record}
+use Rattle.log_model.specs.Numbered.{count_of, place_end, queue_max, next_record}
 use Rattle.log_model.specs.Queues.{queue_of}
 use Rattle.log_model.proofs.AdmissibleLemmas.{plain_admissible, plain_names}
 use Rattle.broker_model.specs.Tables.{TopicRow, queues_in}
 use Rattle.broker_model.specs.State.{State, Setup}
 use Rattle.broker_model.specs.Events as model
 use Rattle.broker_model.specs.Answers.{append_answer}
-use Rattle.broker_model.specs.Step.{with_made, with_records}
+use Rattle.broker_model.specs.Step.{with_made}
 use Rattle.broker_model.specs.Lawful.{IsTopic}
 use Rattle.queue_view.specs.Tables.{Table, number_of, added_of}
 use Rattle.queue_view.proofs.NumberedLemmas.{number_within}

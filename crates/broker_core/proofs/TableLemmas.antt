@@ -1,5 +1,5 @@
 -- The tables of queues as those of a log's records, with more room and with a record more.
-use Rattle.std.proofs.Common.{◌≡◌, ◌≢◌, ◌⊎◌, ⊎_elim, inl, inr, refl, ap, sym, ◌∙◌, subst, arith, ℕ, zero, suc, ◌+◌, ◌-◌, ◌<◌, ◌≤◌, ◌==◌, ◌&&◌, Bool, true, false, List, [], ◌∷◌, ◌++◌, length, take, map, slice_get, slice_set, Option, Some, None, Result, Ok, Err, IfOk, OnOk, OnErr}
+use Rattle.std.proofs.Common.{◌≡◌, ⊎_elim, refl, ap, sym, ◌∙◌, arith, ℕ, zero, suc, ◌<◌, ◌≤◌, ◌==◌, ◌&&◌, true, false, List, [], ◌∷◌, ◌++◌, length, take, map, slice_get, slice_set, Some, None, Result, Ok, Err, OnOk, OnErr}
 use Rattle.std.specs.Str.{bytes_eq}
 use Rattle.std.proofs.lemmas.Bool.{cases_Bool, and_parts}
 use Rattle.std.proofs.lemmas.Bool.Decides.{Decides-eqb}
@@ -16,11 +16,11 @@ use Rattle.queue_view.specs.declared.stored.StoredUnit.{StoredUnit}
 use Rattle.queue_view.specs.Tables.{Table, is_of, number_of, with_room, empty_table}
 use Rattle.queue_view.specs.Added as view
 use Rattle.queue_view.specs.Added.{Added, queue_in}
-use Rattle.queue_view.proofs.Lists.{some_one, get_within}
+use Rattle.queue_view.proofs.Lists.{some_one}
 use Rattle.queue_view.proofs.NumberedLemmas.{number_of-set, number_of-push, number_of-kept, number_within}
 use Rattle.pending_log.specs.declared.rows.Row.{Row}
 use Rattle.pending_log.specs.Rows.{AreAlike}
-use Rattle.broker_core.specs.Represents.{stored_unit, IsTableOf, AreTablesOf, AreTabled}
+use Rattle.broker_core.specs.Represents.{stored_unit, AreTablesOf, AreTabled}
 
 -- ---- a log's records as the tables see them
 

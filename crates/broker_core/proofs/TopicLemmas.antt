@@ -1,16 +1,15 @@
 -- The topics with one more, and the state with it.
-use Rattle.std.proofs.Common.{◌≡◌, ◌⊎◌, ⊎_elim, refl, ap, sym, ◌∙◌, subst, arith, ℕ, ◌+◌, ◌<◌, ◌≤◌, ◌^◌, max, Bool, true, false, cond, List, [], ◌∷◌, length, Option, Some, None, All, if◌then◌else◌}
+use Rattle.std.proofs.Common.{◌≡◌, ⊎_elim, refl, ap, sym, ◌∙◌, subst, arith, ℕ, ◌+◌, ◌<◌, ◌≤◌, ◌^◌, max, Bool, true, false, List, [], ◌∷◌, length, Option, Some, None, All, if◌then◌else◌}
 use Rattle.std.specs.Option.{unwrap_or}
 use Rattle.std.specs.Str.{bytes_eq}
 use Rattle.std.proofs.lemmas.Bool.{cases_Bool, false_from_ne_true}
 use Rattle.std.proofs.lemmas.Slice.Eq.{bytes_eq-Decides}
 use Rattle.std.proofs.lemmas.List.Elements.{All-nil, All-cons, All-head, All-tail}
-use Rattle.record_codec.specs.Entry.{Entry}
 use Rattle.log_model.specs.Admissible.{is_system_topic}
 use Rattle.broker_model.specs.Tables.{TopicRow, queues_in, with_topic}
 use Rattle.broker_model.specs.State.{State, Out}
 use Rattle.broker_model.specs.Step.{with_made}
-use Rattle.broker_model.specs.Lawful.{IsState, IsTopic, IsTurn, IsFailedTurn, IfOut}
+use Rattle.broker_model.specs.Lawful.{IsState, IsTopic, IsTurn, IfOut}
 use Rattle.client_tables.specs.declared.topics.Topics.{Topics}
 use Rattle.client_tables.specs.Counts.{queues_of}
 use Rattle.broker_core.specs.declared.parts.Parts.{Parts}

@@ -25,7 +25,7 @@ use Rattle.pending_log.proofs.LookLemmas.{kept_answers, kept_last}
 use Rattle.broker_model.specs.State as model
 use Rattle.broker_model.specs.State.{State, pending, same_segment, next_batch}
 use Rattle.broker_model.specs.Events as events
-use Rattle.broker_model.specs.Clients.{ClientTable, after_leave}
+use Rattle.broker_model.specs.Clients.{after_leave}
 use Rattle.broker_model.specs.Lawful.{IsState}
 use Rattle.broker_model.specs.Appended.{is_refused, drafts_of}
 use Rattle.broker_model.specs.Answers.{answer_of, carried_out_answer, taken, taken_of, looked, last_count, holds_up}
@@ -34,7 +34,7 @@ use Rattle.broker_events.specs.Steps.{IsBatchFor, IsTakenAs}
 use Rattle.broker_core.specs.declared.parts.Parts.{Parts}
 use Rattle.broker_core.specs.Represents.{Represents, AreOut, AreCovered, HasRoom, turn_of}
 use Rattle.broker_core.specs.Carries.{Carries, Stays}
-use Rattle.broker_core.proofs.StateLemmasTurns.{taken_state, failed_state, left_state}
+use Rattle.broker_core.proofs.StateLemmasTurns.{taken_state, failed_state}
 
 -- ---- what the model says
 
@@ -350,26 +350,3 @@ looks_up old s number turn what are is =
       answer_look s number turn ∙ ap (λ (a : events.Awaited). events.Looked a) (sym (ap told here ∙ told_looked s number turn)),
       subst (λ (t : State). Represents old t) (sym (after_look s number turn)) are,
     )
-
--- ---- a link ends
-
-pub leaves : (old : Parts) (s : State) (link : ℕ) → Represents old s → (answer_of s (events.Leave link) ≡ events.Done) × Represents old (after s (events.Leave link))
-leaves old s link are = (
-  answer_leaving s link,
-  subst (λ (t : State). Represents old t) (sym (after_leaving s link)) (record {
-    state = left_state s (after_leave link s.clients) are.state;
-    numbers = record { setup = are.numbers.setup; segment = are.numbers.segment; flushed = are.numbers.flushed; dispatched = are.numbers.dispatched; turns = are.numbers.turns; bounded = are.numbers.bounded; now = are.numbers.now; few = are.numbers.few; low = are.numbers.low };
-    pending = are.pending;
-    out = are.out;
-    failed = are.failed;
-    rows = are.rows;
-    tabled = are.tabled;
-    queues = are.queues;
-    stored = are.stored;
-    room = are.room;
-    topics = are.topics;
-    clients = ap (λ (t : ClientTable). after_leave link t) are.clients;
-    offsets = are.offsets;
-    locks = are.locks;
-  }),
-)

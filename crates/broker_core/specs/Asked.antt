@@ -1,5 +1,5 @@
 -- A request that came on some link, and what a call of the core does with it.
-use Rattle.std.specs.Prelude.{◌≡◌, ℕ, List, Result, IfOk}
+use Rattle.std.specs.Prelude.{ℕ, List, Result, IfOk}
 use Rattle.request_fields.specs.declared.request.Request.{Request}
 use Rattle.broker_model.specs.Events as model
 use Rattle.broker_events.specs.declared.said.Said.{Said}

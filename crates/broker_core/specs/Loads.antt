@@ -11,11 +11,13 @@ use Rattle.log_model.specs.Numbered.{Log, IsLawful, count_of}
 use Rattle.log_model.specs.Transactions.{last_of}
 use Rattle.pending_log.specs.Rows.{AreRowsOf}
 use Rattle.broker_model.specs.State.{Saved}
-use Rattle.broker_model.specs.Tables.{TopicRow, queues_in}
+use Rattle.broker_model.specs.Tables.{TopicRow, OffsetRow, queues_in}
 use Rattle.broker_model.specs.Lawful.{IsTopic}
-use Rattle.broker_model.specs.Run.{store_time, with_topics_of}
+use Rattle.broker_model.specs.Run.{store_time, with_topics_of, cut_offsets}
 use Rattle.broker_events.specs.declared.event.Setup.{Setup}
 use Rattle.client_tables.specs.Counts.{queues_of}
+use Rattle.group_tables.specs.Held.{lock_of}
+use Rattle.group_tables.specs.Offsets.{HasOffsets}
 use Rattle.broker_core.specs.declared.loaded.Loaded.{Loaded}
 use Rattle.broker_core.specs.Represents.{AreTabled, AreTablesOf, AreCovered}
 
@@ -44,8 +46,9 @@ own_with counts topic queue other = if is_system_topic topic then counts other e
 abbrev pub AreForOwnTopics : List Entry → Type 0
 AreForOwnTopics records = (k : ℕ) (r : Entry) → slice_get records k ≡ Some r → value_of (codes "REAL_TOPIC") r.props ≡ None
 
--- These records were loaded, and before them these topics, of clients. Consumers see none of the records yet.
-pub record IsLoadedFrom (saved : List TopicRow) (records : List Entry) (loaded : Loaded) : Type 0 where
+-- These records were loaded, before them these topics, of clients, and behind them these offsets, each at most the end of its
+-- queue. Consumers see none of the records yet.
+pub record IsLoadedWith (saved : List TopicRow) (records : List Entry) (kept : List OffsetRow) (loaded : Loaded) : Type 0 where
   pub rows : AreRowsOf (whole_log records) loaded.rows
   pub tabled : AreTabled loaded.queues records loaded.rows.items
   pub queues : AreTablesOf no_base records 0 loaded.queues
@@ -55,14 +58,19 @@ pub record IsLoadedFrom (saved : List TopicRow) (records : List Entry) (loaded :
   pub end : loaded.end ≡ end_of no_base records
   pub store : loaded.store ≡ store_time (last_of records)
   pub low : loaded.store < 2 ^ 62
+  pub offsets : HasOffsets loaded.groups (cut_offsets (whole_log records) kept)
+  pub locks : (group topic : List ℕ) (queue : ℕ) → lock_of loaded.groups group topic queue ≡ None
+
+-- the same, before any offset was loaded
+abbrev pub IsLoadedFrom : List TopicRow → List Entry → Loaded → Type 0
+IsLoadedFrom saved records loaded = IsLoadedWith saved records [] loaded
 
 -- ---- when the broker may open
 
--- The broker may open with these kept files over these records: they are a lawful log, which was loaded, and the pieces cover it;
--- nothing was removed, and no offset is kept.
+-- The broker may open with these kept files over these records: they are a lawful log, which was loaded with the kept topics and
+-- offsets, the pieces cover it, and nothing was removed.
 pub record MayOpen (setup : Setup) (saved : Saved) (records : List Entry) (loaded : Loaded) (stored : FrozenRanges) : Type 0 where
   pub lawful : IsLawful setup.segment (whole_log records)
-  pub of_log : IsLoadedFrom saved.topics records loaded
+  pub of_log : IsLoadedWith saved.topics records saved.offsets loaded
   pub covered : AreCovered stored (whole_log records) (count_of (whole_log records))
   pub base : saved.base ≡ no_base
-  pub offsets : saved.offsets ≡ []

@@ -1,6 +1,5 @@
 -- Requests that read: why one is refused, the fields of their replies, and where the records of a pull stand.
-use Rattle.std.specs.Prelude.{◌≡◌, ℕ, ◌+◌, List, [], ◌∷◌, length, codes, bit_and, ◌==◌, Option, Some, None, if◌then◌else◌}
-use Rattle.std.specs.Int.{w32, cast_unsigned}
+use Rattle.std.specs.Prelude.{◌≡◌, ℕ, ◌+◌, List, [], ◌∷◌, length, codes, Option, Some, None}
 use Rattle.mq_bytes.specs.Decimal.{digits_of}
 use Rattle.mq_outside.specs.Covers.{HoldsRange, piece_start}
 use Rattle.mq_outside.specs.Readings.{HasAt}
@@ -8,7 +7,6 @@ use Rattle.mq_outside.specs.declared.frozen_ranges.FrozenRanges.{FrozenRanges}
 use Rattle.record_codec.specs.declared.unit.Unit.{Unit as QueueUnit}
 use Rattle.reply_fields.specs.declared.slice.Slice.{Slice}
 use Rattle.reply_fields.specs.declared.slice.Slice.TheVariants.{Held, Kept}
-use Rattle.request_fields.specs.Requests.{PullSaid}
 use Rattle.broker_model.specs.Events as model
 use Rattle.broker_model.specs.Refusals.{plain_reply}
 use Rattle.broker_core.specs.declared.replies.Refused.{Refused}
@@ -41,10 +39,6 @@ pull_ext high low next =
     ∷ (codes "suggestWhichBrokerId", codes "0") ∷ []
 
 -- ---- pulls
-
--- the subscription that a pull has where no client was heard: its own where bit 4 of its flag says so, else none
-abbrev pub words_of : PullSaid → List ℕ
-words_of p = if bit_and (cast_unsigned w32 p.sysflag) 4 == 4 then p.subscription else []
 
 -- the slice is where the unit tells, and has the bytes there that the pieces hold
 abbrev pub IsSliceAt : FrozenRanges → Slice → QueueUnit → Type 0

@@ -11,7 +11,6 @@ use Rattle.log_model.specs.Numbered.{Log, count_of, place_end, below}
 use Rattle.log_model.specs.Queues.{queue_of}
 use Rattle.broker_model.specs.State as model
 use Rattle.broker_model.specs.State.{State}
-use Rattle.broker_model.specs.Clients.{no_clients}
 use Rattle.broker_model.specs.Tables.{queues_in}
 use Rattle.broker_model.specs.Lawful.{IsState}
 use Rattle.broker_events.specs.declared.event.Setup.{Setup}
@@ -23,6 +22,7 @@ use Rattle.pending_log.specs.Looks.{Turn, KeepsLast}
 use Rattle.pending_log.specs.declared.turn.Out.{Out}
 use Rattle.pending_log.specs.declared.rows.Row.{Row}
 use Rattle.client_tables.specs.Counts.{queues_of}
+use Rattle.group_clients.specs.Held.{HasClients}
 use Rattle.group_tables.specs.Held.{HasLocks}
 use Rattle.group_tables.specs.Offsets.{HasOffsets}
 use Rattle.broker_core.specs.declared.parts.Parts.{Parts}
@@ -100,7 +100,7 @@ AreTabled tables records rows =
 
 -- ---- all of it
 
--- The parts represent the state. Clients are not built yet: no event makes one, and none is kept over an opening.
+-- the parts represent the state
 pub record Represents (core : Parts) (s : State) : Type 0 where
   pub state : IsState s
   pub numbers : HasNumbers core s
@@ -113,6 +113,6 @@ pub record Represents (core : Parts) (s : State) : Type 0 where
   pub stored : AreCovered core.stored s.log s.flushed
   pub room : IfSome core.pending.out (λ out. HasRoom core.stored)
   pub topics : (topic : List ℕ) → queues_of core.topics topic ≡ queues_in s.topics topic
-  pub clients : s.clients ≡ no_clients
+  pub clients : HasClients core.clients s.clients
   pub offsets : HasOffsets core.groups s.offsets
   pub locks : HasLocks core.groups s.locks

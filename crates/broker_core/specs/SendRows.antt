@@ -1,5 +1,5 @@
 -- Why a send is refused, by what it says, the bytes of a segment, and how many queues its topic has.
-use Rattle.std.specs.Prelude.{ℕ, ◌+◌, ◌==◌, ◌&&◌, not, nat_lt, Bool, List, [], ◌∷◌, length, codes, is_none, Option, Some, None, unwrap_or}
+use Rattle.std.specs.Prelude.{ℕ, ◌+◌, ◌==◌, ◌&&◌, not, nat_lt, Bool, List, [], ◌∷◌, length, codes, is_none, Option, unwrap_or}
 use Rattle.record_codec.specs.Layout.{is_legal, are_hosts_short}
 use Rattle.record_codec.specs.Drafts.{first_that_holds}
 use Rattle.log_model.specs.Admissible.{is_system_topic}

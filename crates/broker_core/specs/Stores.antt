@@ -1,5 +1,5 @@
 -- A plain message that is stored, and the reply to its send.
-use Rattle.std.specs.Prelude.{◌≡◌, ℕ, ◌+◌, ◌^◌, ◌<◌, ◌≤◌, nat_lt, bit_and, List, [], ◌∷◌, codes, Bool, false, None, Option, if◌then◌else◌}
+use Rattle.std.specs.Prelude.{◌≡◌, ℕ, ◌+◌, ◌^◌, ◌<◌, nat_lt, bit_and, List, [], ◌∷◌, codes, Bool, false, None, if◌then◌else◌}
 use Rattle.mq_bytes.specs.Decimal.{digits_of}
 use Rattle.mq_bytes.specs.Ids.{message_id_of}
 use Rattle.record_codec.specs.Entry.{Entry}

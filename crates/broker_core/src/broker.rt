@@ -64,11 +64,11 @@ impl Core {
     {
         match event {
             Event::Request {
-                link: _,
+                link,
                 host,
                 now,
                 request,
-            } => self.parts.request(alloc, host, *now, request),
+            } => self.parts.request(alloc, *link, host, *now, request),
             Event::Take => match self.parts.take(alloc) {
                 Ok(batch) => Ok(Said::Batch(batch)),
                 Err(fault) => Err(fault),

@@ -7,6 +7,7 @@ mod append;
 mod broker;
 mod consumer_offsets;
 mod dispatch;
+mod heartbeats;
 mod loaded;
 mod offsets;
 mod open;

@@ -1,14 +1,17 @@
-//! What is loaded of a log before the broker opens: each record's row, the tables of queues, and the topics.
+//! What is loaded before the broker opens: each record's row, the tables of queues, the topics, and the offsets that were kept.
 
 ghost use Rattle.std.specs.Prelude.{◌≡◌, ◌<◌, ◌≤◌, ◌+◌, ◌^◌, ◌++◌, ◌∷◌, [], ℕ, List, Some, false};
 ghost use Rattle.std.specs.Prelude.{OnOk, IsTrue, if◌then◌else◌};
 ghost use Rattle.record_codec.specs.Entry.{Entry};
 ghost use Rattle.log_model.specs.Admissible.{is_system_topic as is_system};
-ghost use Rattle.broker_model.specs.Tables.{TopicRow, with_topic};
+ghost use Rattle.log_model.specs.Numbered.{queue_max};
+ghost use Rattle.broker_model.specs.Tables.{TopicRow, OffsetRow, with_topic};
+ghost use Rattle.group_tables.specs.Offsets.{offset_row};
 ghost use Rattle.client_tables.specs.Counts.{queues_of};
-ghost use Rattle.broker_core.specs.Loads.{IsLoadedFrom, count_with, known_with, own_with};
+ghost use Rattle.broker_core.specs.Loads.{IsLoadedFrom, IsLoadedWith, whole_log, count_with, known_with, own_with};
 
 use client_tables::Topics;
+use group_tables::Groups;
 use log_model::is_system_topic;
 use pending_log::{Row, Rows};
 use queue_view::QueueView;
@@ -27,6 +30,7 @@ pub struct Loaded {
     pub(crate) rows: Rows,
     pub(crate) queues: QueueView,
     pub(crate) topics: Topics,
+    pub(crate) groups: Groups,
     // Where the last record ends, and when it was stored, in milliseconds.
     pub(crate) end: u64,
     pub(crate) store: u64,
@@ -89,6 +93,7 @@ impl Loaded {
             rows: Rows::new(alloc, 0),
             queues: QueueView::new(alloc),
             topics: Topics::new(alloc),
+            groups: Groups::new(alloc),
             end: 0,
             store: 0,
         }
@@ -133,5 +138,33 @@ impl Loaded {
         self.end = place + u64::from(size);
         self.store = store;
         Ok(())
+    }
+
+    // The offset after the last record of a queue.
+    fn end_of(&self, topic: &str, queue: u32) -> u64
+        ensures { (saved : List TopicRow) (records : List Entry) (kept : List OffsetRow) → IsLoadedWith saved records kept self.entry.now
+            → result ≡ queue_max (whole_log records) topic.now queue }
+    {
+        match self.queues.find(topic, queue) {
+            Some(table) => self.queues.added(table),
+            None => 0,
+        }
+    }
+
+    /// Loads an offset of the kept file, behind all records; it is at most the end of its queue. An offset of the same group and
+    /// queue that was loaded before counts no more, so that the rows of a file are loaded from the last to the first. At `Err`
+    /// what is loaded serves for nothing.
+    pub fn add_offset(
+        &mut self,
+        group: &str,
+        topic: &str,
+        queue: u32,
+        offset: u64,
+    ) -> Result<(), AllocError>
+        ensures { (saved : List TopicRow) (records : List Entry) (kept : List OffsetRow) → IsLoadedWith saved records kept self.old
+            → OnOk result (IsLoadedWith saved records (offset_row group.now topic.now queue offset ∷ kept) self.new) }
+    {
+        let end = self.end_of(topic, queue);
+        self.groups.set_offset(group, topic, queue, offset.min(end))
     }
 }

@@ -15,7 +15,7 @@ use crate::dispatch::see;
 use crate::loaded::Loaded;
 use crate::parts::Parts;
 use broker_events::Setup;
-use group_tables::Groups;
+use group_clients::Clients;
 use mq_outside::FrozenRanges;
 use pending_log::Pending;
 use std::alloc::Global;
@@ -39,6 +39,7 @@ impl Parts {
     {
         // Only what it shows of the host is of use.
         let _number = host_number(setup.host);
+        let clients = Clients::new(alloc);
         let count = loaded.rows.end();
         let pending = Pending::new(alloc, setup.segment, count, loaded.end);
         let mut queues = loaded.queues;
@@ -50,7 +51,8 @@ impl Parts {
             stored,
             queues,
             topics: loaded.topics,
-            groups: Groups::new(alloc),
+            groups: loaded.groups,
+            clients,
             dispatched: count,
             now: loaded.store,
         }

@@ -2,6 +2,7 @@
 
 use broker_events::Setup;
 use client_tables::Topics;
+use group_clients::Clients;
 use group_tables::Groups;
 use mq_outside::FrozenRanges;
 use pending_log::{Pending, Rows};
@@ -21,6 +22,8 @@ pub struct Parts {
     pub(crate) topics: Topics,
     // The offsets that consumer groups stored, and which of their clients has a queue for itself.
     pub(crate) groups: Groups,
+    // Their clients, and what these subscribed to.
+    pub(crate) clients: Clients,
     // How many records consumers see, the removed ones counted, and the greatest time so far, in milliseconds.
     pub(crate) dispatched: u64,
     pub(crate) now: u64,

@@ -15,12 +15,13 @@ ghost use Rattle.request_fields.specs.declared.request.Request.TheVariants.{Pull
 ghost use Rattle.broker_model.specs.State.{State, seen};
 ghost use Rattle.broker_model.specs.Events as model;
 ghost use Rattle.broker_model.specs.Refusals.{is_closed_topic, is_by_tags as is_by_tags_of, pull_refusal};
-ghost use Rattle.broker_model.specs.Answers.{pulled_reply, pull_of};
+ghost use Rattle.broker_model.specs.Answers.{pulled_reply, pull_of, pull_words};
+ghost use Rattle.broker_model.specs.Clients.{heard_words};
 ghost use Rattle.broker_events.specs.Replies.{IsReplyOf};
 ghost use Rattle.broker_events.specs.Steps.{Says};
 ghost use Rattle.broker_core.specs.Carries.{Carries, Stays, RepresentsSome};
 ghost use Rattle.broker_core.specs.Represents.{Represents};
-ghost use Rattle.broker_core.specs.Reads.{refusal_replies, words_of, IsSliceAt, AreSlicesAt};
+ghost use Rattle.broker_core.specs.Reads.{refusal_replies, IsSliceAt, AreSlicesAt};
 
 use crate::parts::Parts;
 use crate::replies::{Refused, pull_reply};
@@ -53,18 +54,6 @@ fn has_subscription(asked: &PullFields) -> bool
     ensures { result ≡ (bit_and (cast_unsigned w32 asked.now.sysflag) 4 == 4) }
 {
     asked.sysflag.cast_unsigned() & 4 == 4
-}
-
-// The tags of a pull: those of its own subscription where bit 4 of its flag says so. No group was heard yet, so else it takes
-// all messages.
-fn tags_of(alloc: Global, asked: &PullFields) -> Result<Tags, AllocError>
-    ensures { IfOk result (λ tags. tags_take tags ≡ takes (words_of asked.now)) }
-{
-    if has_subscription(asked) {
-        Tags::read(alloc, asked.subscription.as_str())
-    } else {
-        Tags::read(alloc, "")
-    }
 }
 
 // The code of a pull of a queue that has no records.
@@ -117,6 +106,33 @@ impl Parts {
         }
     }
 
+    // What the last heartbeat of its group said of the topic of a pull.
+    fn heard_words<'a>(&'a self, asked: &'a PullFields) -> &'a str
+        ensures { (s : State) → Represents self.entry.now s
+            → result.now ≡ heard_words s.clients asked.entry.now.group asked.entry.now.topic }
+    {
+        self.clients
+            .subscription(asked.group.as_str(), asked.topic.as_str())
+    }
+
+    // The words of a pull: its own where bit 4 of its flag says so, else what its group's last heartbeat said.
+    fn pull_words<'a>(&'a self, asked: &'a PullFields) -> &'a str
+        ensures { (s : State) → Represents self.entry.now s → result.now ≡ pull_words s asked.entry.now }
+    {
+        if has_subscription(asked) {
+            asked.subscription.as_str()
+        } else {
+            self.heard_words(asked)
+        }
+    }
+
+    // The tags of a pull.
+    fn tags_of(&self, alloc: Global, asked: &PullFields) -> Result<Tags, AllocError>
+        ensures { (s : State) → Represents self.entry.now s → IfOk result (λ tags. tags_take tags ≡ takes (pull_words s asked.now)) }
+    {
+        Tags::read(alloc, self.pull_words(asked))
+    }
+
     // What a pull with these tags finds of a queue, as consumers see it.
     fn found(&self, alloc: Global, asked: &PullFields, tags: &Tags) -> Result<Pulled, AllocError>
         ensures { (s : State) → Represents self.entry.now s → IfOk result (λ a. Answers (pulled_of_queue this
@@ -141,7 +157,7 @@ impl Parts {
         ensures { (s : State) → Represents self.entry.now s
             → IfOk result (λ reply. IsReplyOf reply (pulled_reply (pull_of s asked.now))) }
     {
-        let tags = tags_of(alloc, asked)?;
+        let tags = self.tags_of(alloc, asked)?;
         let found = self.found(alloc, asked, &tags)?;
         let slices = slices_of(alloc, &self.stored, found.units.as_slice())?;
         pull_reply(alloc, &found, slices)

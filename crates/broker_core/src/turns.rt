@@ -73,7 +73,6 @@ impl Parts {
         ensures carries { Carries self.old (model.Leave link) (λ answer. answer ≡ model.Done) self.new }
         ensures shown { shown_of self.new ≡ shown_of self.old }
     {
-        // No client is known yet.
-        let _link = link;
+        self.clients.leave(link);
     }
 }

@@ -41,7 +41,7 @@ fn is_delayed(send: &SendFields) -> bool
 }
 
 /// Whether the core answers the request: a plain message, a pull, a topic to be made, a question for an offset of a queue, a
-/// group's stored offset, or locks.
+/// group's stored offset, locks, a heartbeat, or a client that leaves groups.
 pub fn is_served(request: &Request) -> bool
     ensures { result ≡ is_served_of request.now }
 {
@@ -54,12 +54,10 @@ pub fn is_served(request: &Request) -> bool
         | Request::Search(_)
         | Request::MaxOffset(_)
         | Request::MinOffset(_)
-        | Request::Lock(_)
-        | Request::Unlock(_) => true,
-        Request::Query(_)
-        | Request::ViewById(_)
         | Request::Beat(_)
         | Request::Unregister(_)
-        | Request::EndTransaction(_) => false,
+        | Request::Lock(_)
+        | Request::Unlock(_) => true,
+        Request::Query(_) | Request::ViewById(_) | Request::EndTransaction(_) => false,
     }
 }

@@ -59,7 +59,7 @@ our_log S log flushed disk start it none image found = record {
 -- ---- the opening
 
 pub may_open : (setup : Setup) (records : List Entry) (log : LoadedLog) (pieces : FrozenRanges) → CanOpen setup records log pieces → MayOpen setup no_saved records log.loaded pieces
-may_open setup records log pieces can = record { lawful = can.lawful; of_log = can.loaded; covered = can.covered; base = refl; offsets = refl }
+may_open setup records log pieces can = record { lawful = can.lawful; of_log = can.loaded; covered = can.covered; base = refl }
 
 -- over records that are read, where the disk tells what it holds
 pub can_told : (tells : Type 0) (setup : Setup) (records : List Entry) (files : Files) (log : LoadedLog) (pieces : FrozenRanges) → tells → IsLawful setup.segment (whole_log records) → IsLoadedFrom [] records log.loaded

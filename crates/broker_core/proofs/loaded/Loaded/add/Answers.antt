@@ -45,4 +45,4 @@ returns c saved records is =
     (λ other. c.in_ok-know_own.ensures other ∙ ap (λ (name : List ℕ). own_with (queues_of old.topics) name queue other) c.topic-topic.ensures
     ∙ ap (λ (q : ℕ). own_with (queues_of old.topics) r.topic q other) c.queue-queue.ensures)
     (ap (λ (n : ℕ). n + c.from.result) c.offset-place.ensures.value ∙ ap (λ (n : ℕ). r.offset + n) (c.from.ensures ∙ c.size-size.ensures))
-    c.store-store.ensures.value c.store-store.ensures.low
+    c.store-store.ensures.value c.store-store.ensures.low refl

@@ -1,8 +1,4 @@
-use Rattle.std.proofs.Common.{rules, ◌≡◌, ap, sym, ◌∙◌, subst, refl, arith, ◌+◌, ◌-◌, ℕ, length, true, Bool, ◌&&◌, if◌then◌else◌}
-use Rattle.log_model.specs.Numbered.{count_of}
-use Rattle.broker_model.specs.Events as model
 use Rattle.broker_core.proofs.StoreLemmas.{waits_for}
-use Rattle.broker_core.specs.Represents.{setup_of}
 use Rattle.broker_core.proofs.parts.Parts.answer.Goals as goal
 
 pub returns-then-waits : goal.returns-then-waits

@@ -1,4 +1,4 @@
-use Rattle.std.proofs.Common.{◌≡◌, ◌∙◌, ◌++◌, ◌∷◌, [], refl, ap, sym, ℕ}
+use Rattle.std.proofs.Common.{◌∙◌, ◌++◌, ◌∷◌, [], refl, ap, ℕ}
 use Rattle.record_codec.specs.Drafts.{entry_of}
 use Rattle.broker_core.proofs.AppendLemmas.{represents_appended, has_unit, rows_few}
 use Rattle.broker_core.proofs.parts.Parts.append.Goals as goal

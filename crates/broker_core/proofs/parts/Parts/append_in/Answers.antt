@@ -1,4 +1,4 @@
-use Rattle.std.proofs.Common.{rules, ◌≡◌, ◌<◌, ◌≤◌, ap, sym, ◌∙◌, subst, refl, arith, ℕ, List, [], ◌∷◌, Bool, true, false, Option, is_some, string_bytes}
+use Rattle.std.proofs.Common.{rules, ◌≡◌, ◌<◌, ap, sym, ◌∙◌, subst, arith, ℕ, List, [], ◌∷◌, true, false, is_some, string_bytes}
 use Rattle.record_codec.specs.Drafts.{entry_of}
 use Rattle.std.specs.Str.{bytes_eq}
 use Rattle.broker_model.specs.State.{State}

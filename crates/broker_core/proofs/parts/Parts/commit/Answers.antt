@@ -1,4 +1,4 @@
-use Rattle.std.proofs.Common.{◌≡◌, ◌∙◌, ap, sym, ℕ, List}
+use Rattle.std.proofs.Common.{◌∙◌, ap, sym}
 use Rattle.request_fields.specs.Requests.{PullSaid}
 use Rattle.broker_core.proofs.GroupLemmas.{commit_stored, commit_none}
 use Rattle.broker_core.proofs.parts.Parts.commit.Goals as goal

@@ -1,14 +1,12 @@
-use Rattle.std.proofs.Common.{◌≡◌, ◌≤◌, ◌∙◌, ap, sym, subst, max, length, All, ℕ, List}
+use Rattle.std.proofs.Common.{◌≡◌, ◌≤◌, ◌∙◌, ap, sym, subst, max, length, All, List}
 use Rattle.mq_bytes.specs.declared.clients.QueueName.{QueueName}
 use Rattle.request_fields.specs.Requests.{LockSaid, IsQueueName}
 use Rattle.request_fields.specs.declared.request.Request.TheVariants.{Lock}
 use Rattle.lock_body.specs.Granted.{HasShortNames}
-use Rattle.broker_model.specs.State.{State}
 use Rattle.broker_model.specs.Events as model
 use Rattle.broker_model.specs.Tables.{granted, with_locks}
 use Rattle.broker_events.specs.Replies.{IsLockReply}
 use Rattle.group_tables.specs.Held.{HasLocks}
-use Rattle.broker_core.specs.Represents.{Represents}
 use Rattle.broker_core.proofs.GroupLemmas.{does_lock, lock_done, granted_short, granted_few}
 use Rattle.broker_core.proofs.ReadLemmas.{carries_done, asked_by}
 use Rattle.broker_core.proofs.parts.Parts.lock_queues.Goals as goal

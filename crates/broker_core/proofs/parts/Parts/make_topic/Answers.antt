@@ -1,12 +1,11 @@
-use Rattle.std.proofs.Common.{rules, ◌≡◌, ap, sym, ◌∙◌, subst, refl, Bool, true, false, codes, List, ℕ, max, None, Some, string_bytes, if◌then◌else◌}
-use Rattle.std.specs.Option.{unwrap_or}
+use Rattle.std.proofs.Common.{rules, ◌≡◌, ap, sym, ◌∙◌, subst, true, false, codes, List, ℕ, max, string_bytes}
 use Rattle.std.specs.Str.{bytes_eq}
 use Rattle.record_codec.specs.Layout.{is_legal}
 use Rattle.log_model.specs.Admissible.{is_system_topic}
 use Rattle.request_fields.specs.Requests.{TopicSaid, KeepsTopic}
 use Rattle.request_fields.specs.declared.request.Request.TheVariants.{MakeTopic}
 use Rattle.broker_model.specs.State.{State}
-use Rattle.broker_model.specs.Refusals.{plain_reply, refusal_of}
+use Rattle.broker_model.specs.Refusals.{plain_reply}
 use Rattle.broker_model.specs.Step.{with_made}
 use Rattle.broker_model.specs.Events as model
 use Rattle.broker_events.specs.Replies.{IsToldAs}

@@ -20,9 +20,9 @@ new-pending-requires-clause-low c =
 pub returns-clause-represents : goal.returns-clause-represents
 returns-clause-represents c saved records may =
     let host : IsHost c.args.setup.host = c.host_number-number.ensures.host in
-    represents_opened c.args.setup saved records c.args.loaded c.args.stored c.new-pending.result c.see.new.queues c.new.result c.end-count.result may host c.end-count.ensures.value
+    represents_opened c.args.setup saved records c.args.loaded c.args.stored c.new-pending.result c.see.new.queues c.new-clients.result c.end-count.result may host c.end-count.ensures.value
     c.new-pending.ensures.value c.new-pending.ensures.log (c.see.ensures (whole_log records) may.of_log.rows may.of_log.tabled may.of_log.queues)
-    c.new.ensures.offsets c.new.ensures.locks
+    c.new-clients.ensures
 
 pub returns-clause-shown : goal.returns-clause-shown
 returns-clause-shown c saved records may =

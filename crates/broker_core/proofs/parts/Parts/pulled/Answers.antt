@@ -11,7 +11,7 @@ slices_of-requires c k unit at =
     let q = c.args.asked.now in
     let s = c.requires.0 in
     let are = c.requires.1 in
-    let answers = answers_pull core s q c.in_ok-tags.tags c.in_ok-found.found are c.in_ok-tags.ensures (c.in_ok-found.ensures s are) in
+    let answers = answers_pull core s q c.in_ok-tags.tags c.in_ok-found.found are (c.in_ok-tags.ensures s are) (c.in_ok-found.ensures s are) in
     has_ranges core s q c.in_ok-found.found are answers k unit (subst (λ (us : List QueueUnit). slice_get us k ≡ Some unit) c.as_slice.ensures.value at)
 
 pub pull_reply-requires-clause-within : goal.pull_reply-requires-clause-within
@@ -20,7 +20,7 @@ pull_reply-requires-clause-within c =
     let q = c.args.asked.now in
     let s = c.requires.0 in
     let are = c.requires.1 in
-    let answers = answers_pull core s q c.in_ok-tags.tags c.in_ok-found.found are c.in_ok-tags.ensures (c.in_ok-found.ensures s are) in
+    let answers = answers_pull core s q c.in_ok-tags.tags c.in_ok-found.found are (c.in_ok-tags.ensures s are) (c.in_ok-found.ensures s are) in
     pull_bytes core s q c.in_ok-found.found c.in_ok-slices.slices.items are answers
     (subst (λ (us : List QueueUnit). AreSlicesAt core.stored c.in_ok-slices.slices.items us) c.as_slice.ensures.value c.in_ok-slices.ensures)
 
@@ -28,7 +28,7 @@ pub returns : goal.returns
 returns c s are =
     let core = c.args.self.now in
     let q = c.args.asked.now in
-    let answers = answers_pull core s q c.in_ok-tags.tags c.in_ok-found.found are c.in_ok-tags.ensures (c.in_ok-found.ensures s are) in
+    let answers = answers_pull core s q c.in_ok-tags.tags c.in_ok-found.found are (c.in_ok-tags.ensures s are) (c.in_ok-found.ensures s are) in
     c.pull_reply.ensures (pull_of s q) answers
     (pull_slices core s q c.in_ok-found.found c.in_ok-slices.slices.items are answers
     (subst (λ (us : List QueueUnit). AreSlicesAt core.stored c.in_ok-slices.slices.items us) c.as_slice.ensures.value c.in_ok-slices.ensures))

@@ -1,4 +1,4 @@
-use Rattle.std.proofs.Common.{rules, ◌≡◌, ◌<◌, ◌^◌, ap, sym, ◌∙◌, subst, refl, ℕ, List, max, Option, Some, None}
+use Rattle.std.proofs.Common.{rules, ◌≡◌, sym, ◌∙◌, subst, ℕ, max, Some, None}
 use Rattle.std.specs.Option.{unwrap_or}
 use Rattle.std.proofs.lemmas.Result.{IfOk-weaker}
 use Rattle.record_codec.specs.declared.draft.Draft.{Draft}

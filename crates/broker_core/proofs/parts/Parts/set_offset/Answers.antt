@@ -1,4 +1,4 @@
-use Rattle.std.proofs.Common.{◌≡◌, ◌∙◌, ap, subst, sym, ℕ, List, None, Some, codes, rules}
+use Rattle.std.proofs.Common.{◌≡◌, ◌∙◌, ap, subst, None, Some, codes, rules}
 use Rattle.request_fields.specs.Requests.{SetOffsetSaid}
 use Rattle.request_fields.specs.declared.request.Request.TheVariants.{SetOffset}
 use Rattle.broker_model.specs.State.{State}

@@ -1,11 +1,8 @@
-use Rattle.std.proofs.Common.{rules, ◌≡◌, ◌<◌, ◌≤◌, ap, sym, ◌∙◌, subst, refl, arith, ℕ, List, [], ◌∷◌, Bool, Some, max, slice_get, pos}
+use Rattle.std.proofs.Common.{rules, ◌≡◌, ap, sym, ◌∙◌, subst, refl, ℕ, [], ◌∷◌, Bool, Some, max}
 use Rattle.std.specs.Option.{unwrap_or}
 use Rattle.record_codec.specs.Entry.{Entry}
-use Rattle.record_codec.specs.Drafts.{entry_of, draft_size}
-use Rattle.log_model.specs.Numbered.{next_record}
+use Rattle.record_codec.specs.Drafts.{entry_of}
 use Rattle.queue_view.specs.Tables.{number_of}
-use Rattle.broker_model.specs.State.{State}
-use Rattle.broker_model.specs.Sends.{waits}
 use Rattle.broker_model.specs.Answers.{append_answer, reply_with}
 use Rattle.broker_model.specs.Step.{with_made, with_records}
 use Rattle.broker_events.specs.Steps.{Says}

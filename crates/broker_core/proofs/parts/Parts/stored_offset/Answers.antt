@@ -1,4 +1,4 @@
-use Rattle.std.proofs.Common.{◌≡◌, ◌∙◌, ap, subst, ℕ, List, Option, IfOk}
+use Rattle.std.proofs.Common.{◌≡◌, ◌∙◌, ap, subst, ℕ, Option, IfOk}
 use Rattle.reply_fields.specs.Parts.{ReplyParts}
 use Rattle.request_fields.specs.Requests.{OffsetSaid}
 use Rattle.request_fields.specs.declared.request.Request.TheVariants.{OffsetOf}

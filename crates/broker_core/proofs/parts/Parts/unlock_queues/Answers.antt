@@ -1,5 +1,4 @@
-use Rattle.std.proofs.Common.{◌≡◌, ◌∙◌, ap, ℕ, List, codes}
-use Rattle.mq_bytes.specs.declared.clients.QueueName.{QueueName}
+use Rattle.std.proofs.Common.{◌≡◌, ◌∙◌, ap, codes}
 use Rattle.request_fields.specs.Requests.{LockSaid}
 use Rattle.request_fields.specs.declared.request.Request.TheVariants.{Unlock}
 use Rattle.broker_model.specs.Events as model

@@ -1,0 +1,5 @@
+pub mod ListLemmas
+pub mod MapLemmas
+pub mod HeardLemmas
+pub mod ClientLemmas
+pub mod BeatLemmas

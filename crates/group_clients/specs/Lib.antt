@@ -1,0 +1,5 @@
+pub mod Rows
+pub mod Kept
+pub mod Table
+pub mod Held
+pub mod Places
