@@ -2,10 +2,11 @@
 use Rattle.std.specs.Prelude.{◌≡◌, ◌≢◌, ◌⊎◌, ℕ, ◌+◌, ◌≤◌, ◌++◌, List, [], ◌∷◌, codes, length, take, Bool, true, Option, Some, None, Result, Ok, Err}
 use Rattle.mq_outside.specs.Counts.{Rises}
 use Rattle.mq_outside.specs.Files.{Files}
-use Rattle.mq_outside.specs.Disk.{DiskState, Rests, Throughout}
+use Rattle.mq_outside.specs.Disk.{DiskState, EachImage, Rests, Throughout}
 use Rattle.mq_outside.specs.Readings.{Giving}
 use Rattle.record_codec.specs.Entry.{Entry}
 use Rattle.log_model.specs.Bases.{Geometry, whole}
+use Rattle.log_model.specs.Segments.{AreSegmentFiles}
 use Rattle.log_model.specs.Store.{Keeps, IsDamagedAt, IsHonest, StoresLog, KeepsIfHonest}
 use Rattle.log_model.specs.Stored.{HasFirst, FlushTurn, KeepsAtLeast, stored, turned_by, turned_in}
 use Rattle.log_recovery.specs.declared.fault.RecoverFault.{RecoverFault}
@@ -28,11 +29,12 @@ use Rattle.log_opening.specs.Opens.{OpensOver, no_saved}
 use Rattle.log_opening.specs.declared.opening.Opened.{Opened}
 use Rattle.request_acts.specs.Acts.{Act, Acted, DiskView, Place, steps_of, turns_of}
 use Rattle.request_acts.specs.Turning.{AreAllTurns}
+use Rattle.request_acts.specs.declared.broken.Broken.{Broken}
+use Rattle.request_acts.specs.declared.broken.Broken.TheVariants as broken
 use Rattle.request_stream.specs.Serving.{Sides, sides_of, point_of}
 use Rattle.request_stream.specs.Piping.{SourceSeen, Piped, acts_in}
 use Rattle.flush_story.specs.Keeping.{AreInOrder, AreExact}
 use Rattle.kept_log.specs.Leads.{alone}
-use Rattle.request_stream.specs.declared.stop.Stop.{Stop}
 use Rattle.request_stream.specs.declared.stop.Halt.{Halt}
 use Rattle.request_stream.specs.declared.stop.Halt.TheVariants.{BadFrame, Read, Stopped}
 use Rattle.request_stream.specs.declared.stop.Stop.TheVariants as stops
@@ -48,11 +50,14 @@ StatusTells status (Err Read) last = status.code ≡ 3
 StatusTells status (Err (Stopped stops.Sink)) last = status.code ≡ 4
 StatusTells status (Err (Stopped stops.Memory)) last = status.code ≡ 7
 StatusTells status (Err (Stopped stops.Clock)) last = ((status.code ≡ 10) × (status.name ≡ codes "clock")) ⊎ (status.code ≡ 7)
+StatusTells status (Err (Stopped stops.Misplaced)) last = ⊥
 
--- the same where memory may run out in the last flush turns
-abbrev pub StatusOf : {A E : Type 0} → Status → Result A Halt → Result (Option ℕ) E → Type 0
+-- The same where memory may run out in the last flush turns. No batch begins elsewhere than where the flusher writes, so no status
+-- tells of one.
+abbrev pub StatusOf : {A : Type 0} → Status → Result A Halt → Result (Option ℕ) Broken → Type 0
 StatusOf status ended (Ok last) = StatusTells status ended last
-StatusOf status ended (Err fault) = status.code ≡ 7
+StatusOf status ended (Err broken.Memory) = status.code ≡ 7
+StatusOf status ended (Err broken.Misplaced) = ⊥
 
 -- the status that tells why the log was not recovered
 abbrev pub StatusTellsFault : Status → RecoverFault → Type 0
@@ -140,20 +145,22 @@ pub record Leaves (S : Geometry) (log : List Entry) (least : ℕ) (files : Files
   pub keeps : KeepsIfHonest S log least files
 
 -- What every crash leaves of a store that had a log with so many records flushed, when a run from `log` on ended with this log.
--- Up to a moment it was being opened. From then on the turns that ended Ok came one behind another, and each record that a turn
--- flushed stays from its moment on: at that moment a crash leaves exactly the files of what was flushed.
+-- Up to a moment it was being opened, and then a crash leaves exactly the files of the run's first log. From then on the turns that
+-- ended Ok came one behind another, and each record that a turn flushed stays from its moment on: at that moment a crash leaves
+-- exactly the files of what was flushed.
 pub record Survives (S : Geometry) (stored : List Entry) (flushed : ℕ) (log : List Entry) (turns : List FlushTurn) (reached : List Entry) (old new : DiskState) : Type 0 where
   pub opening : ℕ
   pub later : old.moment ≤ opening
   pub order : AreInOrder opening turns new.moment
   pub before : (m : ℕ) (files : Files) → old.moment ≤ m → m ≤ opening → new.image_at m files → Leaves S stored flushed files
+  pub opened : (files : Files) → new.image_at opening files → AreSegmentFiles S log files
   pub after : (m : ℕ) (files : Files) → opening ≤ m → m ≤ new.moment → new.image_at m files → Leaves S reached (length log + turned_by turns m) files
   pub exact : AreExact S reached (length log) turns new
   pub stores : StoresLog S reached (length log + turned_in turns) new
 
 -- The requests of the source were served by a core that was opened over this log, and then flush turns were made. All that
 -- happened is a run of the model.
-pub record RunFrom {D A E : Type 0} (segment : ℕ) (log : List Entry) (ended : Result A Halt) (last : Result (Option ℕ) E) (seen : Seen D) (holds : List Act → State → Type 0) : Type 0 where
+pub record RunFrom {D A : Type 0} (segment : ℕ) (log : List Entry) (ended : Result A Halt) (last : Result (Option ℕ) Broken) (seen : Seen D) (holds : List Act → State → Type 0) : Type 0 where
   pub calls : Alone
   pub served : Alone
   pub closed : Alone
@@ -173,13 +180,13 @@ pub record RunFrom {D A E : Type 0} (segment : ℕ) (log : List Entry) (ended : 
   pub done : holds (first ++ flushed.acts) reached
 
 -- A run from the log that recovery keeps of the files as they were read.
-pub record BeginsWithKept {D A E : Type 0} (segment : ℕ) (ended : Result A Halt) (last : Result (Option ℕ) E) (seen : Seen D) : Type 0 where
+pub record BeginsWithKept {D A : Type 0} (segment : ℕ) (ended : Result A Halt) (last : Result (Option ℕ) Broken) (seen : Seen D) : Type 0 where
   pub records : List Entry
   pub keeps : Keeps (whole segment) records (before seen).reads
   pub ran : RunFrom segment records ended last seen (λ acts reached. Unit {0})
 
 -- A run from a prefix of the stored log that has all that was flushed, and every crash leaves what it flushed.
-pub record KeepsOn {D A E : Type 0} (segment : ℕ) (stored : List Entry) (flushed : ℕ) (ended : Result A Halt) (last : Result (Option ℕ) E) (seen : Seen D) : Type 0 where
+pub record KeepsOn {D A : Type 0} (segment : ℕ) (stored : List Entry) (flushed : ℕ) (ended : Result A Halt) (last : Result (Option ℕ) Broken) (seen : Seen D) : Type 0 where
   pub number : ℕ
   pub low : flushed ≤ number
   pub high : number ≤ length stored
@@ -187,14 +194,14 @@ pub record KeepsOn {D A E : Type 0} (segment : ℕ) (stored : List Entry) (flush
       (λ acts reached. Survives (whole segment) stored flushed (take number stored) (turns_of acts) reached.log.records (before seen) (behind seen))
 
 -- A run from some log.
-pub record RunsFromSome {D A E : Type 0} (segment : ℕ) (ended : Result A Halt) (last : Result (Option ℕ) E) (seen : Seen D) : Type 0 where
+pub record RunsFromSome {D A : Type 0} (segment : ℕ) (ended : Result A Halt) (last : Result (Option ℕ) Broken) (seen : Seen D) : Type 0 where
   pub log : List Entry
   pub ran : RunFrom segment log ended last seen (λ acts reached. Unit {0})
 
 -- Requests were served from a log that was opened, in segments of this size.
 pub record Served {D : Type 0} (asked : Option ℕ) (status : Status) (seen : Seen D) (keep : KeepSeen) : Type 0 where
   pub ended : Result (Unit {0}) Halt
-  pub last : Result (Option ℕ) Stop
+  pub last : Result (Option ℕ) Broken
   pub tells : StatusOf status ended last
   pub segment : ℕ
   pub opened_as : IsOpened asked segment seen.disk.tells (before seen).reads keep.tells keep.old keep.new
@@ -251,6 +258,7 @@ pub record Causes (status : Status) (old new : AllFaults) : Type 0 where
 -- What every crash leaves of a log all of which was flushed, when a run from it on ended.
 pub record KeepsAfter (segment : ℕ) (log : List Entry) (acts : List Act) (reached : State) (old new : DiskState) : Type 0 where
   pub kept : KeepsAtLeast (whole segment) reached.log.records (λ m. length log + turned_by (turns_of acts) m) old new
+  pub opened : EachImage (AreSegmentFiles (whole segment) log) old
   pub order : AreInOrder old.moment (turns_of acts) new.moment
   pub exact : AreExact (whole segment) reached.log.records (length log) (turns_of acts) new
   pub stores : StoresLog (whole segment) reached.log.records (length log + turned_in (turns_of acts)) new
@@ -258,7 +266,7 @@ pub record KeepsAfter (segment : ℕ) (log : List Entry) (acts : List Act) (reac
 -- The requests were served from each log over which this was opened.
 pub record ServedOver {D : Type 0} (it : Opened) (status : Status) (seen : Seen D) : Type 0 where
   pub ended : Result (Unit {0}) Halt
-  pub last : Result (Option ℕ) Stop
+  pub last : Result (Option ℕ) Broken
   pub tells : StatusOf status ended last
   pub runs : (segment : ℕ) (log : List Entry) → OpensOver (pipe_setup segment) log it → RunFrom segment log ended last seen
       (λ acts reached. seen.disk.tells → IsReady (stored (whole segment) log (length log)) 0 (growing it.flusher.file (before seen)) → KeepsAfter segment log acts reached (before seen) (behind seen))

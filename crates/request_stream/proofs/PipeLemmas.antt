@@ -163,6 +163,7 @@ counts_halt Read source source_then sink sink_mid sink_then clock clock_mid cloc
 counts_halt (Stopped stops.Clock) source source_then sink sink_mid sink_then clock clock_mid clock_then same_sink same_clock counts = subst (λ (n : ℕ). Rises n clock_then) same_clock counts
 counts_halt (Stopped stops.Sink) source source_then sink sink_mid sink_then clock clock_mid clock_then same_sink same_clock counts = subst (λ (n : ℕ). Rises n sink_then) same_sink counts
 counts_halt (Stopped stops.Memory) source source_then sink sink_mid sink_then clock clock_mid clock_then same_sink same_clock counts = tt
+counts_halt (Stopped stops.Misplaced) source source_then sink sink_mid sink_then clock clock_mid clock_then same_sink same_clock counts = tt
 
 -- the disk's count of faults never falls
 pub piped_grows : {C D A : Type 0} (sides : Sides C D) (result : Result A Halt) (source : SourceSeen) (x y : C) (old new : Point D) → Piped sides result source x old y new

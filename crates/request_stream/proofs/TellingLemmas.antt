@@ -1,6 +1,5 @@
 -- Answers that are told, and what happened for them.
 use Rattle.std.proofs.Common.{◌≡◌, inl, inr, ℕ, ℤ, ◌++◌, List, [], ◌∷◌, Bool, true, false, Option, Some, None, Result, Ok, Err, OnOk, OnErr, refl, sym, ap, ◌∙◌, subst, append-nil, append_assoc, ⊎_elim}
-use Rattle.std.specs.declared.alloc.AllocError.{AllocError}
 use Rattle.mq_outside.specs.Counts.{Rises}
 use Rattle.mq_outside.specs.Readings.{Giving}
 use Rattle.remoting_frame.specs.declared.frame.Frame.{Frame}
@@ -14,14 +13,16 @@ use Rattle.session.specs.declared.caller.Caller.{Caller}
 use Rattle.session.specs.declared.heard.Heard.{Heard}
 use Rattle.session.specs.declared.owed.Awaits.{Awaits}
 use Rattle.request_acts.specs.Acts.{Act, Acts, Acted, Place}
-use Rattle.request_acts.specs.Turning.{AreTurnsAndDispatch}
+use Rattle.request_acts.specs.Turning.{AreTurnsAndDispatch, BrokeBy}
+use Rattle.request_acts.specs.declared.broken.Broken.{Broken}
+use Rattle.request_acts.specs.declared.broken.Broken.TheVariants as broken
 use Rattle.request_acts.specs.Asking.{Chooses, IsGiven, Gives, IsLooked, Looks}
-use Rattle.request_stream.specs.Telling.{unread, Appends, AppendsUnread, IsTold, HasTold, HasToldPart, HasWrittenReply, HasWrittenPart, TookPart, Tells, WritesReply}
-use Rattle.request_stream.specs.Serving.{Sides, sides_of, Point, point_of, caller_of, IsSettled, IsFollowed, IsAnswered, IsServed, IsPartly, served_as, HasAnswered, HasPartly, HasBroken, Answers, HasServed, HasPartlyServed, ServesAt}
+use Rattle.request_stream.specs.Telling.{stopped_by, CountsTelling, unread, Appends, AppendsUnread, IsTold, HasTold, HasToldPart, HasWrittenReply, HasWrittenPart, TookPart, Tells, WritesReply}
+use Rattle.request_stream.specs.Serving.{Sides, sides_of, Point, point_of, caller_of, IsSettled, IsFollowed, IsAnswered, IsServed, IsPartly, served_as, StoppedIn, HasAnswered, HasPartly, HasBroken, Answers, HasServed, HasPartlyServed, ServesAt}
 use Rattle.request_acts.specs.declared.answer.Answer.{Answer}
 use Rattle.request_stream.specs.declared.stop.Stop.{Stop}
 use Rattle.request_stream.specs.declared.stop.Stop.TheVariants as stops
-use Rattle.request_acts.proofs.ActLemmas.{still, acts_then}
+use Rattle.request_acts.proofs.ActLemmas.{still, acts_then, unwritten_behind}
 
 -- nothing was written of a piece
 pub took_none : (taken taken_then piece : List ℕ) → taken_then ≡ taken → TookPart taken taken_then piece
@@ -36,6 +37,11 @@ took_all taken taken_then piece whole = record { part = piece; unwritten = []; f
 pub on_err : {A E : Type 0} (result : Result A E) (P : Type 0) → P → OnErr result P
 on_err (Ok done) P it = tt
 on_err (Err fault) P it = it
+
+-- acts that broke off leave the sink's count
+pub counts_stopped : {A : Type 0} (fault : Broken) (old new : ℕ) → new ≡ old → CountsTelling {A = A} (Err (stopped_by fault)) old new
+counts_stopped broken.Misplaced old new same = same
+counts_stopped broken.Memory old new same = same
 
 -- ---- the bytes of a reply
 
@@ -88,6 +94,7 @@ told_by gives caller reply faults faults_then sink taken taken_then (Err stops.C
 told_by gives caller reply faults faults_then sink taken taken_then (Err stops.Sink) waits wrote =
     record { bytes = wrote.bytes; told = waits_for gives caller reply faults faults_then wrote.bytes waits wrote.are; took = wrote.took }
 told_by gives caller reply faults faults_then sink taken taken_then (Err stops.Memory) waits wrote = wrote
+told_by gives caller reply faults faults_then sink taken taken_then (Err stops.Misplaced) waits wrote = wrote
 
 pub told_nobody : (gives : Giving) (caller : Caller) (reply : ReplyParts) (faults : ℕ) (sink : Type 0) (taken : List ℕ) → caller.one_way ≡ true
     → HasTold gives caller reply faults faults sink taken taken
@@ -118,10 +125,12 @@ module _ {C D : Type 0} (sides : Sides C D) (caller : Caller) where
     is_settled = (refl, refl);
     told = told.told;
     happened = still sides.makes sides.disk x place;
+    stopped = tt;
     took = told.took;
   }
   broken_at_once reply stops.Memory x place reads reads_then taken taken_then readings told =
-      inr (record { acts = []; happened = still sides.makes sides.disk x place; still = told })
+      inr (record { acts = []; happened = still sides.makes sides.disk x place; stopped = tt; still = told })
+  broken_at_once reply stops.Misplaced x place reads reads_then taken taken_then readings told = absurd told
 
   -- it was told, and turns came behind it
   pub told_at_once : (reply : ReplyParts) (x y : C) (old new : Place D) (reads reads_then : ℕ) (taken taken_then readings : List ℕ)
@@ -140,10 +149,10 @@ module _ {C D : Type 0} (sides : Sides C D) (caller : Caller) where
   }
 
   -- it was told, and the turns broke off
-  pub broken_behind : (reply : ReplyParts) (IsKind : List Act → Type 0) (x y : C) (old new : Place D) (reads reads_then : ℕ) (taken taken_then readings : List ℕ)
-      → HasTold sides.gives caller reply reads reads_then sides.sink taken taken_then → Acted sides.makes sides.disk IsKind x old y new
-      → HasPartly sides caller (record { reply = reply; awaits = None }) x (point_of old reads taken readings) y (point_of new reads_then taken_then readings)
-  broken_behind reply IsKind x y old new reads reads_then taken taken_then readings told turned = record {
+  partly_behind : (reply : ReplyParts) (stop : Stop) (x y : C) (old new : Place D) (reads reads_then : ℕ) (taken taken_then readings : List ℕ)
+      → HasTold sides.gives caller reply reads reads_then sides.sink taken taken_then → Acted sides.makes sides.disk (StoppedIn stop) x old y new
+      → HasPartly sides stop caller (record { reply = reply; awaits = None }) x (point_of old reads taken readings) y (point_of new reads_then taken_then readings)
+  partly_behind reply stop x y old new reads reads_then taken taken_then readings told turned = record {
     settled = [];
     followed = turned.acts;
     reply = reply;
@@ -151,8 +160,27 @@ module _ {C D : Type 0} (sides : Sides C D) (caller : Caller) where
     is_settled = (refl, refl);
     told = told.told;
     happened = turned.happened;
+    stopped = turned.kind;
     took = λ tells. took_all taken taken_then told.bytes (told.taken_is tells);
   }
+
+  pub broken_behind : {A : Type 0} (reply : ReplyParts) (fault : Broken) (x y : C) (old new : Place D) (reads reads_then : ℕ) (taken taken_then readings : List ℕ)
+      → HasTold sides.gives caller reply reads reads_then sides.sink taken taken_then → Acted sides.makes sides.disk (BrokeBy fault) x old y new
+      → Answers {A = A} sides caller (record { reply = reply; awaits = None }) (Err (stopped_by fault)) x (point_of old reads taken readings) y (point_of new reads_then taken_then readings)
+  broken_behind reply broken.Misplaced x y old new reads reads_then taken taken_then readings told turned =
+      inl (partly_behind reply stops.Misplaced x y old new reads reads_then taken taken_then readings told
+      (record { acts = turned.acts; kind = turned.kind; happened = turned.happened }))
+  broken_behind reply broken.Memory x y old new reads reads_then taken taken_then readings told turned =
+      inl (partly_behind reply stops.Memory x y old new reads reads_then taken taken_then readings told
+      (record { acts = turned.acts; kind = turned.kind; happened = turned.happened }))
+
+  -- nothing was told, since acts broke off
+  pub broken_before : {A : Type 0} (answer : Answer) (fault : Broken) (x y : C) (old new : Place D) (reads : ℕ) (taken readings : List ℕ) → Acted sides.makes sides.disk (BrokeBy fault) x old y new
+      → Answers {A = A} sides caller answer (Err (stopped_by fault)) x (point_of old reads taken readings) y (point_of new reads taken readings)
+  broken_before answer broken.Misplaced x y old new reads taken readings acted =
+      inr (record { acts = acted.acts; happened = acted.happened; stopped = acted.kind; still = λ tells. refl })
+  broken_before answer broken.Memory x y old new reads taken readings acted =
+      inr (record { acts = acted.acts; happened = acted.happened; stopped = tt; still = λ tells. refl })
 
   -- ---- behind a look
 
@@ -182,10 +210,12 @@ module _ {C D : Type 0} (sides : Sides C D) (caller : Caller) where
     is_settled = looked.kind;
     told = tells.told;
     happened = nothing_more looked.acts x y old new looked.happened;
+    stopped = tt;
     took = tells.took;
   }
   told_behind reply told awaits (Err stops.Memory) x y old new reads reads_then taken taken_then readings looked tells =
-      inr (record { acts = looked.acts; happened = looked.happened; still = tells })
+      inr (record { acts = looked.acts; happened = looked.happened; stopped = tt; still = tells })
+  told_behind reply told awaits (Err stops.Misplaced) x y old new reads reads_then taken taken_then readings looked tells = absurd tells
 
 -- ---- a request that was given, and its answer
 
@@ -209,10 +239,16 @@ module _ {C D : Type 0} (sides : Sides C D) (frame : Frame) (now : ℕ) where
     are_all = refl;
   }
 
-  partly : (request : Result Request RequestFault) (answer : Answer) (given : List Act) (x y z : C) (old mid new : Point D) → Reads request (request_of frame.header frame.body)
+  stopped_behind : (stop : Stop) (given later : List Act) → StoppedIn stop later → StoppedIn stop (given ++ later)
+  stopped_behind stops.Clock given later stopped = tt
+  stopped_behind stops.Sink given later stopped = tt
+  stopped_behind stops.Memory given later stopped = tt
+  stopped_behind stops.Misplaced given later stopped = unwritten_behind given later stopped
+
+  partly : (stop : Stop) (request : Result Request RequestFault) (answer : Answer) (given : List Act) (x y z : C) (old mid new : Point D) → Reads request (request_of frame.header frame.body)
       → IsGiven frame.header.code now request answer given → Acts sides.makes sides.disk given x old.place y mid.place → mid.reads ≡ old.reads → mid.taken ≡ old.taken
-      → HasPartly sides (caller_of frame) answer y mid z new → HasPartlyServed sides frame now x old z new
-  partly request answer given x y z old mid new read is_given gave reads taken it = record {
+      → HasPartly sides stop (caller_of frame) answer y mid z new → HasPartlyServed sides stop frame now x old z new
+  partly stop request answer given x y z old mid new read is_given gave reads taken it = record {
     acts = given ++ (it.settled ++ it.followed);
     bytes = it.bytes;
     served = record {
@@ -224,13 +260,16 @@ module _ {C D : Type 0} (sides : Sides C D) (frame : Frame) (now : ℕ) where
       are_both = sym (append_assoc given it.settled it.followed);
     };
     happened = acts_then sides.makes sides.disk given (it.settled ++ it.followed) x y z old.place mid.place new.place gave it.happened;
+    stopped = stopped_behind stop given (it.settled ++ it.followed) it.stopped;
     took = λ tells. subst (λ (l : List ℕ). TookPart l new.taken it.bytes) taken (it.took tells);
   }
 
-  broken : (given : List Act) (x y z : C) (old mid new : Point D) → Acts sides.makes sides.disk given x old.place y mid.place → mid.taken ≡ old.taken → HasBroken sides y mid z new → HasBroken sides x old z new
-  broken given x y z old mid new gave taken it = record {
+  broken_on : (stop : Stop) (given : List Act) (x y z : C) (old mid new : Point D) → Acts sides.makes sides.disk given x old.place y mid.place → mid.taken ≡ old.taken
+      → HasBroken sides stop y mid z new → HasBroken sides stop x old z new
+  broken_on stop given x y z old mid new gave taken it = record {
     acts = given ++ it.acts;
     happened = acts_then sides.makes sides.disk given it.acts x y z old.place mid.place new.place gave it.happened;
+    stopped = stopped_behind stop given it.acts it.stopped;
     still = λ tells. it.still tells ∙ taken;
   }
 
@@ -254,16 +293,31 @@ module _ {C D : Type 0} (sides : Sides C D) (frame : Frame) (now : ℕ) where
     taken_is = λ tells. it.taken_is tells ∙ ap (λ (l : List ℕ). l ++ it.bytes) taken;
   }
   by_caller request answer given (Err stops.Clock) x y z old mid new read is_given gave reads taken it = it
-  by_caller request answer given (Err stops.Sink) x y z old mid new read is_given gave reads taken it = partly request answer given x y z old mid new read is_given gave reads taken it
+  by_caller request answer given (Err stops.Sink) x y z old mid new read is_given gave reads taken it =
+      partly stops.Sink request answer given x y z old mid new read is_given gave reads taken it
   by_caller request answer given (Err stops.Memory) x y z old mid new read is_given gave reads taken it = ⊎_elim
-      (λ (some : HasPartly sides (caller_of frame) answer y mid z new). inl (partly request answer given x y z old mid new read is_given gave reads taken some))
-      (λ (none : HasBroken sides y mid z new). inr (broken given x y z old mid new gave taken none))
+      (λ (some : HasPartly sides stops.Memory (caller_of frame) answer y mid z new).
+      inl (partly stops.Memory request answer given x y z old mid new read is_given gave reads taken some))
+      (λ (none : HasBroken sides stops.Memory y mid z new). inr (broken_on stops.Memory given x y z old mid new gave taken none))
       it
+  by_caller request answer given (Err stops.Misplaced) x y z old mid new read is_given gave reads taken it = ⊎_elim
+      (λ (some : HasPartly sides stops.Misplaced (caller_of frame) answer y mid z new).
+      inl (partly stops.Misplaced request answer given x y z old mid new read is_given gave reads taken some))
+      (λ (none : HasBroken sides stops.Misplaced y mid z new). inr (broken_on stops.Misplaced given x y z old mid new gave taken none))
+      it
+
+  -- what was heard was not answered, since acts broke off
+  pub served_broken : {A : Type 0} (fault : Broken) (x y : C) (old new : Point D) → Acted sides.makes sides.disk (BrokeBy fault) x old.place y new.place → new.taken ≡ old.taken
+      → ServesAt {A = A} sides frame now (Err (stopped_by fault)) x old y new
+  served_broken broken.Misplaced x y old new acted same =
+      inr (record { acts = acted.acts; happened = acted.happened; stopped = acted.kind; still = λ tells. same })
+  served_broken broken.Memory x y old new acted same =
+      inr (record { acts = acted.acts; happened = acted.happened; stopped = tt; still = λ tells. same })
 
   -- what was heard was given to the broker, and its answer told
   pub served_by : {A : Type 0} (heard : Heard) (answer : Answer) (code : ℤ) (caller : Caller) (result : Result A Stop) (x y z : C) (old mid new : Point D) → code ≡ heard.code
       → caller ≡ record { form = heard.form; opaque = heard.opaque; one_way = heard.one_way } → IsHeard heard frame
-      → Acted sides.makes sides.disk (Gives {E = AllocError} code now heard.request (Ok answer)) x old.place y mid.place → mid.reads ≡ old.reads → mid.taken ≡ old.taken
+      → Acted sides.makes sides.disk (Gives code now heard.request (Ok answer)) x old.place y mid.place → mid.reads ≡ old.reads → mid.taken ≡ old.taken
       → Answers sides caller answer result y mid z new → ServesAt sides frame now result x old z new
   served_by heard answer code caller result x y z old mid new same waits is gave reads taken it =
       by_caller heard.request answer gave.acts result x y z old mid new is.request

@@ -10,7 +10,7 @@ ghost use Rattle.request_acts.specs.Acts.{IsFree, place_of, view_of};
 ghost use Rattle.request_stream.specs.Telling.{CountsTelling};
 ghost use Rattle.request_stream.specs.Serving.{Answers, ServesAt, sides_of, point_of};
 
-use crate::stop::Stop;
+use crate::stop::{Stop, stop_of};
 use crate::telling::tell;
 use broker_events::Calls;
 use group_flush::Flusher;
@@ -49,7 +49,7 @@ fn tell_at_once<C: Calls, D: Disk, R: Reader, K: Sink>(
         Err(stop) => Err(stop),
         Ok(()) => match flush_and_dispatch(alloc, calls, flusher, disk) {
             Ok(()) => Ok(()),
-            Err(_) => Err(Stop::Memory),
+            Err(broken) => Err(stop_of(broken)),
         },
     }
 }
@@ -81,7 +81,7 @@ fn tell_behind<C: Calls, D: Disk, R: Reader, K: Sink>(
     ensures cause { CountsTelling result (K.faults sink.old) (K.faults sink.new) }
 {
     match flush_and_look(alloc, calls, flusher, disk, reply, awaits) {
-        Err(_) => Err(Stop::Memory),
+        Err(broken) => Err(stop_of(broken)),
         Ok(told) => tell(alloc, caller, &told, reader, buffer, sink),
     }
 }
@@ -157,7 +157,7 @@ pub(crate) fn serve_at<C: Calls, D: Disk, R: Reader, K: Sink>(
         request,
     } = heard;
     match give_request(alloc, calls, flusher, disk, now, code, request) {
-        Err(_) => Err(Stop::Memory),
+        Err(broken) => Err(stop_of(broken)),
         Ok(answer) => answer_request(
             alloc, calls, flusher, disk, reader, buffer, sink, caller, answer,
         ),

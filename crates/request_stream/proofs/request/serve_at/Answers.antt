@@ -1,13 +1,13 @@
-use Rattle.std.proofs.Common.{rules, refl, inr}
+use Rattle.std.proofs.Common.{rules, refl}
 use Rattle.std.proofs.lemmas.Int.{to_z-of_z}
 use Rattle.std.specs.Int.{w32}
 use Rattle.log_model.proofs.OutsideLemmas.{outside_then}
-use Rattle.request_stream.proofs.TellingLemmas.{served_by}
+use Rattle.request_stream.proofs.TellingLemmas.{served_broken, served_by}
 use Rattle.request_stream.proofs.request.serve_at.Goals as goal
 
 pub returns-in-Err-clause-served : goal.returns-in-Err-clause-served
 returns-in-Err-clause-served g c = λ frame is.
-    inr (record { acts = c.in-Err.ensures.acted.acts; happened = c.in-Err.ensures.acted.happened; still = λ tells. refl })
+    rw c.stop_of.ensures (served_broken _ frame c.args.now c.in-Err.broken _ _ _ _ c.in-Err.ensures.acted refl)
 
 pub returns-in-Ok-clause-served : goal.returns-in-Ok-clause-served
 returns-in-Ok-clause-served g c = λ frame is.
