@@ -10,7 +10,8 @@ ghost use Rattle.request_acts.specs.Acts.{IsFree, place_of, view_of};
 ghost use Rattle.request_stream.specs.Serving.{sides_of, point_of};
 ghost use Rattle.request_stream.specs.Piping.{source_of};
 ghost use Rattle.broker_run.specs.Closing.{ServesToEnd, CountsRun, ReadsPlaced, FlushesPlaced};
-ghost use Rattle.broker_run.specs.Promise.{StatusOf, StatusTells, ServedOver, CountsStatus, pipe_setup};
+ghost use Rattle.broker_run.specs.Promise.{StatusOf, StatusTells, ServedOver, CountsStatus};
+ghost use Rattle.broker_events.specs.declared.event.Setup.{Setup as TheSetup};
 
 use crate::ended::Ended;
 use broker_core::Alone;
@@ -109,7 +110,7 @@ pub(crate) fn serve_log<S: Source, K: Sink, D: Disk, T: Clock>(
     disk: &mut D,
     clock: &mut T,
 ) -> Status
-    requires over { (segment : ℕ) × (log : List Entry) × OpensOver (pipe_setup segment) log opened }
+    requires over { (setup : TheSetup) × (log : List Entry) × OpensOver setup log opened }
     requires inside { D.tells → IsInside opened.flusher.file.base opened.flusher.file.offset (D.state disk.old) }
     ensures served { ServedOver opened result
         (record {

@@ -22,7 +22,7 @@ use Rattle.request_stream.specs.Serving.{Sides, sides_of, Point, point_of, calle
 use Rattle.request_acts.specs.declared.answer.Answer.{Answer}
 use Rattle.request_stream.specs.declared.stop.Stop.{Stop}
 use Rattle.request_stream.specs.declared.stop.Stop.TheVariants as stops
-use Rattle.request_acts.proofs.ActLemmas.{still, acts_then, unwritten_behind}
+use Rattle.request_acts.proofs.ActLemmas.{still, acts_then, acted_broke, unwritten_behind}
 
 -- nothing was written of a piece
 pub took_none : (taken taken_then piece : List ℕ) → taken_then ≡ taken → TookPart taken taken_then piece
@@ -245,22 +245,30 @@ module _ {C D : Type 0} (sides : Sides C D) (frame : Frame) (now : ℕ) where
   stopped_behind stops.Memory given later stopped = tt
   stopped_behind stops.Misplaced given later stopped = unwritten_behind given later stopped
 
-  partly : (stop : Stop) (request : Result Request RequestFault) (answer : Answer) (given : List Act) (x y z : C) (old mid new : Point D) → Reads request (request_of frame.header frame.body)
-      → IsGiven frame.header.code now request answer given → Acts sides.makes sides.disk given x old.place y mid.place → mid.reads ≡ old.reads → mid.taken ≡ old.taken
+  -- the acts of a request, with the turns before it
+  all_acts : (before given settled followed : List Act) → (before ++ given) ++ (settled ++ followed) ≡ before ++ ((given ++ settled) ++ followed)
+  all_acts before given settled followed =
+      append_assoc before given (settled ++ followed) ∙ ap (λ (l : List Act). before ++ l) (sym (append_assoc given settled followed))
+
+  partly : (stop : Stop) (request : Result Request RequestFault) (answer : Answer) (before given : List Act) (x y z : C) (old mid new : Point D)
+      → Reads request (request_of frame.header frame.body) → AreTurnsAndDispatch before → IsGiven frame.header.code now request answer given
+      → Acts sides.makes sides.disk (before ++ given) x old.place y mid.place → mid.reads ≡ old.reads → mid.taken ≡ old.taken
       → HasPartly sides stop (caller_of frame) answer y mid z new → HasPartlyServed sides stop frame now x old z new
-  partly stop request answer given x y z old mid new read is_given gave reads taken it = record {
-    acts = given ++ (it.settled ++ it.followed);
+  partly stop request answer before given x y z old mid new read turned is_given gave reads taken it = record {
+    acts = (before ++ given) ++ (it.settled ++ it.followed);
     bytes = it.bytes;
     served = record {
       answer = answer;
+      before = before;
       first = given ++ it.settled;
       later = it.followed;
+      turned = turned;
       answered = answered request answer it.reply given it.settled it.bytes old.reads new.reads read is_given it.is_settled
           (subst (λ (n : ℕ). IsTold sides.gives (caller_of frame) it.reply n new.reads it.bytes) reads it.told);
-      are_both = sym (append_assoc given it.settled it.followed);
+      are_all = all_acts before given it.settled it.followed;
     };
-    happened = acts_then sides.makes sides.disk given (it.settled ++ it.followed) x y z old.place mid.place new.place gave it.happened;
-    stopped = stopped_behind stop given (it.settled ++ it.followed) it.stopped;
+    happened = acts_then sides.makes sides.disk (before ++ given) (it.settled ++ it.followed) x y z old.place mid.place new.place gave it.happened;
+    stopped = stopped_behind stop (before ++ given) (it.settled ++ it.followed) it.stopped;
     took = λ tells. subst (λ (l : List ℕ). TookPart l new.taken it.bytes) taken (it.took tells);
   }
 
@@ -273,38 +281,44 @@ module _ {C D : Type 0} (sides : Sides C D) (frame : Frame) (now : ℕ) where
     still = λ tells. it.still tells ∙ taken;
   }
 
-  by_caller : {A : Type 0} (request : Result Request RequestFault) (answer : Answer) (given : List Act) (result : Result A Stop) (x y z : C) (old mid new : Point D)
-      → Reads request (request_of frame.header frame.body) → IsGiven frame.header.code now request answer given
-      → Acts sides.makes sides.disk given x old.place y mid.place → mid.reads ≡ old.reads → mid.taken ≡ old.taken
+  -- an answer that was told, or on which serving broke off
+  either_broken : (stop : Stop) (request : Result Request RequestFault) (answer : Answer) (before given : List Act) (x y z : C) (old mid new : Point D)
+      → Reads request (request_of frame.header frame.body) → AreTurnsAndDispatch before → IsGiven frame.header.code now request answer given
+      → Acts sides.makes sides.disk (before ++ given) x old.place y mid.place → mid.reads ≡ old.reads → mid.taken ≡ old.taken
+      → HasPartly sides stop (caller_of frame) answer y mid z new ⊎ HasBroken sides stop y mid z new → HasPartlyServed sides stop frame now x old z new ⊎ HasBroken sides stop x old z new
+  either_broken stop request answer before given x y z old mid new read turned is_given gave reads taken = ⊎_elim
+      (λ (some : HasPartly sides stop (caller_of frame) answer y mid z new).
+      inl (partly stop request answer before given x y z old mid new read turned is_given gave reads taken some))
+      (λ (none : HasBroken sides stop y mid z new). inr (broken_on stop (before ++ given) x y z old mid new gave taken none))
+
+  by_caller : {A : Type 0} (request : Result Request RequestFault) (answer : Answer) (before given : List Act) (result : Result A Stop) (x y z : C) (old mid new : Point D)
+      → Reads request (request_of frame.header frame.body) → AreTurnsAndDispatch before → IsGiven frame.header.code now request answer given
+      → Acts sides.makes sides.disk (before ++ given) x old.place y mid.place → mid.reads ≡ old.reads → mid.taken ≡ old.taken
       → Answers sides (caller_of frame) answer result y mid z new → ServesAt sides frame now result x old z new
-  by_caller request answer given (Ok done) x y z old mid new read is_given gave reads taken it = record {
-    acts = given ++ (it.settled ++ it.followed);
+  by_caller request answer before given (Ok done) x y z old mid new read turned is_given gave reads taken it = record {
+    acts = (before ++ given) ++ (it.settled ++ it.followed);
     bytes = it.bytes;
     served = record {
       answer = answer;
+      before = before;
       first = given ++ it.settled;
       later = it.followed;
+      turned = turned;
       answered = answered request answer it.reply given it.settled it.bytes old.reads new.reads read is_given it.is_settled
           (subst (λ (n : ℕ). IsTold sides.gives (caller_of frame) it.reply n new.reads it.bytes) reads it.told);
       followed = it.is_followed;
-      are_both = sym (append_assoc given it.settled it.followed);
+      are_all = all_acts before given it.settled it.followed;
     };
-    happened = acts_then sides.makes sides.disk given (it.settled ++ it.followed) x y z old.place mid.place new.place gave it.happened;
+    happened = acts_then sides.makes sides.disk (before ++ given) (it.settled ++ it.followed) x y z old.place mid.place new.place gave it.happened;
     taken_is = λ tells. it.taken_is tells ∙ ap (λ (l : List ℕ). l ++ it.bytes) taken;
   }
-  by_caller request answer given (Err stops.Clock) x y z old mid new read is_given gave reads taken it = it
-  by_caller request answer given (Err stops.Sink) x y z old mid new read is_given gave reads taken it =
-      partly stops.Sink request answer given x y z old mid new read is_given gave reads taken it
-  by_caller request answer given (Err stops.Memory) x y z old mid new read is_given gave reads taken it = ⊎_elim
-      (λ (some : HasPartly sides stops.Memory (caller_of frame) answer y mid z new).
-      inl (partly stops.Memory request answer given x y z old mid new read is_given gave reads taken some))
-      (λ (none : HasBroken sides stops.Memory y mid z new). inr (broken_on stops.Memory given x y z old mid new gave taken none))
-      it
-  by_caller request answer given (Err stops.Misplaced) x y z old mid new read is_given gave reads taken it = ⊎_elim
-      (λ (some : HasPartly sides stops.Misplaced (caller_of frame) answer y mid z new).
-      inl (partly stops.Misplaced request answer given x y z old mid new read is_given gave reads taken some))
-      (λ (none : HasBroken sides stops.Misplaced y mid z new). inr (broken_on stops.Misplaced given x y z old mid new gave taken none))
-      it
+  by_caller request answer before given (Err stops.Clock) x y z old mid new read turned is_given gave reads taken it = it
+  by_caller request answer before given (Err stops.Sink) x y z old mid new read turned is_given gave reads taken it =
+      partly stops.Sink request answer before given x y z old mid new read turned is_given gave reads taken it
+  by_caller request answer before given (Err stops.Memory) x y z old mid new read turned is_given gave reads taken it =
+      either_broken stops.Memory request answer before given x y z old mid new read turned is_given gave reads taken it
+  by_caller request answer before given (Err stops.Misplaced) x y z old mid new read turned is_given gave reads taken it =
+      either_broken stops.Misplaced request answer before given x y z old mid new read turned is_given gave reads taken it
 
   -- what was heard was not answered, since acts broke off
   pub served_broken : {A : Type 0} (fault : Broken) (x y : C) (old new : Point D) → Acted sides.makes sides.disk (BrokeBy fault) x old.place y new.place → new.taken ≡ old.taken
@@ -314,12 +328,19 @@ module _ {C D : Type 0} (sides : Sides C D) (frame : Frame) (now : ℕ) where
   served_broken broken.Memory x y old new acted same =
       inr (record { acts = acted.acts; happened = acted.happened; stopped = tt; still = λ tells. same })
 
-  -- what was heard was given to the broker, and its answer told
-  pub served_by : {A : Type 0} (heard : Heard) (answer : Answer) (code : ℤ) (caller : Caller) (result : Result A Stop) (x y z : C) (old mid new : Point D) → code ≡ heard.code
+  -- the same behind turns
+  pub given_broken : {A : Type 0} (fault : Broken) (w x y : C) (place : Place D) (old new : Point D) → Acted sides.makes sides.disk AreTurnsAndDispatch w old.place x place
+      → Acted sides.makes sides.disk (BrokeBy fault) x place y new.place → new.taken ≡ old.taken → ServesAt {A = A} sides frame now (Err (stopped_by fault)) w old y new
+  given_broken fault w x y place old new turned acted same =
+      served_broken fault w y old new (acted_broke sides.makes sides.disk AreTurnsAndDispatch fault w x y old.place place new.place turned acted) same
+
+  -- what was pending was flushed, and then what was heard was given to the broker, and its answer told
+  pub served_by : {A : Type 0} (heard : Heard) (answer : Answer) (code : ℤ) (caller : Caller) (result : Result A Stop) (w x y z : C) (place : Place D) (old mid new : Point D) → code ≡ heard.code
       → caller ≡ record { form = heard.form; opaque = heard.opaque; one_way = heard.one_way } → IsHeard heard frame
-      → Acted sides.makes sides.disk (Gives code now heard.request (Ok answer)) x old.place y mid.place → mid.reads ≡ old.reads → mid.taken ≡ old.taken
-      → Answers sides caller answer result y mid z new → ServesAt sides frame now result x old z new
-  served_by heard answer code caller result x y z old mid new same waits is gave reads taken it =
-      by_caller heard.request answer gave.acts result x y z old mid new is.request
-      (subst (λ (c : ℤ). IsGiven c now heard.request answer gave.acts) (same ∙ is.code) gave.kind) gave.happened reads taken
+      → Acted sides.makes sides.disk AreTurnsAndDispatch w old.place x place → Acted sides.makes sides.disk (Gives code now heard.request (Ok answer)) x place y mid.place
+      → mid.reads ≡ old.reads → mid.taken ≡ old.taken → Answers sides caller answer result y mid z new → ServesAt sides frame now result w old z new
+  served_by heard answer code caller result w x y z place old mid new same waits is turned gave reads taken it =
+      by_caller heard.request answer turned.acts gave.acts result w y z old mid new is.request turned.kind
+      (subst (λ (c : ℤ). IsGiven c now heard.request answer gave.acts) (same ∙ is.code) gave.kind)
+      (acts_then sides.makes sides.disk turned.acts gave.acts w x y old.place place mid.place turned.happened gave.happened) reads taken
       (subst (λ (c : Caller). Answers sides c answer result y mid z new) (waits ∙ caller_is heard frame is) it)

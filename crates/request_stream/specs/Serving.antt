@@ -80,22 +80,26 @@ pub record Served : Type 0 where
 abbrev pub served_as : Frame → ℕ → List Act → List ℕ → Served
 served_as frame reading acts bytes = record { frame = frame; reading = reading; acts = acts; bytes = bytes }
 
--- it was answered, and flush turns came behind a reply that was told at once
+-- what was pending was flushed, it was answered, and flush turns came behind a reply that was told at once
 pub record IsServed (gives : Giving) (it : Served) (faults faults_then : ℕ) : Type 0 where
   pub answer : Answer
+  pub before : List Act
   pub first : List Act
   pub later : List Act
+  pub turned : AreTurnsAndDispatch before
   pub answered : IsAnswered gives it.frame it.reading answer first it.bytes faults faults_then
   pub followed : IsFollowed answer.awaits later
-  pub are_both : it.acts ≡ first ++ later
+  pub are_all : it.acts ≡ before ++ (first ++ later)
 
 -- its answer was made, and then its serving broke off
 pub record IsPartly (gives : Giving) (it : Served) (faults faults_then : ℕ) : Type 0 where
   pub answer : Answer
+  pub before : List Act
   pub first : List Act
   pub later : List Act
+  pub turned : AreTurnsAndDispatch before
   pub answered : IsAnswered gives it.frame it.reading answer first it.bytes faults faults_then
-  pub are_both : it.acts ≡ first ++ later
+  pub are_all : it.acts ≡ before ++ (first ++ later)
 
 -- ---- many
 

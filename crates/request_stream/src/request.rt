@@ -122,7 +122,7 @@ fn answer_request<C: Calls, D: Disk, R: Reader, K: Sink>(
     }
 }
 
-/// Serves a request at this reading of the clock, in milliseconds.
+/// Serves a request at this reading of the clock, in milliseconds. What is still pending is flushed before.
 #[tactic(auto, using(log_model::proofs::OutsideLemmas::outside_start))]
 pub(crate) fn serve_at<C: Calls, D: Disk, R: Reader, K: Sink>(
     alloc: Global,
@@ -148,6 +148,10 @@ pub(crate) fn serve_at<C: Calls, D: Disk, R: Reader, K: Sink>(
     ensures outside { D.tells → StaysOutside (D.state disk.old) (D.state disk.new) }
     ensures cause { CountsTelling result (K.faults sink.old) (K.faults sink.new) }
 {
+    match flush_and_dispatch(alloc, calls, flusher, disk) {
+        Err(broken) => return Err(stop_of(broken)),
+        Ok(()) => {}
+    }
     let caller = heard.caller();
     let Heard {
         form: _,

@@ -7,8 +7,8 @@ returns-clause-served g c = record {
   ended = c.serve_to_end-ended.result.reading;
   last = c.serve_to_end-ended.result.last;
   tells = c.status_of.ensures.tells;
-  runs = λ segment log opens.
-      run_from c.args.opened c.serve_to_end-ended.result _ segment log c.new-calls.result c.serve_to_end-ended.new.calls _ opens c.new-calls.ensures c.serve_to_end-ended.ensures.served;
+  runs = λ setup log opens.
+      run_from c.args.opened c.serve_to_end-ended.result _ setup log c.new-calls.result c.serve_to_end-ended.new.calls _ opens c.new-calls.ensures c.serve_to_end-ended.ensures.served;
 }
 
 pub returns-clause-cause : goal.returns-clause-cause
