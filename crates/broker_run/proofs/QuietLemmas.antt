@@ -92,20 +92,20 @@ module _ {D : Type 0} (words : List (List ℕ)) (status : Status) (seen : Seen D
   quiet_unrecovered : (command : Command) → IsCommand words command → Unrecovered command status seen keep → EndsWell status
   quiet_unrecovered command asked it = by_fault it.fault it.tells
     where
-    by_fault : (fault : RecoverFault) → StatusTellsFault status fault → EndsWell status
-    by_fault (Damaged place name) tells = absurd (quiet.undamaged command it.sizes status.place status.name asked (it.opened_as.sizes_are quiet.keep_tells) (it.damaged quiet.disk_tells tells.0).0)
-    by_fault DiskFailed tells = absurd (quiet.disk_still (causes.disk_failed tells))
-    by_fault NoMemory tells = inr tells
+      by_fault : (fault : RecoverFault) → StatusTellsFault status fault → EndsWell status
+      by_fault (Damaged place name) tells = absurd (quiet.undamaged command it.sizes status.place status.name asked (it.opened_as.sizes_are quiet.keep_tells) (it.damaged quiet.disk_tells tells.0).0)
+      by_fault DiskFailed tells = absurd (quiet.disk_still (causes.disk_failed tells))
+      by_fault NoMemory tells = inr tells
 
   -- the store was not opened
   quiet_refused : (status.code ≡ 6 → ⊥) → Refused status seen → EndsWell status
   quiet_refused own refused = by_code refused.refused
     where
-    by_code : (status.code ≡ 5) ⊎ ((status.code ≡ 6) ⊎ ((status.code ≡ 7) ⊎ ((status.code ≡ 10) × (status.name ≡ codes "keep")))) → EndsWell status
-    by_code (inl five) = absurd (quiet.disk_still (causes.disk_failed five))
-    by_code (inr (inl six)) = absurd (own six)
-    by_code (inr (inr (inl seven))) = inr seven
-    by_code (inr (inr (inr kept))) = absurd (no_device kept.0)
+      by_code : (status.code ≡ 5) ⊎ ((status.code ≡ 6) ⊎ ((status.code ≡ 7) ⊎ ((status.code ≡ 10) × (status.name ≡ codes "keep")))) → EndsWell status
+      by_code (inl five) = absurd (quiet.disk_still (causes.disk_failed five))
+      by_code (inr (inl six)) = absurd (own six)
+      by_code (inr (inr (inl seven))) = inr seven
+      by_code (inr (inr (inr kept))) = absurd (no_device kept.0)
 
   pub quiet_call : Call words status seen keep
       → (seen.disk.tells → keep.tells → status.code ≡ 6 → (command : Command) × IsCommand words command × IsForeign (before seen).reads (keep.old.reads FORMAT) command.sizes status.name) → EndsWell status

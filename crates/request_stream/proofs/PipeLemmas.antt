@@ -1,5 +1,5 @@
 -- A stream that is served piece by piece.
-use Rattle.std.proofs.Common.{◌≡◌, inl, inr, ◌∙◌, ℕ, ◌+◌, ◌≤◌, ◌++◌, List, [], ◌∷◌, None, Result, Ok, Err, length, refl, ap, sym, subst, arith, append_assoc, append-nil, length-append}
+use Rattle.std.proofs.Common.{◌≡◌, inl, inr, ◌∙◌, ℕ, ◌+◌, ◌≤◌, ◌++◌, List, [], None, Result, Ok, Err, length, refl, ap, sym, subst, arith, append_assoc, append-nil, length-append}
 use Rattle.mq_outside.specs.Counts.{Rises}
 use Rattle.remoting_frame.specs.Held.{Held}
 use Rattle.remoting_frame.specs.Frames.{first_of, next_of}
@@ -7,9 +7,8 @@ use Rattle.remoting_frame.specs.Streams.{BeginsWith}
 use Rattle.remoting_frame.specs.declared.frame.Frame.{Frame}
 use Rattle.remoting_frame.proofs.StreamLaws.{begins_more}
 use Rattle.request_acts.proofs.CountLemmas.{faults_grow}
-use Rattle.request_stream.specs.Serving.{Sides, Point, Ran, Broke, acts_of, begun_acts}
+use Rattle.request_stream.specs.Serving.{Sides, Point, Ran, acts_of, begun_acts}
 use Rattle.request_stream.specs.Piping.{CountsHalt, CountsPipe, RanBy, ServesHeld, EndsBy, SourceSeen, source_of, Piped, SoFar, EndsHere, stream_limit}
-use Rattle.request_stream.specs.declared.stop.Stop.{Stop}
 use Rattle.request_stream.specs.declared.stop.Stop.TheVariants as stops
 use Rattle.request_stream.specs.declared.stop.Halt.{Halt}
 use Rattle.request_stream.specs.declared.stop.Halt.TheVariants.{BadFrame, Read, Stopped}

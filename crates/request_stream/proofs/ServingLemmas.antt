@@ -1,5 +1,5 @@
 -- Requests that were served, one after another.
-use Rattle.std.proofs.Common.{◌≡◌, inl, inr, ℕ, ◌++◌, List, [], ◌∷◌, Bool, true, false, not, map, Result, Ok, Err, refl, sym, ap, ◌∙◌, subst, append-nil, append_assoc, ⊎_elim}
+use Rattle.std.proofs.Common.{◌≡◌, inl, inr, ℕ, ◌++◌, List, [], ◌∷◌, Bool, false, not, Result, Ok, Err, refl, sym, ap, ◌∙◌, subst, append-nil, append_assoc, ⊎_elim}
 use Rattle.std.specs.Prelude.{if◌then◌else◌}
 use Rattle.std.proofs.lemmas.List.{map-append}
 use Rattle.std.proofs.lemmas.List.Elements.{filter-append}
@@ -9,7 +9,7 @@ use Rattle.session.specs.Hearing.{AreResponses, is_response}
 use Rattle.session.specs.Talks.{requests_of}
 use Rattle.request_acts.specs.Acts.{Act, Acts, Place}
 use Rattle.request_stream.specs.Telling.{TookPart}
-use Rattle.request_stream.specs.Serving.{Sides, Point, point_of, Served, served_as, AreServed, acts_of, bytes_of, frames_of, readings_of, Ran, Begun, Nothing, Asked, begun_acts, begun_bytes, begun_readings, Breaks, Broke, Serves, HasServed, HasPartlyServed, HasBroken, ServesAt, sides_of}
+use Rattle.request_stream.specs.Serving.{Sides, Point, point_of, Served, served_as, AreServed, acts_of, bytes_of, frames_of, readings_of, Ran, Nothing, Asked, begun_acts, begun_bytes, begun_readings, Breaks, Broke, Serves, HasPartlyServed, HasBroken, ServesAt, sides_of}
 use Rattle.request_stream.specs.declared.stop.Stop.{Stop}
 use Rattle.request_stream.specs.declared.stop.Stop.TheVariants as stops
 use Rattle.request_acts.proofs.ActLemmas.{still, acts_then}

@@ -1,5 +1,5 @@
 -- Answers that are told, and what happened for them.
-use Rattle.std.proofs.Common.{◌≡◌, inl, inr, ℕ, ℤ, ◌++◌, List, [], ◌∷◌, Bool, true, false, Option, Some, None, Result, Ok, Err, OnOk, OnErr, refl, sym, ap, ◌∙◌, subst, append-nil, append_assoc, ⊎_elim}
+use Rattle.std.proofs.Common.{◌≡◌, ◌⊎◌, inl, inr, ℕ, ℤ, ◌++◌, List, [], Bool, true, false, Some, None, Result, Ok, Err, OnOk, OnErr, refl, sym, ap, ◌∙◌, subst, append-nil, append_assoc, ⊎_elim}
 use Rattle.mq_outside.specs.Counts.{Rises}
 use Rattle.mq_outside.specs.Readings.{Giving}
 use Rattle.remoting_frame.specs.declared.frame.Frame.{Frame}
@@ -8,7 +8,7 @@ use Rattle.reply_fields.specs.Replies.{AppendsReply}
 use Rattle.request_fields.specs.Reading.{Reads, request_of}
 use Rattle.request_fields.specs.declared.request.Request.{Request}
 use Rattle.request_fields.specs.declared.fault.RequestFault.{RequestFault}
-use Rattle.session.specs.Hearing.{IsHeard, is_one_way}
+use Rattle.session.specs.Hearing.{IsHeard}
 use Rattle.session.specs.declared.caller.Caller.{Caller}
 use Rattle.session.specs.declared.heard.Heard.{Heard}
 use Rattle.session.specs.declared.owed.Awaits.{Awaits}
@@ -16,9 +16,9 @@ use Rattle.request_acts.specs.Acts.{Act, Acts, Acted, Place}
 use Rattle.request_acts.specs.Turning.{AreTurnsAndDispatch, BrokeBy}
 use Rattle.request_acts.specs.declared.broken.Broken.{Broken}
 use Rattle.request_acts.specs.declared.broken.Broken.TheVariants as broken
-use Rattle.request_acts.specs.Asking.{Chooses, IsGiven, Gives, IsLooked, Looks}
-use Rattle.request_stream.specs.Telling.{stopped_by, CountsTelling, unread, Appends, AppendsUnread, IsTold, HasTold, HasToldPart, HasWrittenReply, HasWrittenPart, TookPart, Tells, WritesReply}
-use Rattle.request_stream.specs.Serving.{Sides, sides_of, Point, point_of, caller_of, IsSettled, IsFollowed, IsAnswered, IsServed, IsPartly, served_as, StoppedIn, HasAnswered, HasPartly, HasBroken, Answers, HasServed, HasPartlyServed, ServesAt}
+use Rattle.request_acts.specs.Asking.{Chooses, IsGiven, Gives, IsLooked}
+use Rattle.request_stream.specs.Telling.{stopped_by, unread, Appends, AppendsUnread, IsTold, HasTold, HasWrittenReply, HasWrittenPart, TookPart, Tells, WritesReply}
+use Rattle.request_stream.specs.Serving.{Sides, Point, point_of, caller_of, IsSettled, IsAnswered, StoppedIn, HasAnswered, HasPartly, HasBroken, Answers, HasPartlyServed, ServesAt}
 use Rattle.request_acts.specs.declared.answer.Answer.{Answer}
 use Rattle.request_stream.specs.declared.stop.Stop.{Stop}
 use Rattle.request_stream.specs.declared.stop.Stop.TheVariants as stops
@@ -37,11 +37,6 @@ took_all taken taken_then piece whole = record { part = piece; unwritten = []; f
 pub on_err : {A E : Type 0} (result : Result A E) (P : Type 0) → P → OnErr result P
 on_err (Ok done) P it = tt
 on_err (Err fault) P it = it
-
--- acts that broke off leave the sink's count
-pub counts_stopped : {A : Type 0} (fault : Broken) (old new : ℕ) → new ≡ old → CountsTelling {A = A} (Err (stopped_by fault)) old new
-counts_stopped broken.Misplaced old new same = same
-counts_stopped broken.Memory old new same = same
 
 -- ---- the bytes of a reply
 
@@ -164,23 +159,41 @@ module _ {C D : Type 0} (sides : Sides C D) (caller : Caller) where
     took = λ tells. took_all taken taken_then told.bytes (told.taken_is tells);
   }
 
-  pub broken_behind : {A : Type 0} (reply : ReplyParts) (fault : Broken) (x y : C) (old new : Place D) (reads reads_then : ℕ) (taken taken_then readings : List ℕ)
+  told_broken : (reply : ReplyParts) (fault : Broken) (x y : C) (old new : Place D) (reads reads_then : ℕ) (taken taken_then readings : List ℕ)
       → HasTold sides.gives caller reply reads reads_then sides.sink taken taken_then → Acted sides.makes sides.disk (BrokeBy fault) x old y new
-      → Answers {A = A} sides caller (record { reply = reply; awaits = None }) (Err (stopped_by fault)) x (point_of old reads taken readings) y (point_of new reads_then taken_then readings)
-  broken_behind reply broken.Misplaced x y old new reads reads_then taken taken_then readings told turned =
+      → Answers {A = Unit {0}} sides caller (record { reply = reply; awaits = None }) (Err (stopped_by fault)) x (point_of old reads taken readings) y (point_of new reads_then taken_then readings)
+  told_broken reply broken.Misplaced x y old new reads reads_then taken taken_then readings told turned =
       inl (partly_behind reply stops.Misplaced x y old new reads reads_then taken taken_then readings told
       (record { acts = turned.acts; kind = turned.kind; happened = turned.happened }))
-  broken_behind reply broken.Memory x y old new reads reads_then taken taken_then readings told turned =
+  told_broken reply broken.Memory x y old new reads reads_then taken taken_then readings told turned =
       inl (partly_behind reply stops.Memory x y old new reads reads_then taken taken_then readings told
       (record { acts = turned.acts; kind = turned.kind; happened = turned.happened }))
 
+  pub broken_behind : (answer : Answer) (reply : ReplyParts) (fault : Broken) (stop : Stop) (x y : C) (old new : Place D) (reads reads_then : ℕ) (taken taken_then readings : List ℕ)
+      → answer ≡ record { reply = reply; awaits = None } → stop ≡ stopped_by fault
+      → HasTold sides.gives caller reply reads reads_then sides.sink taken taken_then → Acted sides.makes sides.disk (BrokeBy fault) x old y new
+      → Answers {A = Unit {0}} sides caller answer (Err stop) x (point_of old reads taken readings) y (point_of new reads_then taken_then readings)
+  broken_behind answer reply fault stop x y old new reads reads_then taken taken_then readings is by told turned =
+      let p : Point D = point_of old reads taken readings in
+      let q : Point D = point_of new reads_then taken_then readings in
+      subst (λ (a : Answer). Answers {A = Unit {0}} sides caller a (Err stop) x p y q) (sym is)
+      (subst (λ (s : Stop). Answers {A = Unit {0}} sides caller (record { reply = reply; awaits = None }) (Err s) x p y q) (sym by)
+      (told_broken reply fault x y old new reads reads_then taken taken_then readings told turned))
+
   -- nothing was told, since acts broke off
-  pub broken_before : {A : Type 0} (answer : Answer) (fault : Broken) (x y : C) (old new : Place D) (reads : ℕ) (taken readings : List ℕ) → Acted sides.makes sides.disk (BrokeBy fault) x old y new
-      → Answers {A = A} sides caller answer (Err (stopped_by fault)) x (point_of old reads taken readings) y (point_of new reads taken readings)
-  broken_before answer broken.Misplaced x y old new reads taken readings acted =
+  none_broken : (answer : Answer) (fault : Broken) (x y : C) (old new : Place D) (reads : ℕ) (taken readings : List ℕ) → Acted sides.makes sides.disk (BrokeBy fault) x old y new
+      → Answers {A = Unit {0}} sides caller answer (Err (stopped_by fault)) x (point_of old reads taken readings) y (point_of new reads taken readings)
+  none_broken answer broken.Misplaced x y old new reads taken readings acted =
       inr (record { acts = acted.acts; happened = acted.happened; stopped = acted.kind; still = λ tells. refl })
-  broken_before answer broken.Memory x y old new reads taken readings acted =
+  none_broken answer broken.Memory x y old new reads taken readings acted =
       inr (record { acts = acted.acts; happened = acted.happened; stopped = tt; still = λ tells. refl })
+
+  pub broken_before : (answer : Answer) (fault : Broken) (stop : Stop) (x y : C) (old new : Place D) (reads : ℕ) (taken readings : List ℕ) → stop ≡ stopped_by fault
+      → Acted sides.makes sides.disk (BrokeBy fault) x old y new
+      → Answers {A = Unit {0}} sides caller answer (Err stop) x (point_of old reads taken readings) y (point_of new reads taken readings)
+  broken_before answer fault stop x y old new reads taken readings by acted =
+      subst (λ (s : Stop). Answers {A = Unit {0}} sides caller answer (Err s) x (point_of old reads taken readings) y (point_of new reads taken readings)) (sym by)
+      (none_broken answer fault x y old new reads taken readings acted)
 
   -- ---- behind a look
 
@@ -321,18 +334,24 @@ module _ {C D : Type 0} (sides : Sides C D) (frame : Frame) (now : ℕ) where
       either_broken stops.Misplaced request answer before given x y z old mid new read turned is_given gave reads taken it
 
   -- what was heard was not answered, since acts broke off
-  pub served_broken : {A : Type 0} (fault : Broken) (x y : C) (old new : Point D) → Acted sides.makes sides.disk (BrokeBy fault) x old.place y new.place → new.taken ≡ old.taken
-      → ServesAt {A = A} sides frame now (Err (stopped_by fault)) x old y new
-  served_broken broken.Misplaced x y old new acted same =
+  serves_broken : (fault : Broken) (x y : C) (old new : Point D) → Acted sides.makes sides.disk (BrokeBy fault) x old.place y new.place → new.taken ≡ old.taken
+      → ServesAt {A = Unit {0}} sides frame now (Err (stopped_by fault)) x old y new
+  serves_broken broken.Misplaced x y old new acted same =
       inr (record { acts = acted.acts; happened = acted.happened; stopped = acted.kind; still = λ tells. same })
-  served_broken broken.Memory x y old new acted same =
+  serves_broken broken.Memory x y old new acted same =
       inr (record { acts = acted.acts; happened = acted.happened; stopped = tt; still = λ tells. same })
 
+  pub served_broken : (fault : Broken) (stop : Stop) (x y : C) (old new : Point D) → stop ≡ stopped_by fault → Acted sides.makes sides.disk (BrokeBy fault) x old.place y new.place
+      → new.taken ≡ old.taken → ServesAt {A = Unit {0}} sides frame now (Err stop) x old y new
+  served_broken fault stop x y old new by acted same =
+      subst (λ (s : Stop). ServesAt {A = Unit {0}} sides frame now (Err s) x old y new) (sym by) (serves_broken fault x y old new acted same)
+
   -- the same behind turns
-  pub given_broken : {A : Type 0} (fault : Broken) (w x y : C) (place : Place D) (old new : Point D) → Acted sides.makes sides.disk AreTurnsAndDispatch w old.place x place
-      → Acted sides.makes sides.disk (BrokeBy fault) x place y new.place → new.taken ≡ old.taken → ServesAt {A = A} sides frame now (Err (stopped_by fault)) w old y new
-  given_broken fault w x y place old new turned acted same =
-      served_broken fault w y old new (acted_broke sides.makes sides.disk AreTurnsAndDispatch fault w x y old.place place new.place turned acted) same
+  pub given_broken : (fault : Broken) (stop : Stop) (w x y : C) (place : Place D) (old new : Point D) → stop ≡ stopped_by fault
+      → Acted sides.makes sides.disk AreTurnsAndDispatch w old.place x place → Acted sides.makes sides.disk (BrokeBy fault) x place y new.place → new.taken ≡ old.taken
+      → ServesAt {A = Unit {0}} sides frame now (Err stop) w old y new
+  given_broken fault stop w x y place old new by turned acted same =
+      served_broken fault stop w y old new by (acted_broke sides.makes sides.disk AreTurnsAndDispatch fault w x y old.place place new.place turned acted) same
 
   -- what was pending was flushed, and then what was heard was given to the broker, and its answer told
   pub served_by : {A : Type 0} (heard : Heard) (answer : Answer) (code : ℤ) (caller : Caller) (result : Result A Stop) (w x y z : C) (place : Place D) (old mid new : Point D) → code ≡ heard.code

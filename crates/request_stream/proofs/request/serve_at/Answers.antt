@@ -7,11 +7,12 @@ use Rattle.request_stream.proofs.request.serve_at.Goals as goal
 
 pub returns-in-Err-clause-served : goal.returns-in-Err-clause-served
 returns-in-Err-clause-served g c = λ frame is.
-    rw c.stop_of.ensures (served_broken _ frame c.args.now c.in-Err.broken _ _ _ _ c.in-Err.ensures.acted refl)
+    served_broken _ frame c.args.now c.in-Err.broken c.stop_of.result _ _ _ _ c.stop_of.ensures c.in-Err.ensures.acted refl
 
 pub returns-in-Err-give_request-clause-served : goal.returns-in-Err-give_request-clause-served
 returns-in-Err-give_request-clause-served g c = λ frame is.
-    rw c.stop_of.ensures (given_broken _ frame c.args.now c.in-Err-give_request.broken _ _ _ _ _ _ c.in-Ok.ensures.acted c.in-Err-give_request.ensures.acted refl)
+    given_broken _ frame c.args.now c.in-Err-give_request.broken c.stop_of-in-Err-give_request.result _ _ _ _ _ _ c.stop_of-in-Err-give_request.ensures
+    c.in-Ok.ensures.acted c.in-Err-give_request.ensures.acted refl
 
 pub returns-in-Ok-give_request-clause-served : goal.returns-in-Ok-give_request-clause-served
 returns-in-Ok-give_request-clause-served g c = λ frame is.

@@ -12,5 +12,5 @@ returns-in-Ok-flush_and_dispatch-clause-answered g c = λ answer is.
 
 pub returns-in-Err-flush_and_dispatch-clause-answered : goal.returns-in-Err-flush_and_dispatch-clause-answered
 returns-in-Err-flush_and_dispatch-clause-answered g c = λ answer is.
-    rw (is, c.stop_of.ensures) (broken_behind _ c.args.caller c.args.reply.now c.in-Err-flush_and_dispatch.broken _ _ _ _ _ _ _ _ _ c.in-Ok.ensures.told
-    c.in-Err-flush_and_dispatch.ensures.acted)
+    broken_behind _ c.args.caller answer c.args.reply.now c.in-Err-flush_and_dispatch.broken c.stop_of.result _ _ _ _ _ _ _ _ _ is c.stop_of.ensures c.in-Ok.ensures.told
+    c.in-Err-flush_and_dispatch.ensures.acted

@@ -3,7 +3,7 @@ use Rattle.request_stream.proofs.request.tell_behind.Goals as goal
 
 pub returns-in-Err-clause-answered : goal.returns-in-Err-clause-answered
 returns-in-Err-clause-answered g c = λ answer is.
-    rw c.stop_of.ensures (broken_before _ c.args.caller answer c.in-Err.broken _ _ _ _ _ _ _ c.in-Err.ensures.acted)
+    broken_before _ c.args.caller answer c.in-Err.broken c.stop_of.result _ _ _ _ _ _ _ c.stop_of.ensures c.in-Err.ensures.acted
 
 pub returns-in-Ok-clause-answered : goal.returns-in-Ok-clause-answered
 returns-in-Ok-clause-answered g c = λ answer is.
