@@ -115,13 +115,13 @@ ready_exact setup log at ready =
     let S : Geometry = whole setup.segment in
     let it : Stored = stored S log (length log) in
     let same : ready.shape ≡ shape_of S log = ⊎_elim
-        (λ (here : ready.shape ≡ shape_of S (take (length log) log)). here ∙ ap (λ (l : List Entry). shape_of S l) (take-length log))
-        (λ (next : (ready.shape ≡ opened (shape_of S (take (length log) log))) × NextOpens it). absurd (no_next setup log next.1))
-        ready.laid in
+    (λ (here : ready.shape ≡ shape_of S (take (length log) log)). here ∙ ap (λ (l : List Entry). shape_of S l) (take-length log))
+    (λ (next : (ready.shape ≡ opened (shape_of S (take (length log) log))) × NextOpens it). absurd (no_next setup log next.1))
+    ready.laid in
     let low : ready.reach ≤ used ready.shape = ⊎_elim
-        (λ (short : ready.reach ≤ at.file.offset + 0). omega (arith, short, ready.writes.place.end))
-        (λ (next : (ready.shape ≡ shape_of S (take (length log) log)) × NextOpens it). absurd (no_next setup log next.1))
-        ready.short in
+    (λ (short : ready.reach ≤ at.file.offset + 0). omega (arith, short, ready.writes.place.end))
+    (λ (next : (ready.shape ≡ shape_of S (take (length log) log)) × NextOpens it). absurd (no_next setup log next.1))
+    ready.short in
     record {
       at = λ files image. subst (λ (shape : Shape). AreFilesOf S shape files) same
           (stands_exact S ready.shape files (stands_more S ready.shape ready.reach (used ready.shape) files low (ready.writes.stores.each.at files image)));
