@@ -3,7 +3,9 @@
 use mq_outside::{Disk, MemDisk, MemKeep, Room};
 use std::alloc::{AllocError, Global};
 use std::test::Fail;
-use store_open::{Command, ServeCommand, Status, open_format, read_serve_words, read_words};
+use store_open::{
+    AskedSizes, Command, ServeCommand, Sizes, Status, open_format, read_serve_words, read_words,
+};
 
 const LOG: &str = "commitlog/00000000000000000000";
 
@@ -11,92 +13,165 @@ const OF_4096: &[u8] = b"mq_broker 1 4096 65536 262144\n";
 
 const OF_A_GIBIBYTE: &[u8] = b"mq_broker 1 1073741824 65536 262144\n";
 
-#[test]
-fn the_first_word_that_does_not_fit_is_told(rt: HostRuntime) -> Result<(), Fail> {
-    assert_eq!(rt; read_words(&["pipe"]), Ok(Command { segment: None }));
-    for (value, segment) in [("4096", 4096), ("1073741824", 1_073_741_824)] {
-        let read = read_words(&["pipe", "--segment", value]);
-        assert_eq!(rt;
-            read,
-            Ok(Command {
-                segment: Some(segment)
-            }),
-            "{value}"
-        );
-    }
-    assert_eq!(rt; read_words(&[]), Err(0));
-    assert_eq!(rt; read_words(&["dump"]), Err(0));
-    assert_eq!(rt; read_words(&["pipe", "--flush", "often"]), Err(1));
-    assert_eq!(rt; read_words(&["pipe", "--segment"]), Err(2));
-    for value in ["", "4095", "04096", "+4096", "4096 ", "1073741825"] {
-        assert_eq!(rt;
-            read_words(&["pipe", "--segment", value]),
-            Err(2),
-            "{value}"
-        );
-    }
-    assert_eq!(rt;
-        read_words(&["pipe", "--segment", "4096", "--segment"]),
-        Err(3)
-    );
-    Ok(())
-}
+const SMALLEST: &[u8] = b"mq_broker 1 4096 1 2\n";
 
-const DEFAULTS: ServeCommand = ServeCommand {
-    sync: true,
+const NOTHING: AskedSizes = AskedSizes {
     segment: None,
+    slots: None,
+    entries: None,
+};
+
+const DEFAULTS: Command = Command {
+    sync: true,
+    sizes: NOTHING,
+    host: [127, 0, 0, 1, 0, 0, 42, 159],
+};
+
+const SERVE_DEFAULTS: ServeCommand = ServeCommand {
+    sync: true,
+    sizes: NOTHING,
     host: [127, 0, 0, 1, 0, 0, 42, 159],
     links: 1024,
     connections: None,
 };
 
 #[test]
-fn each_option_of_serve_is_read(rt: HostRuntime) -> Result<(), Fail> {
-    assert_eq!(rt; read_serve_words(&["serve"]), Ok(DEFAULTS));
+fn each_option_of_pipe_is_read(rt: HostRuntime) -> Result<(), Fail> {
+    assert_eq!(rt; read_words(&["pipe"]), Ok(DEFAULTS));
     for (value, sync) in [("sync", true), ("async", false)] {
-        let read = read_serve_words(&["serve", "--flush", value]);
-        assert_eq!(rt; read, Ok(ServeCommand { sync, ..DEFAULTS }), "{value}");
+        let read = read_words(&["pipe", "--flush", value]);
+        assert_eq!(rt; read, Ok(Command { sync, ..DEFAULTS }), "{value}");
     }
-    for (value, segment) in [("4096", 4096), ("1073741824", 1_073_741_824)] {
-        let read = read_serve_words(&["serve", "--segment", value]);
-        let segment = Some(segment);
+    let sizes = [
+        (
+            "--segment",
+            "4096",
+            AskedSizes {
+                segment: Some(4096),
+                ..NOTHING
+            },
+        ),
+        (
+            "--segment",
+            "1073741824",
+            AskedSizes {
+                segment: Some(1_073_741_824),
+                ..NOTHING
+            },
+        ),
+        (
+            "--slots",
+            "1",
+            AskedSizes {
+                slots: Some(1),
+                ..NOTHING
+            },
+        ),
+        (
+            "--slots",
+            "5000000",
+            AskedSizes {
+                slots: Some(5_000_000),
+                ..NOTHING
+            },
+        ),
+        (
+            "--entries",
+            "2",
+            AskedSizes {
+                entries: Some(2),
+                ..NOTHING
+            },
+        ),
+        (
+            "--entries",
+            "20000000",
+            AskedSizes {
+                entries: Some(20_000_000),
+                ..NOTHING
+            },
+        ),
+    ];
+    for (option, value, sizes) in sizes {
+        let read = read_words(&["pipe", option, value]);
+        assert_eq!(rt; read, Ok(Command { sizes, ..DEFAULTS }), "{option} {value}");
+    }
+    let all = [
+        "pipe",
+        "--entries",
+        "9",
+        "--host",
+        "10.2.30.255:65535",
+        "--slots",
+        "8",
+        "--segment",
+        "65536",
+        "--flush",
+        "async",
+    ];
+    let said = Command {
+        sync: false,
+        sizes: AskedSizes {
+            segment: Some(65536),
+            slots: Some(8),
+            entries: Some(9),
+        },
+        host: [10, 2, 30, 255, 0, 0, 255, 255],
+    };
+    assert_eq!(rt; read_words(&all), Ok(said));
+    Ok(())
+}
+
+#[test]
+fn the_first_word_of_pipe_that_does_not_fit_is_told(rt: HostRuntime) -> Result<(), Fail> {
+    assert_eq!(rt; read_words(&[]), Err(0));
+    assert_eq!(rt; read_words(&["dump"]), Err(0));
+    assert_eq!(rt; read_words(&["pipe", "--links", "1"]), Err(1));
+    assert_eq!(rt; read_words(&["pipe", "--flush"]), Err(2));
+    assert_eq!(rt;
+        read_words(&["pipe", "--segment", "4096", "--segment", "4096"]),
+        Err(3)
+    );
+    let rows = [
+        ("--flush", "often"),
+        ("--segment", ""),
+        ("--segment", "4095"),
+        ("--segment", "04096"),
+        ("--segment", "+4096"),
+        ("--segment", "4096 "),
+        ("--segment", "1073741825"),
+        ("--slots", "0"),
+        ("--slots", "5000001"),
+        ("--entries", "1"),
+        ("--entries", "20000001"),
+        ("--host", "1.2.3.4:0"),
+    ];
+    for (option, value) in rows {
         assert_eq!(rt;
-            read,
-            Ok(ServeCommand {
-                segment,
-                ..DEFAULTS
-            }),
-            "{value}"
+            read_words(&["pipe", option, value]),
+            Err(2),
+            "{option} {value}"
         );
     }
-    let hosts = [
-        ("0.0.0.0:1", [0, 0, 0, 0, 0, 0, 0, 1]),
-        ("10.2.30.255:65535", [10, 2, 30, 255, 0, 0, 255, 255]),
-    ];
-    for (value, host) in hosts {
-        let read = read_serve_words(&["serve", "--host", value]);
-        assert_eq!(rt; read, Ok(ServeCommand { host, ..DEFAULTS }), "{value}");
-    }
+    Ok(())
+}
+
+#[test]
+fn the_options_of_links_are_read(rt: HostRuntime) -> Result<(), Fail> {
+    assert_eq!(rt; read_serve_words(&["serve"]), Ok(SERVE_DEFAULTS));
     for (value, n) in [("1", 1), ("4096", 4096)] {
         let read = read_serve_words(&["serve", "--links", value]);
-        assert_eq!(rt;
-            read,
-            Ok(ServeCommand {
-                links: n,
-                ..DEFAULTS
-            }),
-            "{value}"
-        );
+        let said = ServeCommand {
+            links: n,
+            ..SERVE_DEFAULTS
+        };
+        assert_eq!(rt; read, Ok(said), "{value}");
         let read = read_serve_words(&["serve", "--connections", value]);
-        let connections = Some(n);
-        assert_eq!(rt;
-            read,
-            Ok(ServeCommand {
-                connections,
-                ..DEFAULTS
-            }),
-            "{value}"
-        );
+        let said = ServeCommand {
+            connections: Some(n),
+            ..SERVE_DEFAULTS
+        };
+        assert_eq!(rt; read, Ok(said), "{value}");
     }
     let all = [
         "serve",
@@ -113,7 +188,10 @@ fn each_option_of_serve_is_read(rt: HostRuntime) -> Result<(), Fail> {
     ];
     let said = ServeCommand {
         sync: false,
-        segment: Some(65536),
+        sizes: AskedSizes {
+            segment: Some(65536),
+            ..NOTHING
+        },
         host: [1, 2, 3, 4, 0, 0, 1, 0],
         links: 3,
         connections: Some(2),
@@ -124,7 +202,6 @@ fn each_option_of_serve_is_read(rt: HostRuntime) -> Result<(), Fail> {
 
 #[test]
 fn the_first_word_of_serve_that_does_not_fit_is_told(rt: HostRuntime) -> Result<(), Fail> {
-    assert_eq!(rt; read_serve_words(&[]), Err(0));
     assert_eq!(rt; read_serve_words(&["pipe"]), Err(0));
     assert_eq!(rt; read_serve_words(&["serve", "serve"]), Err(1));
     assert_eq!(rt; read_serve_words(&["serve", "--port", "1"]), Err(1));
@@ -133,25 +210,15 @@ fn the_first_word_of_serve_that_does_not_fit_is_told(rt: HostRuntime) -> Result<
         Err(3)
     );
     assert_eq!(rt;
-        read_serve_words(&["serve", "--links", "1", "--bogus"]),
-        Err(3)
-    );
-    assert_eq!(rt;
         read_serve_words(&["serve", "--links", "1", "--host"]),
         Err(4)
     );
     let rows = [
-        ("--flush", "often"),
-        ("--flush", ""),
-        ("--segment", "4095"),
-        ("--segment", "1073741825"),
-        ("--segment", "04096"),
         ("--host", "1.2.3.4"),
         ("--host", "1.2.3:80"),
         ("--host", "1.2.3.4.5:80"),
         ("--host", "1.2.3.256:80"),
         ("--host", "1.02.3.4:80"),
-        ("--host", "1.2.3.4:0"),
         ("--host", "1.2.3.4:65536"),
         ("--host", "localhost:80"),
         ("--links", "0"),
@@ -193,18 +260,52 @@ fn store(
 }
 
 #[test]
-fn a_store_is_opened_with_the_size_that_its_format_says(rt: HostRuntime) -> Result<(), Fail> {
+fn a_store_is_opened_with_the_sizes_that_its_format_says(rt: HostRuntime) -> Result<(), Fail> {
     let alloc = rt.alloc();
+    let of_4096 = AskedSizes {
+        segment: Some(4096),
+        ..NOTHING
+    };
+    let least = AskedSizes {
+        segment: Some(4096),
+        slots: Some(1),
+        entries: Some(2),
+    };
     let rows = [
-        (None, false, None, 1_073_741_824, OF_A_GIBIBYTE),
-        (None, false, Some(4096), 4096, OF_4096),
-        (Some(OF_4096), true, None, 4096, OF_4096),
-        (Some(OF_4096), true, Some(4096), 4096, OF_4096),
+        (
+            None,
+            false,
+            NOTHING,
+            (1_073_741_824, 65_536, 262_144),
+            OF_A_GIBIBYTE,
+        ),
+        (None, false, of_4096, (4096, 65_536, 262_144), OF_4096),
+        (None, false, least, (4096, 1, 2), SMALLEST),
+        (
+            Some(OF_4096),
+            true,
+            NOTHING,
+            (4096, 65_536, 262_144),
+            OF_4096,
+        ),
+        (
+            Some(OF_4096),
+            true,
+            of_4096,
+            (4096, 65_536, 262_144),
+            OF_4096,
+        ),
+        (Some(SMALLEST), true, least, (4096, 1, 2), SMALLEST),
     ];
-    for (format, has_log, asked, segment, text) in rows {
+    for (format, has_log, asked, (segment, slots, entries), text) in rows {
         let (mut disk, mut keep) = store(alloc, format, has_log)?;
-        let opened = open_format(alloc, &mut disk, &mut keep, asked);
-        assert_eq!(rt; opened.ok(), Some(segment));
+        let opened = open_format(alloc, &mut disk, &mut keep, &asked);
+        let sizes = Sizes {
+            segment,
+            slots,
+            entries,
+        };
+        assert_eq!(rt; opened.ok(), Some(sizes));
         assert_eq!(rt; keep.bytes("format"), Some(text));
     }
     Ok(())
@@ -215,15 +316,29 @@ fn another_store_is_refused_by_name(rt: HostRuntime) -> Result<(), Fail> {
     let alloc = rt.alloc();
     let other: &[u8] = b"mq_broker 2 4096 65536 262144\n";
     let padded: &[u8] = b"mq_broker 1 04096 65536 262144\n";
+    let segment = AskedSizes {
+        segment: Some(8192),
+        ..NOTHING
+    };
+    let slots = AskedSizes {
+        slots: Some(1),
+        ..NOTHING
+    };
+    let entries = AskedSizes {
+        entries: Some(2),
+        ..NOTHING
+    };
     let rows = [
-        (None, true, None, LOG),
-        (Some(OF_4096), true, Some(8192), "format"),
-        (Some(other), true, None, "format"),
-        (Some(padded), true, None, "format"),
+        (None, true, NOTHING, LOG),
+        (Some(OF_4096), true, segment, "format"),
+        (Some(OF_4096), true, slots, "format"),
+        (Some(OF_4096), true, entries, "format"),
+        (Some(other), true, NOTHING, "format"),
+        (Some(padded), true, NOTHING, "format"),
     ];
     for (format, has_log, asked, name) in rows {
         let (mut disk, mut keep) = store(alloc, format, has_log)?;
-        let opened = open_format(alloc, &mut disk, &mut keep, asked);
+        let opened = open_format(alloc, &mut disk, &mut keep, &asked);
         let status = opened.err().unwrap_or(Status::plain(alloc, 0));
         assert_eq!(rt; status.code, 6);
         assert_eq!(rt; status.name.as_str(), name);

@@ -1,17 +1,14 @@
--- When a store is another's.
+-- When a store is foreign.
 use Rattle.std.proofs.Common.{◌≡◌, ◌≢◌, ◌⊎◌, inl, inr, ℕ, List, [], ◌∷◌, Option, Some, None, refl, sym, subst, arith}
-use Rattle.std.specs.Prelude.{slice_get, unwrap_or, IfSome, IsSome}
+use Rattle.std.specs.Prelude.{slice_get, IsSome}
 use Rattle.std.specs.List.{Contains}
 use Rattle.mq_outside.specs.Files.{Files, Lists, HasNoFile}
 use Rattle.mq_outside.specs.Disk.{DiskState, IsDurable}
-use Rattle.store_open.specs.Openings.{FORMAT, IsFirstFile, IsForeign, IsSegmentOf, IsOpened, format_after}
-use Rattle.store_open.specs.Formats.{format_text, IsFormatFor, NEW_SEGMENT, NEW_SLOTS, NEW_ENTRIES}
+use Rattle.store_open.specs.declared.format.Sizes.{Sizes}
+use Rattle.store_open.specs.declared.format.AskedSizes.{AskedSizes}
+use Rattle.store_open.specs.Openings.{FORMAT, IsFirstFile, IsForeign, AreSizesOf, IsOpened, format_after}
+use Rattle.store_open.specs.Formats.{format_text, new_sizes, IsFormatFor}
 use Rattle.store_open.specs.declared.status.Status.{Status}
-
--- where no other size was asked for, it is the one that the format says
-pub agreed : (asked : Option ℕ) (segment : ℕ) → IfSome asked (λ size. size ≡ segment) → unwrap_or asked segment ≡ segment
-agreed None segment agrees = refl
-agreed (Some size) segment agrees = agrees
 
 -- the name that a status tells, unless there was no memory for it
 pub tells_name : (code : ℕ) (name wanted : List ℕ) (P : Type 0) → (code ≡ 6) ⊎ (code ≡ 7) → (code ≢ 7 → name ≡ wanted) → P → (code ≡ 7) ⊎ ((code ≡ 6) × (name ≡ wanted) × P)
@@ -38,21 +35,23 @@ absent (Some b) not_there = absurd (not_there refl)
 pub none_listed : (files : Files) → Lists files [] → HasNoFile files
 none_listed files listed name = absent (files name) (λ there. let contained = (listed.each name).1 there in omega (arith, contained.1))
 
--- the status of a text that is no format, or one of another size
-pub foreign_format : (files : Files) (kept : Option (List ℕ)) (text : List ℕ) (asked : Option ℕ) (status : Status) → kept ≡ Some text
-    → (status.code ≡ 7) ⊎ ((status.code ≡ 6) × (status.name ≡ FORMAT) × ((segment : ℕ) → IsFormatFor text asked segment → ⊥)) → status.code ≡ 6 → IsForeign files kept asked status.name
+-- the status of a text that is no format, or one of other sizes
+pub foreign_format : (files : Files) (kept : Option (List ℕ)) (text : List ℕ) (asked : AskedSizes) (status : Status) → kept ≡ Some text
+    → (status.code ≡ 7) ⊎ ((status.code ≡ 6) × (status.name ≡ FORMAT) × ((sizes : Sizes) → IsFormatFor text asked sizes → ⊥)) → status.code ≡ 6
+    → IsForeign files kept asked status.name
 foreign_format files None text asked status is cause six = cc
 foreign_format files (Some stored) text asked status is (inl seven) six = absurd (omega (arith, seven, six))
 foreign_format files (Some stored) text asked status is (inr foreign) six =
     let same : stored ≡ text = cc in
-    (foreign.1, λ segment format. foreign.2 segment (subst (λ (t : List ℕ). IsFormatFor t asked segment) same format))
+    (foreign.1, λ sizes format. foreign.2 sizes (subst (λ (t : List ℕ). IsFormatFor t asked sizes) same format))
 
 -- a store that is new: its format was written
-pub new_opened : (asked : Option ℕ) (segment : ℕ) (disk : Type 0) (files : Files) (keep : Type 0) (old new : DiskState) → (keep → old.reads FORMAT ≡ None) → segment ≡ unwrap_or asked NEW_SEGMENT
-    → (disk → HasNoFile files) → (keep → new.reads FORMAT ≡ Some (format_text segment NEW_SLOTS NEW_ENTRIES)) → (keep → IsDurable FORMAT new) → IsOpened asked segment disk files keep old new
-new_opened asked segment disk files keep old new none size empty written durable = record {
-  size = λ told. subst (λ (kept : Option (List ℕ)). IsSegmentOf kept asked segment) (sym (none told)) size;
+pub new_opened : (asked : AskedSizes) (sizes : Sizes) (disk : Type 0) (files : Files) (keep : Type 0) (old new : DiskState) → (keep → old.reads FORMAT ≡ None)
+    → sizes ≡ new_sizes asked → (disk → HasNoFile files) → (keep → new.reads FORMAT ≡ Some (format_text sizes)) → (keep → IsDurable FORMAT new)
+    → IsOpened asked sizes disk files keep old new
+new_opened asked sizes disk files keep old new none are empty written durable = record {
+  sizes_are = λ told. subst (λ (kept : Option (List ℕ)). AreSizesOf kept asked sizes) (sym (none told)) are;
   own = λ told kept name foreign. no_first_file files name (empty told) (subst (λ (text : Option (List ℕ)). IsForeign files text asked name) (none kept) foreign);
-  stands = λ told. subst (λ (kept : Option (List ℕ)). new.reads FORMAT ≡ Some (format_after kept segment)) (sym (none told)) (written told);
+  stands = λ told. subst (λ (kept : Option (List ℕ)). new.reads FORMAT ≡ Some (format_after kept sizes)) (sym (none told)) (written told);
   stays = durable;
 }

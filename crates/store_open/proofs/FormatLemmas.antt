@@ -7,6 +7,7 @@ use Rattle.std.proofs.lemmas.Str.Parse.{digit_at}
 use Rattle.std.proofs.lemmas.List.{append_cancel_left, append_cancel_right}
 use Rattle.std.specs.Str.{IsUtf8}
 use Rattle.mq_bytes.specs.Decimal.{digits_of}
+use Rattle.store_open.specs.declared.format.Sizes.{Sizes}
 use Rattle.store_open.specs.Formats.{sizes_text, AreSizes}
 
 -- no space stands among the digits of a number
@@ -22,8 +23,8 @@ sizes_between text rest sizes wanted front end whole =
     append_cancel_right sizes wanted (codes "\n") (sym end ∙ append_cancel_left (codes "mq_broker 1 ") rest (wanted ++ codes "\n") (sym front ∙ whole))
 
 -- sizes are text
-pub sizes_are_text : (segment slots entries : ℕ) → AreSizes segment slots entries → IsUtf8 (sizes_text segment slots entries)
-sizes_are_text segment slots entries sizes =
-    IsUtf8-from_ascii _ (IsAscii-append _ _ (IsAscii-decimal segment (omega (arith, sizes.segment_is.high)))
-    (IsAscii-cons 32 _ (omega arith) (IsAscii-append _ _ (IsAscii-decimal slots (omega (arith, sizes.most_slots)))
-    (IsAscii-cons 32 _ (omega arith) (IsAscii-decimal entries (omega (arith, sizes.most_entries)))))))
+pub sizes_are_text : (sizes : Sizes) → AreSizes sizes → IsUtf8 (sizes_text sizes)
+sizes_are_text sizes allowed =
+    IsUtf8-from_ascii _ (IsAscii-append _ _ (IsAscii-decimal sizes.segment (omega (arith, allowed.segment.high)))
+    (IsAscii-cons 32 _ (omega arith) (IsAscii-append _ _ (IsAscii-decimal sizes.slots (omega (arith, allowed.slots.high)))
+    (IsAscii-cons 32 _ (omega arith) (IsAscii-decimal sizes.entries (omega (arith, allowed.entries.high)))))))

@@ -1,10 +1,11 @@
 -- What an opening does to the keep, at each moment.
 use Rattle.std.proofs.Common.{◌≡◌, inl, ℕ, List, Option, Some, None, refl, sym, subst, ap, ◌∙◌}
-use Rattle.std.specs.Prelude.{unwrap_or}
 use Rattle.mq_outside.specs.Files.{Files, Same, At, OldOrNew}
 use Rattle.mq_outside.specs.Disk.{DiskState, Moves}
 use Rattle.mq_outside.proofs.Moments.{at_start, at_end, goes_on, each_same}
-use Rattle.store_open.specs.Formats.{format_text, NEW_SEGMENT, NEW_SLOTS, NEW_ENTRIES}
+use Rattle.store_open.specs.declared.format.Sizes.{Sizes}
+use Rattle.store_open.specs.declared.format.AskedSizes.{AskedSizes}
+use Rattle.store_open.specs.Formats.{format_text, new_sizes}
 use Rattle.store_open.specs.Openings.{FORMAT, IsImageWith, PutsOnly, own_format}
 
 stays : (text : List ℕ) (files : Files) → At FORMAT (OldOrNew text) files files
@@ -41,14 +42,14 @@ puts_text text old mid new loaded put =
     }
 
 -- which was the text of a new store
-pub puts_new : (asked : Option ℕ) (segment : ℕ) (text : List ℕ) (old mid new : DiskState) → old.reads FORMAT ≡ None → segment ≡ unwrap_or asked NEW_SEGMENT
-    → text ≡ format_text segment NEW_SLOTS NEW_ENTRIES → Moves Same old mid → Moves (At FORMAT (OldOrNew text)) mid new → PutsOnly (own_format (old.reads FORMAT) asked) old new
-puts_new asked segment text old mid new none size written loaded put =
+pub puts_new : (asked : AskedSizes) (sizes : Sizes) (text : List ℕ) (old mid new : DiskState) → old.reads FORMAT ≡ None → sizes ≡ new_sizes asked
+    → text ≡ format_text sizes → Moves Same old mid → Moves (At FORMAT (OldOrNew text)) mid new → PutsOnly (own_format (old.reads FORMAT) asked) old new
+puts_new asked sizes text old mid new none are written loaded put =
     subst (λ (kept : Option (List ℕ)). PutsOnly (own_format kept asked) old new) (sym none)
-    (subst (λ (t : List ℕ). PutsOnly t old new) (written ∙ ap (λ (n : ℕ). format_text n NEW_SLOTS NEW_ENTRIES) size) (puts_text text old mid new loaded put))
+    (subst (λ (t : List ℕ). PutsOnly t old new) (written ∙ ap format_text are) (puts_text text old mid new loaded put))
 
 -- or the one that stood there
-pub puts_again : (asked : Option ℕ) (text : List ℕ) (old mid new : DiskState) → old.reads FORMAT ≡ Some text → Moves Same old mid → Moves (At FORMAT (OldOrNew text)) mid new
-    → PutsOnly (own_format (old.reads FORMAT) asked) old new
+pub puts_again : (asked : AskedSizes) (text : List ℕ) (old mid new : DiskState) → old.reads FORMAT ≡ Some text → Moves Same old mid
+    → Moves (At FORMAT (OldOrNew text)) mid new → PutsOnly (own_format (old.reads FORMAT) asked) old new
 puts_again asked text old mid new there loaded put =
     subst (λ (kept : Option (List ℕ)). PutsOnly (own_format kept asked) old new) (sym there) (puts_text text old mid new loaded put)

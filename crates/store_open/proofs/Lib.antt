@@ -3,7 +3,7 @@ pub mod FormatLemmas
 pub mod HostLemmas
 pub mod KeepLemmas
 pub mod LeftLemmas
-pub mod ServeLemmas
+pub mod OptionLemmas
 pub mod SettingLemmas
+pub mod SizeLemmas
 pub mod WordLemmas
-pub mod ServeSizes

@@ -4,7 +4,7 @@ use Rattle.std.specs.Prelude.{filter_map}
 use Rattle.std.proofs.lemmas.List.{append-nil}
 use Rattle.std.proofs.lemmas.List.Elements.{filter_map-append}
 use Rattle.store_open.specs.declared.settings.Setting.{Setting}
-use Rattle.store_open.specs.ServeWords.{listed}
+use Rattle.store_open.specs.Options.{listed}
 
 -- an option of which this says nothing
 pub kept : {A : Type 0} (f : Setting → Option A) (said : List Setting) (setting : Setting) (o : Option A) → f setting ≡ None → filter_map f said ≡ listed o → filter_map f (said ++ setting ∷ []) ≡ listed o

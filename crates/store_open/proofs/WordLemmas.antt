@@ -1,95 +1,26 @@
--- The first word that doesn't fit, case by case; and that words with one are no command.
-use Rattle.std.proofs.Common.{◌≡◌, ◌≢◌, ℕ, ◌+◌, ◌<◌, ◌≤◌, List, [], ◌∷◌, length, take, codes, Option, Some, None, Bool, true, false, refl, sym, ap, subst, drop, ⊎_elim, ◌∙◌, arith}
-use Rattle.std.specs.Prelude.{not}
+-- The words that the code cuts off, and that arguments say one thing alone.
+use Rattle.std.proofs.Common.{◌≡◌, ◌≢◌, ℕ, ◌<◌, ◌^◌, suc, List, [], ◌∷◌, ◌++◌, length, get_or, All, Option, Some, None, Bool, true, false}
+use Rattle.std.proofs.Common.{refl, sym, ap, ◌∙◌, arith}
+use Rattle.std.specs.Prelude.{not, flat_map, filter_map}
 use Rattle.std.specs.Str.{bytes_eq}
-use Rattle.std.proofs.lemmas.Bool.{cases_lt}
 use Rattle.std.proofs.lemmas.Fmt.{decimal_injective}
-use Rattle.std.proofs.lemmas.List.{take-append-drop}
+use Rattle.std.proofs.lemmas.List.Elements.{All-head, All-tail}
 use Rattle.std.proofs.lemmas.Slice.Eq.{bytes_eq-Decides}
 use denote.Ref.{Bor}
 use Rattle.mq_bytes.specs.Decimal.{digits_of}
-use Rattle.log_model.specs.Log.{IsSegmentSize}
-use Rattle.store_open.specs.Words.{texts_of, IsCommand, BeginsCommand, IsFirstWrong}
-
--- ---- what begins a command
-
-begins_none : BeginsCommand []
-begins_none = record { rest = codes "pipe" ∷ []; segment = None; command = refl }
-
-begins_pipe : BeginsCommand (codes "pipe" ∷ [])
-begins_pipe = record { rest = []; segment = None; command = refl }
-
-begins_option : BeginsCommand (codes "pipe" ∷ codes "--segment" ∷ [])
-begins_option = record { rest = digits_of 4096 ∷ []; segment = Some 4096; command = (record { low = omega arith; high = omega arith }, refl) }
-
-begins_whole : (S : ℕ) → IsSegmentSize S → BeginsCommand (codes "pipe" ∷ codes "--segment" ∷ digits_of S ∷ [])
-begins_whole S size = record { rest = []; segment = Some S; command = (size, refl) }
-
--- ---- what a command's words are
-
-not_none : (segment : Option ℕ) → IsCommand [] segment → ⊥
-not_none None is = cc
-not_none (Some S) is = let words = is.1 in cc
-
-not_two : (a b : List ℕ) (segment : Option ℕ) → IsCommand (a ∷ b ∷ []) segment → ⊥
-not_two a b None is = cc
-not_two a b (Some S) is = let words = is.1 in cc
-
-first_is : (w : List ℕ) (rest : List (List ℕ)) (segment : Option ℕ) → IsCommand (w ∷ rest) segment → w ≡ codes "pipe"
-first_is w rest None is = cc
-first_is w rest (Some S) is = let words = is.1 in cc
-
-second_is : (a w : List ℕ) (rest : List (List ℕ)) (segment : Option ℕ) → IsCommand (a ∷ w ∷ rest) segment → w ≡ codes "--segment"
-second_is a w rest None is = cc
-second_is a w rest (Some S) is = let words = is.1 in cc
-
-third_is : (a b w : List ℕ) (rest : List (List ℕ)) (segment : Option ℕ) → IsCommand (a ∷ b ∷ w ∷ rest) segment → (S : ℕ) × IsSegmentSize S × (w ≡ digits_of S)
-third_is a b w rest None is = cc
-third_is a b w rest (Some S) is = let words = is.1 in (S, is.0, cc)
-
-no_fourth : (a b d w : List ℕ) (rest : List (List ℕ)) (segment : Option ℕ) → IsCommand (a ∷ b ∷ d ∷ w ∷ rest) segment → ⊥
-no_fourth a b d w rest None is = cc
-no_fourth a b d w rest (Some S) is = let words = is.1 in cc
-
--- ---- the first word that doesn't fit
-
-pub wrong_none : IsFirstWrong [] 0
-wrong_none = record { within = omega arith; fit = begins_none; wrong = λ there begins. omega (arith, there); missing = λ _ segment is. not_none segment is }
-
-pub wrong_first : (w : List ℕ) (rest : List (List ℕ)) → w ≢ codes "pipe" → IsFirstWrong (w ∷ rest) 0
-wrong_first w rest other = record {
-  within = omega arith;
-  fit = begins_none;
-  wrong = λ there begins. other (first_is w _ begins.segment begins.command);
-  missing = λ end. absurd (omega (arith, end));
-}
-
-pub wrong_second : (w : List ℕ) (rest : List (List ℕ)) → w ≢ codes "--segment" → IsFirstWrong (codes "pipe" ∷ w ∷ rest) 1
-wrong_second w rest other = record {
-  within = omega arith;
-  fit = begins_pipe;
-  wrong = λ there begins. other (second_is _ w _ begins.segment begins.command);
-  missing = λ end. absurd (omega (arith, end));
-}
-
-pub missing_value : IsFirstWrong (codes "pipe" ∷ codes "--segment" ∷ []) 2
-missing_value = record { within = omega arith; fit = begins_option; wrong = λ there begins. omega (arith, there); missing = λ _ segment is. not_two _ _ segment is }
-
-pub wrong_value : (w : List ℕ) (rest : List (List ℕ)) → ((S : ℕ) → IsSegmentSize S → w ≢ digits_of S) → IsFirstWrong (codes "pipe" ∷ codes "--segment" ∷ w ∷ rest) 2
-wrong_value w rest other = record {
-  within = omega arith;
-  fit = begins_option;
-  wrong = λ there begins. let value = third_is _ _ w _ begins.segment begins.command in other value.0 value.1 value.2;
-  missing = λ end. absurd (omega (arith, end));
-}
-
-pub wrong_fourth : (S : ℕ) (w : List ℕ) (rest : List (List ℕ)) → IsSegmentSize S → IsFirstWrong (codes "pipe" ∷ codes "--segment" ∷ digits_of S ∷ w ∷ rest) 3
-wrong_fourth S w rest size = record {
-  within = omega arith;
-  fit = begins_whole S size;
-  wrong = λ there begins. no_fourth _ _ _ w _ begins.segment begins.command;
-  missing = λ end. absurd (omega (arith, end));
-}
+use Rattle.store_open.specs.declared.settings.Verb.{Verb}
+use Rattle.store_open.specs.declared.settings.Setting.{Setting}
+use Rattle.store_open.specs.declared.settings.Setting.TheVariants.{FlushAs, SegmentOf, SlotsOf, EntriesOf, HostAt, LinksOf, ConnectionsOf}
+use Rattle.store_open.specs.declared.settings.Settings.{Settings}
+use Rattle.store_open.specs.declared.words.Command.{Command}
+use Rattle.store_open.specs.declared.serve_words.ServeCommand.{ServeCommand}
+use Rattle.store_open.specs.Options.{texts_of, spelled, choice_of, value_text, flush_text, host_text, port_of, written, listed, word_of}
+use Rattle.store_open.specs.Options.{sync_in, segment_in, slots_in, entries_in, host_in, links_in, connections_in}
+use Rattle.store_open.specs.Options.{IsHost, IsInRange, AreSaid, IsSettingOf, AreArguments}
+use Rattle.store_open.specs.Words.{IsCommand, IsFirstWrong}
+use Rattle.store_open.specs.ServeWords.{IsServeCommand, IsFirstWrongOfServe}
+use Rattle.store_open.proofs.HostLemmas.{no_dot, no_colon}
+use Rattle.store_open.proofs.OptionLemmas.{one_name, no_unfit_word}
 
 -- ---- the words that the code has cut off
 
@@ -97,15 +28,6 @@ wrong_fourth S w rest size = record {
 pub empty : (words : List (Bor (List ℕ))) → length words ≡ 0 → texts_of words ≡ []
 empty [] e = refl
 empty (w ∷ words) e = absurd (omega (arith, e))
-
--- a word there, a text there
-pub some : (words : List (Bor (List ℕ))) → 0 < length words → (text : List ℕ) × (rest : List (List ℕ)) × (texts_of words ≡ text ∷ rest)
-some [] there = absurd (omega (arith, there))
-some (w ∷ words) there = (w.now, texts_of words, refl)
-
--- the first word is this text
-pub headed : (text : List ℕ) (words : List (Bor (List ℕ))) (w : Bor (List ℕ)) (rest : List (Bor (List ℕ))) → words ≡ w ∷ rest → w.now ≡ text → texts_of words ≡ text ∷ texts_of rest
-headed text words w rest cut is = ap texts_of cut ∙ ap (λ (t : List ℕ). t ∷ texts_of rest) is
 
 -- what the test of a word says
 pub differs : (a b : List ℕ) (r : Bool) → r ≡ not (bytes_eq a b) → r ≡ true → a ≢ b
@@ -119,24 +41,155 @@ by_answer false r is clear = let apart : true ≡ false = sym is ∙ clear in cc
 pub equals : (a b : List ℕ) (r : Bool) → r ≡ not (bytes_eq a b) → r ≡ false → a ≡ b
 equals a b r is clear = (bytes_eq-Decides a b).0 (by_answer (bytes_eq a b) r is clear)
 
--- ---- words are a command, or one of them is the first that doesn't fit, and not both
+-- ---- a value's word is that of no other value
 
-fits_so_far : (words : List (List ℕ)) (segment : Option ℕ) (n : ℕ) → IsCommand words segment → BeginsCommand (take n words)
-fits_so_far words segment n command = record { rest = drop n words; segment = segment; command = subst (λ (all : List (List ℕ)). IsCommand all segment) (sym (take-append-drop n words)) command }
+-- texts that go on behind a byte that they don't have
+Lacks : ℕ → List ℕ → Type 0
+Lacks byte text = (i : ℕ) → i < length text → get_or text i 0 ≢ byte
 
-pub no_wrong_word : (words : List (List ℕ)) (segment : Option ℕ) (place : ℕ) → IsCommand words segment → IsFirstWrong words place → ⊥
-no_wrong_word words segment place command first = ⊎_elim
-    (λ (there : place < length words). first.wrong there (fits_so_far words segment (place + 1) command))
-    (λ (end : length words ≤ place). first.missing (omega (arith, first.within, end)) segment command)
-    (cases_lt place (length words))
+cut_at : (byte : ℕ) (a b x y : List ℕ) → Lacks byte a → Lacks byte b → a ++ byte ∷ x ≡ b ++ byte ∷ y → (a ≡ b) × (x ≡ y)
+unfolding Lacks
+cut_at byte [] [] x y lacks also e = (refl, cc)
+cut_at byte [] (c ∷ b) x y lacks also e = let first : byte ≡ c = cc in absurd (also 0 (omega arith) (sym first))
+cut_at byte (c ∷ a) [] x y lacks also e = let first : c ≡ byte = cc in absurd (lacks 0 (omega arith) first)
+cut_at byte (c ∷ a) (d ∷ b) x y lacks also e =
+    let rest : a ++ byte ∷ x ≡ b ++ byte ∷ y = cc in
+    let more = cut_at byte a b x y (λ i within. lacks (suc i) (omega (arith, within))) (λ i within. also (suc i) (omega (arith, within))) rest in
+    let front = more.0 in
+    (cc, more.1)
 
--- and words are one command alone
-pub one_command : (words : List (List ℕ)) (a b : Option ℕ) → IsCommand words a → IsCommand words b → a ≡ b
-one_command words None None is also = refl
-one_command words None (Some S) is also = let more = also.1 in cc
-one_command words (Some S) None is also = let more = is.1 in cc
-one_command words (Some S) (Some T) is also =
-    let left = is.1 in
-    let right = also.1 in
-    let digits : digits_of S ≡ digits_of T = cc in
-    ap Some (decimal_injective S T (omega (arith, is.0.high)) (omega (arith, also.0.high)) digits)
+-- the part in front of a dot
+one_part : (a b : ℕ) (x y : List ℕ) → a < 2 ^ 64 → b < 2 ^ 64 → digits_of a ++ 46 ∷ x ≡ digits_of b ++ 46 ∷ y → (a ≡ b) × (x ≡ y)
+unfolding Lacks
+one_part a b x y small also e =
+    let parts = cut_at 46 (digits_of a) (digits_of b) x y (no_dot a small) (no_dot b also) e in
+    (decimal_injective a b small also parts.0, parts.1)
+
+-- the part in front of the colon, and the port
+last_part : (a b p q : ℕ) → a < 2 ^ 64 → b < 2 ^ 64 → p < 2 ^ 64 → q < 2 ^ 64 → digits_of a ++ 58 ∷ digits_of p ≡ digits_of b ++ 58 ∷ digits_of q → (a ≡ b) × (p ≡ q)
+unfolding Lacks
+last_part a b p q small also low also_low e =
+    let parts = cut_at 58 (digits_of a) (digits_of b) (digits_of p) (digits_of q) (no_colon a small) (no_colon b also) e in
+    (decimal_injective a b small also parts.0, decimal_injective p q low also_low parts.1)
+
+-- eight bytes
+eight : (h : List ℕ) → length h ≡ 8
+    → h ≡ get_or h 0 0 ∷ get_or h 1 0 ∷ get_or h 2 0 ∷ get_or h 3 0 ∷ get_or h 4 0 ∷ get_or h 5 0 ∷ get_or h 6 0 ∷ get_or h 7 0 ∷ []
+eight (a ∷ b ∷ c ∷ d ∷ e ∷ f ∷ g ∷ k ∷ []) len = refl
+eight h len = absurd (omega (arith, len))
+
+one_host : (h k : List ℕ) → IsHost h → IsHost k → host_text h ≡ host_text k → h ≡ k
+one_host h k is also e =
+    let first = one_part (get_or h 0 0) (get_or k 0 0) _ _ (omega (arith, is.first)) (omega (arith, also.first)) e in
+    let second = one_part (get_or h 1 0) (get_or k 1 0) _ _ (omega (arith, is.second)) (omega (arith, also.second)) first.1 in
+    let third = one_part (get_or h 2 0) (get_or k 2 0) _ _ (omega (arith, is.third)) (omega (arith, also.third)) second.1 in
+    let fourth = last_part (get_or h 3 0) (get_or k 3 0) (port_of h) (port_of k)
+    (omega (arith, is.fourth)) (omega (arith, also.fourth)) (omega (arith, is.high)) (omega (arith, also.high)) third.1 in
+    let port = fourth.1 in
+    let at_0 = first.0 in
+    let at_1 = second.0 in
+    let at_2 = third.0 in
+    let at_3 = fourth.0 in
+    let at_4 : get_or h 4 0 ≡ get_or k 4 0 = is.upper ∙ sym also.upper in
+    let at_5 : get_or h 5 0 ≡ get_or k 5 0 = is.next ∙ sym also.next in
+    let at_6 : get_or h 6 0 ≡ get_or k 6 0 = omega (arith, port, is.low_byte, also.low_byte) in
+    let at_7 : get_or h 7 0 ≡ get_or k 7 0 = omega (arith, port, is.low_byte, also.low_byte) in
+    let all = eight h is.len in
+    let also_all = eight k also.len in
+    cc
+
+one_flush : (a b : Bool) → flush_text a ≡ flush_text b → a ≡ b
+one_flush true true e = refl
+one_flush false false e = refl
+one_flush true false e = absurd cc
+one_flush false true e = absurd cc
+
+one_setting : (s t : Setting) → IsInRange s → IsInRange t → choice_of s ≡ choice_of t → value_text s ≡ value_text t → s ≡ t
+one_setting (FlushAs v) (FlushAs w) is also same e = ap FlushAs (one_flush v w e)
+one_setting (SegmentOf v) (SegmentOf w) is also same e = ap SegmentOf (decimal_injective v w (omega (arith, is.high)) (omega (arith, also.high)) e)
+one_setting (SlotsOf v) (SlotsOf w) is also same e = ap SlotsOf (decimal_injective v w (omega (arith, is.high)) (omega (arith, also.high)) e)
+one_setting (EntriesOf v) (EntriesOf w) is also same e = ap EntriesOf (decimal_injective v w (omega (arith, is.high)) (omega (arith, also.high)) e)
+one_setting (HostAt v) (HostAt w) is also same e = ap HostAt (one_host v w is also e)
+one_setting (LinksOf v) (LinksOf w) is also same e = ap LinksOf (decimal_injective v w (omega (arith, is.high)) (omega (arith, also.high)) e)
+one_setting (ConnectionsOf v) (ConnectionsOf w) is also same e = ap ConnectionsOf (decimal_injective v w (omega (arith, is.high)) (omega (arith, also.high)) e)
+one_setting s t is also same e = absurd cc
+
+-- ---- words are arguments in one way
+
+one_said : (verb : Verb) (said other : List Setting) → All (IsSettingOf verb) said → All (IsSettingOf verb) other
+    → flat_map written said ≡ flat_map written other → said ≡ other
+one_said verb [] [] fit also e = refl
+one_said verb [] (t ∷ other) fit also e = let words : [] ≡ spelled (choice_of t) ∷ value_text t ∷ flat_map written other = e in absurd cc
+one_said verb (s ∷ said) [] fit also e = let words : spelled (choice_of s) ∷ value_text s ∷ flat_map written said ≡ [] = e in absurd cc
+one_said verb (s ∷ said) (t ∷ other) fit also e =
+    let words : spelled (choice_of s) ∷ value_text s ∷ flat_map written said ≡ spelled (choice_of t) ∷ value_text t ∷ flat_map written other = e in
+    let names : spelled (choice_of s) ≡ spelled (choice_of t) = cc in
+    let values : value_text s ≡ value_text t = cc in
+    let rest : flat_map written said ≡ flat_map written other = cc in
+    let first = one_setting s t (All-head (IsSettingOf verb) s said fit).in_range (All-head (IsSettingOf verb) t other also).in_range (one_name _ _ names) values in
+    let more = one_said verb said other (All-tail (IsSettingOf verb) s said fit) (All-tail (IsSettingOf verb) t other also) rest in
+    cc
+
+one_listed : {A : Type 0} (a b : Option A) → listed a ≡ listed b → a ≡ b
+one_listed None None e = refl
+one_listed None (Some b) e = absurd cc
+one_listed (Some a) None e = absurd cc
+one_listed (Some a) (Some b) e = cc
+
+one_value : {A : Type 0} (in_ : Setting → Option A) (said : List Setting) (a b : Option A) → filter_map in_ said ≡ listed a → filter_map in_ said ≡ listed b → a ≡ b
+one_value in_ said a b is also = one_listed a b (sym is ∙ also)
+
+one_settings : (said : List Setting) (a b : Settings) → AreSaid said a → AreSaid said b → a ≡ b
+one_settings said a b is also =
+    let sync = one_value sync_in said _ _ is.sync also.sync in
+    let segment = one_value segment_in said _ _ is.segment also.segment in
+    let slots = one_value slots_in said _ _ is.slots also.slots in
+    let entries = one_value entries_in said _ _ is.entries also.entries in
+    let host = one_value host_in said _ _ is.host also.host in
+    let links = one_value links_in said _ _ is.links also.links in
+    let connections = one_value connections_in said _ _ is.connections also.connections in
+    let all : record { sync = a.sync; segment = a.segment; slots = a.slots; entries = a.entries; host = a.host; links = a.links; connections = a.connections } ≡ record { sync = b.sync; segment = b.segment; slots = b.slots; entries = b.entries; host = b.host; links = b.links; connections = b.connections } = cc in
+    all
+
+one_meaning : (verb : Verb) (words : List (List ℕ)) (a b : Settings) → AreArguments verb words a → AreArguments verb words b → a ≡ b
+one_meaning verb words a b are also =
+    let both : word_of verb ∷ flat_map written are.said ≡ word_of verb ∷ flat_map written also.said = sym are.words_are ∙ also.words_are in
+    let tails : flat_map written are.said ≡ flat_map written also.said = cc in
+    let said = one_said verb are.said also.said are.fit also.fit tails in
+    one_settings also.said a b (rw (sym said) are.once) also.once
+
+-- words are one command alone
+pub one_command : (words : List (List ℕ)) (a b : Command) → IsCommand words a → IsCommand words b → a ≡ b
+one_command words a b is also =
+    let settings = one_meaning _ words _ _ is.are also.are in
+    let sync = is.meant.sync in
+    let sync_also = also.meant.sync in
+    let sizes = is.meant.sizes in
+    let sizes_also = also.meant.sizes in
+    let host = is.meant.host in
+    let host_also = also.meant.host in
+    let all : record { sync = a.sync; sizes = a.sizes; host = a.host } ≡ record { sync = b.sync; sizes = b.sizes; host = b.host } = cc in
+    all
+
+pub one_serve_command : (words : List (List ℕ)) (a b : ServeCommand) → IsServeCommand words a → IsServeCommand words b → a ≡ b
+one_serve_command words a b is also =
+    let settings = one_meaning _ words _ _ is.are also.are in
+    let sync = is.meant.sync in
+    let sync_also = also.meant.sync in
+    let sizes = is.meant.sizes in
+    let sizes_also = also.meant.sizes in
+    let host = is.meant.host in
+    let host_also = also.meant.host in
+    let links = is.meant.links in
+    let links_also = also.meant.links in
+    let connections = is.meant.connections in
+    let connections_also = also.meant.connections in
+    let all : record { sync = a.sync; sizes = a.sizes; host = a.host; links = a.links; connections = a.connections } ≡ record { sync = b.sync; sizes = b.sizes; host = b.host; links = b.links; connections = b.connections } = cc in
+    all
+
+-- words are a command, or one of them is the first that doesn't fit, and not both
+pub no_wrong_word : (words : List (List ℕ)) (command : Command) (place : ℕ) → IsCommand words command → IsFirstWrong words place → ⊥
+no_wrong_word words command place is first = no_unfit_word _ words is.settings place is.are first
+
+pub no_wrong_serve_word : (words : List (List ℕ)) (command : ServeCommand) (place : ℕ) → IsServeCommand words command → IsFirstWrongOfServe words place → ⊥
+no_wrong_serve_word words command place is first = no_unfit_word _ words is.settings place is.are first

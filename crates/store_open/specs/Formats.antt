@@ -1,42 +1,58 @@
 -- The text of the format: which store this is.
-use Rattle.std.specs.Prelude.{◌≡◌, ℕ, ◌≤◌, List, ◌∷◌, ◌++◌, codes, Option, IfSome}
+use Rattle.std.specs.Prelude.{◌≡◌, ℕ, ◌≤◌, List, ◌∷◌, ◌++◌, codes, IfSome, unwrap_or}
 use Rattle.mq_bytes.specs.Decimal.{digits_of}
 use Rattle.log_model.specs.Log.{IsSegmentSize}
+use Rattle.store_open.specs.declared.format.Sizes.{Sizes}
+use Rattle.store_open.specs.declared.format.AskedSizes.{AskedSizes}
 
 -- three numbers with a space between: how many bytes a segment has, and how many slots and entry numbers an index file
-abbrev pub sizes_text : ℕ → ℕ → ℕ → List ℕ
-sizes_text segment slots entries = digits_of segment ++ 32 ∷ (digits_of slots ++ 32 ∷ digits_of entries)
+abbrev pub sizes_text : Sizes → List ℕ
+sizes_text sizes = digits_of sizes.segment ++ 32 ∷ (digits_of sizes.slots ++ 32 ∷ digits_of sizes.entries)
 
 -- the name, the version, the sizes and a line end
-abbrev pub format_text : ℕ → ℕ → ℕ → List ℕ
-format_text segment slots entries = codes "mq_broker 1 " ++ (sizes_text segment slots entries ++ codes "\n")
+abbrev pub format_text : Sizes → List ℕ
+format_text sizes = codes "mq_broker 1 " ++ (sizes_text sizes ++ codes "\n")
+
+-- how many slots an index file may have
+pub record IsSlotCount (n : ℕ) : Type 0 where
+  pub low : 1 ≤ n
+  pub high : n ≤ 5000000
+
+-- how many entry numbers an index file may have
+pub record IsEntryCount (n : ℕ) : Type 0 where
+  pub low : 2 ≤ n
+  pub high : n ≤ 20000000
 
 -- the sizes that a store may have
-pub record AreSizes (segment slots entries : ℕ) : Type 0 where
-  pub segment_is : IsSegmentSize segment
-  pub least_slots : 1 ≤ slots
-  pub most_slots : slots ≤ 5000000
-  pub least_entries : 2 ≤ entries
-  pub most_entries : entries ≤ 20000000
+pub record AreSizes (sizes : Sizes) : Type 0 where
+  pub segment : IsSegmentSize sizes.segment
+  pub slots : IsSlotCount sizes.slots
+  pub entries : IsEntryCount sizes.entries
 
 -- the text is the format of a store of these sizes
-pub record IsFormat (text : List ℕ) (segment slots entries : ℕ) : Type 0 where
-  pub is : text ≡ format_text segment slots entries
-  pub sizes : AreSizes segment slots entries
+pub record IsFormat (text : List ℕ) (sizes : Sizes) : Type 0 where
+  pub is : text ≡ format_text sizes
+  pub allowed : AreSizes sizes
 
--- the sizes of a new store for which no others were asked
-abbrev pub NEW_SEGMENT : ℕ
-NEW_SEGMENT = 1073741824
+-- ---- the sizes that are asked for
 
-abbrev pub NEW_SLOTS : ℕ
-NEW_SLOTS = 65536
+-- each is one that a store may have
+pub record AreAllowed (asked : AskedSizes) : Type 0 where
+  pub segment : IfSome asked.segment IsSegmentSize
+  pub slots : IfSome asked.slots IsSlotCount
+  pub entries : IfSome asked.entries IsEntryCount
 
-abbrev pub NEW_ENTRIES : ℕ
-NEW_ENTRIES = 262144
+-- the sizes of a new store: those that are asked for, and the defaults for the rest
+abbrev pub new_sizes : AskedSizes → Sizes
+new_sizes asked = record { segment = unwrap_or asked.segment 1073741824; slots = unwrap_or asked.slots 65536; entries = unwrap_or asked.entries 262144 }
 
--- the text is a format whose segments have so many bytes, and no other size was asked for
-pub record IsFormatFor (text : List ℕ) (asked : Option ℕ) (segment : ℕ) : Type 0 where
-  pub slots : ℕ
-  pub entries : ℕ
-  pub format : IsFormat text segment slots entries
-  pub agrees : IfSome asked (λ size. size ≡ segment)
+-- each is that of the store
+pub record Agrees (asked : AskedSizes) (sizes : Sizes) : Type 0 where
+  pub segment : IfSome asked.segment (λ size. size ≡ sizes.segment)
+  pub slots : IfSome asked.slots (λ n. n ≡ sizes.slots)
+  pub entries : IfSome asked.entries (λ n. n ≡ sizes.entries)
+
+-- the text is the format of a store of these sizes, and no others were asked for
+pub record IsFormatFor (text : List ℕ) (asked : AskedSizes) (sizes : Sizes) : Type 0 where
+  pub format : IsFormat text sizes
+  pub agrees : Agrees asked sizes

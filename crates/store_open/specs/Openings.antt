@@ -1,9 +1,11 @@
--- The opening of a store: which size its segments have, and when it is another's.
-use Rattle.std.specs.Prelude.{◌≡◌, ◌⊎◌, ℕ, List, codes, Option, Some, None, slice_get, unwrap_or}
+-- The opening of a store: which sizes it has, and when it is foreign.
+use Rattle.std.specs.Prelude.{◌≡◌, ◌⊎◌, ℕ, List, codes, Option, Some, None, slice_get}
 use Rattle.mq_outside.specs.Counts.{Rises}
 use Rattle.mq_outside.specs.Files.{Files, Lists, At, OldOrNew}
 use Rattle.mq_outside.specs.Disk.{DiskState, IsCrashImage, IsDurable, Throughout}
-use Rattle.store_open.specs.Formats.{format_text, IsFormatFor, NEW_SEGMENT, NEW_SLOTS, NEW_ENTRIES}
+use Rattle.store_open.specs.declared.format.Sizes.{Sizes}
+use Rattle.store_open.specs.declared.format.AskedSizes.{AskedSizes}
+use Rattle.store_open.specs.Formats.{format_text, new_sizes, IsFormatFor}
 use Rattle.store_open.specs.declared.status.Status.{Status}
 
 -- the name of the text that says the store's format
@@ -16,19 +18,19 @@ pub record IsFirstFile (files : Files) (name : List ℕ) : Type 0 where
   pub listed : Lists files names
   pub first : slice_get names 0 ≡ Some name
 
--- how many bytes a segment has: of a store without a format as many as were asked for, or by default, else as many as the format says
-abbrev pub IsSegmentOf : Option (List ℕ) → Option ℕ → ℕ → Type 0
-IsSegmentOf None asked segment = segment ≡ unwrap_or asked NEW_SEGMENT
-IsSegmentOf (Some text) asked segment = IsFormatFor text asked segment
+-- the sizes of a store: without a format those that were asked for, and the defaults for the rest, else those that the format says
+abbrev pub AreSizesOf : Option (List ℕ) → AskedSizes → Sizes → Type 0
+AreSizesOf None asked sizes = sizes ≡ new_sizes asked
+AreSizesOf (Some text) asked sizes = IsFormatFor text asked sizes
 
 -- the format behind the opening: that of a new store, or the one that stood there
-abbrev pub format_after : Option (List ℕ) → ℕ → List ℕ
-format_after None segment = format_text segment NEW_SLOTS NEW_ENTRIES
-format_after (Some text) segment = text
+abbrev pub format_after : Option (List ℕ) → Sizes → List ℕ
+format_after None sizes = format_text sizes
+format_after (Some text) sizes = text
 
 -- the one text that an opening puts under the name: that of a new store, or the one that stands there
-abbrev pub own_format : Option (List ℕ) → Option ℕ → List ℕ
-own_format None asked = format_text (unwrap_or asked NEW_SEGMENT) NEW_SLOTS NEW_ENTRIES
+abbrev pub own_format : Option (List ℕ) → AskedSizes → List ℕ
+own_format None asked = format_text (new_sizes asked)
 own_format (Some text) asked = text
 
 -- a crash image of this keep, but that the format may have become this text
@@ -41,17 +43,17 @@ pub record PutsOnly (text : List ℕ) (old new : DiskState) : Type 0 where
   pub reads : At FORMAT (OldOrNew text) old.reads new.reads
   pub at_each : Throughout old new (IsImageWith text old)
 
--- The store is another's: it has no format, and this file stands in it; or `format` is none, or of another size than was asked for.
-abbrev pub IsForeign : Files → Option (List ℕ) → Option ℕ → List ℕ → Type 0
+-- The store is foreign: it has no format, and this file stands in it; or `format` is none, or of other sizes than were asked for.
+abbrev pub IsForeign : Files → Option (List ℕ) → AskedSizes → List ℕ → Type 0
 IsForeign files None asked name = IsFirstFile files name
-IsForeign files (Some text) asked name = (name ≡ FORMAT) × ((segment : ℕ) → IsFormatFor text asked segment → ⊥)
+IsForeign files (Some text) asked name = (name ≡ FORMAT) × ((sizes : Sizes) → IsFormatFor text asked sizes → ⊥)
 
--- A store that was opened in segments of this size: it is nobody else's, its format stands, and stays through a crash.
+-- A store that was opened with these sizes: it is not foreign, its format stands, and stays through a crash.
 -- What is said of the disk and of the keep is said where these tell what they hold.
-pub record IsOpened (asked : Option ℕ) (segment : ℕ) (disk : Type 0) (files : Files) (keep : Type 0) (old new : DiskState) : Type 0 where
-  pub size : keep → IsSegmentOf (old.reads FORMAT) asked segment
+pub record IsOpened (asked : AskedSizes) (sizes : Sizes) (disk : Type 0) (files : Files) (keep : Type 0) (old new : DiskState) : Type 0 where
+  pub sizes_are : keep → AreSizesOf (old.reads FORMAT) asked sizes
   pub own : disk → keep → (name : List ℕ) → IsForeign files (old.reads FORMAT) asked name → ⊥
-  pub stands : keep → new.reads FORMAT ≡ Some (format_after (old.reads FORMAT) segment)
+  pub stands : keep → new.reads FORMAT ≡ Some (format_after (old.reads FORMAT) sizes)
   pub stays : keep → IsDurable FORMAT new
 
 -- the counts of the disk and of the keep

@@ -1,28 +1,23 @@
--- The command line.
-use Rattle.std.specs.Prelude.{◌≡◌, ℕ, ◌+◌, ◌<◌, ◌≤◌, List, [], ◌∷◌, ◌++◌, codes, length, map, take, Option, Some, None}
-use denote.Ref.{Bor}
-use Rattle.mq_bytes.specs.Decimal.{digits_of}
-use Rattle.log_model.specs.Log.{IsSegmentSize}
+-- The arguments of `pipe`.
+use Rattle.std.specs.Prelude.{◌≡◌, ℕ, List}
+use Rattle.store_open.specs.declared.settings.Verb.TheVariants.{Pipe}
+use Rattle.store_open.specs.declared.settings.Settings.{Settings}
+use Rattle.store_open.specs.declared.words.Command.{Command}
+pub use Rattle.store_open.specs.Options.{texts_of}
+use Rattle.store_open.specs.Options.{AreArguments, IsFirstUnfit, sync_of, sizes_of, host_of}
 
--- the texts of the words
-abbrev pub texts_of : List (Bor (List ℕ)) → List (List ℕ)
-texts_of = map (λ word. word.now)
+-- the command has what is said, and else the defaults
+pub record IsMeant (settings : Settings) (command : Command) : Type 0 where
+  pub sync : command.sync ≡ sync_of settings
+  pub sizes : command.sizes ≡ sizes_of settings
+  pub host : command.host ≡ host_of settings
 
--- These words are a command: `pipe`, and behind it `--segment` with how many bytes a segment has, where it is given.
-abbrev pub IsCommand : List (List ℕ) → Option ℕ → Type 0
-IsCommand words None = words ≡ codes "pipe" ∷ []
-IsCommand words (Some segment) = IsSegmentSize segment × (words ≡ codes "pipe" ∷ codes "--segment" ∷ digits_of segment ∷ [])
+-- These words are a command: `pipe`, and behind it options with their values, each at most once.
+pub record IsCommand (words : List (List ℕ)) (command : Command) : Type 0 where
+  pub settings : Settings
+  pub are : AreArguments Pipe words settings
+  pub meant : IsMeant settings command
 
--- a command begins with these words
-pub record BeginsCommand (words : List (List ℕ)) : Type 0 where
-  pub rest : List (List ℕ)
-  pub segment : Option ℕ
-  pub command : IsCommand (words ++ rest) segment
-
--- The first word that doesn't fit, counted from 0: a command begins with the words before it, and none with it as well. Where
--- each word fits and one is missing, it is the word behind the last.
-pub record IsFirstWrong (words : List (List ℕ)) (place : ℕ) : Type 0 where
-  pub within : place ≤ length words
-  pub fit : BeginsCommand (take place words)
-  pub wrong : place < length words → BeginsCommand (take (place + 1) words) → ⊥
-  pub missing : place ≡ length words → (segment : Option ℕ) → IsCommand words segment → ⊥
+-- the first word that doesn't fit, or the place behind the last where one is missing
+abbrev pub IsFirstWrong : List (List ℕ) → ℕ → Type 0
+IsFirstWrong words place = IsFirstUnfit Pipe words place

@@ -2,18 +2,17 @@
 //!
 //! `mq_broker 1 S SLOTS ENTRIES` and a line end, with one space between. Numbers are decimal, without leading zeros.
 //!
-//! | part      | says                                          | from | to            | of a new store     |
-//! |-----------|-----------------------------------------------|-----:|--------------:|-------------------:|
-//! | `1`       | the version of the store's files              |      |               |                    |
-//! | `S`       | how many bytes a segment of the log has       | 4096 | 1,073,741,824 | as the words say   |
-//! | `SLOTS`   | how many slots an index file has              |    1 |     5,000,000 |             65,536 |
-//! | `ENTRIES` | how many entry numbers an index file has      |    2 |    20,000,000 |            262,144 |
+//! | part      | says                                   | from | to            | of a new store           |
+//! |-----------|----------------------------------------|-----:|--------------:|-------------------------:|
+//! | `1`       | the version of the store's files       |      |               |                          |
+//! | `S`       | how many bytes a segment of the log has | 4096 | 1,073,741,824 | `--segment`, 1073741824 |
+//! | `SLOTS`   | how many slots an index file has       |    1 |     5,000,000 | `--slots`, 65536         |
+//! | `ENTRIES` | how many entry numbers an index file has |  2 |    20,000,000 | `--entries`, 262144      |
 
-ghost use Rattle.std.specs.Prelude.{◌≡◌, ℕ, List, ◌∷◌, ◌++◌, ◌≤◌, Some, IfSome, IfOk, OnErr, OnOk, MatchOption};
-ghost use Rattle.std.specs.List.{Contains};
+ghost use Rattle.std.specs.Prelude.{◌≡◌, ◌↔◌, ℕ, List, ◌∷◌, ◌++◌, ◌≤◌, Some, IfSome, IfOk, IsTrue, MatchOption};
 ghost use Rattle.mq_bytes.specs.Decimal.{digits_of};
-ghost use Rattle.log_model.specs.Log.{IsSegmentSize};
-ghost use Rattle.store_open.specs.Formats.{format_text, IsFormat, AreSizes, sizes_text, NEW_SLOTS, NEW_ENTRIES};
+ghost use Rattle.store_open.specs.declared.format.Sizes.{Sizes as TheSizes};
+ghost use Rattle.store_open.specs.Formats.{format_text, IsFormat, AreSizes, Agrees, sizes_text, new_sizes};
 
 use crate::number::read_number;
 use mq_bytes::write_number;
@@ -23,23 +22,55 @@ use std::alloc::{AllocError, Global};
 /// The name and the version of the store's files.
 const HEAD: &[u8] = b"mq_broker 1 ";
 
-const GREATEST_SLOTS: u32 = 5_000_000;
+pub(crate) const SLOTS_MIN: u32 = 1;
 
-const LEAST_ENTRIES: u32 = 2;
+pub(crate) const SLOTS_MAX: u32 = 5_000_000;
 
-const GREATEST_ENTRIES: u32 = 20_000_000;
+pub(crate) const ENTRIES_MIN: u32 = 2;
 
-/// The slots and the entries of a new store.
-const SLOTS: u64 = 65_536;
+pub(crate) const ENTRIES_MAX: u32 = 20_000_000;
 
-const ENTRIES: u64 = 262_144;
+/// The slots and the entries of a new store, where no others are asked for.
+const SLOTS: u32 = 65_536;
+
+const ENTRIES: u32 = 262_144;
 
 /// The sizes of a store: the bytes of a segment, and the slots and entry numbers of an index file.
 #[derive(Debug, Clone, Copy, PartialEq, Eq)]
-pub(crate) struct Sizes {
-    pub(crate) segment: u32,
-    pub(crate) slots: u32,
-    pub(crate) entries: u32,
+pub struct Sizes {
+    pub segment: u32,
+    pub slots: u32,
+    pub entries: u32,
+}
+
+/// The sizes that the arguments ask for, each where they say it.
+#[derive(Debug, Clone, Copy, PartialEq, Eq)]
+pub struct AskedSizes {
+    pub segment: Option<u32>,
+    pub slots: Option<u32>,
+    pub entries: Option<u32>,
+}
+
+impl AskedSizes {
+    /// The sizes of a new store: those that are asked for, and the defaults for the rest.
+    pub(crate) fn of_new_store(&self) -> Sizes
+        ensures { result ≡ new_sizes self.now }
+    {
+        Sizes {
+            segment: self.segment.unwrap_or(SEGMENT_MAX),
+            slots: self.slots.unwrap_or(SLOTS),
+            entries: self.entries.unwrap_or(ENTRIES),
+        }
+    }
+
+    /// Whether each size that is asked for is that of the store.
+    pub(crate) fn agree(&self, sizes: &Sizes) -> bool
+        ensures { IsTrue result ↔ Agrees self.now sizes.now }
+    {
+        self.segment.unwrap_or(sizes.segment) == sizes.segment
+            && self.slots.unwrap_or(sizes.slots) == sizes.slots
+            && self.entries.unwrap_or(sizes.entries) == sizes.entries
+    }
 }
 
 // The number in front of the first space, and what stands behind that.
@@ -56,13 +87,12 @@ fn number_before(text: &str, low: u32, high: u32) -> Option<(u32, &str)>
 
 // The three numbers.
 fn read_sizes(text: &str) -> Option<Sizes>
-    ensures found { IfSome result (λ sizes. (text.now ≡ sizes_text sizes.segment sizes.slots sizes.entries) × AreSizes sizes.segment sizes.slots sizes.entries) }
-    ensures exact { (segment slots entries : ℕ) → text.now ≡ sizes_text segment slots entries → AreSizes segment slots entries
-        → result ≡ Some (record { segment = segment; slots = slots; entries = entries }) }
+    ensures found { IfSome result (λ sizes. (text.now ≡ sizes_text sizes) × AreSizes sizes) }
+    ensures exact { (sizes : TheSizes) → text.now ≡ sizes_text sizes → AreSizes sizes → result ≡ Some sizes }
 {
     let (segment, rest) = number_before(text, SEGMENT_MIN, SEGMENT_MAX)?;
-    let (slots, rest) = number_before(rest, 1, GREATEST_SLOTS)?;
-    let entries = read_number(rest, LEAST_ENTRIES, GREATEST_ENTRIES)?;
+    let (slots, rest) = number_before(rest, SLOTS_MIN, SLOTS_MAX)?;
+    let entries = read_number(rest, ENTRIES_MIN, ENTRIES_MAX)?;
     Some(Sizes {
         segment,
         slots,
@@ -72,9 +102,8 @@ fn read_sizes(text: &str) -> Option<Sizes>
 
 /// The sizes that the text says, where it is a format.
 pub(crate) fn read_format(text: &[u8]) -> Option<Sizes>
-    ensures found { IfSome result (λ sizes. IsFormat text.now sizes.segment sizes.slots sizes.entries) }
-    ensures exact { (segment slots entries : ℕ) → IsFormat text.now segment slots entries
-        → result ≡ Some (record { segment = segment; slots = slots; entries = entries }) }
+    ensures found { IfSome result (IsFormat text.now) }
+    ensures exact { (sizes : TheSizes) → IsFormat text.now sizes → result ≡ Some sizes }
 {
     let rest = text.strip_prefix(HEAD)?;
     let sizes = rest.strip_suffix(b"\n")?;
@@ -84,16 +113,16 @@ pub(crate) fn read_format(text: &[u8]) -> Option<Sizes>
     read_sizes(sizes)
 }
 
-/// The format of a new store with segments of so many bytes.
-pub(crate) fn write_format(alloc: Global, segment: u32) -> Result<Vec<u8>, AllocError>
-    ensures { IfOk result (λ text. text.items ≡ format_text segment NEW_SLOTS NEW_ENTRIES) }
+/// The format of a store of these sizes.
+pub(crate) fn write_format(alloc: Global, sizes: &Sizes) -> Result<Vec<u8>, AllocError>
+    ensures { IfOk result (λ text. text.items ≡ format_text sizes.now) }
 {
     let mut text = Vec::from_slice(alloc, HEAD)?;
-    write_number(u64::from(segment), &mut text)?;
+    write_number(u64::from(sizes.segment), &mut text)?;
     text.push(b' ')?;
-    write_number(SLOTS, &mut text)?;
+    write_number(u64::from(sizes.slots), &mut text)?;
     text.push(b' ')?;
-    write_number(ENTRIES, &mut text)?;
+    write_number(u64::from(sizes.entries), &mut text)?;
     text.push(b'\n')?;
     Ok(text)
 }

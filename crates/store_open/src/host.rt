@@ -3,7 +3,7 @@
 
 ghost use Rattle.std.specs.Prelude.{◌≡◌, ℕ, ◌≤◌, ◌∷◌, ◌++◌, List, IfSome, IsSome, MatchOption};
 ghost use Rattle.mq_bytes.specs.Decimal.{digits_of};
-ghost use Rattle.store_open.specs.ServeWords.{IsHost, host_text};
+ghost use Rattle.store_open.specs.Options.{IsHost, host_text};
 
 use crate::number::read_number;
 

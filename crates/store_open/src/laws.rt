@@ -1,11 +1,13 @@
 //! What a crash leaves of a store and its format while the store is opened, and from then on. No call is made: the clauses speak
 //! of the definitions.
 
-ghost use Rattle.std.specs.Prelude.{◌≡◌, ◌≤◌, List, ℕ, Option};
+ghost use Rattle.std.specs.Prelude.{◌≡◌, ◌≤◌, ℕ};
 ghost use Rattle.mq_outside.specs.Disk.{EachImage, IsCrashImage};
 ghost use Rattle.mq_outside.specs.Files.{Files};
 ghost use Rattle.store_open.specs.Openings.{FORMAT, IsOpened, PutsOnly, own_format};
-ghost use Rattle.store_open.specs.Words.{IsCommand};
+ghost use Rattle.store_open.specs.declared.format.AskedSizes.{AskedSizes};
+ghost use Rattle.store_open.specs.declared.format.Sizes.{Sizes};
+ghost use Rattle.store_open.specs.Formats.{AreAllowed};
 ghost use Rattle.store_open.specs.Left.{HasFormat, IsStoreOrNothing};
 
 use mq_outside::{Disk, Keep};
@@ -20,17 +22,17 @@ pub fn a_cut_off_opening_leaves_a_store<D: Disk, E: Disk, P: Keep, Q: Keep>(
     keep_crashed: &Q,
 )
     // While the format is looked up and put, the disk is as it was.
-    ensures unopened { P.tells → (words : List (List ℕ)) (asked : Option ℕ) (segment m : ℕ) (files texts : Files) → IsCommand words asked
-        → IsStoreOrNothing segment (D.state before.now) (P.state keep_before.now)
+    ensures unopened { P.tells → (asked : AskedSizes) (sizes : Sizes) (m : ℕ) (files texts : Files) → AreAllowed asked
+        → IsStoreOrNothing sizes (D.state before.now) (P.state keep_before.now)
         → PutsOnly (own_format ((P.state keep_before.now).reads FORMAT) asked) (P.state keep_before.now) (P.state keep_behind.now)
         → IsCrashImage (D.state before.now) files
         → (P.state keep_before.now).moment ≤ m → m ≤ (P.state keep_behind.now).moment → (P.state keep_behind.now).image_at m texts
         → EachImage (λ image. image ≡ files) (E.state crashed.now) → EachImage (λ image. image ≡ texts) (Q.state keep_crashed.now)
-        → IsStoreOrNothing segment (E.state crashed.now) (Q.state keep_crashed.now) }
+        → IsStoreOrNothing sizes (E.state crashed.now) (Q.state keep_crashed.now) }
 
     // From then on the keep is as it is at the end, whatever the disk is.
-    ensures opened { P.tells → (words : List (List ℕ)) (asked : Option ℕ) (segment : ℕ) (texts : Files) → IsCommand words asked
-        → IsOpened asked segment D.tells (D.state before.now).reads P.tells (P.state keep_before.now) (P.state keep_behind.now)
+    ensures opened { P.tells → (asked : AskedSizes) (sizes : Sizes) (texts : Files) → AreAllowed asked
+        → IsOpened asked sizes D.tells (D.state before.now).reads P.tells (P.state keep_before.now) (P.state keep_behind.now)
         → IsCrashImage (P.state keep_behind.now) texts
-        → EachImage (λ image. image ≡ texts) (Q.state keep_crashed.now) → HasFormat segment (Q.state keep_crashed.now) }
+        → EachImage (λ image. image ≡ texts) (Q.state keep_crashed.now) → HasFormat sizes (Q.state keep_crashed.now) }
 {}

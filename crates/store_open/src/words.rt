@@ -1,44 +1,34 @@
-//! The words of the command line: `pipe`, and at most once `--segment` with how many bytes a segment has.
+//! The arguments of `pipe`: `pipe`, and behind it options with their values, each option at most once and in any order.
 
 ghost use Rattle.std.specs.Prelude.{IfOk, IfErr};
-ghost use Rattle.store_open.specs.Words.{texts_of, IsCommand, IsFirstWrong};
+ghost use Rattle.store_open.specs.Options.{texts_of};
+ghost use Rattle.store_open.specs.Words.{IsCommand, IsFirstWrong};
 
-use crate::number::read_number;
-use record_codec::{SEGMENT_MAX, SEGMENT_MIN};
+use crate::format::AskedSizes;
+use crate::options::read_options;
+use crate::settings::Verb;
 
-/// What the words ask for. `segment` is how many bytes a segment has, where they say it.
+/// What the arguments of `pipe` ask for. `sync` is whether a message is synced before it counts as kept, `sizes` are the store's,
+/// where the arguments say them, and `host` is where clients reach the broker (the address, and the port in four bytes, high byte
+/// first).
 #[derive(Debug, Clone, Copy, PartialEq, Eq)]
 pub struct Command {
-    pub segment: Option<u32>,
+    pub sync: bool,
+    pub sizes: AskedSizes,
+    pub host: [u8; 8],
 }
 
 /// The command, or the place of the first word that doesn't fit, counted from 0.
 pub fn read_words(words: &[&str]) -> Result<Command, u64>
-    ensures fits { IfOk result (λ command. IsCommand (texts_of words.now) command.segment) }
+    ensures fits { IfOk result (λ command. IsCommand (texts_of words.now) command) }
     ensures wrong { IfErr result (λ place. IsFirstWrong (texts_of words.now) place) }
 {
-    let Some((word, options)) = words.split_first() else {
-        return Err(0);
-    };
-    if *word != "pipe" {
-        return Err(0);
+    match read_options(Verb::Pipe, words) {
+        Ok(settings) => Ok(Command {
+            sync: settings.sync_or_default(),
+            sizes: settings.sizes(),
+            host: settings.host_or_default(),
+        }),
+        Err(place) => Err(place),
     }
-    let Some((option, values)) = options.split_first() else {
-        return Ok(Command { segment: None });
-    };
-    if *option != "--segment" {
-        return Err(1);
-    }
-    let Some((value, more)) = values.split_first() else {
-        return Err(2);
-    };
-    let Some(segment) = read_number(value, SEGMENT_MIN, SEGMENT_MAX) else {
-        return Err(2);
-    };
-    if !more.is_empty() {
-        return Err(3);
-    }
-    Ok(Command {
-        segment: Some(segment),
-    })
 }

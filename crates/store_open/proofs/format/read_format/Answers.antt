@@ -8,11 +8,11 @@ use Rattle.store_open.proofs.FormatLemmas.{sizes_between, sizes_are_text}
 use Rattle.store_open.proofs.format.read_format.Goals as goal
 
 pub returns-in_default-clause-exact : goal.returns-in_default-clause-exact
-returns-in_default-clause-exact c = λ segment slots entries format.
+returns-in_default-clause-exact c = λ sizes format.
     let front = rw c.in_ok-rest.was at (strip_prefix_is {A = ℕ} {E = eqb} Decides-eqb c.args.text.now (codes "mq_broker 1 ") c.strip_prefix.result c.strip_prefix.ensures.cases) in
     let end = rw c.in_ok-sizes.was at (strip_suffix_is {A = ℕ} {E = eqb} Decides-eqb c.in_ok-rest.rest.now (codes "\n") c.strip_suffix.result c.strip_suffix.ensures.cases) in
-    let same = sizes_between _ _ _ (sizes_text segment slots entries) front end format.is in
-    absurd (c.in_default.ensures.cases.0 (subst (λ (text : List ℕ). IsUtf8 text) (sym same) (sizes_are_text segment slots entries format.sizes)))
+    let same = sizes_between _ _ _ (sizes_text sizes) front end format.is in
+    absurd (c.in_default.ensures.cases.0 (subst (λ (text : List ℕ). IsUtf8 text) (sym same) (sizes_are_text sizes format.allowed)))
 
 pub returns-clause-found : goal.returns-clause-found
 returns-clause-found c =
@@ -20,5 +20,5 @@ returns-clause-found c =
     let end = rw c.in_ok-sizes.was at (strip_suffix_is {A = ℕ} {E = eqb} Decides-eqb c.in_ok-rest.rest.now (codes "\n") c.strip_suffix.result c.strip_suffix.ensures.cases) in
     IfSome_then c.read_sizes.result c.read_sizes.ensures.found (λ sizes found. record {
       is = front ∙ ap (λ (rest : List ℕ). codes "mq_broker 1 " ++ rest) (end ∙ ap (λ (text : List ℕ). text ++ codes "\n") (sym c.in-Ok.ensures.cases.0 ∙ found.0));
-      sizes = found.1;
+      allowed = found.1;
     })

@@ -1,5 +1,5 @@
 use Rattle.std.proofs.Common.{◌≡◌, true, false, get_or}
-use Rattle.store_open.specs.ServeWords.{port_of}
+use Rattle.store_open.specs.Options.{port_of}
 use Rattle.store_open.proofs.host.read_host.Goals as goal
 
 pub returns-in_err-first-clause-exact : goal.returns-in_err-first-clause-exact

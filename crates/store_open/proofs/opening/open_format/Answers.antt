@@ -17,25 +17,25 @@ pub returns-clause-opened : goal.returns-clause-opened
 returns-clause-opened g c =
     let empty = sym c.as_slice-2.ensures.value ∙ c.in_ok-foreign_file.ensures.none in
     let no_name = ap (λ (names : List (String Global)). map (λ name. string_bytes name) names) empty in
-    new_opened c.args.asked _ _ _ _ _ _
-    (λ told. sym (c.in-Ok-load.ensures.bytes told) ∙ ap (λ (o : Option (Vec ℕ Global)). option_map (λ v. v.items) o) c.in_default.is) c.unwrap_or-segment.ensures
+    new_opened c.args.asked.now _ _ _ _ _ _
+    (λ told. sym (c.in-Ok-load.ensures.bytes told) ∙ ap (λ (o : Option (Vec ℕ Global)). option_map (λ v. v.items) o) c.in_default.is) c.of_new_store-sizes.ensures
     (λ told. none_listed _ (subst (λ (names : List (List ℕ)). Lists (g.D.Disk.state c.args.disk.now).reads names) no_name (c.in-Ok.ensures.names told)))
     (λ told. c.in_ok-put_format-2.ensures.done told ∙ ap Some (c.as_slice-3.ensures.value ∙ c.in-Ok-write_format.ensures)) c.in_ok-put_format-2.ensures.durable
 
 pub returns-in_err-put_format-2-clause-puts : goal.returns-in_err-put_format-2-clause-puts
 returns-in_err-put_format-2-clause-puts g c = λ told.
-    puts_new c.args.asked _ _ _ _ _
-    (sym (c.in-Ok-load.ensures.bytes told) ∙ ap (λ (o : Option (Vec ℕ Global)). option_map (λ v. v.items) o) c.in_default.is) c.unwrap_or-segment.ensures
+    puts_new c.args.asked.now _ _ _ _ _
+    (sym (c.in-Ok-load.ensures.bytes told) ∙ ap (λ (o : Option (Vec ℕ Global)). option_map (λ v. v.items) o) c.in_default.is) c.of_new_store-sizes.ensures
     (c.as_slice-3.ensures.value ∙ c.in-Ok-write_format.ensures) (c.in-Ok-load.ensures.moves told) (c.in_err-put_format-2.ensures.moves told)
 
 pub returns-clause-puts : goal.returns-clause-puts
 returns-clause-puts g c = λ told.
-    puts_new c.args.asked _ _ _ _ _
-    (sym (c.in-Ok-load.ensures.bytes told) ∙ ap (λ (o : Option (Vec ℕ Global)). option_map (λ v. v.items) o) c.in_default.is) c.unwrap_or-segment.ensures
+    puts_new c.args.asked.now _ _ _ _ _
+    (sym (c.in-Ok-load.ensures.bytes told) ∙ ap (λ (o : Option (Vec ℕ Global)). option_map (λ v. v.items) o) c.in_default.is) c.of_new_store-sizes.ensures
     (c.as_slice-3.ensures.value ∙ c.in-Ok-write_format.ensures) (c.in-Ok-load.ensures.moves told) (c.in_ok-put_format-2.ensures.moves told)
 
 pub returns-in_err-put_format-clause-puts : goal.returns-in_err-put_format-clause-puts
 returns-in_err-put_format-clause-puts g c = λ told.
-    puts_again c.args.asked _ _ _ _
+    puts_again c.args.asked.now _ _ _ _
     (sym (c.in-Ok-load.ensures.bytes told) ∙ ap (λ (o : Option (Vec ℕ Global)). option_map (λ v. v.items) o) c.in-Some.is ∙ ap Some (sym c.as_slice-in-Some.ensures.value))
     (c.in-Ok-load.ensures.moves told) (c.in_err-put_format.ensures.moves told)
