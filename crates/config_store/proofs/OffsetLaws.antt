@@ -24,16 +24,16 @@ found_ok : (rows : List OffsetRow) (group topic : List ℕ) (queue offset : ℕ)
 found_ok [] group topic queue offset ok found = absurd cc
 found_ok (row ∷ rows) group topic queue offset ok found = ⊎_elim
     (λ (set : is_row_of group topic queue row ≡ true).
-        let that = is_that group topic queue row set in
-        let group_is = that.0 in
-        let topic_is = that.1 in
-        let queue_is = that.2 in
-        let value : Some row.offset ≡ Some offset = rw set at found in
-        let offset_is : row.offset ≡ offset = cc in
-        let same : record { group = row.group; topic = row.topic; queue = row.queue; offset = row.offset } ≡ record { group = group; topic = topic; queue = queue; offset = offset } = cc in
-        subst IsOffset same (All-head IsOffset row rows ok))
+    let that = is_that group topic queue row set in
+    let group_is = that.0 in
+    let topic_is = that.1 in
+    let queue_is = that.2 in
+    let value : Some row.offset ≡ Some offset = rw set at found in
+    let offset_is : row.offset ≡ offset = cc in
+    let same : record { group = row.group; topic = row.topic; queue = row.queue; offset = row.offset } ≡ record { group = group; topic = topic; queue = queue; offset = offset } = cc in
+    subst IsOffset same (All-head IsOffset row rows ok))
     (λ (clear : is_row_of group topic queue row ≡ false).
-        found_ok rows group topic queue offset (All-tail IsOffset row rows ok) (rw clear at found))
+    found_ok rows group topic queue offset (All-tail IsOffset row rows ok) (rw clear at found))
     (cases_Bool (is_row_of group topic queue row))
 
 -- ---- from the table to the rows
@@ -83,7 +83,7 @@ stands rows key name d ok found =
     let inside : get_member name it.queues ≡ Some d = ap (get_member name) (sym queues_are) ∙ found in
     let member_is = get_has IsQueueMember name d it.queues it.all inside in
     let at_key : offset_at (key_of it.topic it.group) (digits_of member_is.queue) ms ≡ Some d =
-        ap (λ (k : List ℕ). offset_at k (digits_of member_is.queue) ms) (sym it.named) ∙ ap (λ (n : List ℕ). offset_at key n ms) (sym member_is.named) ∙ found in
+    ap (λ (k : List ℕ). offset_at k (digits_of member_is.queue) ms) (sym it.named) ∙ ap (λ (n : List ℕ). offset_at key n ms) (sym member_is.named) ∙ found in
     let looked = lookup rows it.group it.topic member_is.queue ok it.legal (omega (arith, member_is.low)) in
     let row = one_value _ member_is.offset (sym looked ∙ at_key ∙ ap Some member_is.is) in
     record {
@@ -123,9 +123,9 @@ tables_at rows others ok also same key d there =
     let found = table.1 in
     let others_are : members_at key ns ≡ that.queues = table_of _ _ _ found that.is in
     let equal = ext IsQueueMember IsQueueMember it.queues that.queues it.all that.all (λ name. same_answers _ _
-        (λ x inside. ap (get_member name) (sym others_are) ∙ at_both rows others ok also same key name x (ap (get_member name) queues_are ∙ inside))
-        (λ x inside. ap (get_member name) (sym queues_are)
-            ∙ at_both others rows also ok (λ g t q. sym (same g t q)) key name x (ap (get_member name) others_are ∙ inside))) in
+    (λ x inside. ap (get_member name) (sym others_are) ∙ at_both rows others ok also same key name x (ap (get_member name) queues_are ∙ inside))
+    (λ x inside. ap (get_member name) (sym queues_are)
+    ∙ at_both others rows also ok (λ g t q. sym (same g t q)) key name x (ap (get_member name) others_are ∙ inside))) in
     found ∙ ap Some (that.is ∙ ap object (sym equal) ∙ sym it.is)
 
 pub offsets_one_table : (rows others : List OffsetRow) → All IsOffset rows → All IsOffset others

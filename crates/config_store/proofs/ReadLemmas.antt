@@ -21,7 +21,7 @@ offsets_table : (text : List ℕ) (rows : List OffsetRow) (d : Data) → IsOffse
     → option_and_then as_object (get (codes "offsetTable") d) ≡ Some (offset_members rows)
 offsets_table text rows d is found =
     let whole : Some d ≡ Some (object (member (codes "offsetTable") (object (offset_members rows)) no_members)) =
-        sym found ∙ ap read is.is ∙ offsets_read_back rows is.each in
+    sym found ∙ ap read is.is ∙ offsets_read_back rows is.each in
     let same : d ≡ object (member (codes "offsetTable") (object (offset_members rows)) no_members) = cc in
     ap (λ (x : Data). option_and_then as_object (get (codes "offsetTable") x)) same
 
@@ -47,7 +47,7 @@ pub offsets_again : (text : List ℕ) (rows more : List OffsetRow) (d : Data) (m
     → option_and_then as_object (get (codes "offsetTable") d) ≡ Some ms → AreTableRows ms more → offsets_text_of more ≡ text
 offsets_again text rows more d ms is found table are =
     let same = rebuilt (offset_members rows) more (rows_in_order rows is.each)
-        (subst (λ (x : Members). AreTableRows x more) (same_table text rows d ms is found table) are) in
+    (subst (λ (x : Members). AreTableRows x more) (same_table text rows d ms is found table) are) in
     ap (λ (x : Members). compact_text (object (member (codes "offsetTable") (object x) no_members))) same ∙ sym is.is
 
 -- ---- the same of topics
@@ -56,7 +56,7 @@ topics_table : (text : List ℕ) (rows : List TopicRow) (d : Data) → IsTopicsT
     → option_and_then as_object (get (codes "topicConfigTable") d) ≡ Some (topic_members rows)
 topics_table text rows d is found =
     let whole : Some d ≡ Some (object (member (codes "topicConfigTable") (object (topic_members rows)) no_members)) =
-        sym found ∙ ap read is.is ∙ topics_read_back rows is.each in
+    sym found ∙ ap read is.is ∙ topics_read_back rows is.each in
     let same : d ≡ object (member (codes "topicConfigTable") (object (topic_members rows)) no_members) = cc in
     ap (λ (x : Data). option_and_then as_object (get (codes "topicConfigTable") x)) same
 
@@ -82,5 +82,5 @@ pub topics_again : (text : List ℕ) (rows more : List TopicRow) (d : Data) (ms 
     → option_and_then as_object (get (codes "topicConfigTable") d) ≡ Some ms → AreTopicRows ms more → topics_text_of more ≡ text
 topics_again text rows more d ms is found table are =
     let same = topics_rebuilt (topic_members rows) more (topics_in_order rows is.each)
-        (subst (λ (x : Members). AreTopicRows x more) (same_topics text rows d ms is found table) are) in
+    (subst (λ (x : Members). AreTopicRows x more) (same_topics text rows d ms is found table) are) in
     ap (λ (x : Members). compact_text (object (member (codes "topicConfigTable") (object x) no_members))) same ∙ sym is.is

@@ -33,7 +33,7 @@ put_first : (row : OffsetRow) (ms : Members) → IsAbove (key_of row.topic row.g
     → with_offset_row row ms ≡ member (key_of row.topic row.group) (object (member (digits_of row.queue) (number (unsigned row.offset)) no_members)) ms
 put_first row ms above =
     let none : members_at (key_of row.topic row.group) ms ≡ no_members =
-        ap (λ (o : Option Data). unwrap_or (option_and_then as_object o) no_members) (get_above (key_of row.topic row.group) ms above) in
+    ap (λ (o : Option Data). unwrap_or (option_and_then as_object o) no_members) (get_above (key_of row.topic row.group) ms above) in
     ap (λ (qs : Members). put (key_of row.topic row.group) (object (put (digits_of row.queue) (number (unsigned row.offset)) qs)) ms) none
     ∙ put_front (key_of row.topic row.group) _ ms above
 
@@ -47,7 +47,7 @@ put_before : (row : OffsetRow) (queues ms : Members) → IsAbove (digits_of row.
 put_before row queues ms above =
     let key = key_of row.topic row.group in
     let there : members_at key (member key (object queues) ms) ≡ queues =
-        ap (λ (o : Option Data). unwrap_or (option_and_then as_object o) no_members) (get_first key (object queues) ms) in
+    ap (λ (o : Option Data). unwrap_or (option_and_then as_object o) no_members) (get_first key (object queues) ms) in
     ap (λ (qs : Members). put key (object (put (digits_of row.queue) (number (unsigned row.offset)) qs)) (member key (object queues) ms)) there
     ∙ ap (λ (qs : Members). put key (object qs) (member key (object queues) ms)) (put_front (digits_of row.queue) _ queues above)
     ∙ put_same key _ (object queues) ms
@@ -97,9 +97,13 @@ queues_exist topic group no_members legal name text all = ([], (refl, All-nil Is
 queues_exist topic group (member n d queues) legal name text all =
     let it = all.1.0 in
     let more = queues_exist topic group queues legal name text all.1.1 in
-    let row : OffsetRow = record { group = group; topic = topic; queue = it.queue; offset = it.offset } in
-    (row ∷ more.0, ((it.queue, it.offset, more.0, it.named, ap number_in it.is, refl, more.1.0),
-        All-cons IsOffset row more.0 (record { topic = legal; group = name; text = text; queue = it.low; offset = it.small }) more.1.1))
+    let row : OffsetRow = record { group = group; topic = topic; queue = it.queue; offset = it.offset } in (
+      row ∷ more.0,
+      (
+        (it.queue, it.offset, more.0, it.named, ap number_in it.is, refl, more.1.0),
+        All-cons IsOffset row more.0 (record { topic = legal; group = name; text = text; queue = it.low; offset = it.small }) more.1.1,
+      ),
+    )
 
 pub table_exists : (ms : Members) → Ascends IsKeyMember ms → (rows : List OffsetRow) × (AreTableRows ms rows × All IsOffset rows)
 table_exists no_members all = ([], (refl, All-nil IsOffset))
@@ -107,16 +111,27 @@ table_exists (member name d ms) all =
     let it = all.1.0 in
     let first = queues_exist it.topic it.group it.queues it.legal it.group_is it.text it.all in
     let more = table_exists ms all.1.1 in
-    let there : it.queues ≢ no_members = λ none. let gone : get_member it.first it.queues ≡ None = ap (get_member it.first) none in let found = it.some in cc in
-    (first.0 ++ more.0, ((first.0, more.0, record {
-      topic = it.topic;
-      group = it.group;
-      queues = it.queues;
-      named = it.named;
-      table = it.is;
-      are = first.1.0;
-      some = some_rows it.topic it.group it.queues first.0 there first.1.0;
-    }, refl, more.1.0), All-append IsOffset first.0 more.0 first.1.1 more.1.1))
+    let there : it.queues ≢ no_members = λ none. let gone : get_member it.first it.queues ≡ None = ap (get_member it.first) none in let found = it.some in cc in (
+      first.0 ++ more.0,
+      (
+        (
+          first.0,
+          more.0,
+          record {
+            topic = it.topic;
+            group = it.group;
+            queues = it.queues;
+            named = it.named;
+            table = it.is;
+            are = first.1.0;
+            some = some_rows it.topic it.group it.queues first.0 there first.1.0;
+          },
+          refl,
+          more.1.0,
+        ),
+        All-append IsOffset first.0 more.0 first.1.1 more.1.1,
+      ),
+    )
 
 -- ---- topics
 

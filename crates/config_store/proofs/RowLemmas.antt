@@ -56,9 +56,16 @@ pub queue_more : (topic group name : List ℕ) (d : Data) (ms rest : Members) (o
     → Adds (AreQueueRows topic group) IsOffset ms rest old all
 queue_more topic group name d ms rest old new all row so_far are read =
     adds_more (AreQueueRows topic group) IsOffset ms (member name d rest) rest old new all (row ∷ []) so_far are (All-cons IsOffset row [] read.4 (All-nil IsOffset))
-    (λ rows is. (row.queue, row.offset, rows, read.2, read.3,
-        ap (λ (r : OffsetRow). r ∷ rows) (ap (λ (g : List ℕ). record { group = g; topic = row.topic; queue = row.queue; offset = row.offset }) read.1
-            ∙ ap (λ (t : List ℕ). record { group = group; topic = t; queue = row.queue; offset = row.offset }) read.0), is))
+    (λ rows is. (
+      row.queue,
+      row.offset,
+      rows,
+      read.2,
+      read.3,
+      ap (λ (r : OffsetRow). r ∷ rows) (ap (λ (g : List ℕ). record { group = g; topic = row.topic; queue = row.queue; offset = row.offset }) read.1
+          ∙ ap (λ (t : List ℕ). record { group = group; topic = t; queue = row.queue; offset = row.offset }) read.0),
+      is,
+    ))
     (λ rows is ok. (is.2, (is.6, All-tail IsOffset (record { group = group; topic = topic; queue = is.0; offset = is.1 }) is.2 (subst (All IsOffset) is.5 ok))))
 
 pub queue_bad : (topic group name : List ℕ) (d : Data) (ms rest : Members) (old new : List OffsetRow) → Adds (AreQueueRows topic group) IsOffset ms (member name d rest) old new
@@ -96,7 +103,7 @@ key_bad name d ms rest old new so_far bad rows are ok =
 
 -- ---- one member of the table of offsets
 
-some_rows : (topic group : List ℕ) (queues : Members) (rows : List OffsetRow) → queues ≢ no_members → AreQueueRows topic group queues rows → 0 < length rows
+pub some_rows : (topic group : List ℕ) (queues : Members) (rows : List OffsetRow) → queues ≢ no_members → AreQueueRows topic group queues rows → 0 < length rows
 some_rows topic group no_members rows some are = absurd (some refl)
 some_rows topic group (member name d rest) rows some are = let size = ap length are.5 in omega (arith, size)
 

@@ -36,12 +36,12 @@ pub topic_lookup : (rows : List TopicRow) (topic : List ℕ) → get_member topi
 topic_lookup [] topic = refl
 topic_lookup (row ∷ rows) topic = ⊎_elim
     (λ (same : bytes_eq row.topic topic ≡ true).
-        let name = (bytes_eq-Decides row.topic topic).0 same in
-        rw same (subst (λ (t : List ℕ). get_member t (topic_members (row ∷ rows)) ≡ Some (settings_of row.queues)) name
-            (get_member-put row.topic (settings_of row.queues) (topic_members rows))))
+    let name = (bytes_eq-Decides row.topic topic).0 same in
+    rw same (subst (λ (t : List ℕ). get_member t (topic_members (row ∷ rows)) ≡ Some (settings_of row.queues)) name
+    (get_member-put row.topic (settings_of row.queues) (topic_members rows))))
     (λ (apart : bytes_eq row.topic topic ≡ false).
-        let other : topic ≢ row.topic = λ name. let equal = (bytes_eq-Decides row.topic topic).1 (sym name) in absurd cc in
-        rw apart (get_member-put_other topic row.topic (settings_of row.queues) (topic_members rows) other ∙ topic_lookup rows topic))
+    let other : topic ≢ row.topic = λ name. let equal = (bytes_eq-Decides row.topic topic).1 (sym name) in absurd cc in
+    rw apart (get_member-put_other topic row.topic (settings_of row.queues) (topic_members rows) other ∙ topic_lookup rows topic))
     (cases_Bool (bytes_eq row.topic topic))
 
 one_settings : (a b : Option ℕ) → topic_value a ≡ topic_value b → a ≡ b

@@ -34,14 +34,6 @@ pub enum ConfigFault {
     Memory,
 }
 
-// A fault of the keep.
-fn fault_of(fault: DiskFault) -> ConfigFault {
-    match fault {
-        DiskFault::Failed => ConfigFault::Failed,
-        DiskFault::Memory => ConfigFault::Memory,
-    }
-}
-
 // The rows of the file of offsets.
 fn load_offsets<P: Keep>(alloc: Global, keep: &mut P) -> Result<Vec<GroupOffset>, ConfigFault>
     ensures read { P.tells → IfOk result (λ rows. HasOffsets ((P.state keep.old).reads OFFSETS_NAME) rows.items) }
@@ -52,7 +44,8 @@ fn load_offsets<P: Keep>(alloc: Global, keep: &mut P) -> Result<Vec<GroupOffset>
     let text = match keep.load(alloc, OFFSETS) {
         Ok(Some(text)) => text,
         Ok(None) => return Ok(Vec::new(alloc)),
-        Err(fault) => return Err(fault_of(fault)),
+        Err(DiskFault::Failed) => return Err(ConfigFault::Failed),
+        Err(DiskFault::Memory) => return Err(ConfigFault::Memory),
     };
     match read_offsets(alloc, text.as_slice()) {
         Ok(rows) => Ok(rows),
@@ -71,7 +64,8 @@ fn load_topics<P: Keep>(alloc: Global, keep: &mut P) -> Result<Vec<TopicQueues>,
     let text = match keep.load(alloc, TOPICS) {
         Ok(Some(text)) => text,
         Ok(None) => return Ok(Vec::new(alloc)),
-        Err(fault) => return Err(fault_of(fault)),
+        Err(DiskFault::Failed) => return Err(ConfigFault::Failed),
+        Err(DiskFault::Memory) => return Err(ConfigFault::Memory),
     };
     match read_topics(alloc, text.as_slice()) {
         Ok(rows) => Ok(rows),

@@ -43,7 +43,8 @@ fn read_key(name: &str) -> Option<(&str, &str)>
         → MatchOption result ⊥ (λ r. (r.0.now ≡ topic) × (r.1.now ≡ group)) }
 {
     let (topic, group) = name.split_once('@')?;
-    if is_legal_topic(topic) && !group.is_empty() && group.len() <= NAME_MAX {
+    let size = group.len();
+    if is_legal_topic(topic) && size > 0 && size <= NAME_MAX {
         Some((topic, group))
     } else {
         None

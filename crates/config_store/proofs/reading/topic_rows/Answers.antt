@@ -28,5 +28,5 @@ pub returns-clause-read : goal.returns-clause-read
 returns-clause-read c =
     let none : members_view c.loop-name.name-iterator ≡ no_members = search rules in
     let all = adds_all AreTopicRows IsKeptTopic (members_view c.args.table.now.entries) [] c.loop-name.rows.items refl
-        (subst (λ (ms : Members). Adds AreTopicRows IsKeptTopic (members_view c.args.table.now.entries) ms [] c.loop-name.rows.items) none c.loop-name.invariant) in
+    (subst (λ (ms : Members). Adds AreTopicRows IsKeptTopic (members_view c.args.table.now.entries) ms [] c.loop-name.rows.items) none c.loop-name.invariant) in
     (subst (AreTopicRows (members_view c.args.table.now.entries)) (sym all.1) all.2, subst (All IsKeptTopic) (sym all.1) all.3)

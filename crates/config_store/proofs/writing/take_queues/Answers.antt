@@ -10,7 +10,7 @@ use Rattle.config_store.proofs.writing.take_queues.Goals as goal
 pub returns-in-Some-clause-taken : goal.returns-in-Some-clause-taken
 returns-in-Some-clause-taken c =
     c.object_or_empty.ensures ∙ ap (λ (r : Option Value). unwrap_or (option_and_then as_object (option_map view r)) no_members) (sym c.in-Some.is)
-    ∙ taken _ _ _ c.remove.ensures.value
+    ∙ taken c.args.key.now c.args.table.now.entries c.remove.result c.remove.ensures.value
 
 pub returns-in-Some-clause-back : goal.returns-in-Some-clause-back
 returns-in-Some-clause-back c = λ d. put_there _ d _ _ c.len-names.ensures.ordered c.remove.ensures.entries
@@ -18,4 +18,4 @@ returns-in-Some-clause-back c = λ d. put_there _ d _ _ c.len-names.ensures.orde
 pub returns-in-None-clause-taken : goal.returns-in-None-clause-taken
 returns-in-None-clause-taken c =
     ap members_view c.new.ensures.empty ∙ ap (λ (r : Option Value). unwrap_or (option_and_then as_object (option_map view r)) no_members) (sym c.in-None.is)
-    ∙ taken _ _ _ c.remove.ensures.value
+    ∙ taken c.args.key.now c.args.table.now.entries c.remove.result c.remove.ensures.value

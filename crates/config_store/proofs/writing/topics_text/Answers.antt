@@ -13,8 +13,8 @@ returns c =
     let table = c.in_ok-table.ensures in
     IfOk-weaker c.text_with.result
     (λ text. members_have_float (members_view c.in_ok-table.table.entries) ≡ false
-        → text.items ≡ compact_text (object (member (codes "topicConfigTable") (object (members_view c.in_ok-table.table.entries)) no_members)))
+    → text.items ≡ compact_text (object (member (codes "topicConfigTable") (object (members_view c.in_ok-table.table.entries)) no_members)))
     (λ text. text.items ≡ topics_text_of c.args.rows.now)
     (λ text is. is (ap members_have_float table ∙ topics_without c.args.rows.now)
-        ∙ ap (λ (ms : Members). compact_text (object (member (codes "topicConfigTable") (object ms) no_members))) table)
+    ∙ ap (λ (ms : Members). compact_text (object (member (codes "topicConfigTable") (object ms) no_members))) table)
     c.text_with.ensures
