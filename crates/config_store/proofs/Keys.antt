@@ -1,5 +1,5 @@
 -- The name of a group's offsets of a topic has one topic and one group.
-use Rattle.std.proofs.Common.{◌≡◌, ◌≢◌, ℕ, zero, suc, ◌<◌, List, [], ◌∷◌, ◌++◌, length, get_or, true, false, refl, sym, ap, ◌∙◌, subst, arith}
+use Rattle.std.proofs.Common.{◌≡◌, ◌≢◌, ℕ, zero, suc, ◌<◌, List, [], ◌∷◌, ◌++◌, length, get_or, true, false, refl, sym, arith}
 use Rattle.std.proofs.lemmas.Bool.{and_parts}
 use Rattle.record_codec.specs.Layout.{is_topic_char, all_topic_chars, is_legal}
 use Rattle.config_store.specs.Texts.{key_of}

@@ -1,5 +1,5 @@
 -- Rows that say the same have one table, and the other way round.
-use Rattle.std.proofs.Common.{◌≡◌, ℕ, ◌<◌, ◌^◌, List, [], ◌∷◌, true, false, ⊎_elim, All, Option, Some, None, option_map, option_and_then, refl, sym, ap, ◌∙◌, subst, arith}
+use Rattle.std.proofs.Common.{◌≡◌, ℕ, List, [], ◌∷◌, true, false, ⊎_elim, All, Option, Some, None, option_and_then, refl, sym, ap, ◌∙◌, subst, arith}
 use Rattle.std.specs.Prelude.{unwrap_or}
 use Rattle.std.proofs.lemmas.Bool.{cases_Bool}
 use Rattle.std.proofs.lemmas.List.Elements.{All-head, All-tail}
@@ -8,7 +8,7 @@ use Rattle.broker_model.specs.Tables.{OffsetRow, offset_in, is_row_of}
 use Rattle.serde_json.specs.Data.{Data, number, unsigned, object, Members, no_members}
 use Rattle.serde_json.specs.Find.{get_member, as_object}
 use Rattle.config_store.specs.Texts.{IsOffset, key_of, members_at, offset_members}
-use Rattle.config_store.proofs.Sorted.{Ascends, get_has, ext, same_answers}
+use Rattle.config_store.proofs.Sorted.{get_has, ext, same_answers}
 use Rattle.config_store.proofs.OffsetTables.{IsQueueMember, IsKeyMember, rows_in_order, offset_at, value_of, lookup, is_that}
 
 one_value : (a : Option ℕ) (n : ℕ) → value_of a ≡ Some (number (unsigned n)) → a ≡ Some n

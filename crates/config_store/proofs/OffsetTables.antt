@@ -1,22 +1,21 @@
 -- The table of offsets: its names stand in order, and it has at a group, topic and queue what the first of its rows says.
-use Rattle.std.proofs.Common.{◌≡◌, ◌≢◌, ◌⊎◌, inl, inr, ⊎_elim, ℕ, suc, ◌<◌, ◌≤◌, ◌^◌, ◌+◌, ◌==◌, ◌&&◌, List, [], ◌∷◌, ◌++◌, length, get_or, Bool, true, false, All}
-use Rattle.std.proofs.Common.{Option, Some, None, option_map, option_and_then, refl, sym, ap, ◌∙◌, subst, arith, IsUtf8}
-use Rattle.std.specs.Prelude.{find, cond, unwrap_or}
+use Rattle.std.proofs.Common.{◌≡◌, ◌≢◌, ⊎_elim, ℕ, ◌<◌, ◌^◌, ◌==◌, ◌&&◌, List, [], ◌∷◌, true, false, All}
+use Rattle.std.proofs.Common.{Option, Some, None, option_map, option_and_then, refl, ◌∙◌, subst, arith, IsUtf8}
+use Rattle.std.specs.Prelude.{unwrap_or}
 use Rattle.std.specs.Str.{bytes_eq}
 use Rattle.std.proofs.lemmas.Bool.{cases_Bool, and_parts, and_from, eqb-true, eq-eqb}
-use Rattle.std.proofs.lemmas.Fmt.{decimal_injective, IsAscii-decimal}
+use Rattle.std.proofs.lemmas.Fmt.{decimal_injective}
 use Rattle.std.proofs.lemmas.List.Elements.{All-head, All-tail}
 use Rattle.std.proofs.lemmas.Slice.Eq.{bytes_eq-Decides}
-use Rattle.std.proofs.lemmas.Str.{IsUtf8-from_ascii, IsUtf8-append}
 use Rattle.mq_bytes.specs.Clients.{IsName}
 use Rattle.mq_bytes.specs.Decimal.{digits_of}
 use Rattle.record_codec.specs.Layout.{is_legal}
 use Rattle.broker_model.specs.Tables.{OffsetRow, offset_in, is_row_of}
-use Rattle.serde_json.specs.Data.{Data, number, unsigned, object, Members, no_members, member, put}
+use Rattle.serde_json.specs.Data.{Data, number, unsigned, object, Members, no_members, put}
 use Rattle.serde_json.specs.Find.{get_member, as_object}
 use Rattle.serde_json.proofs.Views.{get_member-put, get_member-put_other}
 use Rattle.config_store.specs.Texts.{IsOffset, key_of, members_at, with_offset_row, offset_members}
-use Rattle.config_store.proofs.Sorted.{Ascends, put_ascends, get_has, same_or_other, ext, same_answers}
+use Rattle.config_store.proofs.Sorted.{Ascends, put_ascends, get_has, same_or_other}
 use Rattle.config_store.proofs.Keys.{one_key}
 
 -- a member of the offsets of a group and topic: the queue's number and its offset

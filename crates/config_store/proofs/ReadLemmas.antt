@@ -1,5 +1,5 @@
 -- A text of some rows is read as data of which rows are read that have the same text.
-use Rattle.std.proofs.Common.{◌≡◌, ℕ, List, All, Option, Some, None, option_and_then, codes, refl, sym, ap, ◌∙◌, subst, IsUtf8}
+use Rattle.std.proofs.Common.{◌≡◌, ℕ, List, All, Option, Some, None, option_and_then, codes, sym, ap, ◌∙◌, subst, IsUtf8}
 use Rattle.broker_model.specs.Tables.{OffsetRow, TopicRow}
 use Rattle.serde_json.specs.Data.{Data, object, Members, no_members, member}
 use Rattle.serde_json.specs.Find.{get, as_object}

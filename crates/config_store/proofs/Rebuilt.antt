@@ -1,5 +1,5 @@
 -- The rows of a table in order make this table again, and each table in order has rows.
-use Rattle.std.proofs.Common.{◌≡◌, ◌≢◌, ℕ, ◌<◌, ◌^◌, List, [], ◌∷◌, ◌++◌, length, All, true, Option, Some, None, option_and_then, codes, refl, sym, ap, ◌∙◌, subst, arith, IsUtf8}
+use Rattle.std.proofs.Common.{◌≡◌, ◌≢◌, ℕ, ◌<◌, List, [], ◌∷◌, ◌++◌, length, All, true, Option, Some, None, option_and_then, codes, refl, sym, ap, ◌∙◌, subst, arith, IsUtf8}
 use Rattle.std.specs.Prelude.{unwrap_or}
 use Rattle.std.proofs.lemmas.List.Elements.{All-nil, All-cons, All-append}
 use Rattle.mq_bytes.specs.Clients.{IsName}
@@ -9,7 +9,7 @@ use Rattle.broker_model.specs.Tables.{OffsetRow, TopicRow}
 use Rattle.serde_json.specs.Data.{Data, number, unsigned, object, Members, no_members, member, put}
 use Rattle.serde_json.specs.Find.{get, get_member, as_object}
 use Rattle.config_store.specs.Texts.{IsOffset, IsKeptTopic, key_of, members_at, with_offset_row, offset_members, topic_members}
-use Rattle.config_store.specs.Reads.{number_in, AreQueueRows, AreKeyRows, AreTableRows, AreTopicRows}
+use Rattle.config_store.specs.Reads.{number_in, AreQueueRows, AreTableRows, AreTopicRows}
 use Rattle.config_store.proofs.Sorted.{IsAbove, Ascends, same_text, put_front, get_above, get_first}
 use Rattle.config_store.proofs.OffsetTables.{IsQueueMember, IsKeyMember}
 use Rattle.config_store.proofs.RowLemmas.{some_rows}

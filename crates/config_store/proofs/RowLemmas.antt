@@ -1,5 +1,5 @@
 -- Rows that are read of members, one member after another.
-use Rattle.std.proofs.Common.{◌≡◌, ◌≢◌, ℕ, ◌<◌, ◌^◌, List, [], ◌∷◌, ◌++◌, All, Option, Some, true, refl, sym, ap, ◌∙◌, subst, append_assoc, append-nil, option_and_then, codes, arith, length}
+use Rattle.std.proofs.Common.{◌≡◌, ◌≢◌, ℕ, ◌<◌, ◌^◌, List, [], ◌∷◌, ◌++◌, All, Some, true, refl, sym, ap, ◌∙◌, subst, append_assoc, append-nil, option_and_then, codes, arith, length}
 use Rattle.std.proofs.lemmas.List.Elements.{All-nil, All-head, All-tail, All-append, All-cons}
 use Rattle.mq_bytes.specs.Clients.{IsName}
 use Rattle.mq_bytes.specs.Decimal.{digits_of}
@@ -7,7 +7,7 @@ use Rattle.record_codec.specs.Layout.{is_legal}
 use Rattle.broker_model.specs.Tables.{OffsetRow, TopicRow}
 use Rattle.serde_json.specs.Data.{Data, object, Members, no_members, member}
 use Rattle.serde_json.specs.Find.{get}
-use Rattle.serde_json.specs.View.{view, members_view}
+use Rattle.serde_json.specs.View.{members_view}
 use Rattle.serde_json.proofs.Views.{Entry}
 use Rattle.config_store.specs.Texts.{key_of, IsOffset, IsKeptTopic}
 use Rattle.config_store.specs.Reads.{number_in, AreQueueRows, AreKeyRows, AreTableRows, AreTopicRows}

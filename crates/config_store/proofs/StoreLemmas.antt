@@ -1,8 +1,8 @@
 -- The two files are replaced, one after the other.
-use Rattle.std.proofs.Common.{◌≡◌, ◌≢◌, inl, inr, ℕ, List, Option, Some, refl, sym, ap, subst, ◌∙◌}
+use Rattle.std.proofs.Common.{◌≢◌, inl, ℕ, List, Option, refl, sym, subst, ◌∙◌}
 use Rattle.mq_outside.specs.Files.{Files, At, OldOrNew}
-use Rattle.mq_outside.specs.Disk.{DiskState, IsCrashImage, Moves}
-use Rattle.mq_outside.proofs.Moments.{at_start, goes_on, at_end}
+use Rattle.mq_outside.specs.Disk.{DiskState, Moves}
+use Rattle.mq_outside.proofs.Moments.{at_start, goes_on}
 use Rattle.config_store.specs.Configs.{OFFSETS, TOPICS, Replaces, IsImageReplaced, PutsConfig}
 
 apart : TOPICS ≢ OFFSETS

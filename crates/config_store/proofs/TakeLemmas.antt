@@ -1,5 +1,5 @@
 -- An object is taken out of a map.
-use Rattle.std.proofs.Common.{◌≡◌, ℕ, List, Option, Some, None, String, Global, string_bytes, string_cmp, nat_cmp, option_map, option_and_then, refl, sym, ap, ◌∙◌}
+use Rattle.std.proofs.Common.{◌≡◌, ℕ, List, Option, String, Global, string_bytes, string_cmp, nat_cmp, option_map, option_and_then, ap, ◌∙◌}
 use Rattle.std.specs.Prelude.{unwrap_or}
 use Rattle.std.specs.BTreeMap.{is_at}
 use Rattle.std.specs.Cmp.Lexicographic.{slice_cmp}

@@ -1,5 +1,5 @@
 -- What a text says, and which rows have one text.
-use Rattle.std.proofs.Common.{◌≡◌, ◌↔◌, ℕ, ◌<◌, ◌^◌, List, [], ◌∷◌, All, Some, true, refl, sym, ap, ◌∙◌, arith, codes, IsUtf8}
+use Rattle.std.proofs.Common.{◌≡◌, ◌↔◌, ℕ, ◌<◌, ◌^◌, List, [], ◌∷◌, All, Some, refl, sym, ap, ◌∙◌, arith, codes, IsUtf8}
 use Rattle.std.proofs.lemmas.Fmt.{IsAscii-decimal}
 use Rattle.std.proofs.lemmas.Str.{IsUtf8-from_ascii, IsUtf8-append}
 use Rattle.json.proofs.Printed.Utf8.{IsUtf8-are_ascii}
@@ -10,7 +10,6 @@ use Rattle.serde_json.specs.Written.{compact_text}
 use Rattle.config_store.specs.Texts.{IsOffset, IsKeptTopic, offset_members, topic_members, offsets_data, topics_data, offsets_text_of, topics_text_of}
 use Rattle.record_codec.proofs.TextLemmas.{IsUtf8-legal}
 use Rattle.config_store.proofs.Good.{IsGood, good_number, good_object, good_reads}
-use Rattle.config_store.proofs.Sorted.{Ascends}
 use Rattle.config_store.proofs.OffsetTables.{IsQueueMember, IsKeyMember, rows_in_order}
 use Rattle.config_store.proofs.OffsetLaws.{one_table_offsets, offsets_one_table}
 use Rattle.config_store.proofs.TopicTables.{IsTopicMember, topics_in_order, topics_one_table, one_table_topics}

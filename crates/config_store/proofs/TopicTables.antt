@@ -1,14 +1,14 @@
 -- The table of topics: its names stand in order, and it has at a topic what the first of its rows says.
-use Rattle.std.proofs.Common.{◌≡◌, ◌≢◌, inl, inr, ⊎_elim, ℕ, ◌<◌, ◌^◌, List, [], ◌∷◌, true, false, All, Option, Some, None, option_map, refl, sym, ap, ◌∙◌, subst, codes}
+use Rattle.std.proofs.Common.{◌≡◌, ◌≢◌, ⊎_elim, ℕ, List, [], ◌∷◌, true, false, All, Option, Some, None, option_map, refl, sym, ap, ◌∙◌, subst, codes}
 use Rattle.std.specs.Str.{bytes_eq}
 use Rattle.std.proofs.lemmas.Bool.{cases_Bool}
 use Rattle.std.proofs.lemmas.List.Elements.{All-head, All-tail}
 use Rattle.std.proofs.lemmas.Slice.Eq.{bytes_eq-Decides}
 use Rattle.broker_model.specs.Tables.{TopicRow, queues_in}
-use Rattle.serde_json.specs.Data.{Data, number, unsigned, object, Members, no_members, member, put}
+use Rattle.serde_json.specs.Data.{Data, number, unsigned, object, no_members, member}
 use Rattle.serde_json.specs.Find.{get_member}
 use Rattle.serde_json.proofs.Views.{get_member-put, get_member-put_other}
-use Rattle.config_store.specs.Texts.{IsKeptTopic, with_topic_row, topic_members}
+use Rattle.config_store.specs.Texts.{IsKeptTopic, topic_members}
 use Rattle.config_store.proofs.Sorted.{Ascends, put_ascends, ext}
 
 -- the value of a topic with so many queues

@@ -1,6 +1,5 @@
 -- When the two kept files aren't loaded.
 use Rattle.std.specs.Prelude.{◌≡◌, ◌⊎◌, ℕ, List, Result, Ok, Err}
-use denote.Ref.{Bor}
 use Rattle.mq_outside.specs.Counts.{Rises}
 use Rattle.mq_outside.specs.Files.{Files}
 use Rattle.broker_model.specs.Tables.{TopicRow, OffsetRow}

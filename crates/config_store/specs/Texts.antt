@@ -1,5 +1,5 @@
 -- The texts of the two kept files.
-use Rattle.std.specs.Prelude.{◌≡◌, ℕ, ◌<◌, ◌≤◌, ◌^◌, List, [], ◌∷◌, ◌++◌, codes, true, All, Option, Some, None, option_and_then, unwrap_or}
+use Rattle.std.specs.Prelude.{◌≡◌, ℕ, ◌<◌, ◌≤◌, ◌^◌, List, [], ◌∷◌, ◌++◌, codes, true, option_and_then, unwrap_or}
 use Rattle.std.specs.Str.{IsUtf8}
 use Rattle.mq_bytes.specs.Clients.{IsName}
 use Rattle.mq_bytes.specs.Decimal.{digits_of}

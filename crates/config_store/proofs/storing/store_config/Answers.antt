@@ -1,4 +1,4 @@
-use Rattle.config_store.proofs.StoreLemmas.{puts_both, puts_first}
+use Rattle.config_store.proofs.StoreLemmas.{puts_both}
 use Rattle.config_store.proofs.storing.store_config.Goals as goal
 
 pub returns-in-Ok-clause-puts : goal.returns-in-Ok-clause-puts

@@ -1,5 +1,4 @@
-use Rattle.std.proofs.Common.{◌≡◌, ◌∙◌, [], ap, sym, refl, rules, append-nil, append_assoc}
-use Rattle.config_store.specs.Texts.{with_offset_row, offset_members}
+use Rattle.std.proofs.Common.{[], sym, rules, append-nil}
 use Rattle.config_store.proofs.writing.offsets_table.Goals as goal
 
 pub loop-row-init : goal.loop-row-init

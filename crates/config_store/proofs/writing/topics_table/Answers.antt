@@ -1,5 +1,4 @@
-use Rattle.std.proofs.Common.{◌≡◌, ◌∙◌, [], ap, sym, refl, rules, append-nil, append_assoc}
-use Rattle.config_store.specs.Texts.{with_topic_row, topic_members}
+use Rattle.std.proofs.Common.{[], sym, rules, append-nil}
 use Rattle.config_store.proofs.writing.topics_table.Goals as goal
 
 pub loop-row-init : goal.loop-row-init
