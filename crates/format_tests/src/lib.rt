@@ -6,6 +6,8 @@ mod ask_tests;
 #[cfg(test)]
 mod byte_tests;
 #[cfg(test)]
+mod config_tests;
+#[cfg(test)]
 mod frame_tests;
 #[cfg(test)]
 mod record_tests;

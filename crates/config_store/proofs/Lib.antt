@@ -1,0 +1,14 @@
+pub mod FloatLemmas
+pub mod Good
+pub mod Keys
+pub mod MapLemmas
+pub mod OffsetLaws
+pub mod OffsetTables
+pub mod ReadLemmas
+pub mod Rebuilt
+pub mod RowLemmas
+pub mod Sorted
+pub mod StoreLemmas
+pub mod TakeLemmas
+pub mod TextLaws
+pub mod TopicTables

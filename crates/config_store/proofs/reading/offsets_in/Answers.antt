@@ -1,0 +1,25 @@
+use Rattle.std.proofs.Common.{◌≡◌, Err, rules}
+use Rattle.std.proofs.lemmas.Result.{IfOk-weaker}
+use Rattle.config_store.specs.declared.text_fault.TextFault.TheVariants.{Bad}
+use Rattle.config_store.specs.Texts.{offsets_text_of}
+use Rattle.config_store.proofs.ReadLemmas.{offsets_no_data, offsets_no_table, offsets_no_rows, offsets_again}
+use Rattle.config_store.proofs.reading.offsets_in.Goals as goal
+
+pub returns-in_err-value-clause-bad : goal.returns-in_err-value-clause-bad
+returns-in_err-value-clause-bad c = λ bad rows is.
+    let same : c.value_of.result ≡ Err Bad = search (rules, bad) in
+    offsets_no_data _ rows is (c.value_of.ensures.bad same)
+
+pub returns-in_err-table-clause-bad : goal.returns-in_err-table-clause-bad
+returns-in_err-table-clause-bad c = λ bad rows is.
+    let same : c.table_in.result ≡ Err Bad = search (rules, bad) in
+    offsets_no_table _ rows _ is c.in_ok-value.ensures.read (c.table_in.ensures.bad same)
+
+pub returns-clause-read : goal.returns-clause-read
+returns-clause-read c = λ rows is.
+    IfOk-weaker c.table_rows.result _ (λ read. offsets_text_of read.items ≡ c.args.text.now)
+    (λ read are. offsets_again _ rows read.items _ _ is c.in_ok-value.ensures.read c.in_ok-table.ensures.read are.0) c.table_rows.ensures.read
+
+pub returns-clause-bad : goal.returns-clause-bad
+returns-clause-bad c = λ bad rows is.
+    offsets_no_rows _ rows _ _ is c.in_ok-value.ensures.read c.in_ok-table.ensures.read (c.table_rows.ensures.bad bad)

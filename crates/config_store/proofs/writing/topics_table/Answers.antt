@@ -1,0 +1,5 @@
+use Rattle.std.proofs.Common.{[], sym, rules, append-nil}
+use Rattle.config_store.proofs.writing.topics_table.Goals as goal
+
+pub loop-row-init : goal.loop-row-init
+loop-row-init c = ([], sym (append-nil c.args.rows.now), search rules)

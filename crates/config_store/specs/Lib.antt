@@ -1,0 +1,4 @@
+pub mod Configs
+pub mod Faults
+pub mod Reads
+pub mod Texts

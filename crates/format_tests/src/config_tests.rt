@@ -1,0 +1,120 @@
+//! The kept files: documented texts, texts that aren't of the form, and their replacement.
+
+use config_store::{
+    Config, ConfigFault, GroupOffset, TopicQueues, load_config, offsets_text, store_config,
+    topics_text,
+};
+use mq_bytes::Text;
+use mq_outside::MemKeep;
+use std::alloc::{AllocError, Global};
+use std::test::Fail;
+
+const OFFSETS: &str = "consumerOffset.json";
+
+const TOPICS: &str = "topics.json";
+
+fn offset(
+    alloc: Global,
+    topic: &str,
+    group: &str,
+    queue: u32,
+    offset: u64,
+) -> Result<GroupOffset, AllocError> {
+    Ok(GroupOffset {
+        group: Text::of(String::from_str(alloc, group)?),
+        topic: Text::of(String::from_str(alloc, topic)?),
+        queue,
+        offset,
+    })
+}
+
+fn topic(alloc: Global, topic: &str, queues: u32) -> Result<TopicQueues, AllocError> {
+    Ok(TopicQueues {
+        topic: Text::of(String::from_str(alloc, topic)?),
+        queues,
+    })
+}
+
+// A keep with this text under this name.
+fn keep_with(alloc: Global, name: &str, text: &[u8]) -> Result<MemKeep, AllocError> {
+    let mut texts = Vec::new(alloc);
+    texts.push((String::from_str(alloc, name)?, text.to_vec(alloc)?))?;
+    MemKeep::new(alloc, texts, Vec::new(alloc))
+}
+
+#[test]
+fn rows_in_any_order_are_written_in_byte_order(rt: HostRuntime) -> Result<(), Fail> {
+    let alloc = rt.alloc();
+    let none: &[GroupOffset] = &[];
+    assert_eq!(rt; offsets_text(alloc, none)?.as_slice(), b"{\"offsetTable\":{}}");
+    let rows = [
+        offset(alloc, "T", "G", 2, 20)?,
+        offset(alloc, "T", "g\"@", 0, 7)?,
+        offset(alloc, "T", "G", 10, 4_611_686_018_427_387_903)?,
+        offset(alloc, "A", "G", 0, 0)?,
+        offset(alloc, "T", "G", 2, 1)?,
+    ];
+    let text: &[u8] = b"{\"offsetTable\":{\"A@G\":{\"0\":0},\"T@G\":{\"10\":4611686018427387903,\"2\":20},\"T@g\\\"@\":{\"0\":7}}}";
+    assert_eq!(rt; offsets_text(alloc, &rows)?.as_slice(), text);
+    let topics = [topic(alloc, "b", 1024)?, topic(alloc, "T", 4)?];
+    let text: &[u8] = b"{\"topicConfigTable\":{\"T\":{\"queues\":4},\"b\":{\"queues\":1024}}}";
+    assert_eq!(rt; topics_text(alloc, &topics)?.as_slice(), text);
+    Ok(())
+}
+
+#[test]
+fn what_was_stored_is_loaded(rt: HostRuntime) -> Result<(), Fail> {
+    let alloc = rt.alloc();
+    let mut keep = MemKeep::new(alloc, Vec::new(alloc), Vec::new(alloc))?;
+    let Ok(empty) = load_config(alloc, &mut keep) else {
+        return Err(Fail);
+    };
+    assert_eq!(rt; empty.offsets.len() + empty.topics.len(), 0);
+    let offsets: &[u8] = b"{\"offsetTable\":{\"T@G@H\":{\"0\":1}}}";
+    let topics: &[u8] = b"{\"topicConfigTable\":{\"T\":{\"queues\":4}}}";
+    assert_eq!(rt; store_config(alloc, &mut keep, offsets, topics), Ok(()));
+    assert_eq!(rt; keep.bytes(OFFSETS), Some(offsets));
+    assert_eq!(rt; keep.bytes(TOPICS), Some(topics));
+    let Ok(Config { offsets, topics }) = load_config(alloc, &mut keep) else {
+        return Err(Fail);
+    };
+    assert_eq!(rt; offsets[0].topic.as_str(), "T");
+    assert_eq!(rt; offsets[0].group.as_str(), "G@H");
+    assert_eq!(rt; (offsets[0].queue, offsets[0].offset), (0, 1));
+    assert_eq!(rt; topics[0].topic.as_str(), "T");
+    assert_eq!(rt; topics[0].queues, 4);
+    Ok(())
+}
+
+#[test]
+fn a_text_of_another_form_is_refused_by_its_name(rt: HostRuntime) -> Result<(), Fail> {
+    let alloc = rt.alloc();
+    let rows: [(&str, &[u8]); 16] = [
+        (OFFSETS, b""),
+        (OFFSETS, b"{\"offsetTable\": {}}"),
+        (OFFSETS, b"{\"offsetTable\":{}}\n"),
+        (OFFSETS, b"{\"offsetTable\":{\"T@G\":{}}}"),
+        (OFFSETS, b"{\"offsetTable\":{\"TG\":{\"0\":1}}}"),
+        (OFFSETS, b"{\"offsetTable\":{\"T@\":{\"0\":1}}}"),
+        (OFFSETS, b"{\"offsetTable\":{\"T@G\":{\"00\":1}}}"),
+        (OFFSETS, b"{\"offsetTable\":{\"T@G\":{\"0\":1.0}}}"),
+        (OFFSETS, b"{\"offsetTable\":{\"T@G\":{\"2\":1,\"10\":1}}}"),
+        (OFFSETS, b"{\"offsetTable\":{\"T@G\":{\"0\":1,\"0\":1}}}"),
+        (OFFSETS, b"{\"offsetTable\":{\"T@\\u0047\":{\"0\":1}}}"),
+        (TOPICS, b"{\"topicConfigTable\":{\"T\":{\"queues\":0}}}"),
+        (TOPICS, b"{\"topicConfigTable\":{\"T\":{\"queues\":1025}}}"),
+        (TOPICS, b"{\"topicConfigTable\":{\"T!\":{\"queues\":4}}}"),
+        (TOPICS, b"{\"topicConfigTable\":{\"SCHEDULE_TOPIC_XXXX\":{\"queues\":18}}}"),
+        (TOPICS, b"{\"topicConfigTable\":{\"T\":{\"queues\":4,\"read\":4}}}"),
+    ];
+    for (name, text) in rows {
+        let mut keep = keep_with(alloc, name, text)?;
+        let refused = match load_config(alloc, &mut keep) {
+            Err(ConfigFault::BadText(bad)) => bad == name,
+            _ => false,
+        };
+        assert!(rt; refused, "{name}");
+        assert_eq!(rt; keep.bytes(name), Some(text));
+    }
+    Ok(())
+}
