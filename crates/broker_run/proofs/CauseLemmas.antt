@@ -103,6 +103,16 @@ is_ours code (inr (inr (inr (inr (inl e))))) six = omega (arith, e, six)
 is_ours code (inr (inr (inr (inr (inr (inl e)))))) six = omega (arith, e, six)
 is_ours code (inr (inr (inr (inr (inr (inr e)))))) six = omega (arith, e, six)
 
+-- nor one of arguments that don't fit
+pub fits_arguments : (code : ℕ) → (code ≡ 0) ⊎ ((code ≡ 2) ⊎ ((code ≡ 3) ⊎ ((code ≡ 4) ⊎ ((code ≡ 5) ⊎ ((code ≡ 7) ⊎ (code ≡ 10)))))) → code ≢ 1
+fits_arguments code (inl e) one = omega (arith, e, one)
+fits_arguments code (inr (inl e)) one = omega (arith, e, one)
+fits_arguments code (inr (inr (inl e))) one = omega (arith, e, one)
+fits_arguments code (inr (inr (inr (inl e)))) one = omega (arith, e, one)
+fits_arguments code (inr (inr (inr (inr (inl e))))) one = omega (arith, e, one)
+fits_arguments code (inr (inr (inr (inr (inr (inl e)))))) one = omega (arith, e, one)
+fits_arguments code (inr (inr (inr (inr (inr (inr e)))))) one = omega (arith, e, one)
+
 -- ---- a whole call
 
 -- the status names none of the devices' faults

@@ -1,5 +1,6 @@
 -- What one call of `run_pipe` did, by the status that it answered.
-use Rattle.std.specs.Prelude.{◌≡◌, ◌≢◌, ◌⊎◌, ℕ, ◌+◌, ◌<◌, ◌≤◌, ◌++◌, List, [], ◌∷◌, codes, length, take, Bool, true, Option, Some, None, Result, Ok, Err}
+use Rattle.std.specs.Prelude.{◌≡◌, ◌≢◌, ◌⊎◌, ℕ, ◌+◌, ◌<◌, ◌≤◌, ◌++◌, List, [], ◌∷◌, codes, length, take}
+use Rattle.std.specs.Prelude.{Bool, true, Option, Some, None, Result, Ok, Err}
 use Rattle.mq_outside.specs.Counts.{Rises}
 use Rattle.mq_outside.specs.Files.{Files}
 use Rattle.mq_outside.specs.Disk.{DiskState, EachImage, Rests, Throughout}
@@ -76,7 +77,8 @@ abbrev pub AreMoves : List (Event × Option Said) → List Move → Type 0
 AreMoves [] [] = Unit {0}
 AreMoves [] (move ∷ moves) = ⊥
 AreMoves (step ∷ steps) [] = ⊥
-AreMoves (step ∷ steps) (move ∷ moves) = ((answer : Option model.Answer) × (move ≡ Steps (event_of step.0) answer) × SaysIn step.1 answer) × AreMoves steps moves
+AreMoves (step ∷ steps) (move ∷ moves) =
+    ((answer : Option model.Answer) × (move ≡ Steps (event_of step.0) answer) × SaysIn step.1 answer) × AreMoves steps moves
 
 -- what the command asks for, in a store of these sizes
 abbrev pub pipe_setup : Command → Sizes → Setup
@@ -148,19 +150,22 @@ pub record Leaves (S : Geometry) (log : List Entry) (least : ℕ) (files : Files
 -- Up to a moment it was being opened, and then a crash leaves exactly the files of the run's first log. From then on the turns that
 -- ended Ok came one behind another, and each record that a turn flushed stays from its moment on: at that moment a crash leaves
 -- exactly the files of what was flushed.
-pub record Survives (S : Geometry) (stored : List Entry) (flushed : ℕ) (log : List Entry) (turns : List FlushTurn) (reached : List Entry) (old new : DiskState) : Type 0 where
+pub record Survives (S : Geometry) (stored : List Entry) (flushed : ℕ) (log : List Entry)
+    (turns : List FlushTurn) (reached : List Entry) (old new : DiskState) : Type 0 where
   pub opening : ℕ
   pub later : old.moment ≤ opening
   pub order : AreInOrder opening turns new.moment
   pub before : (m : ℕ) (files : Files) → old.moment ≤ m → m ≤ opening → new.image_at m files → Leaves S stored flushed files
   pub opened : (files : Files) → new.image_at opening files → AreSegmentFiles S log files
-  pub after : (m : ℕ) (files : Files) → opening ≤ m → m ≤ new.moment → new.image_at m files → Leaves S reached (length log + turned_by turns m) files
+  pub after : (m : ℕ) (files : Files) → opening ≤ m → m ≤ new.moment → new.image_at m files
+      → Leaves S reached (length log + turned_by turns m) files
   pub exact : AreExact S reached (length log) turns new
   pub stores : StoresLog S reached (length log + turned_in turns) new
 
 -- The requests of the source were served by a core that was opened over this log, and then flush turns were made. All that
 -- happened is a run of the model.
-pub record RunFrom {D A : Type 0} (setup : Setup) (log : List Entry) (ended : Result A Halt) (last : Result (Option ℕ) Broken) (seen : Seen D) (holds : List Act → State → Type 0) : Type 0 where
+pub record RunFrom {D A : Type 0} (setup : Setup) (log : List Entry) (ended : Result A Halt) (last : Result (Option ℕ) Broken)
+    (seen : Seen D) (holds : List Act → State → Type 0) : Type 0 where
   pub calls : Alone
   pub served : Alone
   pub closed : Alone
@@ -180,21 +185,25 @@ pub record RunFrom {D A : Type 0} (setup : Setup) (log : List Entry) (ended : Re
   pub done : holds (first ++ flushed.acts) reached
 
 -- A run from the log that recovery keeps of the files as they were read.
-pub record BeginsWithKept {D A : Type 0} (setup : Setup) (ended : Result A Halt) (last : Result (Option ℕ) Broken) (seen : Seen D) : Type 0 where
+pub record BeginsWithKept {D A : Type 0} (setup : Setup) (ended : Result A Halt) (last : Result (Option ℕ) Broken)
+    (seen : Seen D) : Type 0 where
   pub records : List Entry
   pub keeps : Keeps (whole setup.segment) records (before seen).reads
   pub ran : RunFrom setup records ended last seen (λ acts reached. Unit {0})
 
 -- A run from a prefix of the stored log that has all that was flushed, and every crash leaves what it flushed.
-pub record KeepsOn {D A : Type 0} (setup : Setup) (stored : List Entry) (flushed : ℕ) (ended : Result A Halt) (last : Result (Option ℕ) Broken) (seen : Seen D) : Type 0 where
+pub record KeepsOn {D A : Type 0} (setup : Setup) (stored : List Entry) (flushed : ℕ) (ended : Result A Halt)
+    (last : Result (Option ℕ) Broken) (seen : Seen D) : Type 0 where
   pub number : ℕ
   pub low : flushed ≤ number
   pub high : number ≤ length stored
   pub ran : RunFrom setup (take number stored) ended last seen
-      (λ acts reached. Survives (whole setup.segment) stored flushed (take number stored) (turns_of acts) reached.log.records (before seen) (behind seen))
+      (λ acts reached. Survives (whole setup.segment) stored flushed (take number stored) (turns_of acts) reached.log.records
+      (before seen) (behind seen))
 
 -- A run from some log.
-pub record RunsFromSome {D A : Type 0} (setup : Setup) (ended : Result A Halt) (last : Result (Option ℕ) Broken) (seen : Seen D) : Type 0 where
+pub record RunsFromSome {D A : Type 0} (setup : Setup) (ended : Result A Halt) (last : Result (Option ℕ) Broken)
+    (seen : Seen D) : Type 0 where
   pub log : List Entry
   pub ran : RunFrom setup log ended last seen (λ acts reached. Unit {0})
 
@@ -227,11 +236,13 @@ pub record Unrecovered {D : Type 0} (command : Command) (status : Status) (seen 
   pub tells : StatusTellsFault status fault
   pub sizes : Sizes
   pub opened_as : IsOpened command.sizes sizes seen.disk.tells (before seen).reads keep.tells keep.old keep.new
-  pub damaged : seen.disk.tells → status.code ≡ 8 → IsDamagedAt (whole sizes.segment) (before seen).reads status.place status.name × Rests (before seen) (behind seen)
+  pub damaged : seen.disk.tells → status.code ≡ 8
+      → IsDamagedAt (whole sizes.segment) (before seen).reads status.place status.name × Rests (before seen) (behind seen)
   pub stores : seen.disk.tells → (stored : List Entry) (flushed : ℕ) → StoresLog (whole sizes.segment) stored flushed (before seen)
       → IsHonest (whole sizes.segment) stored flushed (before seen).reads → StoresLog (whole sizes.segment) stored flushed (behind seen)
   pub leaves : seen.disk.tells → (stored : List Entry) (flushed : ℕ) → StoresLog (whole sizes.segment) stored flushed (before seen)
-      → IsHonest (whole sizes.segment) stored flushed (before seen).reads → Throughout (before seen) (behind seen) (Leaves (whole sizes.segment) stored flushed)
+      → IsHonest (whole sizes.segment) stored flushed (before seen).reads
+      → Throughout (before seen) (behind seen) (Leaves (whole sizes.segment) stored flushed)
 
 -- The opening ended the call.
 pub record IsNotServed {D : Type 0} (command : Command) (status : Status) (seen : Seen D) (keep : KeepSeen) : Type 0 where
@@ -250,7 +261,8 @@ pub record Causes (status : Status) (old new : AllFaults) : Type 0 where
   pub read : status.code ≡ 3 → Rises old.source new.source
   pub write : status.code ≡ 4 → Rises old.sink new.sink
   pub disk_failed : status.code ≡ 5 → Rises old.disk new.disk
-  pub device : status.code ≡ 10 → ((status.name ≡ codes "clock") × Rises old.clock new.clock) ⊎ ((status.name ≡ codes "keep") × Rises old.keep new.keep)
+  pub device : status.code ≡ 10 → ((status.name ≡ codes "clock") × Rises old.clock new.clock)
+      ⊎ ((status.name ≡ codes "keep") × Rises old.keep new.keep)
   pub known : (status.code ≤ 8) ⊎ (status.code ≡ 10)
 
 -- ---- a run from a log that is open
@@ -278,7 +290,8 @@ pub record CountsStatus (status : Status) (source source_then sink sink_then dis
   pub write : status.code ≡ 4 → Rises sink sink_then
   pub disk_failed : status.code ≡ 5 → Rises disk disk_then
   pub clock_failed : status.code ≡ 10 → (status.name ≡ codes "clock") × Rises clock clock_then
-  pub known : (status.code ≡ 0) ⊎ ((status.code ≡ 2) ⊎ ((status.code ≡ 3) ⊎ ((status.code ≡ 4) ⊎ ((status.code ≡ 5) ⊎ ((status.code ≡ 7) ⊎ (status.code ≡ 10))))))
+  pub known : (status.code ≡ 0) ⊎ ((status.code ≡ 2) ⊎ ((status.code ≡ 3) ⊎ ((status.code ≡ 4) ⊎
+      ((status.code ≡ 5) ⊎ ((status.code ≡ 7) ⊎ (status.code ≡ 10))))))
   pub disk_grows : disk ≤ disk_then
 
 -- ---- a call in which nothing fails
@@ -290,9 +303,10 @@ pub record IsQuiet {D : Type 0} (words : List (List ℕ)) (seen : Seen D) (keep 
   pub disk_tells : seen.disk.tells
   pub keep_tells : keep.tells
   pub source_tells : seen.source.tells
-  pub own : (command : Command) (name : List ℕ) → IsCommand words command → IsForeign (before seen).reads (keep.old.reads FORMAT) command.sizes name → ⊥
-  pub undamaged : (command : Command) (sizes : Sizes) (place : ℕ) (name : List ℕ) → IsCommand words command → AreSizesOf (keep.old.reads FORMAT) command.sizes sizes
-      → IsDamagedAt (whole sizes.segment) (before seen).reads place name → ⊥
+  pub own : (command : Command) (name : List ℕ) → IsCommand words command
+      → IsForeign (before seen).reads (keep.old.reads FORMAT) command.sizes name → ⊥
+  pub undamaged : (command : Command) (sizes : Sizes) (place : ℕ) (name : List ℕ) → IsCommand words command
+      → AreSizesOf (keep.old.reads FORMAT) command.sizes sizes → IsDamagedAt (whole sizes.segment) (before seen).reads place name → ⊥
   pub bytes : List ℕ
   pub frames : List Frame
   pub end : ℕ

@@ -3,7 +3,10 @@ use Rattle.mq_outside.proofs.Moments.{rests_start, rests_call}
 use Rattle.log_model.specs.Bases.{whole}
 use Rattle.log_model.proofs.OutsideLemmas.{outside_start, outside_same, outside_then}
 use Rattle.broker_run.specs.Promise.{pipe_setup}
-use Rattle.broker_run.proofs.CauseLemmas.{opening_causes, refused_by, is_ours}
+use Rattle.store_open.proofs.OptionLemmas.{no_unfit_word}
+use Rattle.store_open.proofs.SizeLemmas.{asks_sizes}
+use Rattle.broker_run.proofs.QuietLemmas.{quiet_call}
+use Rattle.broker_run.proofs.CauseLemmas.{opening_causes, refused_by, is_ours, fits_arguments, run_causes}
 use Rattle.broker_run.proofs.RunLemmas.{runs_some, begins_with, keeps_on, unrecovered, stores_same, honest_same, leaves_from}
 use Rattle.broker_run.proofs.run.run_pipe.Goals as goal
 
@@ -88,3 +91,20 @@ returns-clause-outside g c tells =
 
 pub returns-clause-foreign : goal.returns-clause-foreign
 returns-clause-foreign g c = λ told kept six. absurd (is_ours _ c.serve_log.ensures.cause.known six)
+
+pub open_log-requires : goal.open_log-requires
+open_log-requires g c = (c.in-Ok-open_format.ensures.allowed (asks_sizes _ _ c.in-Ok.ensures.fits)).segment
+
+pub returns-clause-causes : goal.returns-clause-causes
+returns-clause-causes g c =
+    run_causes c.serve_log.result _ _ (g.D.Disk.faults c.open_log.new.disk)
+    (c.in-Ok-open_log.ensures.cause ∙ c.in-Ok-reader.ensures.cause ∙ c.in-Ok-open_format.ensures.disk_still) c.serve_log.ensures.cause
+
+pub returns-in-Err-clause-complete : goal.returns-in-Err-clause-complete
+returns-in-Err-clause-complete g c = λ quiet. absurd (no_unfit_word _ _ quiet.asked.1.settings c.in-Err.place quiet.asked.1.are c.in-Err.ensures.wrong)
+
+pub returns-clause-complete : goal.returns-clause-complete
+returns-clause-complete g c = λ quiet.
+    quiet_call _ c.serve_log.result _ _ _ _ quiet (returns-clause-causes g c)
+    (returns-clause-fits g c (fits_arguments _ c.serve_log.ensures.cause.known))
+    (λ told kept six. absurd (is_ours _ c.serve_log.ensures.cause.known six))
