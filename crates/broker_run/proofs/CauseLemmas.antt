@@ -8,7 +8,8 @@ use Rattle.log_opening.specs.declared.opening.Opened.{Opened}
 use Rattle.store_open.specs.Openings.{OpeningCause}
 use Rattle.store_open.specs.declared.status.Status.{Status}
 use Rattle.request_stream.specs.Piping.{CountsPipe}
-use Rattle.request_stream.specs.declared.stop.Stop.{Stop}
+use Rattle.request_acts.specs.declared.broken.Broken.{Broken}
+use Rattle.request_acts.specs.declared.broken.Broken.TheVariants as broken
 use Rattle.request_stream.specs.declared.stop.Stop.TheVariants as stops
 use Rattle.request_stream.specs.declared.stop.Halt.{Halt}
 use Rattle.request_stream.specs.declared.stop.Halt.TheVariants.{BadFrame, Read, Stopped}
@@ -48,7 +49,7 @@ module _ (status : Status) (source source_then sink sink_then disk disk_then clo
   }
 
   reading_counts : (reading : Result (Unit {0}) Halt) (last : Option ℕ) → StatusTells status reading last → CountsPipe reading source source_then sink sink_then clock clock_then
-      → (IsFailed {E = Stop} (Ok last) → Rises disk disk_then) → CountsStatus status source source_then sink sink_then disk disk_then clock clock_then
+      → (IsFailed {E = Broken} (Ok last) → Rises disk disk_then) → CountsStatus status source source_then sink sink_then disk disk_then clock clock_then
   reading_counts (Ok done) None tells counts failed = quiet_run 0 tells (λ e. omega (arith, e)) (λ e. omega (arith, e)) (λ e. omega (arith, e)) (λ e. omega (arith, e)) (inl refl)
   reading_counts (Ok done) (Some count) tells counts failed = record {
     read = λ e. absurd (omega (arith, tells, e));
@@ -76,13 +77,15 @@ module _ (status : Status) (source source_then sink sink_then disk disk_then clo
     disk_grows = grows;
   }
   reading_counts (Err (Stopped stops.Memory)) last tells counts failed = seven tells
+  reading_counts (Err (Stopped stops.Misplaced)) last tells counts failed = absurd tells
   reading_counts (Err (Stopped stops.Clock)) last (inl ten) counts failed = clock_ended ten.0 ten.1 counts
   reading_counts (Err (Stopped stops.Clock)) last (inr memory) counts failed = seven memory
 
-  ended_counts : (reading : Result (Unit {0}) Halt) (last : Result (Option ℕ) Stop) → StatusOf status reading last → CountsPipe reading source source_then sink sink_then clock clock_then
+  ended_counts : (reading : Result (Unit {0}) Halt) (last : Result (Option ℕ) Broken) → StatusOf status reading last → CountsPipe reading source source_then sink sink_then clock clock_then
       → (IsFailed last → Rises disk disk_then) → CountsStatus status source source_then sink sink_then disk disk_then clock clock_then
   ended_counts reading (Ok last) tells counts failed = reading_counts reading last tells counts failed
-  ended_counts reading (Err fault) tells counts failed = seven tells
+  ended_counts reading (Err broken.Memory) tells counts failed = seven tells
+  ended_counts reading (Err broken.Misplaced) tells counts failed = absurd tells
 
 -- the status of a run has its cause
 pub counts_status : (status : Status) (ended : Ended) (source source_then sink sink_then disk disk_then clock clock_then : ℕ) → StatusOf status ended.reading ended.last
@@ -99,6 +102,16 @@ is_ours code (inr (inr (inr (inl e)))) six = omega (arith, e, six)
 is_ours code (inr (inr (inr (inr (inl e))))) six = omega (arith, e, six)
 is_ours code (inr (inr (inr (inr (inr (inl e)))))) six = omega (arith, e, six)
 is_ours code (inr (inr (inr (inr (inr (inr e)))))) six = omega (arith, e, six)
+
+-- nor one of arguments that don't fit
+pub fits_arguments : (code : ℕ) → (code ≡ 0) ⊎ ((code ≡ 2) ⊎ ((code ≡ 3) ⊎ ((code ≡ 4) ⊎ ((code ≡ 5) ⊎ ((code ≡ 7) ⊎ (code ≡ 10)))))) → code ≢ 1
+fits_arguments code (inl e) one = omega (arith, e, one)
+fits_arguments code (inr (inl e)) one = omega (arith, e, one)
+fits_arguments code (inr (inr (inl e))) one = omega (arith, e, one)
+fits_arguments code (inr (inr (inr (inl e)))) one = omega (arith, e, one)
+fits_arguments code (inr (inr (inr (inr (inl e))))) one = omega (arith, e, one)
+fits_arguments code (inr (inr (inr (inr (inr (inl e)))))) one = omega (arith, e, one)
+fits_arguments code (inr (inr (inr (inr (inr (inr e)))))) one = omega (arith, e, one)
 
 -- ---- a whole call
 

@@ -1,3 +1,4 @@
 mod CauseLemmas
 mod ClosingLemmas
+mod QuietLemmas
 mod RunLemmas

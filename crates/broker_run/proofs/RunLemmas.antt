@@ -1,6 +1,8 @@
 -- A run of `pipe` from a log that is open, and what every crash leaves of it.
-use Rattle.std.proofs.Common.{◌≡◌, inl, inr, ◌∙◌, ℕ, ◌+◌, ◌-◌, ◌≤◌, ◌++◌, List, [], ◌∷◌, Option, Some, None, Result, Ok, Err, length, take, refl, ap, sym, subst, arith, length-take}
+use Rattle.std.proofs.Math.Seq.{take-length}
+use Rattle.std.proofs.Common.{◌≡◌, ◌⊎◌, ⊎_elim, inl, inr, slice_get, ◌∙◌, ℕ, ◌+◌, ◌-◌, ◌≤◌, ◌++◌, List, [], ◌∷◌, Option, Some, None, Result, Ok, Err, length, take, refl, ap, sym, subst, arith, length-take}
 use Rattle.mq_outside.specs.Counts.{Rises}
+use Rattle.mq_outside.specs.Readings.{Giving}
 use Rattle.mq_outside.specs.Files.{Files, Same}
 use Rattle.mq_outside.specs.Disk.{DiskState, EachImage, Moves, Rests, Throughout}
 use Rattle.mq_outside.proofs.Moments.{each_same, at_start, at_end, goes_on, weaker, chained, rests_start, rests_call, rests_then}
@@ -8,12 +10,14 @@ use Rattle.record_codec.specs.Entry.{Entry}
 use Rattle.log_model.specs.Bases.{Geometry, geometry, whole}
 use Rattle.log_model.specs.Log.{IsWellFormed}
 use Rattle.log_model.specs.Numbered.{Log}
-use Rattle.log_model.specs.Segments.{IsLogFile}
+use Rattle.log_model.specs.Segments.{IsLogFile, Shape, opened, used, shape_of, AreFilesOf, AreSegmentFiles}
+use Rattle.log_model.proofs.Lists.{get_take}
+use Rattle.log_model.proofs.Steps.{stands_more, stands_exact}
 use Rattle.log_model.specs.Store.{Keeps as RecoveryKeeps, IsDamagedAt, IsHonest, StoresLog}
-use Rattle.log_model.specs.Stored.{HasRecords, HasFirst, FlushTurn, KeepsAtLeast, stored, turned_by, turned_in}
+use Rattle.log_model.specs.Stored.{Stored, HasRecords, HasFirst, FlushTurn, KeepsAtLeast, stored, turned_by, turned_in}
 use Rattle.log_model.proofs.OutsideLemmas.{stays_start, stays_same}
 use Rattle.log_model.proofs.StoredLemmas.{first_keeps, keeps_then, has_less}
-use Rattle.segment_files.specs.Turn.{IsReady, Growing, growing}
+use Rattle.segment_files.specs.Turn.{IsReady, IsPlaced, NextOpens, Growing, growing}
 use Rattle.segment_files.proofs.Ready.{ready_as, ready_first_records}
 use Rattle.remoting_frame.specs.declared.frame.Frame.{Frame}
 use Rattle.broker_model.specs.State.{State}
@@ -26,29 +30,34 @@ use Rattle.broker_core.specs.declared.parts.Parts.{Parts}
 use Rattle.broker_core.specs.Represents.{Represents}
 use Rattle.log_opening.specs.Opens.{OpensOver, OpensKept, OpensOurs, OpensLog}
 use Rattle.log_opening.specs.declared.opening.Opened.{Opened}
-use Rattle.request_acts.specs.Acts.{Act, Acts, Acted, DiskView, Place, place_of, growing_at, turns_of, steps_of}
+use Rattle.request_acts.specs.Acts.{Act, HasUnwritten, Acts, Acted, DiskView, Place, place_of, growing_at, turns_of, steps_of}
 use Rattle.request_acts.specs.Turning.{AreAllTurns}
-use Rattle.request_stream.specs.Serving.{Sides, Point, point_of, sides_of}
+use Rattle.request_stream.specs.Serving.{Sides, Point, point_of, sides_of, acts_of, Begun, Nothing, Asked, begun_acts, Breaks}
 use Rattle.request_stream.specs.Piping.{RanBy, acts_in, SourceSeen, Piped}
 use Rattle.log_recovery.specs.Recovered.{OnDamage, StaysFlushed}
 use Rattle.log_recovery.specs.declared.fault.RecoverFault.{RecoverFault}
 use Rattle.log_recovery.specs.declared.fault.RecoverFault.TheVariants.{Damaged, Failed as DiskFailed, Memory as NoMemory}
 use Rattle.store_open.specs.Openings.{IsOpened}
-use Rattle.broker_run.specs.Closing.{ServesToEnd}
+use Rattle.broker_run.specs.Closing.{ServesToEnd, ReadsPlaced, FlushesPlaced}
 use Rattle.flush_story.specs.Story.{Reaches}
-use Rattle.flush_story.specs.Keeping.{flushed_in, geometry_of, log_in, IsOpenFor, AreInOrder, AreExact, Keeps}
+use Rattle.flush_story.specs.Keeping.{IsPlacedFor, flushed_in, geometry_of, log_in, IsOpenFor, AreInOrder, AreExact, Keeps}
 use Rattle.flush_story.proofs.Keeps.{kept_as}
 use Rattle.flush_story.proofs.Turns.{order_on, exact_later, turned_most}
 use Rattle.kept_log.specs.Leads.{alone}
-use Rattle.kept_log.proofs.ActStory.{acts_lead}
-use Rattle.broker_run.specs.Promise.{AreMoves, RunsTo, opened_over, pipe_setup, Seen, before, behind, sides_for, Leaves, Survives, RunFrom, BeginsWithKept, KeepsOn, RunsFromSome, KeepsAfter, StatusOf, StatusTellsFault, ServedOver, Unrecovered, KeepSeen}
+use Rattle.kept_log.proofs.ActStory.{acts_lead, acts_written}
+use Rattle.broker_run.specs.Promise.{AreMoves, RunsTo, opened_over, Seen, before, behind, sides_for, Leaves, Survives, RunFrom, BeginsWithKept, KeepsOn, RunsFromSome, KeepsAfter, StatusOf, StatusTellsFault, ServedOver, Unrecovered, KeepSeen}
 use Rattle.broker_run.proofs.CauseLemmas.{damage_told}
 use Rattle.request_stream.specs.declared.stop.Halt.{Halt}
 use Rattle.request_stream.specs.declared.stop.Halt.TheVariants.{BadFrame, Read, Stopped}
-use Rattle.request_stream.specs.declared.stop.Stop.{Stop}
+use Rattle.request_acts.specs.declared.broken.Broken.{Broken}
+use Rattle.request_acts.specs.declared.broken.Broken.TheVariants as broken
+use Rattle.request_stream.specs.declared.stop.Stop.TheVariants as stops
 use Rattle.store_open.specs.declared.status.Status.{Status}
+use Rattle.store_open.specs.declared.format.Sizes.{Sizes}
+use Rattle.store_open.specs.declared.words.Command.{Command}
+use Rattle.broker_events.specs.declared.event.Setup.{Setup}
 use Rattle.broker_run.specs.declared.ended.Ended.{Ended}
-use Rattle.request_acts.proofs.ActLemmas.{acts_then}
+use Rattle.request_acts.proofs.ActLemmas.{acts_then, unwritten_behind}
 
 -- ---- the model's run
 
@@ -94,35 +103,61 @@ keeps_same s u turns p r disk moves kept =
 
 -- ---- a run from a log that is open
 
-keeps_after : (segment : ℕ) (log : List Entry) (acts : List Act) (u : State) (p : DiskState) (r : Growing) → Keeps (opened_over segment log).now u (turns_of acts) p r → KeepsAfter segment log acts u p r.disk
-keeps_after segment log acts u p r kept =
-    let s = (opened_over segment log).now in
-    let all : flushed_in s ≡ length log = omega arith in
-    let S : geometry_of u ≡ whole segment = λ i. geometry ((kept.grows.setup i).segment) ((kept.grows.log i).base) in
+-- no record comes behind the last
+no_next : (setup : Setup) (log : List Entry) → NextOpens (stored (whole setup.segment) log (length log)) → ⊥
+no_next setup log opens =
+    let got = get_take (length log) (length log) log opens.next (subst (λ (l : List Entry). slice_get l (length log) ≡ Some opens.next) (sym (take-length log)) opens.is) in
+    omega (arith, got.1)
+
+-- nothing stands behind the records of a log that was opened
+ready_exact : (setup : Setup) (log : List Entry) (at : Growing) → IsReady (stored (whole setup.segment) log (length log)) 0 at → EachImage (AreSegmentFiles (whole setup.segment) log) at.disk
+ready_exact setup log at ready =
+    let S : Geometry = whole setup.segment in
+    let it : Stored = stored S log (length log) in
+    let same : ready.shape ≡ shape_of S log = ⊎_elim
+    (λ (here : ready.shape ≡ shape_of S (take (length log) log)). here ∙ ap (λ (l : List Entry). shape_of S l) (take-length log))
+    (λ (next : (ready.shape ≡ opened (shape_of S (take (length log) log))) × NextOpens it). absurd (no_next setup log next.1))
+    ready.laid in
+    let low : ready.reach ≤ used ready.shape = ⊎_elim
+    (λ (short : ready.reach ≤ at.file.offset + 0). omega (arith, short, ready.writes.place.end))
+    (λ (next : (ready.shape ≡ shape_of S (take (length log) log)) × NextOpens it). absurd (no_next setup log next.1))
+    ready.short in
     record {
-      kept = subst (λ (n : ℕ). KeepsAtLeast (whole segment) u.log.records (λ m. n + turned_by (turns_of acts) m) p r.disk) all
+      at = λ files image. subst (λ (shape : Shape). AreFilesOf S shape files) same
+          (stands_exact S ready.shape files (stands_more S ready.shape ready.reach (used ready.shape) files low (ready.writes.stores.each.at files image)));
+    }
+
+keeps_after : (setup : Setup) (log : List Entry) (acts : List Act) (u : State) (p : DiskState) (r : Growing) → EachImage (AreSegmentFiles (whole setup.segment) log) p
+    → Keeps (opened_over setup log).now u (turns_of acts) p r → KeepsAfter setup log acts u p r.disk
+keeps_after setup log acts u p r opened kept =
+    let s = (opened_over setup log).now in
+    let all : flushed_in s ≡ length log = omega arith in
+    let S : geometry_of u ≡ whole setup.segment = λ i. geometry ((kept.grows.setup i).segment) ((kept.grows.log i).base) in
+    record {
+      kept = subst (λ (n : ℕ). KeepsAtLeast (whole setup.segment) u.log.records (λ m. n + turned_by (turns_of acts) m) p r.disk) all
           (subst (λ (G : Geometry). KeepsAtLeast G u.log.records (λ m. flushed_in s + turned_by (turns_of acts) m) p r.disk) S kept.kept);
+      opened = opened;
       order = kept.order;
-      exact = subst (λ (n : ℕ). AreExact (whole segment) u.log.records n (turns_of acts) r.disk) all
+      exact = subst (λ (n : ℕ). AreExact (whole setup.segment) u.log.records n (turns_of acts) r.disk) all
           (subst (λ (G : Geometry). AreExact G u.log.records (flushed_in s) (turns_of acts) r.disk) S kept.exact);
-      stores = subst (λ (n : ℕ). StoresLog (whole segment) u.log.records n r.disk) (kept.flushed ∙ ap (λ (n : ℕ). n + turned_in (turns_of acts)) all)
+      stores = subst (λ (n : ℕ). StoresLog (whole setup.segment) u.log.records n r.disk) (kept.flushed ∙ ap (λ (n : ℕ). n + turned_in (turns_of acts)) all)
           (subst (λ (G : Geometry). StoresLog G u.log.records (flushed_in u) r.disk) S
           (record { shape = kept.still_open.ready.shape; reach = kept.still_open.ready.reach; at = kept.still_open.ready.writes.stores }));
     }
 
 -- all of the log is flushed
-open_for : (segment : ℕ) (log : List Entry) (at : Growing) → IsReady (stored (whole segment) log (length log)) 0 at → IsOpenFor (opened_over segment log).now at
-open_for segment log at ready =
-    let none : length log ≡ flushed_in (opened_over segment log).now = omega arith in
-    record { behind = 0; few = omega arith; ready = subst (λ (n : ℕ). IsReady (stored (whole segment) log n) 0 at) none ready }
+open_for : (setup : Setup) (log : List Entry) (at : Growing) → IsReady (stored (whole setup.segment) log (length log)) 0 at → IsOpenFor (opened_over setup log).now at
+open_for setup log at ready =
+    let none : length log ≡ flushed_in (opened_over setup log).now = omega arith in
+    record { behind = 0; few = omega arith; ready = subst (λ (n : ℕ). IsReady (stored (whole setup.segment) log n) 0 at) none ready }
 
-pub run_from : {D : Type 0} (it : Opened) (ended : Ended) (seen : Seen D) (segment : ℕ) (log : List Entry) (x y : Alone) (reads : ℕ) → OpensOver (pipe_setup segment) log it → x.core ≡ it.core
+pub run_from : {D : Type 0} (it : Opened) (ended : Ended) (seen : Seen D) (setup : Setup) (log : List Entry) (x y : Alone) (reads : ℕ) → OpensOver setup log it → x.core ≡ it.core
     → ServesToEnd (sides_for seen) ended seen.source x (point_of (place_of it.flusher.file seen.old) reads seen.taken seen.readings) y seen.new seen.taken_then seen.readings_then
-    → RunFrom segment log ended.reading ended.last seen
-    (λ acts reached. seen.disk.tells → IsReady (stored (whole segment) log (length log)) 0 (growing it.flusher.file (before seen)) → KeepsAfter segment log acts reached (before seen) (behind seen))
-run_from {D = D} it ended seen segment log x y reads opens same served =
+    → RunFrom setup log ended.reading ended.last seen
+    (λ acts reached. seen.disk.tells → IsReady (stored (whole setup.segment) log (length log)) 0 (growing it.flusher.file (before seen)) → KeepsAfter setup log acts reached (before seen) (behind seen))
+run_from {D = D} it ended seen setup log x y reads opens same served =
     let sides = sides_for seen in
-    let s = (opened_over segment log).now in
+    let s = (opened_over setup log).now in
     let place : Place D = place_of it.flusher.file seen.old in
     let start = point_of place reads seen.taken seen.readings in
     let mid = point_of served.mid served.reads seen.taken_then seen.readings_then in
@@ -148,10 +183,60 @@ run_from {D = D} it ended seen segment log x y reads opens same served =
       flushed = served.flushed;
       reached = led.reached;
       runs = record { moves = moves.0; boot = moves.1; are = moves.2; run = moves.3; reached_is = moves.4 };
-      done = λ told ready. keeps_after segment log acts led.reached (before seen) (growing served.final.file (behind seen))
+      done = λ told ready. keeps_after setup log acts led.reached (before seen) (growing served.final.file (behind seen))
+          (ready_exact setup log (growing it.flusher.file (before seen)) ready)
           (keeps_same s led.reached (turns_of acts) (before seen) (growing_at seen.disk served.final) (behind seen) (served.back told)
-          (led.keeps told (open_for segment log (growing it.flusher.file (before seen)) ready)));
+          (led.keeps told (open_for setup log (growing it.flusher.file (before seen)) ready)));
     }
+
+-- ---- no batch is misplaced
+
+-- the flusher writes where the log ends, all of which is flushed
+placed_for : (setup : Setup) (log : List Entry) (it : Opened) → OpensOver setup log it → IsPlacedFor (opened_over setup log).now it.flusher.file
+placed_for setup log it opens =
+    let none : length log ≡ flushed_in (opened_over setup log).now = omega arith in
+    record { within = omega arith; placed = subst (λ (n : ℕ). IsPlaced (stored (whole setup.segment) log n) it.flusher.file) none (inl opens.placed) }
+
+begun_unwritten : (gives : Giving) (begun : Begun) (faults faults_then : ℕ) → Breaks gives stops.Misplaced begun faults faults_then → HasUnwritten (begun_acts begun)
+begun_unwritten gives Nothing faults faults_then breaks = absurd breaks
+begun_unwritten gives (Asked it) faults faults_then breaks = breaks.0
+
+reads_placed : {D A : Type 0} (seen : Seen D) (result : Result A Halt) (frames : List Frame) (s : State) (x y : Alone) (old new : Point D) → Represents x.core s
+    → IsPlacedFor s old.place.file → RanBy (sides_for seen) result frames x old y new → ReadsPlaced result
+reads_placed seen (Ok done) frames s x y old new are here ran = tt
+reads_placed seen (Err (BadFrame place)) frames s x y old new are here ran = tt
+reads_placed seen (Err Read) frames s x y old new are here ran = tt
+reads_placed seen (Err (Stopped stops.Clock)) frames s x y old new are here ran = tt
+reads_placed seen (Err (Stopped stops.Sink)) frames s x y old new are here ran = tt
+reads_placed seen (Err (Stopped stops.Memory)) frames s x y old new are here ran = tt
+reads_placed seen (Err (Stopped stops.Misplaced)) frames s x y old new are here ran =
+    acts_written seen.disk (acts_of ran.served ++ begun_acts ran.begun) s x y old.place new.place are here ran.happened
+    (unwritten_behind (acts_of ran.served) (begun_acts ran.begun) (begun_unwritten seen.gives ran.begun ran.mid new.reads ran.breaks))
+
+flushes_placed : {D : Type 0} (view : DiskView D) (result : Result (Option ℕ) Broken) (s : State) (x y : Alone) (p q : Place D) → Represents x.core s → IsPlacedFor s p.file
+    → Acted alone view (AreAllTurns result) x p y q → FlushesPlaced result
+flushes_placed view (Ok done) s x y p q are here acted = tt
+flushes_placed view (Err broken.Misplaced) s x y p q are here acted = acts_written view acted.acts s x y p q are here acted.happened acted.kind
+flushes_placed view (Err broken.Memory) s x y p q are here acted = tt
+
+-- nor in a whole run
+pub run_placed : {D : Type 0} (it : Opened) (ended : Ended) (seen : Seen D) (setup : Setup) (log : List Entry) (x y : Alone) (reads : ℕ) → OpensOver setup log it → x.core ≡ it.core
+    → ServesToEnd (sides_for seen) ended seen.source x (point_of (place_of it.flusher.file seen.old) reads seen.taken seen.readings) y seen.new seen.taken_then seen.readings_then
+    → ReadsPlaced ended.reading × FlushesPlaced ended.last
+run_placed {D = D} it ended seen setup log x y reads opens same served =
+    let sides = sides_for seen in
+    let s = (opened_over setup log).now in
+    let place : Place D = place_of it.flusher.file seen.old in
+    let start = point_of place reads seen.taken seen.readings in
+    let mid = point_of served.mid served.reads seen.taken_then seen.readings_then in
+    let are : Represents x.core s = subst (λ (c : Parts). Represents c s) (sym same) opens.represents in
+    let here = placed_for setup log it opens in
+    let first = acts_in sides ended.reading served.piped.frames x start served.served mid served.piped.ran in
+    let led = acts_lead seen.disk first s x served.served place served.mid are
+    (ran_happened sides ended.reading served.piped.frames x served.served start mid served.piped.ran) in (
+      reads_placed seen ended.reading served.piped.frames s x served.served start mid are here served.piped.ran,
+      flushes_placed seen.disk ended.last led.reached served.served y served.mid served.final led.represents (led.places here) served.flushed,
+    )
 
 -- ---- seen from before the opening
 
@@ -171,9 +256,9 @@ seen_open seen disk = record {
   readings_then = seen.readings_then;
 }
 
-run_as : {D A E : Type 0} (segment : ℕ) (log : List Entry) (ended : Result A Halt) (last : Result (Option ℕ) E) (seen : Seen D) (disk : D) (P Q : List Act → State → Type 0)
-    → ((acts : List Act) (reached : State) → P acts reached → Q acts reached) → RunFrom segment log ended last (seen_open seen disk) P → RunFrom segment log ended last seen Q
-run_as segment log ended last seen disk P Q as_well ran = record {
+run_as : {D A : Type 0} (setup : Setup) (log : List Entry) (ended : Result A Halt) (last : Result (Option ℕ) Broken) (seen : Seen D) (disk : D) (P Q : List Act → State → Type 0)
+    → ((acts : List Act) (reached : State) → P acts reached → Q acts reached) → RunFrom setup log ended last (seen_open seen disk) P → RunFrom setup log ended last seen Q
+run_as setup log ended last seen disk P Q as_well ran = record {
   calls = ran.calls;
   served = ran.served;
   closed = ran.closed;
@@ -222,38 +307,39 @@ leaves_from S log flushed old first mid new opened read stores has =
     let all = chained (goes_on before read (each_same read (each_same opened each))) has in
     weaker all (λ files front. leaves_front S log flushed files stores.at.well_formed stores.at.within front)
 
-survives : (segment : ℕ) (log : List Entry) (flushed : ℕ) (opening : List Entry) (acts : List Act) (reached : State) (old mid new : DiskState)
-    → Throughout old mid (Leaves (whole segment) log flushed) → KeepsAfter segment opening acts reached mid new
-    → Survives (whole segment) log flushed opening (turns_of acts) reached.log.records old new
-survives segment log flushed opening acts reached old mid new leaves kept = record {
+survives : (setup : Setup) (log : List Entry) (flushed : ℕ) (opening : List Entry) (acts : List Act) (reached : State) (old mid new : DiskState)
+    → Throughout old mid (Leaves (whole setup.segment) log flushed) → KeepsAfter setup opening acts reached mid new
+    → Survives (whole setup.segment) log flushed opening (turns_of acts) reached.log.records old new
+survives setup log flushed opening acts reached old mid new leaves kept = record {
   opening = mid.moment;
   later = leaves.later;
   order = kept.order;
   before = λ m files low high image. leaves.each m files low high (kept.kept.continues.past m files high image);
+  opened = λ files image. kept.opened.at files (kept.kept.continues.past mid.moment files (omega arith) image);
   after = λ m files low high image.
       let least : ℕ = length opening + turned_by (turns_of acts) m in
       let first = kept.kept.each m files low high image in
-      record { has = first; keeps = first_keeps (whole segment) reached.log.records least files kept.stores.at.well_formed first };
+      record { has = first; keeps = first_keeps (whole setup.segment) reached.log.records least files kept.stores.at.well_formed first };
   exact = kept.exact;
   stores = kept.stores;
 }
 
-module _ {D : Type 0} (it : Opened) (status : Status) (seen : Seen D) (disk : D) (segment : ℕ) (served : ServedOver it status (seen_open seen disk)) where
-  pub runs_some : OpensLog (pipe_setup segment) it → RunsFromSome segment served.ended served.last seen
+module _ {D : Type 0} (it : Opened) (status : Status) (seen : Seen D) (disk : D) (setup : Setup) (served : ServedOver it status (seen_open seen disk)) where
+  pub runs_some : OpensLog setup it → RunsFromSome setup served.ended served.last seen
   runs_some opens = record {
     log = opens.records;
-    ran = run_as segment opens.records served.ended served.last seen disk _ (λ acts reached. Unit {0}) (λ acts reached kept. tt) (served.runs segment opens.records opens.opens);
+    ran = run_as setup opens.records served.ended served.last seen disk _ (λ acts reached. Unit {0}) (λ acts reached kept. tt) (served.runs setup opens.records opens.opens);
   }
 
-  pub begins_with : (files : Files) → files ≡ (before seen).reads → OpensKept (pipe_setup segment) files it → BeginsWithKept segment served.ended served.last seen
+  pub begins_with : (files : Files) → files ≡ (before seen).reads → OpensKept setup files it → BeginsWithKept setup served.ended served.last seen
   begins_with files same opens = record {
     records = opens.records;
-    keeps = subst (λ (f : Files). RecoveryKeeps (whole segment) opens.records f) same opens.keeps;
-    ran = run_as segment opens.records served.ended served.last seen disk _ (λ acts reached. Unit {0}) (λ acts reached kept. tt) (served.runs segment opens.records opens.opens);
+    keeps = subst (λ (f : Files). RecoveryKeeps (whole setup.segment) opens.records f) same opens.keeps;
+    ran = run_as setup opens.records served.ended served.last seen disk _ (λ acts reached. Unit {0}) (λ acts reached kept. tt) (served.runs setup opens.records opens.opens);
   }
 
-  pub keeps_on : seen.disk.tells → (log : List Entry) (flushed : ℕ) → OpensOurs (pipe_setup segment) log flushed (seen.disk.state disk) it → Throughout (before seen) (seen.disk.state disk) (Leaves (whole segment) log flushed)
-      → KeepsOn segment log flushed served.ended served.last seen
+  pub keeps_on : seen.disk.tells → (log : List Entry) (flushed : ℕ) → OpensOurs setup log flushed (seen.disk.state disk) it → Throughout (before seen) (seen.disk.state disk) (Leaves (whole setup.segment) log flushed)
+      → KeepsOn setup log flushed served.ended served.last seen
   keeps_on told log flushed opens leaves =
       let opening = take opens.number log in
       let long : opens.number ≡ length opening = omega (arith, opens.high, length-take opens.number log) in
@@ -261,11 +347,11 @@ module _ {D : Type 0} (it : Opened) (status : Status) (seen : Seen D) (disk : D)
         number = opens.number;
         low = opens.low;
         high = opens.high;
-        ran = run_as segment opening served.ended served.last seen disk _
-            (λ acts reached. Survives (whole segment) log flushed opening (turns_of acts) reached.log.records (before seen) (behind seen))
-            (λ acts reached kept. survives segment log flushed opening acts reached (before seen) (seen.disk.state disk) (behind seen) leaves
-            (kept told (subst (λ (n : ℕ). IsReady (stored (whole segment) opening n) 0 (growing it.flusher.file (seen.disk.state disk))) long opens.ready)))
-            (served.runs segment opening opens.opens);
+        ran = run_as setup opening served.ended served.last seen disk _
+            (λ acts reached. Survives (whole setup.segment) log flushed opening (turns_of acts) reached.log.records (before seen) (behind seen))
+            (λ acts reached kept. survives setup log flushed opening acts reached (before seen) (seen.disk.state disk) (behind seen) leaves
+            (kept told (subst (λ (n : ℕ). IsReady (stored (whole setup.segment) opening n) 0 (growing it.flusher.file (seen.disk.state disk))) long opens.ready)))
+            (served.runs setup opening opens.opens);
       }
 
 -- ---- a log that was not recovered
@@ -277,18 +363,18 @@ both_told (Damaged place name) P Q p q = (p, q)
 both_told DiskFailed P Q p q = tt
 both_told NoMemory P Q p q = tt
 
-pub unrecovered : {D : Type 0} (asked : Option ℕ) (status : Status) (seen : Seen D) (keep : KeepSeen) (first mid after : DiskState) (fault : RecoverFault) (segment : ℕ)
-    → StatusTellsFault status fault → IsOpened asked segment seen.disk.tells (before seen).reads keep.tells keep.old keep.new
+pub unrecovered : {D : Type 0} (command : Command) (status : Status) (seen : Seen D) (keep : KeepSeen) (first mid after : DiskState) (fault : RecoverFault) (sizes : Sizes)
+    → StatusTellsFault status fault → IsOpened command.sizes sizes seen.disk.tells (before seen).reads keep.tells keep.old keep.new
     → (seen.disk.tells → Moves Same (before seen) first) → (seen.disk.tells → Moves Same first mid)
-    → (seen.disk.tells → OnDamage {A = Opened} (Err fault) (IsDamagedAt (whole segment) mid.reads)) → (seen.disk.tells → OnDamage {A = Opened} (Err fault) (λ place name. Rests mid after))
-    → (seen.disk.tells → StaysFlushed (whole segment) mid after) → (seen.disk.tells → Moves Same after (behind seen))
-    → Unrecovered asked status seen keep
-unrecovered asked status seen keep first mid after fault segment tells opened_as moves reads damaged rests flushed back =
-    let S : Geometry = whole segment in
+    → (seen.disk.tells → OnDamage {A = Opened} (Err fault) (IsDamagedAt (whole sizes.segment) mid.reads)) → (seen.disk.tells → OnDamage {A = Opened} (Err fault) (λ place name. Rests mid after))
+    → (seen.disk.tells → StaysFlushed (whole sizes.segment) mid after) → (seen.disk.tells → Moves Same after (behind seen))
+    → Unrecovered command status seen keep
+unrecovered command status seen keep first mid after fault sizes tells opened_as moves reads damaged rests flushed back =
+    let S : Geometry = whole sizes.segment in
     record {
       fault = fault;
       tells = tells;
-      segment = segment;
+      sizes = sizes;
       opened_as = opened_as;
       damaged = λ told code.
           let both = damage_told status fault (λ place name. IsDamagedAt S mid.reads place name × Rests mid after) tells (both_told fault _ _ (damaged told) (rests told)) code in

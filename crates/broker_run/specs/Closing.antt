@@ -8,7 +8,27 @@ use Rattle.request_acts.specs.Turning.{AreAllTurns}
 use Rattle.request_stream.specs.Serving.{Sides, Point, point_of}
 use Rattle.request_stream.specs.Piping.{SourceSeen, Piped, CountsPipe}
 use Rattle.broker_run.specs.declared.ended.Ended.{Ended}
+use Rattle.request_acts.specs.declared.broken.Broken.{Broken}
+use Rattle.request_acts.specs.declared.broken.Broken.TheVariants.{Misplaced, Memory}
 use Rattle.request_stream.specs.declared.stop.Halt.{Halt}
+use Rattle.request_stream.specs.declared.stop.Halt.TheVariants.{BadFrame, Read, Stopped}
+use Rattle.request_stream.specs.declared.stop.Stop.TheVariants as stops
+
+-- no batch that begins elsewhere than where the flusher writes ended the reading
+abbrev pub ReadsPlaced : {A : Type 0} → Result A Halt → Type 0
+ReadsPlaced (Ok done) = Unit {0}
+ReadsPlaced (Err (BadFrame place)) = Unit {0}
+ReadsPlaced (Err Read) = Unit {0}
+ReadsPlaced (Err (Stopped stops.Clock)) = Unit {0}
+ReadsPlaced (Err (Stopped stops.Sink)) = Unit {0}
+ReadsPlaced (Err (Stopped stops.Memory)) = Unit {0}
+ReadsPlaced (Err (Stopped stops.Misplaced)) = ⊥
+
+-- nor the last flush turns
+abbrev pub FlushesPlaced : {A : Type 0} → Result A Broken → Type 0
+FlushesPlaced (Ok done) = Unit {0}
+FlushesPlaced (Err Misplaced) = ⊥
+FlushesPlaced (Err Memory) = Unit {0}
 
 -- The requests of the source were served, then flush turns were made, and the reader was given back.
 pub record ServesToEnd {C D : Type 0} (sides : Sides C D) (ended : Ended) (source : SourceSeen) (x : C) (old : Point D) (y : C) (disk : D) (taken readings : List ℕ) : Type 0 where

@@ -1,18 +1,24 @@
 -- What one call of `run_pipe` did, by the status that it answered.
-use Rattle.std.specs.Prelude.{◌≡◌, ◌≢◌, ◌⊎◌, ℕ, ◌+◌, ◌≤◌, ◌++◌, List, [], ◌∷◌, codes, length, take, Bool, true, Option, Some, None, Result, Ok, Err}
+use Rattle.std.specs.Prelude.{◌≡◌, ◌≢◌, ◌⊎◌, ℕ, ◌+◌, ◌<◌, ◌≤◌, ◌++◌, List, [], ◌∷◌, codes, length, take}
+use Rattle.std.specs.Prelude.{Bool, true, Option, Some, None, Result, Ok, Err}
 use Rattle.mq_outside.specs.Counts.{Rises}
 use Rattle.mq_outside.specs.Files.{Files}
-use Rattle.mq_outside.specs.Disk.{DiskState, Rests, Throughout}
+use Rattle.mq_outside.specs.Disk.{DiskState, EachImage, Rests, Throughout}
 use Rattle.mq_outside.specs.Readings.{Giving}
+use Rattle.remoting_frame.specs.Streams.{BeginsWith}
+use Rattle.remoting_frame.specs.declared.frame.Frame.{Frame}
 use Rattle.record_codec.specs.Entry.{Entry}
 use Rattle.log_model.specs.Bases.{Geometry, whole}
+use Rattle.log_model.specs.Segments.{AreSegmentFiles}
 use Rattle.log_model.specs.Store.{Keeps, IsDamagedAt, IsHonest, StoresLog, KeepsIfHonest}
 use Rattle.log_model.specs.Stored.{HasFirst, FlushTurn, KeepsAtLeast, stored, turned_by, turned_in}
 use Rattle.log_recovery.specs.declared.fault.RecoverFault.{RecoverFault}
 use Rattle.log_recovery.specs.declared.fault.RecoverFault.TheVariants.{Damaged, Failed as DiskFailed, Memory as NoMemory}
 use Rattle.segment_files.specs.Turn.{IsReady, growing}
 use Rattle.store_open.specs.Words.{IsCommand}
-use Rattle.store_open.specs.Openings.{FORMAT, IsOpened, PutsOnly, own_format}
+use Rattle.store_open.specs.Openings.{FORMAT, AreSizesOf, IsForeign, IsOpened, PutsOnly, own_format}
+use Rattle.store_open.specs.declared.format.Sizes.{Sizes}
+use Rattle.store_open.specs.declared.words.Command.{Command}
 use Rattle.store_open.specs.declared.status.Status.{Status}
 use Rattle.broker_model.specs.State.{State}
 use Rattle.broker_model.specs.Events as model
@@ -28,11 +34,12 @@ use Rattle.log_opening.specs.Opens.{OpensOver, no_saved}
 use Rattle.log_opening.specs.declared.opening.Opened.{Opened}
 use Rattle.request_acts.specs.Acts.{Act, Acted, DiskView, Place, steps_of, turns_of}
 use Rattle.request_acts.specs.Turning.{AreAllTurns}
+use Rattle.request_acts.specs.declared.broken.Broken.{Broken}
+use Rattle.request_acts.specs.declared.broken.Broken.TheVariants as broken
 use Rattle.request_stream.specs.Serving.{Sides, sides_of, point_of}
-use Rattle.request_stream.specs.Piping.{SourceSeen, Piped, acts_in}
+use Rattle.request_stream.specs.Piping.{SourceSeen, Piped, acts_in, stream_limit}
 use Rattle.flush_story.specs.Keeping.{AreInOrder, AreExact}
 use Rattle.kept_log.specs.Leads.{alone}
-use Rattle.request_stream.specs.declared.stop.Stop.{Stop}
 use Rattle.request_stream.specs.declared.stop.Halt.{Halt}
 use Rattle.request_stream.specs.declared.stop.Halt.TheVariants.{BadFrame, Read, Stopped}
 use Rattle.request_stream.specs.declared.stop.Stop.TheVariants as stops
@@ -48,11 +55,14 @@ StatusTells status (Err Read) last = status.code ≡ 3
 StatusTells status (Err (Stopped stops.Sink)) last = status.code ≡ 4
 StatusTells status (Err (Stopped stops.Memory)) last = status.code ≡ 7
 StatusTells status (Err (Stopped stops.Clock)) last = ((status.code ≡ 10) × (status.name ≡ codes "clock")) ⊎ (status.code ≡ 7)
+StatusTells status (Err (Stopped stops.Misplaced)) last = ⊥
 
--- the same where memory may run out in the last flush turns
-abbrev pub StatusOf : {A E : Type 0} → Status → Result A Halt → Result (Option ℕ) E → Type 0
+-- The same where memory may run out in the last flush turns. No batch begins elsewhere than where the flusher writes, so no status
+-- tells of one.
+abbrev pub StatusOf : {A : Type 0} → Status → Result A Halt → Result (Option ℕ) Broken → Type 0
 StatusOf status ended (Ok last) = StatusTells status ended last
-StatusOf status ended (Err fault) = status.code ≡ 7
+StatusOf status ended (Err broken.Memory) = status.code ≡ 7
+StatusOf status ended (Err broken.Misplaced) = ⊥
 
 -- the status that tells why the log was not recovered
 abbrev pub StatusTellsFault : Status → RecoverFault → Type 0
@@ -67,26 +77,23 @@ abbrev pub AreMoves : List (Event × Option Said) → List Move → Type 0
 AreMoves [] [] = Unit {0}
 AreMoves [] (move ∷ moves) = ⊥
 AreMoves (step ∷ steps) [] = ⊥
-AreMoves (step ∷ steps) (move ∷ moves) = ((answer : Option model.Answer) × (move ≡ Steps (event_of step.0) answer) × SaysIn step.1 answer) × AreMoves steps moves
+AreMoves (step ∷ steps) (move ∷ moves) =
+    ((answer : Option model.Answer) × (move ≡ Steps (event_of step.0) answer) × SaysIn step.1 answer) × AreMoves steps moves
 
--- the broker's host: 127.0.0.1, port 10911
-abbrev pub store_host : List ℕ
-store_host = 127 ∷ 0 ∷ 0 ∷ 1 ∷ 0 ∷ 0 ∷ 42 ∷ 159 ∷ []
-
--- the setup of `pipe`, in segments of so many bytes
-abbrev pub pipe_setup : ℕ → Setup
-pipe_setup segment = record { segment = segment; host = store_host; sync = true }
+-- what the command asks for, in a store of these sizes
+abbrev pub pipe_setup : Command → Sizes → Setup
+pipe_setup command sizes = record { segment = sizes.segment; host = command.host; sync = command.sync }
 
 -- the boot that opens over this log
-abbrev pub opened_over : ℕ → List Entry → Boot
-opened_over segment log = record { now = opened (setup_of (pipe_setup segment)) (whole_log log) no_saved; before = [] }
+abbrev pub opened_over : Setup → List Entry → Boot
+opened_over setup log = record { now = opened (setup_of setup) (whole_log log) no_saved; before = [] }
 
 -- a run of the model from the opening over this log, whose moves are these acts' steps
-pub record RunsTo (segment : ℕ) (log : List Entry) (acts : List Act) (reached : State) : Type 0 where
+pub record RunsTo (setup : Setup) (log : List Entry) (acts : List Act) (reached : State) : Type 0 where
   pub moves : List Move
   pub boot : Boot
   pub are : AreMoves (steps_of acts) moves
-  pub run : Run (opened_over segment log) moves boot
+  pub run : Run (opened_over setup log) moves boot
   pub reached_is : boot.now ≡ reached
 
 -- ---- what is seen of a call
@@ -140,20 +147,25 @@ pub record Leaves (S : Geometry) (log : List Entry) (least : ℕ) (files : Files
   pub keeps : KeepsIfHonest S log least files
 
 -- What every crash leaves of a store that had a log with so many records flushed, when a run from `log` on ended with this log.
--- Up to a moment it was being opened. From then on the turns that ended Ok came one behind another, and each record that a turn
--- flushed stays from its moment on: at that moment a crash leaves exactly the files of what was flushed.
-pub record Survives (S : Geometry) (stored : List Entry) (flushed : ℕ) (log : List Entry) (turns : List FlushTurn) (reached : List Entry) (old new : DiskState) : Type 0 where
+-- Up to a moment it was being opened, and then a crash leaves exactly the files of the run's first log. From then on the turns that
+-- ended Ok came one behind another, and each record that a turn flushed stays from its moment on: at that moment a crash leaves
+-- exactly the files of what was flushed.
+pub record Survives (S : Geometry) (stored : List Entry) (flushed : ℕ) (log : List Entry)
+    (turns : List FlushTurn) (reached : List Entry) (old new : DiskState) : Type 0 where
   pub opening : ℕ
   pub later : old.moment ≤ opening
   pub order : AreInOrder opening turns new.moment
   pub before : (m : ℕ) (files : Files) → old.moment ≤ m → m ≤ opening → new.image_at m files → Leaves S stored flushed files
-  pub after : (m : ℕ) (files : Files) → opening ≤ m → m ≤ new.moment → new.image_at m files → Leaves S reached (length log + turned_by turns m) files
+  pub opened : (files : Files) → new.image_at opening files → AreSegmentFiles S log files
+  pub after : (m : ℕ) (files : Files) → opening ≤ m → m ≤ new.moment → new.image_at m files
+      → Leaves S reached (length log + turned_by turns m) files
   pub exact : AreExact S reached (length log) turns new
   pub stores : StoresLog S reached (length log + turned_in turns) new
 
 -- The requests of the source were served by a core that was opened over this log, and then flush turns were made. All that
 -- happened is a run of the model.
-pub record RunFrom {D A E : Type 0} (segment : ℕ) (log : List Entry) (ended : Result A Halt) (last : Result (Option ℕ) E) (seen : Seen D) (holds : List Act → State → Type 0) : Type 0 where
+pub record RunFrom {D A : Type 0} (setup : Setup) (log : List Entry) (ended : Result A Halt) (last : Result (Option ℕ) Broken)
+    (seen : Seen D) (holds : List Act → State → Type 0) : Type 0 where
   pub calls : Alone
   pub served : Alone
   pub closed : Alone
@@ -169,39 +181,43 @@ pub record RunFrom {D A E : Type 0} (segment : ℕ) (log : List Entry) (ended : 
       served (point_of mid reads_then seen.taken_then seen.readings_then) piped.ran
   pub flushed : Acted alone seen.disk (AreAllTurns last) served mid closed final
   pub reached : State
-  pub runs : RunsTo segment log (first ++ flushed.acts) reached
+  pub runs : RunsTo setup log (first ++ flushed.acts) reached
   pub done : holds (first ++ flushed.acts) reached
 
 -- A run from the log that recovery keeps of the files as they were read.
-pub record BeginsWithKept {D A E : Type 0} (segment : ℕ) (ended : Result A Halt) (last : Result (Option ℕ) E) (seen : Seen D) : Type 0 where
+pub record BeginsWithKept {D A : Type 0} (setup : Setup) (ended : Result A Halt) (last : Result (Option ℕ) Broken)
+    (seen : Seen D) : Type 0 where
   pub records : List Entry
-  pub keeps : Keeps (whole segment) records (before seen).reads
-  pub ran : RunFrom segment records ended last seen (λ acts reached. Unit {0})
+  pub keeps : Keeps (whole setup.segment) records (before seen).reads
+  pub ran : RunFrom setup records ended last seen (λ acts reached. Unit {0})
 
 -- A run from a prefix of the stored log that has all that was flushed, and every crash leaves what it flushed.
-pub record KeepsOn {D A E : Type 0} (segment : ℕ) (stored : List Entry) (flushed : ℕ) (ended : Result A Halt) (last : Result (Option ℕ) E) (seen : Seen D) : Type 0 where
+pub record KeepsOn {D A : Type 0} (setup : Setup) (stored : List Entry) (flushed : ℕ) (ended : Result A Halt)
+    (last : Result (Option ℕ) Broken) (seen : Seen D) : Type 0 where
   pub number : ℕ
   pub low : flushed ≤ number
   pub high : number ≤ length stored
-  pub ran : RunFrom segment (take number stored) ended last seen
-      (λ acts reached. Survives (whole segment) stored flushed (take number stored) (turns_of acts) reached.log.records (before seen) (behind seen))
+  pub ran : RunFrom setup (take number stored) ended last seen
+      (λ acts reached. Survives (whole setup.segment) stored flushed (take number stored) (turns_of acts) reached.log.records
+      (before seen) (behind seen))
 
 -- A run from some log.
-pub record RunsFromSome {D A E : Type 0} (segment : ℕ) (ended : Result A Halt) (last : Result (Option ℕ) E) (seen : Seen D) : Type 0 where
+pub record RunsFromSome {D A : Type 0} (setup : Setup) (ended : Result A Halt) (last : Result (Option ℕ) Broken)
+    (seen : Seen D) : Type 0 where
   pub log : List Entry
-  pub ran : RunFrom segment log ended last seen (λ acts reached. Unit {0})
+  pub ran : RunFrom setup log ended last seen (λ acts reached. Unit {0})
 
--- Requests were served from a log that was opened, in segments of this size.
-pub record Served {D : Type 0} (asked : Option ℕ) (status : Status) (seen : Seen D) (keep : KeepSeen) : Type 0 where
+-- Requests were served from a log that was opened, in a store of these sizes, as the command asks.
+pub record Served {D : Type 0} (command : Command) (status : Status) (seen : Seen D) (keep : KeepSeen) : Type 0 where
   pub ended : Result (Unit {0}) Halt
-  pub last : Result (Option ℕ) Stop
+  pub last : Result (Option ℕ) Broken
   pub tells : StatusOf status ended last
-  pub segment : ℕ
-  pub opened_as : IsOpened asked segment seen.disk.tells (before seen).reads keep.tells keep.old keep.new
-  pub some : RunsFromSome segment ended last seen
-  pub begins : seen.disk.tells → BeginsWithKept segment ended last seen
-  pub durable : seen.disk.tells → (log : List Entry) (flushed : ℕ) → StoresLog (whole segment) log flushed (before seen) → IsHonest (whole segment) log flushed (before seen).reads
-      → KeepsOn segment log flushed ended last seen
+  pub sizes : Sizes
+  pub opened_as : IsOpened command.sizes sizes seen.disk.tells (before seen).reads keep.tells keep.old keep.new
+  pub some : RunsFromSome (pipe_setup command sizes) ended last seen
+  pub begins : seen.disk.tells → BeginsWithKept (pipe_setup command sizes) ended last seen
+  pub durable : seen.disk.tells → (log : List Entry) (flushed : ℕ) → StoresLog (whole sizes.segment) log flushed (before seen)
+      → IsHonest (whole sizes.segment) log flushed (before seen).reads → KeepsOn (pipe_setup command sizes) log flushed ended last seen
 
 -- nothing was read from the source or the clock, and nothing written to the sink
 pub record IsUntouched {D : Type 0} (seen : Seen D) : Type 0 where
@@ -215,53 +231,58 @@ pub record Refused {D : Type 0} (status : Status) (seen : Seen D) : Type 0 where
   pub still : seen.disk.tells → Rests (before seen) (behind seen)
 
 -- The log was not recovered. Status 8 tells where its files are damaged. What was flushed stays.
-pub record Unrecovered {D : Type 0} (asked : Option ℕ) (status : Status) (seen : Seen D) (keep : KeepSeen) : Type 0 where
+pub record Unrecovered {D : Type 0} (command : Command) (status : Status) (seen : Seen D) (keep : KeepSeen) : Type 0 where
   pub fault : RecoverFault
   pub tells : StatusTellsFault status fault
-  pub segment : ℕ
-  pub opened_as : IsOpened asked segment seen.disk.tells (before seen).reads keep.tells keep.old keep.new
-  pub damaged : seen.disk.tells → status.code ≡ 8 → IsDamagedAt (whole segment) (before seen).reads status.place status.name × Rests (before seen) (behind seen)
-  pub stores : seen.disk.tells → (stored : List Entry) (flushed : ℕ) → StoresLog (whole segment) stored flushed (before seen) → IsHonest (whole segment) stored flushed (before seen).reads
-      → StoresLog (whole segment) stored flushed (behind seen)
-  pub leaves : seen.disk.tells → (stored : List Entry) (flushed : ℕ) → StoresLog (whole segment) stored flushed (before seen) → IsHonest (whole segment) stored flushed (before seen).reads
-      → Throughout (before seen) (behind seen) (Leaves (whole segment) stored flushed)
+  pub sizes : Sizes
+  pub opened_as : IsOpened command.sizes sizes seen.disk.tells (before seen).reads keep.tells keep.old keep.new
+  pub damaged : seen.disk.tells → status.code ≡ 8
+      → IsDamagedAt (whole sizes.segment) (before seen).reads status.place status.name × Rests (before seen) (behind seen)
+  pub stores : seen.disk.tells → (stored : List Entry) (flushed : ℕ) → StoresLog (whole sizes.segment) stored flushed (before seen)
+      → IsHonest (whole sizes.segment) stored flushed (before seen).reads → StoresLog (whole sizes.segment) stored flushed (behind seen)
+  pub leaves : seen.disk.tells → (stored : List Entry) (flushed : ℕ) → StoresLog (whole sizes.segment) stored flushed (before seen)
+      → IsHonest (whole sizes.segment) stored flushed (before seen).reads
+      → Throughout (before seen) (behind seen) (Leaves (whole sizes.segment) stored flushed)
 
 -- The opening ended the call.
-pub record IsNotServed {D : Type 0} (asked : Option ℕ) (status : Status) (seen : Seen D) (keep : KeepSeen) : Type 0 where
+pub record IsNotServed {D : Type 0} (command : Command) (status : Status) (seen : Seen D) (keep : KeepSeen) : Type 0 where
   pub untouched : IsUntouched seen
-  pub why : Refused status seen ⊎ Unrecovered asked status seen keep
+  pub why : Refused status seen ⊎ Unrecovered command status seen keep
 
 -- The words are a command, and this came of it. At each moment the format is as it was before, or the right text.
 pub record Call {D : Type 0} (words : List (List ℕ)) (status : Status) (seen : Seen D) (keep : KeepSeen) : Type 0 where
-  pub asked : Option ℕ
-  pub command : IsCommand words asked
-  pub called : Served asked status seen keep ⊎ IsNotServed asked status seen keep
-  pub puts : keep.tells → PutsOnly (own_format (keep.old.reads FORMAT) asked) keep.old keep.new
+  pub command : Command
+  pub asked : IsCommand words command
+  pub called : Served command status seen keep ⊎ IsNotServed command status seen keep
+  pub puts : keep.tells → PutsOnly (own_format (keep.old.reads FORMAT) command.sizes) keep.old keep.new
 
 -- each fault of a device is told only where the device's count rose
 pub record Causes (status : Status) (old new : AllFaults) : Type 0 where
   pub read : status.code ≡ 3 → Rises old.source new.source
   pub write : status.code ≡ 4 → Rises old.sink new.sink
   pub disk_failed : status.code ≡ 5 → Rises old.disk new.disk
-  pub device : status.code ≡ 10 → ((status.name ≡ codes "clock") × Rises old.clock new.clock) ⊎ ((status.name ≡ codes "keep") × Rises old.keep new.keep)
+  pub device : status.code ≡ 10 → ((status.name ≡ codes "clock") × Rises old.clock new.clock)
+      ⊎ ((status.name ≡ codes "keep") × Rises old.keep new.keep)
   pub known : (status.code ≤ 8) ⊎ (status.code ≡ 10)
 
 -- ---- a run from a log that is open
 
 -- What every crash leaves of a log all of which was flushed, when a run from it on ended.
-pub record KeepsAfter (segment : ℕ) (log : List Entry) (acts : List Act) (reached : State) (old new : DiskState) : Type 0 where
-  pub kept : KeepsAtLeast (whole segment) reached.log.records (λ m. length log + turned_by (turns_of acts) m) old new
+pub record KeepsAfter (setup : Setup) (log : List Entry) (acts : List Act) (reached : State) (old new : DiskState) : Type 0 where
+  pub kept : KeepsAtLeast (whole setup.segment) reached.log.records (λ m. length log + turned_by (turns_of acts) m) old new
+  pub opened : EachImage (AreSegmentFiles (whole setup.segment) log) old
   pub order : AreInOrder old.moment (turns_of acts) new.moment
-  pub exact : AreExact (whole segment) reached.log.records (length log) (turns_of acts) new
-  pub stores : StoresLog (whole segment) reached.log.records (length log + turned_in (turns_of acts)) new
+  pub exact : AreExact (whole setup.segment) reached.log.records (length log) (turns_of acts) new
+  pub stores : StoresLog (whole setup.segment) reached.log.records (length log + turned_in (turns_of acts)) new
 
 -- The requests were served from each log over which this was opened.
 pub record ServedOver {D : Type 0} (it : Opened) (status : Status) (seen : Seen D) : Type 0 where
   pub ended : Result (Unit {0}) Halt
-  pub last : Result (Option ℕ) Stop
+  pub last : Result (Option ℕ) Broken
   pub tells : StatusOf status ended last
-  pub runs : (segment : ℕ) (log : List Entry) → OpensOver (pipe_setup segment) log it → RunFrom segment log ended last seen
-      (λ acts reached. seen.disk.tells → IsReady (stored (whole segment) log (length log)) 0 (growing it.flusher.file (before seen)) → KeepsAfter segment log acts reached (before seen) (behind seen))
+  pub runs : (setup : Setup) (log : List Entry) → OpensOver setup log it → RunFrom setup log ended last seen
+      (λ acts reached. seen.disk.tells → IsReady (stored (whole setup.segment) log (length log)) 0 (growing it.flusher.file (before seen))
+      → KeepsAfter setup log acts reached (before seen) (behind seen))
 
 -- the causes of the statuses of such a run
 pub record CountsStatus (status : Status) (source source_then sink sink_then disk disk_then clock clock_then : ℕ) : Type 0 where
@@ -269,5 +290,35 @@ pub record CountsStatus (status : Status) (source source_then sink sink_then dis
   pub write : status.code ≡ 4 → Rises sink sink_then
   pub disk_failed : status.code ≡ 5 → Rises disk disk_then
   pub clock_failed : status.code ≡ 10 → (status.name ≡ codes "clock") × Rises clock clock_then
-  pub known : (status.code ≡ 0) ⊎ ((status.code ≡ 2) ⊎ ((status.code ≡ 3) ⊎ ((status.code ≡ 4) ⊎ ((status.code ≡ 5) ⊎ ((status.code ≡ 7) ⊎ (status.code ≡ 10))))))
+  pub known : (status.code ≡ 0) ⊎ ((status.code ≡ 2) ⊎ ((status.code ≡ 3) ⊎ ((status.code ≡ 4) ⊎
+      ((status.code ≡ 5) ⊎ ((status.code ≡ 7) ⊎ (status.code ≡ 10))))))
   pub disk_grows : disk ≤ disk_then
+
+-- ---- a call in which nothing fails
+
+-- The words are a command, the store is this program's and undamaged, its options agree with its format, the bytes that were read are
+-- whole frames, and no device's count rises. What is said of the store is said of its files and texts as they are told.
+pub record IsQuiet {D : Type 0} (words : List (List ℕ)) (seen : Seen D) (keep : KeepSeen) (old new : AllFaults) : Type 0 where
+  pub asked : (command : Command) × IsCommand words command
+  pub disk_tells : seen.disk.tells
+  pub keep_tells : keep.tells
+  pub source_tells : seen.source.tells
+  pub own : (command : Command) (name : List ℕ) → IsCommand words command
+      → IsForeign (before seen).reads (keep.old.reads FORMAT) command.sizes name → ⊥
+  pub undamaged : (command : Command) (sizes : Sizes) (place : ℕ) (name : List ℕ) → IsCommand words command
+      → AreSizesOf (keep.old.reads FORMAT) command.sizes sizes → IsDamagedAt (whole sizes.segment) (before seen).reads place name → ⊥
+  pub bytes : List ℕ
+  pub frames : List Frame
+  pub end : ℕ
+  pub given_is : seen.source.given_then ≡ seen.source.given ++ bytes
+  pub cut : BeginsWith 0 bytes frames end []
+  pub few : length bytes < stream_limit
+  pub source_still : Rises old.source new.source → ⊥
+  pub sink_still : Rises old.sink new.sink → ⊥
+  pub disk_still : Rises old.disk new.disk → ⊥
+  pub keep_still : Rises old.keep new.keep → ⊥
+  pub clock_still : Rises old.clock new.clock → ⊥
+
+-- it ended as it should, or memory ran out
+abbrev pub EndsWell : Status → Type 0
+EndsWell status = (status.code ≡ 0) ⊎ (status.code ≡ 7)

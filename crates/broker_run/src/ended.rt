@@ -1,11 +1,12 @@
 //! How the serving of a source ended.
 
-use request_stream::{Halt, Stop};
+use request_acts::Broken;
+use request_stream::Halt;
 
 /// How the serving of a source ended: what ended the reading, and how the last flush turns ended. They found nothing pending, or
 /// failed, as the disk's failure of this number.
 #[derive(Clone, Copy, Debug, PartialEq, Eq)]
 pub(crate) struct Ended {
     pub(crate) reading: Result<(), Halt>,
-    pub(crate) last: Result<Option<u64>, Stop>,
+    pub(crate) last: Result<Option<u64>, Broken>,
 }

@@ -1,14 +1,16 @@
 //! The whole run of `pipe`: the arguments, the opening, and the requests of a source, answered to a sink.
 
-ghost use Rattle.std.specs.Prelude.{◌≡◌, ◌≢◌, ◌⊎◌, List, ℕ, Option, Some};
+ghost use Rattle.std.specs.Prelude.{◌≡◌, ◌≢◌, ◌⊎◌, List, ℕ, Some};
 ghost use Rattle.mq_outside.specs.Disk.{Moves};
 ghost use Rattle.mq_outside.specs.Files.{Same};
 ghost use Rattle.log_model.specs.Stored.{StaysOutside};
-ghost use Rattle.store_open.specs.Words.{texts_of, IsCommand, IsFirstWrong};
+ghost use Rattle.store_open.specs.Options.{texts_of};
+ghost use Rattle.store_open.specs.Words.{IsCommand, IsFirstWrong};
+ghost use Rattle.store_open.specs.declared.words.Command.{Command as TheCommand};
 ghost use Rattle.store_open.specs.Openings.{FORMAT, IsForeign};
 ghost use Rattle.store_open.specs.Statuses.{FitsTable};
 ghost use Rattle.request_acts.specs.Acts.{view_of};
-ghost use Rattle.broker_run.specs.Promise.{StatusTellsFault, Call, Causes};
+ghost use Rattle.broker_run.specs.Promise.{StatusTellsFault, Call, Causes, IsQuiet, EndsWell};
 
 use crate::serving::serve_log;
 use broker_events::Setup;
@@ -17,9 +19,6 @@ use log_recovery::RecoverFault;
 use mq_outside::{Clock, Disk, DiskFault, Keep, Sink, Source};
 use std::alloc::Global;
 use store_open::{Status, open_format, read_words};
-
-/// Where clients reach the broker: 127.0.0.1, port 10911.
-const STORE_HOST: [u8; 8] = [127, 0, 0, 1, 0, 0, 42, 159];
 
 // The status of a log that could not be recovered.
 fn status_of_fault(alloc: Global, fault: RecoverFault) -> Status
@@ -46,7 +45,7 @@ pub fn run_pipe<S: Source, K: Sink, D: Disk, P: Keep, T: Clock>(
 ) -> Status
     // Status 1 comes exactly where the words are no command, with the place of the first that doesn't fit. No device is asked.
     ensures usage { result.code ≡ 1 → IsFirstWrong (texts_of words.now) result.place }
-    ensures wrong { ((asked : Option ℕ) → IsCommand (texts_of words.now) asked → ⊥) → result.code ≡ 1 }
+    ensures wrong { ((command : TheCommand) → IsCommand (texts_of words.now) command → ⊥) → result.code ≡ 1 }
     ensures idle { result.code ≡ 1 → (source.new ≡ source.old) × (sink.new ≡ sink.old) × (disk.new ≡ disk.old)
         × (keep.new ≡ keep.old) × (clock.new ≡ clock.old) }
 
@@ -68,8 +67,8 @@ pub fn run_pipe<S: Source, K: Sink, D: Disk, P: Keep, T: Clock>(
         (record { tells = P.tells; old = P.state keep.old; new = P.state keep.new }) }
 
     // Status 6 comes where the store is foreign, with the name of what shows it. It stays as it is.
-    ensures foreign { D.tells → P.tells → result.code ≡ 6 → (asked : Option ℕ) → IsCommand (texts_of words.now) asked
-        → IsForeign (D.state disk.old).reads ((P.state keep.old).reads FORMAT) asked result.name }
+    ensures foreign { D.tells → P.tells → result.code ≡ 6 → (command : TheCommand) × IsCommand (texts_of words.now) command
+        × IsForeign (D.state disk.old).reads ((P.state keep.old).reads FORMAT) command.sizes result.name }
     ensures theirs { P.tells → result.code ≡ 6 → Moves Same (P.state keep.old) (P.state keep.new) }
     // The disk's files outside the log's folder stay.
     ensures outside { D.tells → StaysOutside (D.state disk.old) (D.state disk.new) }
@@ -93,14 +92,44 @@ pub fn run_pipe<S: Source, K: Sink, D: Disk, P: Keep, T: Clock>(
           keep = P.faults keep.new;
           clock = T.faults clock.new;
         }) }
+    // Where nothing fails it ends with status 0, or memory ran out.
+    ensures complete { IsQuiet (texts_of words.now)
+        (record {
+          source = record { tells = S.tells; given = S.given source.old; given_then = S.given source.new; left_then = S.left source.new };
+          gives = D.Reader.gives;
+          disk = view_of D.tells D.state D.faults D.syncs;
+          sink = K.tells;
+          clock = T.tells;
+          old = disk.old;
+          new = disk.new;
+          taken = K.taken sink.old;
+          taken_then = K.taken sink.new;
+          readings = T.readings clock.old;
+          readings_then = T.readings clock.new;
+        })
+        (record { tells = P.tells; old = P.state keep.old; new = P.state keep.new })
+        (record {
+          source = S.faults source.old;
+          sink = K.faults sink.old;
+          disk = D.faults disk.old;
+          keep = P.faults keep.old;
+          clock = T.faults clock.old;
+        })
+        (record {
+          source = S.faults source.new;
+          sink = K.faults sink.new;
+          disk = D.faults disk.new;
+          keep = P.faults keep.new;
+          clock = T.faults clock.new;
+        }) → EndsWell result }
 {
     let command = match read_words(words) {
         Err(place) => return Status::at(alloc, 1, place),
         Ok(command) => command,
     };
-    let segment = match open_format(alloc, disk, keep, command.segment) {
+    let sizes = match open_format(alloc, disk, keep, &command.sizes) {
         Err(status) => return status,
-        Ok(segment) => segment,
+        Ok(sizes) => sizes,
     };
     let reader = match disk.reader(alloc) {
         Err(DiskFault::Failed) => return Status::plain(alloc, 5),
@@ -108,9 +137,9 @@ pub fn run_pipe<S: Source, K: Sink, D: Disk, P: Keep, T: Clock>(
         Ok(reader) => reader,
     };
     let setup = Setup {
-        segment,
-        host: STORE_HOST,
-        sync: true,
+        segment: sizes.segment,
+        host: command.host,
+        sync: command.sync,
     };
     let opened = match open_log(alloc, disk, setup) {
         Err(fault) => {

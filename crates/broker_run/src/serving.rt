@@ -6,12 +6,12 @@ ghost use Rattle.log_model.specs.Stored.{StaysOutside};
 ghost use Rattle.segment_files.specs.Turn.{IsInside};
 ghost use Rattle.store_open.specs.Statuses.{FitsTable};
 ghost use Rattle.log_opening.specs.Opens.{OpensOver};
-ghost use Rattle.request_acts.specs.Acts.{IsFree, Acted, place_of, view_of};
+ghost use Rattle.request_acts.specs.Acts.{IsFree, place_of, view_of};
 ghost use Rattle.request_stream.specs.Serving.{sides_of, point_of};
-ghost use Rattle.request_acts.specs.Turning.{AreAllTurns, CountsAll};
 ghost use Rattle.request_stream.specs.Piping.{source_of};
-ghost use Rattle.broker_run.specs.Closing.{ServesToEnd, CountsRun};
-ghost use Rattle.broker_run.specs.Promise.{StatusOf, StatusTells, ServedOver, CountsStatus, pipe_setup};
+ghost use Rattle.broker_run.specs.Closing.{ServesToEnd, CountsRun, ReadsPlaced, FlushesPlaced};
+ghost use Rattle.broker_run.specs.Promise.{StatusOf, StatusTells, ServedOver, CountsStatus};
+ghost use Rattle.broker_events.specs.declared.event.Setup.{Setup as TheSetup};
 
 use crate::ended::Ended;
 use broker_core::Alone;
@@ -19,32 +19,10 @@ use broker_events::Calls;
 use group_flush::Flusher;
 use log_opening::Opened;
 use mq_outside::{Clock, Disk, Sink, Source};
-use request_acts::flush_all;
+use request_acts::{Broken, flush_all};
 use request_stream::{Halt, Stop, serve_source};
 use std::alloc::Global;
 use store_open::Status;
-
-// The last flush turns of a run.
-#[tactic(auto, using(log_model::proofs::OutsideLemmas::outside_start))]
-fn flush_last<C: Calls, D: Disk>(
-    alloc: Global,
-    calls: &mut C,
-    flusher: &mut Flusher,
-    disk: &mut D,
-) -> Result<Option<u64>, Stop>
-    requires free { IsFree (C.has_key calls.old) (C.shown calls.old) }
-    requires inside { D.tells → IsInside flusher.old.file.base flusher.old.file.offset (D.state disk.old) }
-    ensures acted { Acted C.makes (view_of D.tells D.state D.faults D.syncs) (AreAllTurns result)
-        calls.old (place_of flusher.old.file disk.old)
-        calls.new (place_of flusher.new.file disk.new) }
-    ensures outside { D.tells → StaysOutside (D.state disk.old) (D.state disk.new) }
-    ensures cause { CountsAll result (D.faults disk.old) (D.faults disk.new) }
-{
-    match flush_all(alloc, calls, flusher, disk) {
-        Ok(failed) => Ok(failed),
-        Err(_) => Err(Stop::Memory),
-    }
-}
 
 // Serves the requests of the source, and makes the last flush turns whatever ended the reading.
 #[tactic(auto, using(log_model::proofs::OutsideLemmas::outside_start))]
@@ -82,13 +60,14 @@ fn serve_to_end<S: Source, C: Calls, D: Disk, K: Sink, T: Clock>(
         sink,
         clock,
     );
-    let last = flush_last(alloc, calls, flusher, disk);
+    let last = flush_all(alloc, calls, flusher, disk);
     disk.take_back(reader);
     Ended { reading, last }
 }
 
 // The status that tells what ended the reading, and behind a source that ended the last flush turn.
 fn status_of_reading(alloc: Global, reading: Result<(), Halt>, last: Option<u64>) -> Status
+    requires placed { ReadsPlaced reading }
     ensures tells { StatusTells result reading last }
     ensures table { FitsTable result }
 {
@@ -102,16 +81,20 @@ fn status_of_reading(alloc: Global, reading: Result<(), Halt>, last: Option<u64>
         Err(Halt::Stopped(Stop::Sink)) => Status::plain(alloc, 4),
         Err(Halt::Stopped(Stop::Memory)) => Status::plain(alloc, 7),
         Err(Halt::Stopped(Stop::Clock)) => Status::named(alloc, 10, "clock"),
+        Err(Halt::Stopped(Stop::Misplaced)) => unreachable!(),
     }
 }
 
 // The status of a run: out of memory in the last flush turns comes before all else.
 fn status_of(alloc: Global, ended: Ended) -> Status
+    requires reading { ReadsPlaced ended.reading }
+    requires last { FlushesPlaced ended.last }
     ensures tells { StatusOf result ended.reading ended.last }
     ensures table { FitsTable result }
 {
     match ended.last {
-        Err(_) => Status::plain(alloc, 7),
+        Err(Broken::Memory) => Status::plain(alloc, 7),
+        Err(Broken::Misplaced) => unreachable!(),
         Ok(last) => status_of_reading(alloc, ended.reading, last),
     }
 }
@@ -127,7 +110,7 @@ pub(crate) fn serve_log<S: Source, K: Sink, D: Disk, T: Clock>(
     disk: &mut D,
     clock: &mut T,
 ) -> Status
-    requires over { (segment : ℕ) × (log : List Entry) × OpensOver (pipe_setup segment) log opened }
+    requires over { (setup : TheSetup) × (log : List Entry) × OpensOver setup log opened }
     requires inside { D.tells → IsInside opened.flusher.file.base opened.flusher.file.offset (D.state disk.old) }
     ensures served { ServedOver opened result
         (record {

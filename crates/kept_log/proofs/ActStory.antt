@@ -1,5 +1,5 @@
 -- The acts of a broker that one caller has alone are a story of the model and the disk.
-use Rattle.std.proofs.Common.{◌≡◌, ℕ, ◌≤◌, List, [], ◌∷◌, map, Option, Some, Ok, Err, refl, sym, ap, subst, arith}
+use Rattle.std.proofs.Common.{◌≡◌, ◌≢◌, ◌⊎◌, ⊎_elim, ℕ, ◌≤◌, List, [], ◌∷◌, map, Option, Some, Result, Ok, Err, refl, sym, ap, subst, arith}
 use Rattle.log_model.specs.Stored.{Stored, FlushTurn}
 use Rattle.log_model.specs.declared.batch.Batch.{Batch}
 use Rattle.log_model.specs.declared.batch.Receipt.{Receipt}
@@ -16,7 +16,10 @@ use Rattle.broker_core.specs.Represents.{Represents}
 use Rattle.broker_core.specs.declared.alone.Alone.{Alone}
 use Rattle.broker_core.specs.declared.parts.Parts.{Parts}
 use Rattle.worker_turns.specs.Turns.{TakesFrom}
-use Rattle.request_acts.specs.Acts.{Act, Made, Wrote, Missed, Acts, Acted, DiskView, Place, growing_at, steps_of, turns_of, IsBetween, Happens, HasMade, HasWritten, HasMissed}
+use Rattle.request_acts.specs.Acts.{Act, Made, Wrote, Missed, Acts, Acted, DiskView, Place, growing_at, steps_of, turns_of, IsBetween, IsUnwritten, HasUnwritten, Happens, HasMade, HasWritten, HasMissed}
+use Rattle.request_acts.specs.Turning.{AreAllTurns}
+use Rattle.request_acts.specs.declared.broken.Broken.{Broken}
+use Rattle.request_acts.specs.declared.broken.Broken.TheVariants as broken
 use Rattle.flush_story.specs.Story as story
 use Rattle.flush_story.specs.Story.{StepsAs, Happening, Stepped, Ended, Broke, Story, Reaches}
 use Rattle.flush_story.specs.Keeping.{IsPlacedFor, Keeps}
@@ -81,6 +84,13 @@ err_placed it batch count new places = record { ok = places.ok; err = places.err
 abbrev Goes : {D : Type 0} → DiskView D → Happening → State → Place D → Alone → Place D → Type 0
 Goes view it s old y new = (t : State) × Represents y.core t × story.Happens view.tells (growing_at view) it s old t new
 
+-- each batch that can be taken is written from its place on
+pub takes_from : (x : Alone) (s : State) (file : LastFile) → Represents x.core s → IsPlacedFor s file → TakesFrom alone x file
+takes_from x s file are here batch y makes =
+    let taken = makes.step s are in
+    takes_to_place s taken.reached batch file are.state.log (omega (arith, are.state.base, are.state.dispatched)) here
+    (step_as s Take (Some (said.Batch (Some batch))) y.core taken)
+
 module _ {D : Type 0} (view : DiskView D) where
   made_goes : (e : Event) (what : Option Said) (s : State) (x y : Alone) (p q : Place D) → Represents x.core s → HasMade alone e what x p y q → Goes view (Stepped e what) s p y q
   made_goes e what s x y p q are made =
@@ -141,6 +151,26 @@ module _ {D : Type 0} (view : DiskView D) where
       let rest = acts_story acts one.0 happened.0 y happened.1 q one.1 happened.3 in
       (rest.0, rest.1, (one.0, happened.1, one.2, rest.2))
 
+  -- where the flusher writes behind the flushed records, each batch that is taken is written, or the disk fails
+  act_written : (act : Act) (s : State) (x y : Alone) (p q : Place D) → Represents x.core s → IsPlacedFor s p.file → Happens alone view act x p y q → IsUnwritten act → ⊥
+  act_written (Made e what) s x y p q are here happens takes = happens.apart takes (takes_from x s p.file are here)
+  act_written (Wrote turn) s x y p q are here happens takes = takes
+  act_written (Missed batch count) s x y p q are here happens takes = takes
+
+  act_placed : (act : Act) (s : State) (x y : Alone) (p q : Place D) → Represents x.core s → IsPlacedFor s p.file → (goes : Goes view (happening_of act) s p y q)
+      → IsPlacedFor goes.0 q.file
+  act_placed act s x y p q are here goes =
+      placed_story view.tells (growing_at view) s goes.0 (happening_of act ∷ []) p q goes.1.state.log (omega (arith, are.state.base, are.state.dispatched)) here
+      (goes.0, q, goes.2, (refl, refl))
+
+  pub acts_written : (acts : List Act) (s : State) (x y : Alone) (p q : Place D) → Represents x.core s → IsPlacedFor s p.file → Acts alone view acts x p y q → HasUnwritten acts → ⊥
+  acts_written [] s x y p q are here happened has = has
+  acts_written (act ∷ acts) s x y p q are here happened has =
+      let goes = act_goes act s x happened.0 p happened.1 are happened.2 in
+      ⊎_elim (λ (this : IsUnwritten act). act_written act s x happened.0 p happened.1 are here happened.2 this)
+      (λ (later : HasUnwritten acts). acts_written acts goes.0 happened.0 y happened.1 q goes.1 (act_placed act s x happened.0 p happened.1 are here goes) happened.3 later)
+      has
+
   -- and so every crash leaves what they flushed
   pub acts_lead : (acts : List Act) (s : State) (x y : Alone) (p q : Place D) → Represents x.core s → Acts alone view acts x p y q → LeadsTo view acts s p y q
   acts_lead acts s x y p q are happened =
@@ -153,6 +183,7 @@ module _ {D : Type 0} (view : DiskView D) where
         keeps = λ told first. subst (λ (l : List FlushTurn). Keeps s it.0 l (view.state p.disk) (growing_at view q)) (turns_same acts)
             (keeps_story view.tells (growing_at view) told s s it.0 [] (map happening_of acts) (view.state p.disk) p q it.1.state.log low (keeps_start s (growing_at view p) first) it.2);
         places = λ here. placed_story view.tells (growing_at view) s it.0 (map happening_of acts) p q it.1.state.log low here it.2;
+        written = λ here. acts_written acts s x y p q are here happened;
       }
 
   pub acted_led : (IsKind : List Act → Type 0) (x y : Alone) (p q : Place D) → Acted alone view IsKind x p y q → Led view IsKind x p y q
@@ -163,9 +194,9 @@ module _ {D : Type 0} (view : DiskView D) where
     leads = λ s are. acts_lead acted.acts s x y p q are acted.happened;
   }
 
--- each batch that can be taken is written from its place on
-pub takes_from : (x : Alone) (s : State) (file : LastFile) → Represents x.core s → IsPlacedFor s file → TakesFrom alone x file
-takes_from x s file are here batch y makes =
-    let taken = makes.step s are in
-    takes_to_place s taken.reached batch file are.state.log (omega (arith, are.state.base, are.state.dispatched)) here
-    (step_as s Take (Some (said.Batch (Some batch))) y.core taken)
+  -- so flush turns never break off at a misplaced batch
+  pub all_placed : (result : Result (Option ℕ) Broken) (s : State) (x y : Alone) (p q : Place D) → Represents x.core s → IsPlacedFor s p.file
+      → Acted alone view (AreAllTurns result) x p y q → result ≢ Err broken.Misplaced
+  all_placed result s x y p q are here acted is =
+      let all = subst (λ (r : Result (Option ℕ) Broken). Acted alone view (AreAllTurns r) x p y q) is acted in
+      acts_written all.acts s x y p q are here all.happened all.kind

@@ -1,6 +1,6 @@
 //! Flush turns of a broker that one caller has alone.
 
-ghost use Rattle.std.specs.Prelude.{◌≡◌, ◌≢◌, None};
+ghost use Rattle.std.specs.Prelude.{◌≡◌, ◌≢◌, None, Err};
 ghost use Rattle.log_model.specs.Stored.{StaysOutside};
 ghost use Rattle.segment_files.specs.Turn.{IsInside};
 ghost use Rattle.broker_model.specs.State.{State};
@@ -9,14 +9,15 @@ ghost use Rattle.broker_core.specs.Represents.{Represents};
 ghost use Rattle.worker_turns.specs.Turns.{CountsEnd};
 ghost use Rattle.request_acts.specs.Acts.{place_of, view_of};
 ghost use Rattle.request_acts.specs.Turning.{IsTurn, AreAllTurns, CountsAll};
+ghost use Rattle.request_acts.specs.declared.broken.Broken.TheVariants.{Misplaced};
 ghost use Rattle.flush_story.specs.Keeping.{IsPlacedFor};
 ghost use Rattle.kept_log.specs.Leads.{Led};
 
 use broker_core::Alone;
 use group_flush::Flusher;
 use mq_outside::Disk;
-use request_acts::{flush_all, turn};
-use std::alloc::{AllocError, Global};
+use request_acts::{Broken, flush_all, turn};
+use std::alloc::Global;
 use worker_turns::FlushEnd;
 
 /// One flush turn. It is never misplaced where the flusher writes behind the broker's flushed records.
@@ -50,12 +51,13 @@ pub fn flush_all_kept<D: Disk>(
     broker: &mut Alone,
     flusher: &mut Flusher,
     disk: &mut D,
-) -> Result<Option<u64>, AllocError>
+) -> Result<Option<u64>, Broken>
     requires none_out { (shown_of broker.old.core).out ≡ None }
     requires inside { D.tells → IsInside flusher.old.file.base flusher.old.file.offset (D.state disk.old) }
     ensures led { Led (view_of D.tells D.state D.faults D.syncs) (AreAllTurns result)
         broker.old (place_of flusher.old.file disk.old)
         broker.new (place_of flusher.new.file disk.new) }
+    ensures placed { (s : State) → Represents broker.old.core s → IsPlacedFor s flusher.old.file → result ≢ Err Misplaced }
     ensures none_out { (shown_of broker.new.core).out ≡ None }
     ensures inside { D.tells → IsInside flusher.new.file.base flusher.new.file.offset (D.state disk.new) }
     ensures outside { D.tells → StaysOutside (D.state disk.old) (D.state disk.new) }

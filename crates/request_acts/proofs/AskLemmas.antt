@@ -17,10 +17,11 @@ use Rattle.session.specs.declared.owed.Applied.TheVariants.{Owes, Full}
 use Rattle.worker_turns.specs.Turns.{Steps}
 use Rattle.worker_turns.specs.declared.flush.FlushEnd.TheVariants.{Failed}
 use Rattle.request_acts.specs.Acts.{Turn, Act, Made, Wrote, Missed, DiskView, Place, Acted}
-use Rattle.request_acts.specs.Turning.{IsTurn, AreTurnsAndDispatch}
-use Rattle.request_acts.specs.Asking.{Try, IsOneTry, try_of, tries_of, no_room, refusal, IsSaid, IsGivenUp, IsLastTry, GivesUp, MakesRoom, IsTry, AreTries, IsAsked, Asks, IsRefused, Chooses, IsGiven, Gives, event_for, IsDue, IsLooked, Looks, Tells}
+use Rattle.request_acts.specs.Turning.{IsTurn, AreTurnsAndDispatch, BrokeBy}
+use Rattle.request_acts.specs.declared.broken.Broken.{Broken}
+use Rattle.request_acts.specs.Asking.{Try, IsOneTry, try_of, tries_of, no_room, refusal, Refuses, IsSaid, IsGivenUp, IsLastTry, GivesUp, MakesRoom, IsTry, AreTries, IsAsked, Asks, IsRefused, Chooses, IsGiven, Gives, event_for, IsDue, IsLooked, Looks, Tells}
 use Rattle.request_acts.specs.declared.answer.Answer.{Answer}
-use Rattle.request_acts.proofs.ActLemmas.{acted_then, acted_as, acted_any, acted_none, one_step, request_between}
+use Rattle.request_acts.proofs.ActLemmas.{acted_then, acted_as, acted_any, acted_none, one_step, request_between, request_takes, takes_none, broke_behind, memory_broke}
 
 -- what was said where there was no room
 full_said : (what : Option Said) (pending : ℕ) → applied_of what ≡ Some (Full pending) → what ≡ Some (said.Full pending)
@@ -41,7 +42,7 @@ module _ {C D : Type 0} (makes : Steps C) (view : DiskView D) where
   -- a step that was made
   step_acted : (x y : C) (p : Place D) (event : Event) (what : Option Said) → IsRequest event → makes x event what y → Acted makes view (λ acts. acts ≡ Made event what ∷ []) x p y p
   step_acted x y p event what is made =
-      record { acts = Made event what ∷ []; kind = refl; happened = one_step makes view event what x y p p (request_between event is) made refl }
+      record { acts = Made event what ∷ []; kind = refl; happened = one_step makes view event what x y p p (request_between event is) (request_takes event what is) made refl }
 
   -- memory ran out for telling what was said
   pub given_err : {E : Type 0} (x y : C) (p : Place D) (event : Event) (fault : E) → IsRequest event → IsApplied makes x event (Err fault) y
@@ -57,7 +58,7 @@ module _ {C D : Type 0} (makes : Steps C) (view : DiskView D) where
       (λ acts are. inl (record { what = it.what; told = it.told; given = are })) (step_acted x y p event it.what is it.made)
 
   -- there was no room, and a flush turn was made
-  tried : {F : Type 0} (event : Event) (pending : ℕ) (result : Result (Option Answer) F) (first later : List Act) → first ≡ Made event (Some (said.Full pending)) ∷ [] → MakesRoom result later
+  tried : (event : Event) (pending : ℕ) (result : Result (Option Answer) Broken) (first later : List Act) → first ≡ Made event (Some (said.Full pending)) ∷ [] → MakesRoom result later
       → IsTry event result (first ++ later)
   tried event pending (Ok None) first later is room =
       (record { pending = pending; turn = room.0 }, ap (λ (l : List Act). l ++ later) is ∙ ap (λ (l : List Act). Made event (Some (said.Full pending)) ∷ l) room.1)
@@ -68,9 +69,9 @@ module _ {C D : Type 0} (makes : Steps C) (view : DiskView D) where
     told = room.2;
     given = ap (λ (l : List Act). l ++ later) is ∙ ap (λ (l : List Act). Made event (Some (said.Full pending)) ∷ l) room.3;
   })
-  tried event pending (Err fault) first later is room = tt
+  tried event pending (Err fault) first later is room = broke_behind fault first later room
 
-  pub given_full : {E F : Type 0} (x y z : C) (p r : Place D) (event : Event) (pending : ℕ) (result : Result (Option Answer) F) → IsRequest event
+  pub given_full : {E : Type 0} (x y z : C) (p r : Place D) (event : Event) (pending : ℕ) (result : Result (Option Answer) Broken) → IsRequest event
       → IsApplied {E = E} makes x event (Ok (Full pending)) y → Acted makes view (MakesRoom result) y p z r → Acted makes view (IsTry event result) x p z r
   given_full x y z p r event pending result is it room =
       let full = full_said it.what pending it.told in
@@ -78,12 +79,12 @@ module _ {C D : Type 0} (makes : Steps C) (view : DiskView D) where
       (step_acted x y p event (Some (said.Full pending)) is (subst (λ (w : Option Said). makes x event w y) full it.made)) room (tried event pending result)
 
   -- the flush turn for room failed
-  gave_up : {E : Type 0} (count : ℕ) (result : Result (Option Answer) E) (acts : List Act) → GivesUp count result → IsTurn (Failed count) acts → MakesRoom result acts
+  gave_up : (count : ℕ) (result : Result (Option Answer) Broken) (acts : List Act) → GivesUp count result → IsTurn (Failed count) acts → MakesRoom result acts
   gave_up count (Ok None) acts up is = absurd up
   gave_up count (Ok (Some answer)) acts up is = (is.0, count, up, is.1)
-  gave_up count (Err fault) acts up is = tt
+  gave_up count (Err fault) acts up is = memory_broke fault acts up
 
-  pub no_room_made : {E : Type 0} (count : ℕ) (result : Result (Option Answer) E) (x y : C) (p q : Place D) → GivesUp count result → Acted makes view (IsTurn (Failed count)) x p y q
+  pub no_room_made : (count : ℕ) (result : Result (Option Answer) Broken) (x y : C) (p q : Place D) → GivesUp count result → Acted makes view (IsTurn (Failed count)) x p y q
       → Acted makes view (MakesRoom result) x p y q
   no_room_made count result x y p q up turn = acted_as makes view (IsTurn (Failed count)) (MakesRoom result) x y p q (λ acts is. gave_up count result acts up is) turn
 
@@ -104,33 +105,33 @@ module _ {C D : Type 0} (makes : Steps C) (view : DiskView D) where
   chosen : (b c : Bool) (A B : Type 0) → b ≡ c → Chooses c A B → Chooses b A B
   chosen b c A B same it = subst (λ (d : Bool). Chooses d A B) (sym same) it
 
-  given_by : {E : Type 0} (code : ℤ) (now : ℕ) (request : Request) (result : Result Answer E) (acts : List Act) → is_served request ≡ true → Asks (event_for now request) result acts
+  given_by : (code : ℤ) (now : ℕ) (request : Request) (result : Result Answer Broken) (acts : List Act) → is_served request ≡ true → Asks (event_for now request) result acts
       → Gives code now (Ok request) result acts
   given_by code now request (Ok answer) acts served asked = chosen (is_served request) true _ _ served asked
-  given_by code now request (Err fault) acts served asked = tt
+  given_by code now request (Err fault) acts served asked = asked
 
   -- the broker answers it
-  pub gives_served : {E : Type 0} (code : ℤ) (now : ℕ) (request : Request) (result : Result Answer E) (x y : C) (p q : Place D) → is_served request ≡ true
+  pub gives_served : (code : ℤ) (now : ℕ) (request : Request) (result : Result Answer Broken) (x y : C) (p q : Place D) → is_served request ≡ true
       → Acted makes view (Asks (event_for now request) result) x p y q → Acted makes view (Gives code now (Ok request) result) x p y q
   gives_served code now request result x y p q served asked =
       acted_as makes view (Asks (event_for now request) result) (Gives code now (Ok request) result) x y p q (λ acts is. given_by code now request result acts served is) asked
 
   -- it doesn't
-  pub gives_unserved : {E : Type 0} (code : ℤ) (now : ℕ) (request : Request) (result : Result Answer E) (x : C) (p : Place D) → is_served request ≡ false
-      → IfOk result (λ answer. answer ≡ refusal (Unsupported code)) → Acted makes view (Gives code now (Ok request) result) x p x p
-  gives_unserved {E} code now request (Ok answer) x p unserved told =
-      acted_none makes view (Gives {E = E} code now (Ok request) (Ok answer)) x p (chosen (is_served request) false _ _ unserved (record { told = told; none = refl }))
-  gives_unserved {E} code now request (Err fault) x p unserved told = acted_none makes view (λ acts. Unit {0}) x p tt
+  pub gives_unserved : (code : ℤ) (now : ℕ) (request : Request) (result : Result Answer Broken) (x : C) (p : Place D) → is_served request ≡ false
+      → Refuses (Unsupported code) result → Acted makes view (Gives code now (Ok request) result) x p x p
+  gives_unserved code now request (Ok answer) x p unserved told =
+      acted_none makes view (Gives code now (Ok request) (Ok answer)) x p (chosen (is_served request) false _ _ unserved (record { told = told; none = refl }))
+  gives_unserved code now request (Err fault) x p unserved told = acted_none makes view (BrokeBy fault) x p (memory_broke fault [] told)
 
   -- it is none
-  pub gives_fault : {E : Type 0} (code : ℤ) (now : ℕ) (fault : RequestFault) (result : Result Answer E) (x : C) (p : Place D) → IfOk result (λ answer. answer ≡ refusal fault)
+  pub gives_fault : (code : ℤ) (now : ℕ) (fault : RequestFault) (result : Result Answer Broken) (x : C) (p : Place D) → Refuses fault result
       → Acted makes view (Gives code now (Err fault) result) x p x p
   gives_fault code now fault (Ok answer) x p told = acted_none makes view (IsRefused fault answer) x p (record { told = told; none = refl })
-  gives_fault code now fault (Err other) x p told = acted_none makes view (λ acts. Unit {0}) x p tt
+  gives_fault code now fault (Err other) x p told = acted_none makes view (BrokeBy other) x p (memory_broke other [] told)
 
   -- ---- looks
 
-  looked : {E : Type 0} (reply : ReplyParts) (awaits : Awaits) (what : Awaited) (result : Result ReplyParts E) (first later : List Act) → AreTurnsAndDispatch first
+  looked : (reply : ReplyParts) (awaits : Awaits) (what : Awaited) (result : Result ReplyParts Broken) (first later : List Act) → AreTurnsAndDispatch first
       → later ≡ Made (Look awaits.number awaits.turn) (Some (said.Awaited what)) ∷ [] → Tells what reply result → Looks reply awaits result (first ++ later)
   looked reply awaits what (Ok told) first later turned is tells = record {
     turns = first;
@@ -139,13 +140,13 @@ module _ {C D : Type 0} (makes : Steps C) (view : DiskView D) where
     due = tells;
     are_all = ap (λ (l : List Act). first ++ l) is;
   }
-  looked reply awaits what (Err fault) first later turned is tells = tt
+  looked reply awaits what (Err fault) first later turned is tells = memory_broke fault (first ++ later) tells
 
-  pub looks_told : {E : Type 0} (reply : ReplyParts) (awaits : Awaits) (what : Awaited) (result : Result ReplyParts E) (x y z : C) (p q : Place D)
+  pub looks_told : (reply : ReplyParts) (awaits : Awaits) (what : Awaited) (result : Result ReplyParts Broken) (x y z : C) (p q : Place D)
       → Acted makes view AreTurnsAndDispatch x p y q → makes y (Look awaits.number awaits.turn) (Some (said.Awaited what)) z → Tells what reply result
       → Acted makes view (Looks reply awaits result) x p z q
   looks_told reply awaits what result x y z p q first made tells =
       let act : Act = Made (Look awaits.number awaits.turn) (Some (said.Awaited what)) in
       acted_then makes view AreTurnsAndDispatch (λ acts. acts ≡ act ∷ []) (Looks reply awaits result) x y z p q q first
-      (record { acts = act ∷ []; kind = refl; happened = one_step makes view (Look awaits.number awaits.turn) (Some (said.Awaited what)) y z q q tt made refl })
+      (record { acts = act ∷ []; kind = refl; happened = one_step makes view (Look awaits.number awaits.turn) (Some (said.Awaited what)) y z q q tt (takes_none (Look awaits.number awaits.turn) (Some (said.Awaited what)) tt) made refl })
       (λ before later are is. looked reply awaits what result before later are is tells)

@@ -7,7 +7,7 @@ use Rattle.worker_turns.specs.Turns.{Steps}
 use Rattle.worker_turns.specs.declared.flush.FlushEnd.TheVariants.{Idle, Done, Failed}
 use Rattle.request_acts.specs.Acts.{Act, Made, Wrote, Missed, DiskView, Place, Acted}
 use Rattle.request_acts.specs.Turning.{idle, IsTurn, AreOk, AreTurns, AreTurnsAndDispatch, IsDispatch, most_seen}
-use Rattle.request_acts.proofs.ActLemmas.{acted_then, one_step}
+use Rattle.request_acts.proofs.ActLemmas.{acted_then, one_step, takes_none}
 
 module _ {C D : Type 0} (makes : Steps C) (view : DiskView D) (x y z : C) (p q r : Place D) where
   -- one more that ended Ok
@@ -34,5 +34,5 @@ module _ {C D : Type 0} (makes : Steps C) (view : DiskView D) (x y z : C) (p q r
   turns_dispatched failed first made =
       let act : Act = Made (Dispatch most_seen) (Some (said.Moved made.0)) in
       acted_then makes view (AreTurns failed) (λ acts. acts ≡ act ∷ []) AreTurnsAndDispatch x y z p q q first
-      (record { acts = act ∷ []; kind = refl; happened = one_step makes view (Dispatch most_seen) (Some (said.Moved made.0)) y z q q tt made.1 refl })
+      (record { acts = act ∷ []; kind = refl; happened = one_step makes view (Dispatch most_seen) (Some (said.Moved made.0)) y z q q tt (takes_none (Dispatch most_seen) (Some (said.Moved made.0)) tt) made.1 refl })
       (λ before later are is. record { failed = failed; turns = before; number = made.0; ended = are; are_all = ap (λ (l : List Act). before ++ l) is })

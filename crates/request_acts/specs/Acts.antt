@@ -1,5 +1,5 @@
 -- What happened to the broker and its disk, act by act.
-use Rattle.std.specs.Prelude.{◌≡◌, ℕ, ◌++◌, List, [], ◌∷◌, Option, Some, None, Result, Ok, Err}
+use Rattle.std.specs.Prelude.{◌≡◌, ◌⊎◌, ℕ, ◌++◌, List, [], ◌∷◌, Option, Some, None, Result, Ok, Err}
 use Rattle.mq_outside.specs.Counts.{Rises}
 use Rattle.mq_outside.specs.Disk.{DiskState}
 use Rattle.log_model.specs.Batches.{IsReceiptFor}
@@ -14,7 +14,7 @@ use Rattle.broker_events.specs.declared.event.Event.{Event}
 use Rattle.broker_events.specs.declared.event.Event.TheVariants.{Request, Take, Flushed, FlushFailed, Look, Dispatch, Leave}
 use Rattle.broker_events.specs.declared.said.Said.{Said}
 use Rattle.broker_events.specs.declared.said.Said.TheVariants as said
-use Rattle.worker_turns.specs.Turns.{Steps, Writes}
+use Rattle.worker_turns.specs.Turns.{Steps, TakesFrom, Writes}
 
 -- a flush turn that ended Ok: what it wrote, its receipt, and the disk's moment at its end
 pub record Turn : Type 0 where
@@ -66,10 +66,18 @@ IsBetween (Look number turn) = Unit {0}
 IsBetween (Dispatch most) = Unit {0}
 IsBetween (Leave link) = Unit {0}
 
--- one step was made, and the disk is as it was
+-- a batch was taken by the step
+pub record TakesBatch (e : Event) (what : Option Said) : Type 0 where
+  pub batch : Batch
+  pub event : e ≡ Take
+  pub said_is : what ≡ Some (said.Batch (Some batch))
+
+-- One step was made, and the disk is as it was. A batch is taken so, without being written, only where one that can be taken doesn't
+-- begin where the flusher writes.
 pub record HasMade {C D : Type 0} (makes : Steps C) (e : Event) (what : Option Said) (x : C) (old : Place D) (y : C) (new : Place D) : Type 0 where
   pub made : makes x e what y
   pub between : IsBetween e
+  pub apart : TakesBatch e what → TakesFrom makes x old.file → ⊥
   pub still : new ≡ old
 
 -- a flush turn wrote its batch and synced it, and the batch is flushed
@@ -108,6 +116,17 @@ pub record Acted {C D : Type 0} (makes : Steps C) (view : DiskView D) (IsKind : 
   pub acts : List Act
   pub kind : IsKind acts
   pub happened : Acts makes view acts x old y new
+
+-- a batch was taken by the act, and not written
+abbrev pub IsUnwritten : Act → Type 0
+IsUnwritten (Made e what) = TakesBatch e what
+IsUnwritten (Wrote turn) = ⊥
+IsUnwritten (Missed batch count) = ⊥
+
+-- by one of them
+abbrev pub HasUnwritten : List Act → Type 0
+HasUnwritten [] = ⊥
+HasUnwritten (act ∷ acts) = IsUnwritten act ⊎ HasUnwritten acts
 
 -- ---- what acts are for the broker and for the log
 

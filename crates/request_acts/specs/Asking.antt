@@ -18,7 +18,9 @@ use Rattle.session.specs.Owing.{applied_of, not_flushed}
 use Rattle.session.specs.declared.owed.Awaits.{Awaits}
 use Rattle.session.specs.declared.owed.Applied.TheVariants.{Owes}
 use Rattle.request_acts.specs.Acts.{Turn, Act, Made, Wrote, Missed}
-use Rattle.request_acts.specs.Turning.{AreTurnsAndDispatch}
+use Rattle.request_acts.specs.Turning.{AreTurnsAndDispatch, BrokeBy}
+use Rattle.request_acts.specs.declared.broken.Broken.{Broken}
+use Rattle.request_acts.specs.declared.broken.Broken.TheVariants as broken
 use Rattle.request_acts.specs.declared.answer.Answer.{Answer}
 
 -- ---- one request
@@ -71,26 +73,26 @@ abbrev pub IsLastTry : Event → Answer → List Act → Type 0
 IsLastTry event answer acts = IsSaid event answer acts ⊎ IsGivenUp event answer acts
 
 -- a flush turn for room: made, or failed, in which case the request is given up
-abbrev pub MakesRoom : {E : Type 0} → Result (Option Answer) E → List Act → Type 0
+abbrev pub MakesRoom : Result (Option Answer) Broken → List Act → Type 0
 MakesRoom (Ok None) acts = (turn : Turn) × (acts ≡ Wrote turn ∷ [])
 MakesRoom (Ok (Some answer)) acts = (batch : Batch) × (count : ℕ) × (answer ≡ no_room count) × (acts ≡ Missed batch count ∷ [])
-MakesRoom (Err fault) acts = Unit {0}
+MakesRoom (Err fault) acts = BrokeBy fault acts
 
 -- the request is given up, unless memory ran out
-abbrev pub GivesUp : {E : Type 0} → ℕ → Result (Option Answer) E → Type 0
+abbrev pub GivesUp : ℕ → Result (Option Answer) Broken → Type 0
 GivesUp count (Ok None) = ⊥
 GivesUp count (Ok (Some answer)) = answer ≡ no_room count
-GivesUp count (Err fault) = Unit {0}
+GivesUp count (Err fault) = fault ≡ broken.Memory
 
 -- a flush turn made room
 abbrev pub IsOneTry : Event → List Act → Type 0
 IsOneTry event acts = (t : Try) × (acts ≡ try_of event t)
 
 -- one time: no answer where a flush turn made room
-abbrev pub IsTry : {E : Type 0} → Event → Result (Option Answer) E → List Act → Type 0
+abbrev pub IsTry : Event → Result (Option Answer) Broken → List Act → Type 0
 IsTry event (Ok None) acts = IsOneTry event acts
 IsTry event (Ok (Some answer)) acts = IsLastTry event answer acts
-IsTry event (Err fault) acts = Unit {0}
+IsTry event (Err fault) acts = BrokeBy fault acts
 
 -- it was given until it was answered, each time behind a flush turn that made room
 pub record IsAsked (event : Event) (answer : Answer) (acts : List Act) : Type 0 where
@@ -103,10 +105,15 @@ pub record IsAsked (event : Event) (answer : Answer) (acts : List Act) : Type 0 
 abbrev pub AreTries : Event → List Act → Type 0
 AreTries event acts = (tries : List Try) × (acts ≡ tries_of event tries)
 
--- the same, unless memory ran out
-abbrev pub Asks : {E : Type 0} → Event → Result Answer E → List Act → Type 0
+-- the same, unless it broke off
+abbrev pub Asks : Event → Result Answer Broken → List Act → Type 0
 Asks event (Ok answer) acts = IsAsked event answer acts
-Asks event (Err fault) acts = Unit {0}
+Asks event (Err fault) acts = BrokeBy fault acts
+
+-- the answer that is no event's, unless memory ran out
+abbrev pub Refuses : RequestFault → Result Answer Broken → Type 0
+Refuses fault (Ok answer) = answer ≡ refusal fault
+Refuses fault (Err broken_by) = broken_by ≡ broken.Memory
 
 -- nothing was given to the broker
 pub record IsRefused (fault : RequestFault) (answer : Answer) (acts : List Act) : Type 0 where
@@ -125,9 +132,9 @@ IsGiven code now (Err fault) answer acts = IsRefused fault answer acts
 IsGiven code now (Ok request) answer acts =
     Chooses (is_served request) (IsAsked (event_for now request) answer acts) (IsRefused (Unsupported code) answer acts)
 
-abbrev pub Gives : {E : Type 0} → ℤ → ℕ → Result Request RequestFault → Result Answer E → List Act → Type 0
+abbrev pub Gives : ℤ → ℕ → Result Request RequestFault → Result Answer Broken → List Act → Type 0
 Gives code now request (Ok answer) acts = IsGiven code now request answer acts
-Gives code now request (Err fault) acts = Unit {0}
+Gives code now request (Err fault) acts = BrokeBy fault acts
 
 -- ---- its record
 
@@ -145,11 +152,11 @@ pub record IsLooked (reply : ReplyParts) (awaits : Awaits) (told : ReplyParts) (
   pub due : IsDue what reply told
   pub are_all : acts ≡ turns ++ Made (events.Look awaits.number awaits.turn) (Some (said.Awaited what)) ∷ []
 
-abbrev pub Looks : {E : Type 0} → ReplyParts → Awaits → Result ReplyParts E → List Act → Type 0
+abbrev pub Looks : ReplyParts → Awaits → Result ReplyParts Broken → List Act → Type 0
 Looks reply awaits (Ok told) acts = IsLooked reply awaits told acts
-Looks reply awaits (Err fault) acts = Unit {0}
+Looks reply awaits (Err fault) acts = BrokeBy fault acts
 
 -- the reply, by what became of its record, unless memory ran out
-abbrev pub Tells : {E : Type 0} → Awaited → ReplyParts → Result ReplyParts E → Type 0
+abbrev pub Tells : Awaited → ReplyParts → Result ReplyParts Broken → Type 0
 Tells what reply (Ok told) = IsDue what reply told
-Tells what reply (Err fault) = Unit {0}
+Tells what reply (Err fault) = fault ≡ broken.Memory

@@ -7,7 +7,9 @@ use Rattle.broker_events.specs.declared.said.Said.TheVariants as said
 use Rattle.worker_turns.specs.declared.flush.FlushEnd.{FlushEnd}
 use Rattle.worker_turns.specs.declared.flush.FlushEnd.TheVariants.{Idle, Done, Failed, Misplaced, Memory}
 use Rattle.worker_turns.specs.Turns.{Steps}
-use Rattle.request_acts.specs.Acts.{Turn, Act, Made, Wrote, Missed}
+use Rattle.request_acts.specs.Acts.{Turn, Act, Made, Wrote, Missed, HasUnwritten}
+use Rattle.request_acts.specs.declared.broken.Broken.{Broken}
+use Rattle.request_acts.specs.declared.broken.Broken.TheVariants as broken
 
 -- nothing was pending
 abbrev pub idle : Act
@@ -18,8 +20,13 @@ abbrev pub IsTurn : FlushEnd → List Act → Type 0
 IsTurn Idle acts = acts ≡ idle ∷ []
 IsTurn Done acts = (turn : Turn) × (acts ≡ Wrote turn ∷ [])
 IsTurn (Failed count) acts = (batch : Batch) × (acts ≡ Missed batch count ∷ [])
-IsTurn Misplaced acts = Unit {0}
+IsTurn Misplaced acts = HasUnwritten acts
 IsTurn Memory acts = Unit {0}
+
+-- what the acts have where this broke them off: a batch that was taken and not written, where one was misplaced
+abbrev pub BrokeBy : Broken → List Act → Type 0
+BrokeBy broken.Misplaced acts = HasUnwritten acts
+BrokeBy broken.Memory acts = Unit {0}
 
 -- the last turn found nothing pending, or failed, where the disk counts so many faults
 abbrev pub IsLastTurn : Option ℕ → Act → Type 0
@@ -37,10 +44,10 @@ pub record AreTurns (failed : Option ℕ) (acts : List Act) : Type 0 where
   pub ends : IsLastTurn failed last
   pub are : acts ≡ map Wrote turns ++ last ∷ []
 
--- turns until nothing is pending or one failed; where memory ran out, any acts
-abbrev pub AreAllTurns : {E : Type 0} → Result (Option ℕ) E → List Act → Type 0
+-- turns until nothing is pending or one failed, unless they broke off
+abbrev pub AreAllTurns : Result (Option ℕ) Broken → List Act → Type 0
 AreAllTurns (Ok failed) acts = AreTurns failed acts
-AreAllTurns (Err fault) acts = Unit {0}
+AreAllTurns (Err fault) acts = BrokeBy fault acts
 
 -- how many records more consumers see at most by one dispatch
 abbrev pub most_seen : ℕ
@@ -54,10 +61,10 @@ pub record AreTurnsAndDispatch (acts : List Act) : Type 0 where
   pub ended : AreTurns failed turns
   pub are_all : acts ≡ turns ++ Made (Dispatch most_seen) (Some (said.Moved number)) ∷ []
 
--- the same, unless memory ran out
-abbrev pub AllTurnsDispatched : {A E : Type 0} → Result A E → List Act → Type 0
+-- the same, unless they broke off
+abbrev pub AllTurnsDispatched : {A : Type 0} → Result A Broken → List Act → Type 0
 AllTurnsDispatched (Ok done) acts = AreTurnsAndDispatch acts
-AllTurnsDispatched (Err fault) acts = Unit {0}
+AllTurnsDispatched (Err fault) acts = BrokeBy fault acts
 
 -- one dispatch was made
 abbrev pub IsDispatch : {C : Type 0} → Steps C → C → C → Type 0

@@ -7,9 +7,10 @@ ghost use Rattle.broker_events.specs.Served.{is_served as is_served_of};
 ghost use Rattle.broker_events.specs.Shown.{Shown, Accepts};
 ghost use Rattle.session.specs.Owing.{IsRequest, IsApplied};
 ghost use Rattle.request_acts.specs.Acts.{IsFree, Acted, place_of, view_of};
-ghost use Rattle.request_acts.specs.Asking.{GivesUp, MakesRoom, IsTry, Asks, Gives, event_for, no_room as no_room_of, refusal as refusal_of};
+ghost use Rattle.request_acts.specs.Asking.{GivesUp, MakesRoom, IsTry, Asks, Gives, Refuses, event_for, no_room as no_room_of};
 
 use crate::answer::Answer;
+use crate::broken::Broken;
 use crate::turning::turn;
 use broker_events::{Calls, Event, is_served};
 use group_flush::Flusher;
@@ -37,14 +38,16 @@ fn no_room(alloc: Global, count: u64) -> Result<Answer, AllocError>
 }
 
 // The answer to what the broker isn't given.
-fn refuse(alloc: Global, fault: &RequestFault) -> Result<Answer, AllocError>
-    ensures { IfOk result (λ answer. answer ≡ refusal_of fault.now) }
+fn refuse(alloc: Global, fault: &RequestFault) -> Result<Answer, Broken>
+    ensures { Refuses fault.now result }
 {
-    let reply = Reply::of_fault(alloc, fault)?;
-    Ok(Answer {
-        reply,
-        awaits: None,
-    })
+    match Reply::of_fault(alloc, fault) {
+        Ok(reply) => Ok(Answer {
+            reply,
+            awaits: None,
+        }),
+        Err(_) => Err(Broken::Memory),
+    }
 }
 
 // One step: the request is given.
@@ -59,12 +62,12 @@ fn give<C: Calls>(alloc: Global, calls: &mut C, event: &Event) -> Result<Applied
 }
 
 // Gives a request up, since the disk failed, with this count.
-fn give_up(alloc: Global, count: u64) -> Result<Option<Answer>, AllocError>
+fn give_up(alloc: Global, count: u64) -> Result<Option<Answer>, Broken>
     ensures { GivesUp count result }
 {
     match no_room(alloc, count) {
         Ok(answer) => Ok(Some(answer)),
-        Err(fault) => Err(fault),
+        Err(_) => Err(Broken::Memory),
     }
 }
 
@@ -75,7 +78,7 @@ fn make_room<C: Calls, D: Disk>(
     calls: &mut C,
     flusher: &mut Flusher,
     disk: &mut D,
-) -> Result<Option<Answer>, AllocError>
+) -> Result<Option<Answer>, Broken>
     requires free { IsFree (C.has_key calls.old) (C.shown calls.old) }
     requires inside { D.tells → IsInside flusher.old.file.base flusher.old.file.offset (D.state disk.old) }
     ensures acted { Acted C.makes (view_of D.tells D.state D.faults D.syncs) (MakesRoom result)
@@ -86,9 +89,9 @@ fn make_room<C: Calls, D: Disk>(
     ensures outside { D.tells → StaysOutside (D.state disk.old) (D.state disk.new) }
 {
     match turn(alloc, calls, flusher, disk) {
-        FlushEnd::Idle => Err(AllocError),
-        FlushEnd::Misplaced => Err(AllocError),
-        FlushEnd::Memory => Err(AllocError),
+        FlushEnd::Idle => Err(Broken::Memory),
+        FlushEnd::Misplaced => Err(Broken::Misplaced),
+        FlushEnd::Memory => Err(Broken::Memory),
         FlushEnd::Failed(count) => give_up(alloc, count),
         FlushEnd::Done => Ok(None),
     }
@@ -102,7 +105,7 @@ fn try_once<C: Calls, D: Disk>(
     flusher: &mut Flusher,
     disk: &mut D,
     event: &Event,
-) -> Result<Option<Answer>, AllocError>
+) -> Result<Option<Answer>, Broken>
     requires request { IsRequest event.now }
     requires accepted { (shown : Shown) → Accepts shown event.now }
     requires free { IsFree (C.has_key calls.old) (C.shown calls.old) }
@@ -115,7 +118,7 @@ fn try_once<C: Calls, D: Disk>(
     ensures outside { D.tells → StaysOutside (D.state disk.old) (D.state disk.new) }
 {
     match give(alloc, calls, event) {
-        Err(fault) => Err(fault),
+        Err(_) => Err(Broken::Memory),
         Ok(Applied::Full(_pending)) => make_room(alloc, calls, flusher, disk),
         Ok(Applied::Owes(reply, awaits)) => Ok(Some(Answer { reply, awaits })),
     }
@@ -129,7 +132,7 @@ fn ask<C: Calls, D: Disk>(
     flusher: &mut Flusher,
     disk: &mut D,
     event: &Event,
-) -> Result<Answer, AllocError>
+) -> Result<Answer, Broken>
     requires request { IsRequest event.now }
     requires accepted { (shown : Shown) → Accepts shown event.now }
     requires free { IsFree (C.has_key calls.old) (C.shown calls.old) }
@@ -148,7 +151,7 @@ fn ask<C: Calls, D: Disk>(
             Ok(None) => {}
         }
     }
-    Err(AllocError)
+    Err(Broken::Memory)
 }
 
 // Gives a request that the broker answers, at this reading of the clock.
@@ -159,7 +162,7 @@ fn ask_at<C: Calls, D: Disk>(
     disk: &mut D,
     now: u64,
     request: Request,
-) -> Result<Answer, AllocError>
+) -> Result<Answer, Broken>
     requires now { now < 2 ^ 62 }
     requires served { is_served_of request ≡ true }
     requires free { IsFree (C.has_key calls.old) (C.shown calls.old) }
@@ -181,7 +184,7 @@ fn ask_at<C: Calls, D: Disk>(
 }
 
 /// Gives what was read of a frame with this code to the broker, at this reading of the clock in milliseconds, or refuses what is no
-/// request that it answers. Out of memory where memory ran out for the answer or for a flush turn.
+/// request that it answers. `Err` where memory ran out for the answer or for a flush turn, or a batch was misplaced.
 #[tactic(auto, using(log_model::proofs::OutsideLemmas::outside_start))]
 pub fn give_request<C: Calls, D: Disk>(
     alloc: Global,
@@ -191,7 +194,7 @@ pub fn give_request<C: Calls, D: Disk>(
     now: u64,
     code: i32,
     request: Result<Request, RequestFault>,
-) -> Result<Answer, AllocError>
+) -> Result<Answer, Broken>
     requires now { now < 2 ^ 62 }
     requires free { IsFree (C.has_key calls.old) (C.shown calls.old) }
     requires inside { D.tells → IsInside flusher.old.file.base flusher.old.file.offset (D.state disk.old) }

@@ -3,10 +3,12 @@
 
 mod answer;
 mod asking;
+mod broken;
 mod looking;
 mod turning;
 
 pub use answer::Answer;
 pub use asking::give_request;
+pub use broken::Broken;
 pub use looking::flush_and_look;
 pub use turning::{flush_all, flush_and_dispatch, turn};

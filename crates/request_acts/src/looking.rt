@@ -10,6 +10,7 @@ ghost use Rattle.session.specs.Owing.{not_flushed as not_flushed_of};
 ghost use Rattle.request_acts.specs.Acts.{IsFree, Acted, place_of, view_of};
 ghost use Rattle.request_acts.specs.Asking.{Looks, Tells};
 
+use crate::broken::Broken;
 use crate::turning::flush_and_dispatch;
 use broker_events::{Awaited, Calls};
 use group_flush::Flusher;
@@ -60,13 +61,16 @@ fn look_at<C: Calls>(alloc: Global, calls: &mut C, awaits: Awaits) -> Awaited
 
 // The reply, by what became of the record. A record that is pending still, without a turn that failed, was left so for want of
 // memory.
-fn tell(alloc: Global, what: Awaited, reply: Reply) -> Result<Reply, AllocError>
+fn tell(alloc: Global, what: Awaited, reply: Reply) -> Result<Reply, Broken>
     ensures { Tells what reply result }
 {
     match what {
         Awaited::Flushed => Ok(reply),
-        Awaited::Failed { count } => not_flushed(alloc, reply, count),
-        Awaited::NotYet => Err(AllocError),
+        Awaited::Failed { count } => match not_flushed(alloc, reply, count) {
+            Ok(told) => Ok(told),
+            Err(_) => Err(Broken::Memory),
+        },
+        Awaited::NotYet => Err(Broken::Memory),
     }
 }
 
@@ -79,7 +83,7 @@ pub fn flush_and_look<C: Calls, D: Disk>(
     disk: &mut D,
     reply: Reply,
     awaits: Awaits,
-) -> Result<Reply, AllocError>
+) -> Result<Reply, Broken>
     requires free { IsFree (C.has_key calls.old) (C.shown calls.old) }
     requires inside { D.tells → IsInside flusher.old.file.base flusher.old.file.offset (D.state disk.old) }
     ensures acted { Acted C.makes (view_of D.tells D.state D.faults D.syncs) (Looks reply awaits result)

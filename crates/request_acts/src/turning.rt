@@ -7,10 +7,11 @@ ghost use Rattle.worker_turns.specs.Turns.{CountsEnd, TakesFrom};
 ghost use Rattle.request_acts.specs.Acts.{IsFree, Acted, place_of, view_of};
 ghost use Rattle.request_acts.specs.Turning.{IsTurn, AreAllTurns, AllTurnsDispatched, IsDispatch, CountsAll};
 
+use crate::broken::Broken;
 use broker_events::Calls;
 use group_flush::Flusher;
 use mq_outside::Disk;
-use std::alloc::{AllocError, Global};
+use std::alloc::Global;
 use worker_turns::{FlushEnd, dispatch_turn, flush_turn};
 
 /// One flush turn.
@@ -41,7 +42,7 @@ pub fn flush_all<C: Calls, D: Disk>(
     calls: &mut C,
     flusher: &mut Flusher,
     disk: &mut D,
-) -> Result<Option<u64>, AllocError>
+) -> Result<Option<u64>, Broken>
     requires free { IsFree (C.has_key calls.old) (C.shown calls.old) }
     requires inside { D.tells → IsInside flusher.old.file.base flusher.old.file.offset (D.state disk.old) }
     ensures acted { Acted C.makes (view_of D.tells D.state D.faults D.syncs) (AreAllTurns result)
@@ -56,12 +57,12 @@ pub fn flush_all<C: Calls, D: Disk>(
         match turn(alloc, calls, flusher, disk) {
             FlushEnd::Idle => return Ok(None),
             FlushEnd::Failed(count) => return Ok(Some(count)),
-            FlushEnd::Misplaced => return Err(AllocError),
-            FlushEnd::Memory => return Err(AllocError),
+            FlushEnd::Misplaced => return Err(Broken::Misplaced),
+            FlushEnd::Memory => return Err(Broken::Memory),
             FlushEnd::Done => {}
         }
     }
-    Err(AllocError)
+    Err(Broken::Memory)
 }
 
 // Consumers see what is flushed.
@@ -80,7 +81,7 @@ pub fn flush_and_dispatch<C: Calls, D: Disk>(
     calls: &mut C,
     flusher: &mut Flusher,
     disk: &mut D,
-) -> Result<(), AllocError>
+) -> Result<(), Broken>
     requires free { IsFree (C.has_key calls.old) (C.shown calls.old) }
     requires inside { D.tells → IsInside flusher.old.file.base flusher.old.file.offset (D.state disk.old) }
     ensures acted { Acted C.makes (view_of D.tells D.state D.faults D.syncs) (AllTurnsDispatched result)

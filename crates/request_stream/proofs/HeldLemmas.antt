@@ -53,6 +53,7 @@ counts_stop (Ok done) sink sink_then clock clock_then counts same = (counts, sam
 counts_stop (Err stops.Clock) sink sink_then clock clock_then counts same = absurd counts
 counts_stop (Err stops.Sink) sink sink_then clock clock_then counts same = counts
 counts_stop (Err stops.Memory) sink sink_then clock clock_then counts same = tt
+counts_stop (Err stops.Misplaced) sink sink_then clock clock_then counts same = tt
 
 -- behind requests that were served
 pub counts_later : (stop : Stop) (sink sink_mid sink_then clock clock_mid clock_then : ℕ) → sink_mid ≡ sink → clock_mid ≡ clock
@@ -60,6 +61,7 @@ pub counts_later : (stop : Stop) (sink sink_mid sink_then clock clock_mid clock_
 counts_later stops.Clock sink sink_mid sink_then clock clock_mid clock_then same_sink same_clock counts = subst (λ (n : ℕ). Rises n clock_then) same_clock counts
 counts_later stops.Sink sink sink_mid sink_then clock clock_mid clock_then same_sink same_clock counts = subst (λ (n : ℕ). Rises n sink_then) same_sink counts
 counts_later stops.Memory sink sink_mid sink_then clock clock_mid clock_then same_sink same_clock counts = tt
+counts_later stops.Misplaced sink sink_mid sink_then clock clock_mid clock_then same_sink same_clock counts = tt
 
 -- no request was found
 pub counts_none : (halt : Halt) (old new : Held) (sink sink_then clock clock_then : ℕ) → NextHeard old (Err halt) new → CountsHalt {A = Unit {0}} (Err halt) sink sink_then clock clock_then

@@ -1,5 +1,5 @@
 -- A stream that is served piece by piece.
-use Rattle.std.proofs.Common.{◌≡◌, inl, inr, ◌∙◌, ℕ, ◌+◌, ◌≤◌, ◌++◌, List, [], ◌∷◌, None, Result, Ok, Err, length, refl, ap, sym, subst, arith, append_assoc, append-nil, length-append}
+use Rattle.std.proofs.Common.{◌≡◌, inl, inr, ◌∙◌, ℕ, ◌+◌, ◌≤◌, ◌++◌, List, [], None, Result, Ok, Err, length, refl, ap, sym, subst, arith, append_assoc, append-nil, length-append}
 use Rattle.mq_outside.specs.Counts.{Rises}
 use Rattle.remoting_frame.specs.Held.{Held}
 use Rattle.remoting_frame.specs.Frames.{first_of, next_of}
@@ -7,9 +7,8 @@ use Rattle.remoting_frame.specs.Streams.{BeginsWith}
 use Rattle.remoting_frame.specs.declared.frame.Frame.{Frame}
 use Rattle.remoting_frame.proofs.StreamLaws.{begins_more}
 use Rattle.request_acts.proofs.CountLemmas.{faults_grow}
-use Rattle.request_stream.specs.Serving.{Sides, Point, Ran, Broke, acts_of, begun_acts}
+use Rattle.request_stream.specs.Serving.{Sides, Point, Ran, acts_of, begun_acts}
 use Rattle.request_stream.specs.Piping.{CountsHalt, CountsPipe, RanBy, ServesHeld, EndsBy, SourceSeen, source_of, Piped, SoFar, EndsHere, stream_limit}
-use Rattle.request_stream.specs.declared.stop.Stop.{Stop}
 use Rattle.request_stream.specs.declared.stop.Stop.TheVariants as stops
 use Rattle.request_stream.specs.declared.stop.Halt.{Halt}
 use Rattle.request_stream.specs.declared.stop.Halt.TheVariants.{BadFrame, Read, Stopped}
@@ -163,6 +162,7 @@ counts_halt Read source source_then sink sink_mid sink_then clock clock_mid cloc
 counts_halt (Stopped stops.Clock) source source_then sink sink_mid sink_then clock clock_mid clock_then same_sink same_clock counts = subst (λ (n : ℕ). Rises n clock_then) same_clock counts
 counts_halt (Stopped stops.Sink) source source_then sink sink_mid sink_then clock clock_mid clock_then same_sink same_clock counts = subst (λ (n : ℕ). Rises n sink_then) same_sink counts
 counts_halt (Stopped stops.Memory) source source_then sink sink_mid sink_then clock clock_mid clock_then same_sink same_clock counts = tt
+counts_halt (Stopped stops.Misplaced) source source_then sink sink_mid sink_then clock clock_mid clock_then same_sink same_clock counts = tt
 
 -- the disk's count of faults never falls
 pub piped_grows : {C D A : Type 0} (sides : Sides C D) (result : Result A Halt) (source : SourceSeen) (x y : C) (old new : Point D) → Piped sides result source x old y new

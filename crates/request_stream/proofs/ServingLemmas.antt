@@ -1,5 +1,5 @@
 -- Requests that were served, one after another.
-use Rattle.std.proofs.Common.{◌≡◌, inl, inr, ℕ, ◌++◌, List, [], ◌∷◌, Bool, true, false, not, map, Result, Ok, Err, refl, sym, ap, ◌∙◌, subst, append-nil, append_assoc, ⊎_elim}
+use Rattle.std.proofs.Common.{◌≡◌, inl, inr, ℕ, ◌++◌, List, [], ◌∷◌, Bool, false, not, Result, Ok, Err, refl, sym, ap, ◌∙◌, subst, append-nil, append_assoc, ⊎_elim}
 use Rattle.std.specs.Prelude.{if◌then◌else◌}
 use Rattle.std.proofs.lemmas.List.{map-append}
 use Rattle.std.proofs.lemmas.List.Elements.{filter-append}
@@ -9,7 +9,7 @@ use Rattle.session.specs.Hearing.{AreResponses, is_response}
 use Rattle.session.specs.Talks.{requests_of}
 use Rattle.request_acts.specs.Acts.{Act, Acts, Place}
 use Rattle.request_stream.specs.Telling.{TookPart}
-use Rattle.request_stream.specs.Serving.{Sides, Point, point_of, Served, served_as, AreServed, acts_of, bytes_of, frames_of, readings_of, Ran, Begun, Nothing, Asked, begun_acts, begun_bytes, begun_readings, Breaks, Broke, Serves, HasServed, HasPartlyServed, HasBroken, ServesAt, sides_of}
+use Rattle.request_stream.specs.Serving.{Sides, Point, point_of, Served, served_as, AreServed, acts_of, bytes_of, frames_of, readings_of, Ran, Nothing, Asked, begun_acts, begun_bytes, begun_readings, Breaks, Broke, Serves, HasPartlyServed, HasBroken, ServesAt, sides_of}
 use Rattle.request_stream.specs.declared.stop.Stop.{Stop}
 use Rattle.request_stream.specs.declared.stop.Stop.TheVariants as stops
 use Rattle.request_acts.proofs.ActLemmas.{still, acts_then}
@@ -162,8 +162,14 @@ module _ {C D : Type 0} (sides : Sides C D) (other : Type 0) (frame : Frame) (re
   one_served (Err stops.Clock) asks read it = absurd it
   one_served (Err stops.Sink) asks read it = partly_broke stops.Sink it.acts it.bytes asks read it.served it.happened it.took
   one_served (Err stops.Memory) asks read it = ⊎_elim
-      (λ (some : HasPartlyServed of_one frame reading x (point_of old reads taken []) y (point_of new reads_then taken_then [])).
+      (λ (some : HasPartlyServed of_one stops.Memory frame reading x (point_of old reads taken []) y (point_of new reads_then taken_then [])).
       partly_broke stops.Memory some.acts some.bytes asks read (inr some.served) some.happened some.took)
-      (λ (none : HasBroken of_one x (point_of old reads taken []) y (point_of new reads_then taken_then [])).
+      (λ (none : HasBroken of_one stops.Memory x (point_of old reads taken []) y (point_of new reads_then taken_then [])).
       partly_broke stops.Memory none.acts [] asks read (inl refl) none.happened (λ told. took_none taken taken_then [] (none.still told)))
+      it
+  one_served (Err stops.Misplaced) asks read it = ⊎_elim
+      (λ (some : HasPartlyServed of_one stops.Misplaced frame reading x (point_of old reads taken []) y (point_of new reads_then taken_then [])).
+      partly_broke stops.Misplaced some.acts some.bytes asks read (some.stopped, inr some.served) some.happened some.took)
+      (λ (none : HasBroken of_one stops.Misplaced x (point_of old reads taken []) y (point_of new reads_then taken_then [])).
+      partly_broke stops.Misplaced none.acts [] asks read (none.stopped, inl refl) none.happened (λ told. took_none taken taken_then [] (none.still told)))
       it

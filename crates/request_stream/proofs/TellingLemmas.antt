@@ -1,6 +1,5 @@
 -- Answers that are told, and what happened for them.
-use Rattle.std.proofs.Common.{◌≡◌, inl, inr, ℕ, ℤ, ◌++◌, List, [], ◌∷◌, Bool, true, false, Option, Some, None, Result, Ok, Err, OnOk, OnErr, refl, sym, ap, ◌∙◌, subst, append-nil, append_assoc, ⊎_elim}
-use Rattle.std.specs.declared.alloc.AllocError.{AllocError}
+use Rattle.std.proofs.Common.{◌≡◌, ◌⊎◌, inl, inr, ℕ, ℤ, ◌++◌, List, [], Bool, true, false, Some, None, Result, Ok, Err, OnOk, OnErr, refl, sym, ap, ◌∙◌, subst, append-nil, append_assoc, ⊎_elim}
 use Rattle.mq_outside.specs.Counts.{Rises}
 use Rattle.mq_outside.specs.Readings.{Giving}
 use Rattle.remoting_frame.specs.declared.frame.Frame.{Frame}
@@ -9,19 +8,21 @@ use Rattle.reply_fields.specs.Replies.{AppendsReply}
 use Rattle.request_fields.specs.Reading.{Reads, request_of}
 use Rattle.request_fields.specs.declared.request.Request.{Request}
 use Rattle.request_fields.specs.declared.fault.RequestFault.{RequestFault}
-use Rattle.session.specs.Hearing.{IsHeard, is_one_way}
+use Rattle.session.specs.Hearing.{IsHeard}
 use Rattle.session.specs.declared.caller.Caller.{Caller}
 use Rattle.session.specs.declared.heard.Heard.{Heard}
 use Rattle.session.specs.declared.owed.Awaits.{Awaits}
 use Rattle.request_acts.specs.Acts.{Act, Acts, Acted, Place}
-use Rattle.request_acts.specs.Turning.{AreTurnsAndDispatch}
-use Rattle.request_acts.specs.Asking.{Chooses, IsGiven, Gives, IsLooked, Looks}
-use Rattle.request_stream.specs.Telling.{unread, Appends, AppendsUnread, IsTold, HasTold, HasToldPart, HasWrittenReply, HasWrittenPart, TookPart, Tells, WritesReply}
-use Rattle.request_stream.specs.Serving.{Sides, sides_of, Point, point_of, caller_of, IsSettled, IsFollowed, IsAnswered, IsServed, IsPartly, served_as, HasAnswered, HasPartly, HasBroken, Answers, HasServed, HasPartlyServed, ServesAt}
+use Rattle.request_acts.specs.Turning.{AreTurnsAndDispatch, BrokeBy}
+use Rattle.request_acts.specs.declared.broken.Broken.{Broken}
+use Rattle.request_acts.specs.declared.broken.Broken.TheVariants as broken
+use Rattle.request_acts.specs.Asking.{Chooses, IsGiven, Gives, IsLooked}
+use Rattle.request_stream.specs.Telling.{stopped_by, unread, Appends, AppendsUnread, IsTold, HasTold, HasWrittenReply, HasWrittenPart, TookPart, Tells, WritesReply}
+use Rattle.request_stream.specs.Serving.{Sides, Point, point_of, caller_of, IsSettled, IsAnswered, StoppedIn, HasAnswered, HasPartly, HasBroken, Answers, HasPartlyServed, ServesAt}
 use Rattle.request_acts.specs.declared.answer.Answer.{Answer}
 use Rattle.request_stream.specs.declared.stop.Stop.{Stop}
 use Rattle.request_stream.specs.declared.stop.Stop.TheVariants as stops
-use Rattle.request_acts.proofs.ActLemmas.{still, acts_then}
+use Rattle.request_acts.proofs.ActLemmas.{still, acts_then, acted_broke, unwritten_behind}
 
 -- nothing was written of a piece
 pub took_none : (taken taken_then piece : List ℕ) → taken_then ≡ taken → TookPart taken taken_then piece
@@ -88,6 +89,7 @@ told_by gives caller reply faults faults_then sink taken taken_then (Err stops.C
 told_by gives caller reply faults faults_then sink taken taken_then (Err stops.Sink) waits wrote =
     record { bytes = wrote.bytes; told = waits_for gives caller reply faults faults_then wrote.bytes waits wrote.are; took = wrote.took }
 told_by gives caller reply faults faults_then sink taken taken_then (Err stops.Memory) waits wrote = wrote
+told_by gives caller reply faults faults_then sink taken taken_then (Err stops.Misplaced) waits wrote = wrote
 
 pub told_nobody : (gives : Giving) (caller : Caller) (reply : ReplyParts) (faults : ℕ) (sink : Type 0) (taken : List ℕ) → caller.one_way ≡ true
     → HasTold gives caller reply faults faults sink taken taken
@@ -118,10 +120,12 @@ module _ {C D : Type 0} (sides : Sides C D) (caller : Caller) where
     is_settled = (refl, refl);
     told = told.told;
     happened = still sides.makes sides.disk x place;
+    stopped = tt;
     took = told.took;
   }
   broken_at_once reply stops.Memory x place reads reads_then taken taken_then readings told =
-      inr (record { acts = []; happened = still sides.makes sides.disk x place; still = told })
+      inr (record { acts = []; happened = still sides.makes sides.disk x place; stopped = tt; still = told })
+  broken_at_once reply stops.Misplaced x place reads reads_then taken taken_then readings told = absurd told
 
   -- it was told, and turns came behind it
   pub told_at_once : (reply : ReplyParts) (x y : C) (old new : Place D) (reads reads_then : ℕ) (taken taken_then readings : List ℕ)
@@ -140,10 +144,10 @@ module _ {C D : Type 0} (sides : Sides C D) (caller : Caller) where
   }
 
   -- it was told, and the turns broke off
-  pub broken_behind : (reply : ReplyParts) (IsKind : List Act → Type 0) (x y : C) (old new : Place D) (reads reads_then : ℕ) (taken taken_then readings : List ℕ)
-      → HasTold sides.gives caller reply reads reads_then sides.sink taken taken_then → Acted sides.makes sides.disk IsKind x old y new
-      → HasPartly sides caller (record { reply = reply; awaits = None }) x (point_of old reads taken readings) y (point_of new reads_then taken_then readings)
-  broken_behind reply IsKind x y old new reads reads_then taken taken_then readings told turned = record {
+  partly_behind : (reply : ReplyParts) (stop : Stop) (x y : C) (old new : Place D) (reads reads_then : ℕ) (taken taken_then readings : List ℕ)
+      → HasTold sides.gives caller reply reads reads_then sides.sink taken taken_then → Acted sides.makes sides.disk (StoppedIn stop) x old y new
+      → HasPartly sides stop caller (record { reply = reply; awaits = None }) x (point_of old reads taken readings) y (point_of new reads_then taken_then readings)
+  partly_behind reply stop x y old new reads reads_then taken taken_then readings told turned = record {
     settled = [];
     followed = turned.acts;
     reply = reply;
@@ -151,8 +155,45 @@ module _ {C D : Type 0} (sides : Sides C D) (caller : Caller) where
     is_settled = (refl, refl);
     told = told.told;
     happened = turned.happened;
+    stopped = turned.kind;
     took = λ tells. took_all taken taken_then told.bytes (told.taken_is tells);
   }
+
+  told_broken : (reply : ReplyParts) (fault : Broken) (x y : C) (old new : Place D) (reads reads_then : ℕ) (taken taken_then readings : List ℕ)
+      → HasTold sides.gives caller reply reads reads_then sides.sink taken taken_then → Acted sides.makes sides.disk (BrokeBy fault) x old y new
+      → Answers {A = Unit {0}} sides caller (record { reply = reply; awaits = None }) (Err (stopped_by fault)) x (point_of old reads taken readings) y (point_of new reads_then taken_then readings)
+  told_broken reply broken.Misplaced x y old new reads reads_then taken taken_then readings told turned =
+      inl (partly_behind reply stops.Misplaced x y old new reads reads_then taken taken_then readings told
+      (record { acts = turned.acts; kind = turned.kind; happened = turned.happened }))
+  told_broken reply broken.Memory x y old new reads reads_then taken taken_then readings told turned =
+      inl (partly_behind reply stops.Memory x y old new reads reads_then taken taken_then readings told
+      (record { acts = turned.acts; kind = turned.kind; happened = turned.happened }))
+
+  pub broken_behind : (answer : Answer) (reply : ReplyParts) (fault : Broken) (stop : Stop) (x y : C) (old new : Place D) (reads reads_then : ℕ) (taken taken_then readings : List ℕ)
+      → answer ≡ record { reply = reply; awaits = None } → stop ≡ stopped_by fault
+      → HasTold sides.gives caller reply reads reads_then sides.sink taken taken_then → Acted sides.makes sides.disk (BrokeBy fault) x old y new
+      → Answers {A = Unit {0}} sides caller answer (Err stop) x (point_of old reads taken readings) y (point_of new reads_then taken_then readings)
+  broken_behind answer reply fault stop x y old new reads reads_then taken taken_then readings is by told turned =
+      let p : Point D = point_of old reads taken readings in
+      let q : Point D = point_of new reads_then taken_then readings in
+      subst (λ (a : Answer). Answers {A = Unit {0}} sides caller a (Err stop) x p y q) (sym is)
+      (subst (λ (s : Stop). Answers {A = Unit {0}} sides caller (record { reply = reply; awaits = None }) (Err s) x p y q) (sym by)
+      (told_broken reply fault x y old new reads reads_then taken taken_then readings told turned))
+
+  -- nothing was told, since acts broke off
+  none_broken : (answer : Answer) (fault : Broken) (x y : C) (old new : Place D) (reads : ℕ) (taken readings : List ℕ) → Acted sides.makes sides.disk (BrokeBy fault) x old y new
+      → Answers {A = Unit {0}} sides caller answer (Err (stopped_by fault)) x (point_of old reads taken readings) y (point_of new reads taken readings)
+  none_broken answer broken.Misplaced x y old new reads taken readings acted =
+      inr (record { acts = acted.acts; happened = acted.happened; stopped = acted.kind; still = λ tells. refl })
+  none_broken answer broken.Memory x y old new reads taken readings acted =
+      inr (record { acts = acted.acts; happened = acted.happened; stopped = tt; still = λ tells. refl })
+
+  pub broken_before : (answer : Answer) (fault : Broken) (stop : Stop) (x y : C) (old new : Place D) (reads : ℕ) (taken readings : List ℕ) → stop ≡ stopped_by fault
+      → Acted sides.makes sides.disk (BrokeBy fault) x old y new
+      → Answers {A = Unit {0}} sides caller answer (Err stop) x (point_of old reads taken readings) y (point_of new reads taken readings)
+  broken_before answer fault stop x y old new reads taken readings by acted =
+      subst (λ (s : Stop). Answers {A = Unit {0}} sides caller answer (Err s) x (point_of old reads taken readings) y (point_of new reads taken readings)) (sym by)
+      (none_broken answer fault x y old new reads taken readings acted)
 
   -- ---- behind a look
 
@@ -182,10 +223,12 @@ module _ {C D : Type 0} (sides : Sides C D) (caller : Caller) where
     is_settled = looked.kind;
     told = tells.told;
     happened = nothing_more looked.acts x y old new looked.happened;
+    stopped = tt;
     took = tells.took;
   }
   told_behind reply told awaits (Err stops.Memory) x y old new reads reads_then taken taken_then readings looked tells =
-      inr (record { acts = looked.acts; happened = looked.happened; still = tells })
+      inr (record { acts = looked.acts; happened = looked.happened; stopped = tt; still = tells })
+  told_behind reply told awaits (Err stops.Misplaced) x y old new reads reads_then taken taken_then readings looked tells = absurd tells
 
 -- ---- a request that was given, and its answer
 
@@ -209,63 +252,114 @@ module _ {C D : Type 0} (sides : Sides C D) (frame : Frame) (now : ℕ) where
     are_all = refl;
   }
 
-  partly : (request : Result Request RequestFault) (answer : Answer) (given : List Act) (x y z : C) (old mid new : Point D) → Reads request (request_of frame.header frame.body)
-      → IsGiven frame.header.code now request answer given → Acts sides.makes sides.disk given x old.place y mid.place → mid.reads ≡ old.reads → mid.taken ≡ old.taken
-      → HasPartly sides (caller_of frame) answer y mid z new → HasPartlyServed sides frame now x old z new
-  partly request answer given x y z old mid new read is_given gave reads taken it = record {
-    acts = given ++ (it.settled ++ it.followed);
+  stopped_behind : (stop : Stop) (given later : List Act) → StoppedIn stop later → StoppedIn stop (given ++ later)
+  stopped_behind stops.Clock given later stopped = tt
+  stopped_behind stops.Sink given later stopped = tt
+  stopped_behind stops.Memory given later stopped = tt
+  stopped_behind stops.Misplaced given later stopped = unwritten_behind given later stopped
+
+  -- the acts of a request, with the turns before it
+  all_acts : (before given settled followed : List Act) → (before ++ given) ++ (settled ++ followed) ≡ before ++ ((given ++ settled) ++ followed)
+  all_acts before given settled followed =
+      append_assoc before given (settled ++ followed) ∙ ap (λ (l : List Act). before ++ l) (sym (append_assoc given settled followed))
+
+  partly : (stop : Stop) (request : Result Request RequestFault) (answer : Answer) (before given : List Act) (x y z : C) (old mid new : Point D)
+      → Reads request (request_of frame.header frame.body) → AreTurnsAndDispatch before → IsGiven frame.header.code now request answer given
+      → Acts sides.makes sides.disk (before ++ given) x old.place y mid.place → mid.reads ≡ old.reads → mid.taken ≡ old.taken
+      → HasPartly sides stop (caller_of frame) answer y mid z new → HasPartlyServed sides stop frame now x old z new
+  partly stop request answer before given x y z old mid new read turned is_given gave reads taken it = record {
+    acts = (before ++ given) ++ (it.settled ++ it.followed);
     bytes = it.bytes;
     served = record {
       answer = answer;
+      before = before;
       first = given ++ it.settled;
       later = it.followed;
+      turned = turned;
       answered = answered request answer it.reply given it.settled it.bytes old.reads new.reads read is_given it.is_settled
           (subst (λ (n : ℕ). IsTold sides.gives (caller_of frame) it.reply n new.reads it.bytes) reads it.told);
-      are_both = sym (append_assoc given it.settled it.followed);
+      are_all = all_acts before given it.settled it.followed;
     };
-    happened = acts_then sides.makes sides.disk given (it.settled ++ it.followed) x y z old.place mid.place new.place gave it.happened;
+    happened = acts_then sides.makes sides.disk (before ++ given) (it.settled ++ it.followed) x y z old.place mid.place new.place gave it.happened;
+    stopped = stopped_behind stop (before ++ given) (it.settled ++ it.followed) it.stopped;
     took = λ tells. subst (λ (l : List ℕ). TookPart l new.taken it.bytes) taken (it.took tells);
   }
 
-  broken : (given : List Act) (x y z : C) (old mid new : Point D) → Acts sides.makes sides.disk given x old.place y mid.place → mid.taken ≡ old.taken → HasBroken sides y mid z new → HasBroken sides x old z new
-  broken given x y z old mid new gave taken it = record {
+  broken_on : (stop : Stop) (given : List Act) (x y z : C) (old mid new : Point D) → Acts sides.makes sides.disk given x old.place y mid.place → mid.taken ≡ old.taken
+      → HasBroken sides stop y mid z new → HasBroken sides stop x old z new
+  broken_on stop given x y z old mid new gave taken it = record {
     acts = given ++ it.acts;
     happened = acts_then sides.makes sides.disk given it.acts x y z old.place mid.place new.place gave it.happened;
+    stopped = stopped_behind stop given it.acts it.stopped;
     still = λ tells. it.still tells ∙ taken;
   }
 
-  by_caller : {A : Type 0} (request : Result Request RequestFault) (answer : Answer) (given : List Act) (result : Result A Stop) (x y z : C) (old mid new : Point D)
-      → Reads request (request_of frame.header frame.body) → IsGiven frame.header.code now request answer given
-      → Acts sides.makes sides.disk given x old.place y mid.place → mid.reads ≡ old.reads → mid.taken ≡ old.taken
+  -- an answer that was told, or on which serving broke off
+  either_broken : (stop : Stop) (request : Result Request RequestFault) (answer : Answer) (before given : List Act) (x y z : C) (old mid new : Point D)
+      → Reads request (request_of frame.header frame.body) → AreTurnsAndDispatch before → IsGiven frame.header.code now request answer given
+      → Acts sides.makes sides.disk (before ++ given) x old.place y mid.place → mid.reads ≡ old.reads → mid.taken ≡ old.taken
+      → HasPartly sides stop (caller_of frame) answer y mid z new ⊎ HasBroken sides stop y mid z new → HasPartlyServed sides stop frame now x old z new ⊎ HasBroken sides stop x old z new
+  either_broken stop request answer before given x y z old mid new read turned is_given gave reads taken = ⊎_elim
+      (λ (some : HasPartly sides stop (caller_of frame) answer y mid z new).
+      inl (partly stop request answer before given x y z old mid new read turned is_given gave reads taken some))
+      (λ (none : HasBroken sides stop y mid z new). inr (broken_on stop (before ++ given) x y z old mid new gave taken none))
+
+  by_caller : {A : Type 0} (request : Result Request RequestFault) (answer : Answer) (before given : List Act) (result : Result A Stop) (x y z : C) (old mid new : Point D)
+      → Reads request (request_of frame.header frame.body) → AreTurnsAndDispatch before → IsGiven frame.header.code now request answer given
+      → Acts sides.makes sides.disk (before ++ given) x old.place y mid.place → mid.reads ≡ old.reads → mid.taken ≡ old.taken
       → Answers sides (caller_of frame) answer result y mid z new → ServesAt sides frame now result x old z new
-  by_caller request answer given (Ok done) x y z old mid new read is_given gave reads taken it = record {
-    acts = given ++ (it.settled ++ it.followed);
+  by_caller request answer before given (Ok done) x y z old mid new read turned is_given gave reads taken it = record {
+    acts = (before ++ given) ++ (it.settled ++ it.followed);
     bytes = it.bytes;
     served = record {
       answer = answer;
+      before = before;
       first = given ++ it.settled;
       later = it.followed;
+      turned = turned;
       answered = answered request answer it.reply given it.settled it.bytes old.reads new.reads read is_given it.is_settled
           (subst (λ (n : ℕ). IsTold sides.gives (caller_of frame) it.reply n new.reads it.bytes) reads it.told);
       followed = it.is_followed;
-      are_both = sym (append_assoc given it.settled it.followed);
+      are_all = all_acts before given it.settled it.followed;
     };
-    happened = acts_then sides.makes sides.disk given (it.settled ++ it.followed) x y z old.place mid.place new.place gave it.happened;
+    happened = acts_then sides.makes sides.disk (before ++ given) (it.settled ++ it.followed) x y z old.place mid.place new.place gave it.happened;
     taken_is = λ tells. it.taken_is tells ∙ ap (λ (l : List ℕ). l ++ it.bytes) taken;
   }
-  by_caller request answer given (Err stops.Clock) x y z old mid new read is_given gave reads taken it = it
-  by_caller request answer given (Err stops.Sink) x y z old mid new read is_given gave reads taken it = partly request answer given x y z old mid new read is_given gave reads taken it
-  by_caller request answer given (Err stops.Memory) x y z old mid new read is_given gave reads taken it = ⊎_elim
-      (λ (some : HasPartly sides (caller_of frame) answer y mid z new). inl (partly request answer given x y z old mid new read is_given gave reads taken some))
-      (λ (none : HasBroken sides y mid z new). inr (broken given x y z old mid new gave taken none))
-      it
+  by_caller request answer before given (Err stops.Clock) x y z old mid new read turned is_given gave reads taken it = it
+  by_caller request answer before given (Err stops.Sink) x y z old mid new read turned is_given gave reads taken it =
+      partly stops.Sink request answer before given x y z old mid new read turned is_given gave reads taken it
+  by_caller request answer before given (Err stops.Memory) x y z old mid new read turned is_given gave reads taken it =
+      either_broken stops.Memory request answer before given x y z old mid new read turned is_given gave reads taken it
+  by_caller request answer before given (Err stops.Misplaced) x y z old mid new read turned is_given gave reads taken it =
+      either_broken stops.Misplaced request answer before given x y z old mid new read turned is_given gave reads taken it
 
-  -- what was heard was given to the broker, and its answer told
-  pub served_by : {A : Type 0} (heard : Heard) (answer : Answer) (code : ℤ) (caller : Caller) (result : Result A Stop) (x y z : C) (old mid new : Point D) → code ≡ heard.code
+  -- what was heard was not answered, since acts broke off
+  serves_broken : (fault : Broken) (x y : C) (old new : Point D) → Acted sides.makes sides.disk (BrokeBy fault) x old.place y new.place → new.taken ≡ old.taken
+      → ServesAt {A = Unit {0}} sides frame now (Err (stopped_by fault)) x old y new
+  serves_broken broken.Misplaced x y old new acted same =
+      inr (record { acts = acted.acts; happened = acted.happened; stopped = acted.kind; still = λ tells. same })
+  serves_broken broken.Memory x y old new acted same =
+      inr (record { acts = acted.acts; happened = acted.happened; stopped = tt; still = λ tells. same })
+
+  pub served_broken : (fault : Broken) (stop : Stop) (x y : C) (old new : Point D) → stop ≡ stopped_by fault → Acted sides.makes sides.disk (BrokeBy fault) x old.place y new.place
+      → new.taken ≡ old.taken → ServesAt {A = Unit {0}} sides frame now (Err stop) x old y new
+  served_broken fault stop x y old new by acted same =
+      subst (λ (s : Stop). ServesAt {A = Unit {0}} sides frame now (Err s) x old y new) (sym by) (serves_broken fault x y old new acted same)
+
+  -- the same behind turns
+  pub given_broken : (fault : Broken) (stop : Stop) (w x y : C) (place : Place D) (old new : Point D) → stop ≡ stopped_by fault
+      → Acted sides.makes sides.disk AreTurnsAndDispatch w old.place x place → Acted sides.makes sides.disk (BrokeBy fault) x place y new.place → new.taken ≡ old.taken
+      → ServesAt {A = Unit {0}} sides frame now (Err stop) w old y new
+  given_broken fault stop w x y place old new by turned acted same =
+      served_broken fault stop w y old new by (acted_broke sides.makes sides.disk AreTurnsAndDispatch fault w x y old.place place new.place turned acted) same
+
+  -- what was pending was flushed, and then what was heard was given to the broker, and its answer told
+  pub served_by : {A : Type 0} (heard : Heard) (answer : Answer) (code : ℤ) (caller : Caller) (result : Result A Stop) (w x y z : C) (place : Place D) (old mid new : Point D) → code ≡ heard.code
       → caller ≡ record { form = heard.form; opaque = heard.opaque; one_way = heard.one_way } → IsHeard heard frame
-      → Acted sides.makes sides.disk (Gives {E = AllocError} code now heard.request (Ok answer)) x old.place y mid.place → mid.reads ≡ old.reads → mid.taken ≡ old.taken
-      → Answers sides caller answer result y mid z new → ServesAt sides frame now result x old z new
-  served_by heard answer code caller result x y z old mid new same waits is gave reads taken it =
-      by_caller heard.request answer gave.acts result x y z old mid new is.request
-      (subst (λ (c : ℤ). IsGiven c now heard.request answer gave.acts) (same ∙ is.code) gave.kind) gave.happened reads taken
+      → Acted sides.makes sides.disk AreTurnsAndDispatch w old.place x place → Acted sides.makes sides.disk (Gives code now heard.request (Ok answer)) x place y mid.place
+      → mid.reads ≡ old.reads → mid.taken ≡ old.taken → Answers sides caller answer result y mid z new → ServesAt sides frame now result w old z new
+  served_by heard answer code caller result w x y z place old mid new same waits is turned gave reads taken it =
+      by_caller heard.request answer turned.acts gave.acts result w y z old mid new is.request turned.kind
+      (subst (λ (c : ℤ). IsGiven c now heard.request answer gave.acts) (same ∙ is.code) gave.kind)
+      (acts_then sides.makes sides.disk turned.acts gave.acts w x y old.place place mid.place turned.happened gave.happened) reads taken
       (subst (λ (c : Caller). Answers sides c answer result y mid z new) (waits ∙ caller_is heard frame is) it)

@@ -12,7 +12,7 @@ use Rattle.session.specs.declared.heard.Heard.{Heard}
 use Rattle.request_acts.specs.Acts.{Act}
 use Rattle.request_stream.specs.Serving.{Sides, Point, Ran, Broke, acts_of, begun_acts}
 use Rattle.request_stream.specs.declared.stop.Stop.{Stop}
-use Rattle.request_stream.specs.declared.stop.Stop.TheVariants.{Clock, Sink, Memory}
+use Rattle.request_stream.specs.declared.stop.Stop.TheVariants.{Clock, Sink, Memory, Misplaced}
 use Rattle.request_stream.specs.declared.stop.Halt.{Halt}
 use Rattle.request_stream.specs.declared.stop.Halt.TheVariants.{BadFrame, Read, Stopped}
 
@@ -24,6 +24,7 @@ CountsStop (Ok done) sink sink_then clock clock_then = (sink_then ≡ sink) × (
 CountsStop (Err Clock) sink sink_then clock clock_then = Rises clock clock_then
 CountsStop (Err Sink) sink sink_then clock clock_then = Rises sink sink_then
 CountsStop (Err Memory) sink sink_then clock clock_then = Unit {0}
+CountsStop (Err Misplaced) sink sink_then clock clock_then = Unit {0}
 
 -- of the frames that are held
 abbrev pub CountsHalt : {A : Type 0} → Result A Halt → ℕ → ℕ → ℕ → ℕ → Type 0

@@ -11,13 +11,13 @@ use Rattle.session.specs.Talks.{requests_of}
 use Rattle.session.specs.declared.caller.Caller.{Caller}
 use Rattle.session.specs.declared.owed.Awaits.{Awaits}
 use Rattle.worker_turns.specs.Turns.{Steps}
-use Rattle.request_acts.specs.Acts.{Act, Acts, DiskView, Place}
+use Rattle.request_acts.specs.Acts.{Act, Acts, DiskView, Place, HasUnwritten}
 use Rattle.request_acts.specs.Turning.{AreTurnsAndDispatch}
 use Rattle.request_acts.specs.Asking.{IsGiven, IsLooked}
 use Rattle.request_stream.specs.Telling.{IsTold, TookPart}
 use Rattle.request_acts.specs.declared.answer.Answer.{Answer}
 use Rattle.request_stream.specs.declared.stop.Stop.{Stop}
-use Rattle.request_stream.specs.declared.stop.Stop.TheVariants.{Clock, Sink, Memory}
+use Rattle.request_stream.specs.declared.stop.Stop.TheVariants.{Clock, Sink, Memory, Misplaced}
 
 -- who makes the broker's steps, what reads of stored pieces give, what is seen of the disk, and that the sink and the clock tell
 -- what they hold
@@ -80,22 +80,26 @@ pub record Served : Type 0 where
 abbrev pub served_as : Frame → ℕ → List Act → List ℕ → Served
 served_as frame reading acts bytes = record { frame = frame; reading = reading; acts = acts; bytes = bytes }
 
--- it was answered, and flush turns came behind a reply that was told at once
+-- what was pending was flushed, it was answered, and flush turns came behind a reply that was told at once
 pub record IsServed (gives : Giving) (it : Served) (faults faults_then : ℕ) : Type 0 where
   pub answer : Answer
+  pub before : List Act
   pub first : List Act
   pub later : List Act
+  pub turned : AreTurnsAndDispatch before
   pub answered : IsAnswered gives it.frame it.reading answer first it.bytes faults faults_then
   pub followed : IsFollowed answer.awaits later
-  pub are_both : it.acts ≡ first ++ later
+  pub are_all : it.acts ≡ before ++ (first ++ later)
 
 -- its answer was made, and then its serving broke off
 pub record IsPartly (gives : Giving) (it : Served) (faults faults_then : ℕ) : Type 0 where
   pub answer : Answer
+  pub before : List Act
   pub first : List Act
   pub later : List Act
+  pub turned : AreTurnsAndDispatch before
   pub answered : IsAnswered gives it.frame it.reading answer first it.bytes faults faults_then
-  pub are_both : it.acts ≡ first ++ later
+  pub are_all : it.acts ≡ before ++ (first ++ later)
 
 -- ---- many
 
@@ -155,6 +159,13 @@ IsNext Nothing left = Unit {0}
 IsNext (Asked it) [] = ⊥
 IsNext (Asked it) (frame ∷ left) = it.frame ≡ frame
 
+-- what the acts have where this broke them off: a batch that was taken and not written, where one was misplaced
+abbrev pub StoppedIn : Stop → List Act → Type 0
+StoppedIn Clock acts = Unit {0}
+StoppedIn Sink acts = Unit {0}
+StoppedIn Memory acts = Unit {0}
+StoppedIn Misplaced acts = HasUnwritten acts
+
 -- what was begun, by what broke it off
 abbrev pub Breaks : Giving → Stop → Begun → ℕ → ℕ → Type 0
 Breaks gives Clock begun faults faults_then = begun ≡ Nothing
@@ -162,6 +173,8 @@ Breaks gives Sink Nothing faults faults_then = ⊥
 Breaks gives Sink (Asked it) faults faults_then = IsPartly gives it faults faults_then
 Breaks gives Memory Nothing faults faults_then = Unit {0}
 Breaks gives Memory (Asked it) faults faults_then = (it.bytes ≡ []) ⊎ IsPartly gives it faults faults_then
+Breaks gives Misplaced Nothing faults faults_then = ⊥
+Breaks gives Misplaced (Asked it) faults faults_then = HasUnwritten it.acts × ((it.bytes ≡ []) ⊎ IsPartly gives it faults faults_then)
 
 -- The same where this ended it. What was written of the request that was begun is a front of its answer.
 pub record Broke {C D : Type 0} (sides : Sides C D) (stop : Stop) (frames : List Frame) (x : C) (old : Point D) (y : C) (new : Point D) : Type 0 where
@@ -197,7 +210,7 @@ pub record HasAnswered {C D : Type 0} (sides : Sides C D) (caller : Caller) (ans
   pub taken_is : sides.sink → new.taken ≡ old.taken ++ bytes
 
 -- it was made, and then its serving broke off
-pub record HasPartly {C D : Type 0} (sides : Sides C D) (caller : Caller) (answer : Answer) (x : C) (old : Point D) (y : C) (new : Point D) : Type 0 where
+pub record HasPartly {C D : Type 0} (sides : Sides C D) (stop : Stop) (caller : Caller) (answer : Answer) (x : C) (old : Point D) (y : C) (new : Point D) : Type 0 where
   pub settled : List Act
   pub followed : List Act
   pub reply : ReplyParts
@@ -205,20 +218,23 @@ pub record HasPartly {C D : Type 0} (sides : Sides C D) (caller : Caller) (answe
   pub is_settled : IsSettled answer.reply answer.awaits reply settled
   pub told : IsTold sides.gives caller reply old.reads new.reads bytes
   pub happened : Acts sides.makes sides.disk (settled ++ followed) x old.place y new.place
+  pub stopped : StoppedIn stop (settled ++ followed)
   pub took : sides.sink → TookPart old.taken new.taken bytes
 
 -- it was not made
-pub record HasBroken {C D : Type 0} (sides : Sides C D) (x : C) (old : Point D) (y : C) (new : Point D) : Type 0 where
+pub record HasBroken {C D : Type 0} (sides : Sides C D) (stop : Stop) (x : C) (old : Point D) (y : C) (new : Point D) : Type 0 where
   pub acts : List Act
   pub happened : Acts sides.makes sides.disk acts x old.place y new.place
+  pub stopped : StoppedIn stop acts
   pub still : sides.sink → new.taken ≡ old.taken
 
 -- which of them, by what ended it
 abbrev pub Answers : {C D A : Type 0} → Sides C D → Caller → Answer → Result A Stop → C → Point D → C → Point D → Type 0
 Answers sides caller answer (Ok done) x old y new = HasAnswered sides caller answer x old y new
 Answers sides caller answer (Err Clock) x old y new = ⊥
-Answers sides caller answer (Err Sink) x old y new = HasPartly sides caller answer x old y new
-Answers sides caller answer (Err Memory) x old y new = HasPartly sides caller answer x old y new ⊎ HasBroken sides x old y new
+Answers sides caller answer (Err Sink) x old y new = HasPartly sides Sink caller answer x old y new
+Answers sides caller answer (Err Memory) x old y new = HasPartly sides Memory caller answer x old y new ⊎ HasBroken sides Memory x old y new
+Answers sides caller answer (Err Misplaced) x old y new = HasPartly sides Misplaced caller answer x old y new ⊎ HasBroken sides Misplaced x old y new
 
 -- the frame's request was served
 pub record HasServed {C D : Type 0} (sides : Sides C D) (frame : Frame) (reading : ℕ) (x : C) (old : Point D) (y : C) (new : Point D) : Type 0 where
@@ -229,15 +245,17 @@ pub record HasServed {C D : Type 0} (sides : Sides C D) (frame : Frame) (reading
   pub taken_is : sides.sink → new.taken ≡ old.taken ++ bytes
 
 -- its answer was made, and then its serving broke off
-pub record HasPartlyServed {C D : Type 0} (sides : Sides C D) (frame : Frame) (reading : ℕ) (x : C) (old : Point D) (y : C) (new : Point D) : Type 0 where
+pub record HasPartlyServed {C D : Type 0} (sides : Sides C D) (stop : Stop) (frame : Frame) (reading : ℕ) (x : C) (old : Point D) (y : C) (new : Point D) : Type 0 where
   pub acts : List Act
   pub bytes : List ℕ
   pub served : IsPartly sides.gives (served_as frame reading acts bytes) old.reads new.reads
   pub happened : Acts sides.makes sides.disk acts x old.place y new.place
+  pub stopped : StoppedIn stop acts
   pub took : sides.sink → TookPart old.taken new.taken bytes
 
 abbrev pub ServesAt : {C D A : Type 0} → Sides C D → Frame → ℕ → Result A Stop → C → Point D → C → Point D → Type 0
 ServesAt sides frame reading (Ok done) x old y new = HasServed sides frame reading x old y new
 ServesAt sides frame reading (Err Clock) x old y new = ⊥
-ServesAt sides frame reading (Err Sink) x old y new = HasPartlyServed sides frame reading x old y new
-ServesAt sides frame reading (Err Memory) x old y new = HasPartlyServed sides frame reading x old y new ⊎ HasBroken sides x old y new
+ServesAt sides frame reading (Err Sink) x old y new = HasPartlyServed sides Sink frame reading x old y new
+ServesAt sides frame reading (Err Memory) x old y new = HasPartlyServed sides Memory frame reading x old y new ⊎ HasBroken sides Memory x old y new
+ServesAt sides frame reading (Err Misplaced) x old y new = HasPartlyServed sides Misplaced frame reading x old y new ⊎ HasBroken sides Misplaced x old y new

@@ -1,5 +1,5 @@
 -- Which bytes answer a request.
-use Rattle.std.specs.Prelude.{◌≡◌, ◌⊎◌, ℕ, ◌++◌, List, [], pos, codes, take, Bool, Result, Ok, Err}
+use Rattle.std.specs.Prelude.{◌≡◌, ◌⊎◌, ℕ, ◌++◌, List, [], pos, codes, Result, Ok, Err}
 use Rattle.mq_bytes.specs.Decimal.{digits_of}
 use Rattle.mq_outside.specs.Counts.{Rises}
 use Rattle.mq_outside.specs.Readings.{Giving}
@@ -8,7 +8,14 @@ use Rattle.reply_fields.specs.Replies.{AppendsReply}
 use Rattle.session.specs.declared.caller.Caller.{Caller}
 use Rattle.request_acts.specs.Asking.{Chooses}
 use Rattle.request_stream.specs.declared.stop.Stop.{Stop}
-use Rattle.request_stream.specs.declared.stop.Stop.TheVariants.{Clock, Sink, Memory}
+use Rattle.request_stream.specs.declared.stop.Stop.TheVariants.{Clock, Sink, Memory, Misplaced}
+use Rattle.request_acts.specs.declared.broken.Broken.{Broken}
+use Rattle.request_acts.specs.declared.broken.Broken.TheVariants as broken
+
+-- what broke acts off ends the reading
+abbrev pub stopped_by : Broken → Stop
+stopped_by broken.Misplaced = Misplaced
+stopped_by broken.Memory = Memory
 
 -- the reply where stored bytes could not be read, with the count of the reader's faults
 abbrev pub unread : ℕ → ReplyParts
@@ -48,6 +55,7 @@ Tells gives caller reply faults faults_then sink taken taken_then (Ok done) = Ha
 Tells gives caller reply faults faults_then sink taken taken_then (Err Clock) = ⊥
 Tells gives caller reply faults faults_then sink taken taken_then (Err Sink) = HasToldPart gives caller reply faults faults_then sink taken taken_then
 Tells gives caller reply faults faults_then sink taken taken_then (Err Memory) = sink → taken_then ≡ taken
+Tells gives caller reply faults faults_then sink taken taken_then (Err Misplaced) = ⊥
 
 -- of writing a piece: the sink's count rises exactly where it failed
 abbrev pub CountsTelling : {A : Type 0} → Result A Stop → ℕ → ℕ → Type 0
@@ -55,6 +63,7 @@ CountsTelling (Ok done) old new = new ≡ old
 CountsTelling (Err Clock) old new = ⊥
 CountsTelling (Err Sink) old new = Rises old new
 CountsTelling (Err Memory) old new = new ≡ old
+CountsTelling (Err Misplaced) old new = new ≡ old
 
 -- the bytes of `read N` behind these, where the reader has failed N times
 abbrev pub AppendsUnread : Giving → Caller → ℕ → ℕ → List ℕ → List ℕ → Type 0
@@ -78,3 +87,4 @@ WritesReply gives caller reply faults faults_then sink taken taken_then (Ok done
 WritesReply gives caller reply faults faults_then sink taken taken_then (Err Clock) = ⊥
 WritesReply gives caller reply faults faults_then sink taken taken_then (Err Sink) = HasWrittenPart gives caller reply faults faults_then sink taken taken_then
 WritesReply gives caller reply faults faults_then sink taken taken_then (Err Memory) = sink → taken_then ≡ taken
+WritesReply gives caller reply faults faults_then sink taken taken_then (Err Misplaced) = ⊥

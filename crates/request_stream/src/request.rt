@@ -10,7 +10,7 @@ ghost use Rattle.request_acts.specs.Acts.{IsFree, place_of, view_of};
 ghost use Rattle.request_stream.specs.Telling.{CountsTelling};
 ghost use Rattle.request_stream.specs.Serving.{Answers, ServesAt, sides_of, point_of};
 
-use crate::stop::Stop;
+use crate::stop::{Stop, stop_of};
 use crate::telling::tell;
 use broker_events::Calls;
 use group_flush::Flusher;
@@ -49,7 +49,7 @@ fn tell_at_once<C: Calls, D: Disk, R: Reader, K: Sink>(
         Err(stop) => Err(stop),
         Ok(()) => match flush_and_dispatch(alloc, calls, flusher, disk) {
             Ok(()) => Ok(()),
-            Err(_) => Err(Stop::Memory),
+            Err(broken) => Err(stop_of(broken)),
         },
     }
 }
@@ -81,7 +81,7 @@ fn tell_behind<C: Calls, D: Disk, R: Reader, K: Sink>(
     ensures cause { CountsTelling result (K.faults sink.old) (K.faults sink.new) }
 {
     match flush_and_look(alloc, calls, flusher, disk, reply, awaits) {
-        Err(_) => Err(Stop::Memory),
+        Err(broken) => Err(stop_of(broken)),
         Ok(told) => tell(alloc, caller, &told, reader, buffer, sink),
     }
 }
@@ -122,7 +122,7 @@ fn answer_request<C: Calls, D: Disk, R: Reader, K: Sink>(
     }
 }
 
-/// Serves a request at this reading of the clock, in milliseconds.
+/// Serves a request at this reading of the clock, in milliseconds. What is still pending is flushed before.
 #[tactic(auto, using(log_model::proofs::OutsideLemmas::outside_start))]
 pub(crate) fn serve_at<C: Calls, D: Disk, R: Reader, K: Sink>(
     alloc: Global,
@@ -148,6 +148,10 @@ pub(crate) fn serve_at<C: Calls, D: Disk, R: Reader, K: Sink>(
     ensures outside { D.tells → StaysOutside (D.state disk.old) (D.state disk.new) }
     ensures cause { CountsTelling result (K.faults sink.old) (K.faults sink.new) }
 {
+    match flush_and_dispatch(alloc, calls, flusher, disk) {
+        Err(broken) => return Err(stop_of(broken)),
+        Ok(()) => {}
+    }
     let caller = heard.caller();
     let Heard {
         form: _,
@@ -157,7 +161,7 @@ pub(crate) fn serve_at<C: Calls, D: Disk, R: Reader, K: Sink>(
         request,
     } = heard;
     match give_request(alloc, calls, flusher, disk, now, code, request) {
-        Err(_) => Err(Stop::Memory),
+        Err(broken) => Err(stop_of(broken)),
         Ok(answer) => answer_request(
             alloc, calls, flusher, disk, reader, buffer, sink, caller, answer,
         ),

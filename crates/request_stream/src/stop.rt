@@ -1,5 +1,10 @@
 //! What ends the reading.
 
+ghost use Rattle.std.specs.Prelude.{◌≡◌};
+ghost use Rattle.request_stream.specs.Telling.{stopped_by};
+
+use request_acts::Broken;
+
 /// What ends the reading before the source does.
 #[derive(Clone, Copy, Debug, PartialEq, Eq)]
 pub enum Stop {
@@ -9,6 +14,18 @@ pub enum Stop {
     Sink,
     /// There is no memory.
     Memory,
+    /// A batch doesn't begin where the flusher writes. It never comes where one caller has the broker alone.
+    Misplaced,
+}
+
+// What broke acts off ends the reading.
+pub(crate) fn stop_of(broken: Broken) -> Stop
+    ensures { result ≡ stopped_by broken }
+{
+    match broken {
+        Broken::Misplaced => Stop::Misplaced,
+        Broken::Memory => Stop::Memory,
+    }
 }
 
 /// Why reading ended before the source's end.

@@ -1,9 +1,8 @@
 use Rattle.std.proofs.Common.{[], refl}
 use Rattle.log_model.proofs.OutsideLemmas.{outside_start, outside_then}
 use Rattle.request_acts.specs.Asking.{AreTries}
-use Rattle.request_acts.proofs.ActLemmas.{acted_none, acted_any}
+use Rattle.request_acts.proofs.ActLemmas.{acted_none, acted_any, acted_broke}
 use Rattle.request_acts.proofs.AskLemmas.{tries_more, tries_answered}
-use Rattle.request_acts.proofs.TurningLemmas.{any_then}
 use Rattle.request_acts.proofs.asking.ask.Goals as goal
 
 pub loop-i-init : goal.loop-i-init
@@ -23,7 +22,7 @@ loop-i-preserved g c = record {
 }
 
 pub returns-in-Err-clause-acted : goal.returns-in-Err-clause-acted
-returns-in-Err-clause-acted g c = any_then _ _ _ _ _ _ _ _ _ _ c.loop-i.invariant.acted c.in-Err.ensures.acted
+returns-in-Err-clause-acted g c = acted_broke _ _ _ c.in-Err.fault _ _ _ _ _ _ c.loop-i.invariant.acted c.in-Err.ensures.acted
 
 pub returns-in-Ok-Some-clause-acted : goal.returns-in-Ok-Some-clause-acted
 returns-in-Ok-Some-clause-acted g c =

@@ -1,9 +1,8 @@
-use Rattle.std.proofs.Common.{◌≡◌, ◌∙◌, ℤ, IfOk, sym, subst}
+use Rattle.std.proofs.Common.{◌≡◌, ◌∙◌, ℤ, sym, subst}
 use Rattle.std.proofs.lemmas.Int.{to_z-of_z}
 use Rattle.std.specs.Int.{w32}
 use Rattle.request_fields.specs.declared.fault.RequestFault.TheVariants.{Unsupported}
-use Rattle.request_acts.specs.Asking.{refusal}
-use Rattle.request_acts.specs.declared.answer.Answer.{Answer}
+use Rattle.request_acts.specs.Asking.{Refuses}
 use Rattle.request_acts.proofs.AskLemmas.{gives_served, gives_unserved, gives_fault}
 use Rattle.request_acts.proofs.asking.give_request.Goals as goal
 
@@ -16,6 +15,6 @@ returns-then-is_served-clause-acted g c =
 
 pub returns-else-is_served-clause-acted : goal.returns-else-is_served-clause-acted
 returns-else-is_served-clause-acted g c =
-    let told = subst (λ (z : ℤ). IfOk c.refuse-else-is_served.result (λ (answer : Answer). answer ≡ refusal (Unsupported z)))
+    let told = subst (λ (z : ℤ). Refuses (Unsupported z) c.refuse-else-is_served.result)
     (to_z-of_z w32 c.args.code c.ranges.code) c.refuse-else-is_served.ensures in
     rw c.in-Ok.is (gives_unserved _ _ c.args.code c.args.now c.in-Ok.request c.refuse-else-is_served.result _ _ (sym c.is_served.ensures ∙ c.if-is_served.false) told)

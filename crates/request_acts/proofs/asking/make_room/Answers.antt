@@ -6,7 +6,8 @@ pub returns-in-Idle-clause-acted : goal.returns-in-Idle-clause-acted
 returns-in-Idle-clause-acted g c = acted_any _ _ _ _ _ _ _ c.in-Idle.ensures.acted
 
 pub returns-in-Misplaced-clause-acted : goal.returns-in-Misplaced-clause-acted
-returns-in-Misplaced-clause-acted g c = acted_any _ _ _ _ _ _ _ c.in-Misplaced.ensures.acted
+returns-in-Misplaced-clause-acted g c =
+    record { acts = c.in-Misplaced.ensures.acted.acts; kind = c.in-Misplaced.ensures.acted.kind; happened = c.in-Misplaced.ensures.acted.happened }
 
 pub returns-in-Memory-clause-acted : goal.returns-in-Memory-clause-acted
 returns-in-Memory-clause-acted g c = acted_any _ _ _ _ _ _ _ c.in-Memory.ensures.acted

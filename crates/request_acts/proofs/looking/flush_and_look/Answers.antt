@@ -1,9 +1,9 @@
-use Rattle.request_acts.proofs.ActLemmas.{acted_any}
 use Rattle.request_acts.proofs.AskLemmas.{looks_told}
 use Rattle.request_acts.proofs.looking.flush_and_look.Goals as goal
 
 pub returns-in-Err-clause-acted : goal.returns-in-Err-clause-acted
-returns-in-Err-clause-acted g c = acted_any _ _ _ _ _ _ _ c.in-Err.ensures.acted
+returns-in-Err-clause-acted g c =
+    record { acts = c.in-Err.ensures.acted.acts; kind = c.in-Err.ensures.acted.kind; happened = c.in-Err.ensures.acted.happened }
 
 pub returns-in-Ok-clause-acted : goal.returns-in-Ok-clause-acted
 returns-in-Ok-clause-acted g c =

@@ -1,7 +1,8 @@
 use Rattle.std.proofs.Common.{◌∙◌, [], refl}
 use Rattle.log_model.proofs.OutsideLemmas.{outside_start, outside_then}
 use Rattle.request_acts.specs.Turning.{AreOk}
-use Rattle.request_acts.proofs.ActLemmas.{acted_none, acted_as}
+use Rattle.request_acts.proofs.ActLemmas.{acted_none, acted_as, acted_broke}
+use Rattle.request_acts.specs.declared.broken.Broken.TheVariants.{Misplaced}
 use Rattle.request_acts.proofs.TurningLemmas.{turns_more, turns_idle, turns_failed, any_then}
 use Rattle.request_acts.proofs.turning.flush_all.Goals as goal
 
@@ -30,7 +31,7 @@ pub returns-in-Failed-clause-acted : goal.returns-in-Failed-clause-acted
 returns-in-Failed-clause-acted g c = turns_failed _ _ _ _ _ _ _ _ c.in-Failed.count c.loop-i.invariant.acted c.in-Failed.ensures.acted
 
 pub returns-in-Misplaced-clause-acted : goal.returns-in-Misplaced-clause-acted
-returns-in-Misplaced-clause-acted g c = any_then _ _ _ _ _ _ _ _ AreOk _ c.loop-i.invariant.acted c.in-Misplaced.ensures.acted
+returns-in-Misplaced-clause-acted g c = acted_broke _ _ AreOk Misplaced _ _ _ _ _ _ c.loop-i.invariant.acted c.in-Misplaced.ensures.acted
 
 pub returns-in-Memory-clause-acted : goal.returns-in-Memory-clause-acted
 returns-in-Memory-clause-acted g c = any_then _ _ _ _ _ _ _ _ AreOk _ c.loop-i.invariant.acted c.in-Memory.ensures.acted

@@ -1,4 +1,4 @@
-use Rattle.std.proofs.Common.{◌∙◌, refl, arith}
+use Rattle.std.proofs.Common.{◌∙◌, refl}
 use Rattle.log_model.proofs.OutsideLemmas.{outside_start, outside_then}
 use Rattle.request_stream.proofs.HeldLemmas.{heard_strict, held_start, held_more, held_broke, held_ended, held_halted, counts_none, counts_later}
 use Rattle.request_stream.proofs.held.serve_held.Goals as goal

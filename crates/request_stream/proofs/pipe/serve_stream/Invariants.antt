@@ -1,4 +1,4 @@
-use Rattle.std.proofs.Common.{◌≡◌, List, ◌≤◌, ◌-◌, ◌^◌, Ok, None}
+use Rattle.std.proofs.Common.{◌≡◌, ◌≤◌, ◌-◌, ◌^◌, Ok, None}
 use Rattle.remoting_frame.specs.Frames.{next_of}
 use Rattle.log_model.specs.Stored.{StaysOutside}
 use Rattle.segment_files.specs.Turn.{IsInside}

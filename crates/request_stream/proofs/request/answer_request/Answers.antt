@@ -1,4 +1,3 @@
-use Rattle.std.proofs.Common.{ap}
 use Rattle.request_stream.proofs.request.answer_request.Goals as goal
 
 pub returns-in-None-clause-answered : goal.returns-in-None-clause-answered

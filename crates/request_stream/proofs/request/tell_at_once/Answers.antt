@@ -1,5 +1,5 @@
 use Rattle.request_stream.proofs.TellingLemmas.{for_answer, broken_at_once, told_at_once, broken_behind}
-use Rattle.std.proofs.Common.{inl, Err}
+use Rattle.std.proofs.Common.{Err}
 use Rattle.request_stream.proofs.request.tell_at_once.Goals as goal
 
 pub returns-in-Err-clause-answered : goal.returns-in-Err-clause-answered
@@ -12,4 +12,5 @@ returns-in-Ok-flush_and_dispatch-clause-answered g c = λ answer is.
 
 pub returns-in-Err-flush_and_dispatch-clause-answered : goal.returns-in-Err-flush_and_dispatch-clause-answered
 returns-in-Err-flush_and_dispatch-clause-answered g c = λ answer is.
-    rw is (inl (broken_behind _ c.args.caller c.args.reply.now _ _ _ _ _ _ _ _ _ _ c.in-Ok.ensures.told c.in-Err-flush_and_dispatch.ensures.acted))
+    broken_behind _ c.args.caller answer c.args.reply.now c.in-Err-flush_and_dispatch.broken c.stop_of.result _ _ _ _ _ _ _ _ _ is c.stop_of.ensures c.in-Ok.ensures.told
+    c.in-Err-flush_and_dispatch.ensures.acted

@@ -1,10 +1,9 @@
-use Rattle.std.proofs.Common.{inr, refl}
-use Rattle.request_stream.proofs.TellingLemmas.{for_answer, told_behind}
+use Rattle.request_stream.proofs.TellingLemmas.{for_answer, broken_before, told_behind}
 use Rattle.request_stream.proofs.request.tell_behind.Goals as goal
 
 pub returns-in-Err-clause-answered : goal.returns-in-Err-clause-answered
 returns-in-Err-clause-answered g c = λ answer is.
-    inr (record { acts = c.in-Err.ensures.acted.acts; happened = c.in-Err.ensures.acted.happened; still = λ tells. refl })
+    broken_before _ c.args.caller answer c.in-Err.broken c.stop_of.result _ _ _ _ _ _ _ c.stop_of.ensures c.in-Err.ensures.acted
 
 pub returns-in-Ok-clause-answered : goal.returns-in-Ok-clause-answered
 returns-in-Ok-clause-answered g c = λ answer is.
