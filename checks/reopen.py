@@ -6,6 +6,7 @@ says, with its body, and to be pulled by the next run from the queue and the off
 """
 import os
 import random
+import resource
 import signal
 import subprocess
 import time
@@ -66,6 +67,33 @@ def _(folder):
     assert [place_of(replies(run(send(k, b"x" * 3000), folder, words)[1])[0]) for k, words in ((1, ("pipe",)), (2, SEGMENT))] == [4096, 8192]
 
 
+def run_short(data, folder, *words):
+    """A run in which no file may grow past 4,096 bytes."""
+    def limit():
+        signal.signal(signal.SIGXFSZ, signal.SIG_IGN)
+        resource.setrlimit(resource.RLIMIT_FSIZE, (4096, 4096))
+    done = subprocess.run([PROGRAM, "pipe", *words], input=data, cwd=folder, stdout=subprocess.PIPE, preexec_fn=limit, timeout=120)
+    return done.returncode, all_replies(done.stdout)
+
+
+@check("where each write fails, each send is told so with the count, and one more that the buffer is full; then the status is 5")
+def _(folder):
+    run(b"", folder)
+    status, told = run_short(b"".join(send(k, b"x" * 4194304) for k in range(16)), folder)
+    expected = [(10, "flush %d" % (2 * k + 1)) for k in range(15)] + [(1, "disk 31")]
+    assert [(r["code"], r["remark"]) for r in told] == expected, [(r["code"], r.get("remark")) for r in told]
+    assert status == 5 and run(b"", folder)[0] == 0 and records(folder) == []
+
+
+@check("with --flush async a send is answered before its flush, whose failure is the status alone")
+def _(folder):
+    run(b"", folder)
+    status, told = run_short(send(0, b"x" * 5000) + send(1, b"y"), folder, "--flush", "async")
+    assert (status, [r["code"] for r in told]) == (5, [0, 0])
+    status, told = run_short(send(0, b"x" * 5000), folder, "--flush", "sync")
+    assert (status, [r["code"] for r in told]) == (5, [10])
+
+
 def pulled_back(folder, queues):
     """All that the next run lets consumers see of these queues, from each queue and offset to the place and the body."""
     found, asked = {}, {queue: 0 for queue in queues}
@@ -123,3 +151,26 @@ def _(folder):
     assert {place for place, _ in found.values()} == set(stored)
     ends = [r["place"] for r in records(folder)]
     assert ends == sorted(ends) and len(known) > 100, len(known)
+
+
+@check("a new store has the sizes that were asked for, which stay its own, and message ids tell the host")
+def _(folder):
+    def text():
+        return open(os.path.join(folder, "store/config/format"), "rb").read()
+    words = ("pipe", "--entries", "20", "--host", "10.1.2.3:4000", "--segment", "8192", "--slots", "7")
+    status, out = run(send(0, b"hi"), folder, words)
+    assert status == 0 and replies(out)[0]["extFields"]["msgId"] == "0A01020300000FA00000000000000000"
+    assert text() == b"mq_broker 1 8192 7 20\n"
+    assert run(b"", folder)[0] == 0 and run(b"", folder, words)[0] == 0 and text() == b"mq_broker 1 8192 7 20\n"
+    for wrong in (("--entries", "21"), ("--slots", "8"), ("--segment", "4096")):
+        assert run(b"", folder, ("pipe", *wrong)) == (6, b""), wrong
+
+
+@check("arguments that don't fit are status 1, and no store is made")
+def _(folder):
+    rows = [(), ("pip",), ("pipe", "--flush"), ("pipe", "--flush", "often"), ("pipe", "--host", "1.2.3:4"), ("pipe", "--host", "1.2.3.4:0"), ("pipe", "--slots", "0"),
+            ("pipe", "--entries", "1"), ("pipe", "--segment", "4095"), ("pipe", "--segment", "04096"), ("pipe", "--links", "1"),
+            ("pipe", "--flush", "sync", "--flush", "sync")]
+    for words in rows:
+        assert run(send(0, b"hi"), folder, words) == (1, b""), words
+    assert not os.path.exists(os.path.join(folder, "store"))
