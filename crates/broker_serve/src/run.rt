@@ -11,6 +11,7 @@ ghost use Rattle.store_open.specs.Openings.{FORMAT, IsForeign, IsOpened};
 ghost use Rattle.store_open.specs.Words.{texts_of};
 ghost use Rattle.store_open.specs.ServeWords.{IsServeCommand, IsFirstWrongOfServe};
 ghost use Rattle.store_open.specs.Statuses.{FitsTable};
+ghost use Rattle.store_open.specs.declared.format.Sizes.{Sizes as TheSizes};
 ghost use Rattle.store_open.specs.declared.serve_words.ServeCommand.{ServeCommand as ACommand};
 ghost use Rattle.broker_serve.specs.Serves.{StandsSince, HasServed};
 
@@ -281,13 +282,13 @@ where
 
     // Where links were served, they were served by the core of the log, which is the one that recovery keeps of the disk's files.
     // The core that is left stands for one history of steps since.
-    ensures served { IfSome result.core (λ core. (command : ACommand) × (segment : ℕ) × (IsServeCommand (texts_of words.now) command
-        × IsOpened command.segment segment D.tells (D.state disk).reads E.tells (E.state keep.old) (E.state keep.new))
-        × HasServed command segment D.tells (D.state disk).reads core) }
+    ensures served { IfSome result.core (λ core. (command : ACommand) × (sizes : TheSizes) × (IsServeCommand (texts_of words.now) command
+        × IsOpened command.sizes sizes D.tells (D.state disk).reads E.tells (E.state keep.old) (E.state keep.new))
+        × HasServed command sizes.segment D.tells (D.state disk).reads core) }
 
     // Status 6 comes where the store is another's, with the name of what shows it. The keep stays as it is.
     ensures foreign { D.tells → E.tells → result.status.code ≡ 6 → (command : ACommand) × IsServeCommand (texts_of words.now) command
-        × IsForeign (D.state disk).reads ((E.state keep.old).reads FORMAT) command.segment result.status.name }
+        × IsForeign (D.state disk).reads ((E.state keep.old).reads FORMAT) command.sizes result.status.name }
     ensures theirs { E.tells → result.status.code ≡ 6 → Moves Same (E.state keep.old) (E.state keep.new) }
 
     // The disk's files outside the log's folder stay, and so does each text of the keep but the format of a new store.
@@ -303,8 +304,8 @@ where
         Ok(command) => command,
     };
     let mut disk = disk;
-    match open_format(alloc, &mut disk, keep, command.segment) {
+    match open_format(alloc, &mut disk, keep, &command.sizes) {
         Err(status) => unserved(disk, status),
-        Ok(segment) => serve_store(rt, alloc, &command, segment, world, disk),
+        Ok(sizes) => serve_store(rt, alloc, &command, sizes.segment, world, disk),
     }
 }
