@@ -1,2 +1,3 @@
+pub mod OfLink
 pub mod Transcribing
 pub mod Went

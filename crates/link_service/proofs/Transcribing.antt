@@ -4,7 +4,8 @@ use Rattle.mq_outside.specs.Readings.{Giving}
 use Rattle.session.specs.Serving.{Made}
 use Rattle.session.specs.Sessions.{Call, fed, served, gave_up, settled, sent, AreCalls, IsNew, RepliesInOrder, sent_in, stream_of, sent_of, made_of}
 use Rattle.session.specs.declared.session.Session.{Session}
-use Rattle.link_service.specs.Transcripts.{Seen, FindsNoMemory, IsCallOf, AreCallsOf, WentOn, IsFresh, Ends, IsTranscript}
+use Rattle.link_service.specs.Transcripts.{Seen, FindsNoMemory, IsCallOf, AreCallsOf, AreOfLink, WentOn, IsFresh, Ends, IsTranscript}
+use Rattle.link_service.proofs.OfLink.{went_of_link}
 use Rattle.link_service.proofs.Went.{sent_append}
 
 -- calls of which memory sufficed, and at the end maybe one for which it didn't
@@ -81,4 +82,5 @@ transcribed tells gives number host first made now law fresh went =
       taken = λ told. went.taken told ∙ ap (λ (l : List ℕ). l ++ sent_of went.calls) (fresh.taken told) ∙ ap (λ (l : List Call). sent_of l) split.both
           ∙ sent_append split.front split.end ∙ ap (λ (l : List ℕ). sent_of split.front ++ l) (ends_sending gives split.last split.end now.broken now.session split.ends)
           ∙ append-nil (sent_of split.front);
+      of_link = subst (λ (link : ℕ). AreOfLink link made) fresh.link.0 (went_of_link tells gives first made now went);
     }

@@ -1,7 +1,10 @@
 -- What passes do for a link: the calls of its session, what these heard of the link and sent to it, and the steps of the broker that
 -- they made.
-use Rattle.std.specs.Prelude.{◌≡◌, ◌++◌, ℕ, List, [], ◌∷◌, Bool, true, false, None, Err}
+use Rattle.std.specs.Prelude.{◌≡◌, ◌⊎◌, ◌++◌, ℕ, List, [], ◌∷◌, Bool, true, false, None, Err}
 use Rattle.mq_outside.specs.Readings.{Giving}
+use Rattle.request_fields.specs.declared.request.Request.{Request}
+use Rattle.broker_events.specs.declared.event.Event.{Event}
+use Rattle.broker_events.specs.declared.event.Event.TheVariants as events
 use Rattle.session.specs.Serving.{Made, KeepsLink, KeepsOut, KeepsRest, ServesNext, GivesUp}
 use Rattle.session.specs.Settling.{IsBroken}
 use Rattle.session.specs.Sessions.{Call, fed, served, gave_up, settled, sent, IsCall, IsNew, RepliesInOrder, stream_of, sent_of, made_of}
@@ -76,6 +79,18 @@ pub record WentOnUnread (tells : Type 0) (old : Seen) (made : Made) (new : Seen)
   pub went : WentOn tells gives_nothing old made new
   pub none : NoneSettled went.calls
 
+-- ---- steps of a link
+
+-- the event is a request of this link, or a look for a record
+abbrev pub IsOfLink : ℕ → Event → Type 0
+IsOfLink link event = ((host : List ℕ) × (now : ℕ) × (request : Request) × (event ≡ events.Request link host now request))
+    ⊎ ((number : ℕ) × (turn : ℕ) × (event ≡ events.Look number turn))
+
+-- all of them are
+abbrev pub AreOfLink : ℕ → Made → Type 0
+AreOfLink link [] = Unit {0}
+AreOfLink link (step ∷ steps) = IsOfLink link step.0 × AreOfLink link steps
+
 -- ---- the transcript of a link
 
 -- nothing came of it yet
@@ -92,7 +107,7 @@ Ends gives last [] broken new = new ≡ last
 Ends gives last (call ∷ more) broken new = (more ≡ []) × (broken ≡ true) × FindsNoMemory gives last call new
 
 -- What passes did for a link from its beginning on: calls of its session, and at the end maybe one that found no memory. What it was sent
--- are the replies to the first requests of what it gave, in order.
+-- are the replies to the first requests of what it gave, in order; and each step is a request of the link, or a look.
 pub record IsTranscript (tells : Type 0) (gives : Giving) (number : ℕ) (host : List ℕ) (made : Made) (now : Seen) : Type 0 where
   pub first : Seen
   pub fresh : IsFresh tells number host first
@@ -104,3 +119,4 @@ pub record IsTranscript (tells : Type 0) (gives : Giving) (number : ℕ) (host :
   pub steps : made ≡ made_of (calls ++ end)
   pub given : tells → now.given ≡ stream_of (calls ++ end)
   pub taken : tells → now.taken ≡ sent_of calls
+  pub of_link : AreOfLink number made

@@ -35,7 +35,7 @@ pub struct Linked<L: Link + Drop> {
     pub(crate) deaf: bool,
     // It may hold a whole request that was not served yet.
     pub(crate) behind: bool,
-    // Further replies may be due at once.
+    // Replies may be due, or unsent and taken at once, that its last pass did not come to.
     pub(crate) owes: bool,
     // It failed, or there was no memory for it.
     pub(crate) broken: bool,
@@ -261,6 +261,7 @@ impl<L: Link + Drop> Linked<L> {
             }
             self.write();
             if !self.session.unsent().is_empty() {
+                self.owes = self.writable;
                 return;
             }
         }

@@ -1,0 +1,108 @@
+-- Each step of a link's passes is a request of the link, or a look.
+use Rattle.std.proofs.Common.{◌≡◌, ◌⊎◌, ⊎_elim, inl, inr, ℕ, List, [], ◌∷◌, ◌++◌, Bool, true, false, Option, Some, None, Result, Ok, Err, refl, sym, ap, ◌∙◌, subst}
+use Rattle.mq_outside.specs.Readings.{Giving}
+use Rattle.reply_fields.specs.Parts.{ReplyParts}
+use Rattle.session.specs.Serving.{Made, IsAsked, IsAnswered, Rests, ServesNext}
+use Rattle.session.specs.Settling.{IsDueAfter, IsNotYet, Waits, LooksFor, Settles, IsSettled, IsBroken, Stops}
+use Rattle.session.specs.Sessions.{Call, fed, served, gave_up, settled, sent, made_in, made_of}
+use Rattle.session.specs.declared.heard.Heard.{Heard}
+use Rattle.session.specs.declared.owed.Applied.{Applied}
+use Rattle.session.specs.declared.owed.Awaits.{Awaits}
+use Rattle.session.specs.declared.owed.Owed.{Owed}
+use Rattle.session.specs.declared.serving.Halt.{Halt}
+use Rattle.session.specs.declared.serving.Halt.TheVariants as halts
+use Rattle.session.specs.declared.serving.Step.{Step}
+use Rattle.session.specs.declared.serving.Step.TheVariants as steps
+use Rattle.session.specs.declared.session.Session.{Session}
+use Rattle.session.specs.declared.talk.Talk.{Talk}
+use Rattle.link_service.specs.Transcripts.{Seen, IsOfLink, AreOfLink, IsCallOf, AreCallsOf, WentOn}
+
+of_append : (link : ℕ) (xs ys : Made) → AreOfLink link xs → AreOfLink link ys → AreOfLink link (xs ++ ys)
+of_append link [] ys are more = more
+of_append link (x ∷ xs) ys are more = (are.0, of_append link xs ys are.1 more)
+
+of_none : (link : ℕ) (made : Made) → made ≡ [] → AreOfLink link made
+of_none link made none = subst (λ (m : Made). AreOfLink link m) (sym none) tt
+
+of_both : (link : ℕ) (made first last : Made) → made ≡ first ++ last → AreOfLink link first → AreOfLink link last → AreOfLink link made
+of_both link made first last both are more = subst (λ (m : Made). AreOfLink link m) (sym both) (of_append link first last are more)
+
+-- ---- requests
+
+asked_of : (talk : Talk) (now : ℕ) (heard : Heard) (applied : Applied) (made : Made) → IsAsked talk now heard applied made → AreOfLink talk.link made
+asked_of talk now heard applied made is = subst (λ (m : Made). AreOfLink talk.link m) (sym is.one) (inl (talk.host, now, is.request, refl), tt)
+
+answered_of : (talk : Talk) (now : ℕ) (heard : Heard) (owed : Owed) (made : Made) → IsAnswered talk now heard owed made → AreOfLink talk.link made
+answered_of talk now heard owed made is =
+    ⊎_elim (λ refused. of_none talk.link made refused.none) (λ asked. asked_of talk now heard _ made asked) is.comes
+
+serves_of : (now : ℕ) (old : Session) (made : Made) (result : Result Step Halt) (new : Session) → ServesNext now old made result new → AreOfLink old.talk.link made
+serves_of now old made (Ok steps.Request) new is = answered_of old.talk now is.heard is.owed made is.answered
+serves_of now old made (Ok steps.Nothing) new is = of_none old.talk.link made is.0.none
+serves_of now old made (Ok steps.Full) new is = asked_of old.talk now is.heard _ made is.asked
+serves_of now old made (Err (halts.BadFrame at)) new is = of_none old.talk.link made is.0.none
+serves_of now old made (Err halts.Memory) new is =
+    ⊎_elim (λ rests. of_none old.talk.link made rests.0.none) (λ loses. answered_of old.talk now loses.heard loses.owed made loses.answered) is
+
+-- ---- looks
+
+due_of : (link : ℕ) (awaits : Option Awaits) (reply due : ReplyParts) (made : Made) → IsDueAfter awaits reply due made → AreOfLink link made
+due_of link None reply due made is = of_none link made is.1
+due_of link (Some awaits) reply due made is =
+    subst (λ (m : Made). AreOfLink link m) (sym is.2) (inr (awaits.number, awaits.turn, refl), tt)
+
+not_yet_of : (link : ℕ) (awaits : Option Awaits) (made : Made) → IsNotYet awaits made → AreOfLink link made
+not_yet_of link None made is = absurd is
+not_yet_of link (Some awaits) made is = subst (λ (m : Made). AreOfLink link m) (sym is) (inr (awaits.number, awaits.turn, refl), tt)
+
+waits_of : (link : ℕ) (owed : List Owed) (made : Made) → Waits owed made → AreOfLink link made
+waits_of link [] made is = of_none link made is
+waits_of link (owed ∷ more) made is = not_yet_of link owed.awaits made is
+
+looked_of : (link : ℕ) (awaits : Option Awaits) (made : Made) → LooksFor awaits made → AreOfLink link made
+looked_of link None made is = of_none link made is
+looked_of link (Some awaits) made is = subst (λ (m : Made). AreOfLink link m) (sym is.1) (inr (awaits.number, awaits.turn, refl), tt)
+
+settles_of : (link : ℕ) (gives : Giving) (owed : List Owed) (old : List ℕ) (made : Made) (new : List ℕ) → Settles gives owed old made new → AreOfLink link made
+settles_of link gives [] old made new is = of_none link made is.0
+settles_of link gives (owed ∷ more) old made new is =
+    of_both link made is.1 is.2 is.3 (due_of link owed.awaits owed.reply is.4.due is.1 is.4.is) (settles_of link gives more is.0 is.2 new is.5)
+
+stops_of : (link : ℕ) (session : Session) (made : Made) → Stops session made → AreOfLink link made
+stops_of link session made is = ⊎_elim (λ waits. waits_of link session.owed.items made waits) (λ many. of_none link made many.1) is
+
+settled_of : (link : ℕ) (gives : Giving) (old : Session) (made : Made) (new : Session) → IsSettled gives old made new → AreOfLink link made
+settled_of link gives old made new is =
+    of_both link made is.first is.last is.both (settles_of link gives is.settled old.out.items is.first new.out.items is.puts) (stops_of link new is.last is.stops)
+
+broken_of : (link : ℕ) (gives : Giving) (old : Session) (made : Made) (new : Session) → IsBroken gives old made new → AreOfLink link made
+broken_of link gives old made new is =
+    of_both link made is.first is.last is.both (settles_of link gives is.settled old.out.items is.first new.out.items is.puts) (looked_of link is.lost.awaits is.last is.looked)
+
+-- ---- calls
+
+-- the steps of a call are the link's, and the link stays
+call_of : (gives : Giving) (old : Session) (call : Call) (broken : Bool) (new : Session) → IsCallOf gives old call broken new
+    → AreOfLink old.talk.link (made_in call) × (new.talk.link ≡ old.talk.link)
+call_of gives old (fed piece) false new is = (tt, is.1.link.0)
+call_of gives old (fed piece) true new is = (tt, is.1.link.0)
+call_of gives old (served now made result) false new is = (serves_of now old made result new is.1, is.2.0)
+call_of gives old (served now made result) true new is = (serves_of now old made result new is.1, is.2.0)
+call_of gives old (gave_up count) false new is = (tt, ap (λ (t : Talk). t.link) is.2)
+call_of gives old (gave_up count) true new is = (tt, ap (λ (t : Talk). t.link) is.2)
+call_of gives old (settled made) false new is = (settled_of old.talk.link gives old made new is.0, ap (λ (t : Talk). t.link) is.2)
+call_of gives old (settled made) true new is = (broken_of old.talk.link gives old made new is.0, ap (λ (t : Talk). t.link) is.2)
+call_of gives old (sent count bytes) false new is = (tt, ap (λ (t : Talk). t.link) is.3)
+call_of gives old (sent count bytes) true new is = absurd is
+
+calls_of : (gives : Giving) (broken : Bool) (old : Session) (calls : List Call) (breaks : Bool) (new : Session) → AreCallsOf gives broken old calls breaks new
+    → AreOfLink old.talk.link (made_of calls)
+calls_of gives broken old [] breaks new are = tt
+calls_of gives broken old (call ∷ calls) breaks new are =
+    let first = call_of gives old call are.2 are.1 are.3 in
+    of_append old.talk.link (made_in call) (made_of calls) first.0
+    (subst (λ (link : ℕ). AreOfLink link (made_of calls)) first.1 (calls_of gives are.2 are.1 calls breaks new are.4))
+
+pub went_of_link : (tells : Type 0) (gives : Giving) (old : Seen) (made : Made) (new : Seen) → WentOn tells gives old made new → AreOfLink old.session.talk.link made
+went_of_link tells gives old made new went =
+    subst (λ (m : Made). AreOfLink old.session.talk.link m) (sym went.steps) (calls_of gives old.broken old.session went.calls new.broken new.session went.are)
