@@ -3,7 +3,6 @@ pub mod Asked
 pub mod Carries
 pub mod Loads
 pub mod Makes
-pub mod Owner
 pub mod Pieces
 pub mod Reads
 pub mod Represents
