@@ -130,7 +130,7 @@ def _(folder):
 @check("other words are status 1")
 def _(folder):
     for words in ((), ("pipe", "x"), ("pipe", "--segment"), ("pipe", "--segment", "4095"), ("pipe", "--segment", "04096"), ("dump",),
-                  ("pipe", "--flush", "async"), ("pipe", "--host", "127.0.0.1:1"), ("pipe", "--segment", "4096", "--segment", "4096")):
+                  ("pipe", "--flush", "often"), ("pipe", "--host", "127.0.0.1"), ("pipe", "--segment", "4096", "--segment", "4096")):
         assert run(b"", folder, words) == (1, b""), words
 
 
@@ -195,7 +195,7 @@ def _(folder):
     told = all_replies(done.stdout)
     good = [r for r in told[:8] if r["code"] == 0]
     assert done.returncode == 5 and len(told) == 9 and 0 < len(good) < 8 and told[:len(good)] == good, told
-    assert [(r["code"], r["remark"]) for r in told[len(good):8]] == [(10, f"flush {1 + k}") for k in range(8 - len(good))]
+    assert [(r["code"], r["remark"]) for r in told[len(good):8]] == [(10, f"flush {1 + 2 * k}") for k in range(8 - len(good))]
     assert told[8]["code"] == 0 and len(pulled(told[8]["body"])) == len(good)
     places = [int(r["extFields"]["msgId"][16:], 16) for r in good]
     assert [r["place"] for r in records(folder, whole=False)][:len(good)] == places
