@@ -1,10 +1,12 @@
 //! The topics of clients. A look-up makes no text, and after `reserve` a topic is made without memory.
 
-ghost use Rattle.std.specs.Prelude.{◌≡◌, ◌<◌, ◌≤◌, ◌+◌, List, ℕ, max, Some, None, OnOk, if◌then◌else◌, string_bytes};
+ghost use Rattle.std.specs.Prelude.{◌≡◌, ◌<◌, ◌≤◌, ◌+◌, List, ℕ, max, All, Some, None, OnOk, IfOk, if◌then◌else◌, string_bytes};
 ghost use Rattle.std.specs.Option.{unwrap_or};
 ghost use Rattle.std.specs.Str.{bytes_eq};
+ghost use Rattle.broker_model.specs.Tables.{queues_in};
 ghost use Rattle.client_tables.specs.Counts.{queues_of, room_in};
 
+use crate::rows::{TopicQueues, rows_of};
 use indexmap::IndexMap;
 use std::alloc::{AllocError, Global};
 
@@ -29,6 +31,14 @@ impl Topics {
         ensures { result ≡ queues_of self.now topic.now }
     {
         self.counts.get(topic).copied()
+    }
+
+    /// The topics, a row for each, in any order.
+    pub fn rows(&self, alloc: Global) -> Result<Vec<TopicQueues>, AllocError>
+        ensures same { IfOk result (λ rows. (topic : List ℕ) → queues_in rows.items topic ≡ queues_of self.now topic) }
+        ensures each { IfOk result (λ rows. All (λ row. queues_of self.now row.topic ≡ Some row.queues) rows.items) }
+    {
+        rows_of(alloc, &self.counts)
     }
 
     /// Makes room for one topic more. No topic changes.

@@ -3,3 +3,4 @@ pub mod OffsetLemmas
 pub mod LockLemmas
 pub mod LockedLemmas
 pub mod LoopLemmas
+pub mod KeptLemmas

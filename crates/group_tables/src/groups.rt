@@ -2,12 +2,13 @@
 //! a queue for itself.
 
 ghost use Rattle.std.specs.Prelude.{◌≡◌, ◌==◌, ◌&&◌, ℕ, List, Some, None, if◌then◌else◌, OnOk, OnErr};
-ghost use Rattle.std.specs.Prelude.{IfOk};
+ghost use Rattle.std.specs.Prelude.{IfOk, All};
 ghost use Rattle.std.specs.Str.{bytes_eq};
-ghost use Rattle.broker_model.specs.Tables.{OffsetRow, LockRow, with_offset, distinct_queues, granted, with_locks, without_locks};
+ghost use Rattle.broker_model.specs.Tables.{OffsetRow, LockRow, offset_in, with_offset, distinct_queues, granted, with_locks, without_locks};
 ghost use Rattle.group_tables.specs.Held.{lock_of, HasLocks};
-ghost use Rattle.group_tables.specs.Offsets.{offset_of, offset_row, HasOffsets};
+ghost use Rattle.group_tables.specs.Offsets.{offset_of, offset_row, HasOffsets, IsStored};
 
+use crate::kept::{GroupOffset, rows_of};
 use crate::locks::{Slots, grant, lock_all, unlock_all};
 use crate::table::{ByGroup, set_value, value_of};
 use mq_bytes::QueueName;
@@ -41,6 +42,7 @@ impl Groups {
     {
         value_of(&self.offsets, group, topic, queue).copied()
     }
+
     /// Stores an offset of a group for a queue. At `Err` each offset is as before.
     pub fn set_offset(
         &mut self,
@@ -60,6 +62,15 @@ impl Groups {
         ensures locks { (g t : List ℕ) (q : ℕ) → lock_of self.new g t q ≡ lock_of self.old g t q }
     {
         set_value(self.alloc, &mut self.offsets, group, topic, queue, offset)
+    }
+
+    /// The offsets that groups stored, a row for each, in any order.
+    pub fn stored(&self) -> Result<Vec<GroupOffset>, AllocError>
+        ensures same { IfOk result (λ rows. (group topic : List ℕ) (queue : ℕ)
+            → offset_in rows.items group topic queue ≡ offset_of self.now group topic queue) }
+        ensures each { IfOk result (λ rows. All (IsStored self.now) rows.items) }
+    {
+        rows_of(self.alloc, &self.offsets)
     }
 
     /// Those of the queues that the client would get: those that are free, its own, or whose lock was last renewed more than

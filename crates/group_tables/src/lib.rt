@@ -2,7 +2,9 @@
 #![tactic(auto)]
 
 mod groups;
+mod kept;
 mod locks;
 mod table;
 
 pub use groups::Groups;
+pub use kept::GroupOffset;

@@ -9,10 +9,10 @@ use std::alloc::{AllocError, Global};
 use std::collections::HashMap;
 
 /// The values of a topic, by the queue's number.
-type ByQueue<V> = HashMap<u32, V>;
+pub(crate) type ByQueue<V> = HashMap<u32, V>;
 
 /// The values of a group, by the topic.
-type ByTopic<V> = HashMap<String, ByQueue<V>>;
+pub(crate) type ByTopic<V> = HashMap<String, ByQueue<V>>;
 
 /// The values of all groups, by the group.
 pub(crate) type ByGroup<V> = HashMap<String, ByTopic<V>>;
