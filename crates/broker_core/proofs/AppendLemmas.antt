@@ -64,6 +64,8 @@ represents_roomier old rows queues s are first items kept tables =
       clients = are.clients;
       offsets = are.offsets;
       locks = are.locks;
+      names = are.names;
+      kept = are.kept;
     }
 
 -- there is room for one record more of the queue
@@ -189,4 +191,6 @@ represents_appended old s d p table pending queues rows are may layout mine pend
       clients = are.clients;
       offsets = are.offsets;
       locks = are.locks;
+      names = are.names;
+      kept = are.kept;
     }

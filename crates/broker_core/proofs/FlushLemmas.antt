@@ -311,6 +311,8 @@ represents_flushed old s receipt turn stored are e pushed pending =
       clients = are.clients;
       offsets = are.offsets;
       locks = are.locks;
+      names = are.names;
+      kept = are.kept;
     }
 
 -- the turn that is out has written its batch

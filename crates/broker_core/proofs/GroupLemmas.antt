@@ -1,24 +1,28 @@
 -- What consumer groups keep, in the parts and in the state: stored offsets, and locks.
-use Rattle.std.proofs.Common.{◌≡◌, refl, ap, sym, ◌∙◌, subst, arith, ℕ, suc, ◌≤◌, max, min, nat_lt, Bool, true, false, cond, List, [], ◌∷◌, length, not, filter, All, Some, None, Option, Result, OnOk, OnErr, Ok, Err}
+use Rattle.std.proofs.Common.{◌≡◌, refl, ap, sym, ◌∙◌, subst, arith, ℕ, suc, ◌-◌, ◌^◌, ◌<◌, ◌≤◌, max, min, nat_lt, Bool, true, false, cond, List, [], ◌∷◌, length, take, drop, not, filter, All, Some, None, Option, Result, OnOk, OnErr, Ok, Err, length-append}
 use Rattle.std.specs.Option.{option_map, option_to_list}
+use Rattle.std.specs.Str.{IsUtf8}
 use Rattle.std.proofs.lemmas.List.Elements.{All-filter, All-cons, All-head, All-tail}
 use Rattle.std.proofs.lemmas.Bool.{and_parts, ltb-true}
+use Rattle.mq_bytes.specs.Clients.{IsName}
 use Rattle.mq_bytes.specs.declared.clients.QueueName.{QueueName}
-use Rattle.record_codec.specs.Layout.{is_named}
+use Rattle.record_codec.specs.Entry.{Entry}
+use Rattle.record_codec.specs.Layout.{is_named, is_legal}
 use Rattle.log_model.specs.Numbered.{queue_max}
-use Rattle.request_fields.specs.Requests.{LockSaid, IsQueueName, PullSaid}
+use Rattle.log_model.specs.Queues.{queue_of}
+use Rattle.request_fields.specs.Requests.{LockSaid, IsQueueName, PullSaid, IsFieldName}
 use Rattle.request_fields.specs.declared.request.Request.TheVariants as request
 use Rattle.broker_model.specs.State.{State, seen}
 use Rattle.broker_model.specs.Events as model
 use Rattle.broker_model.specs.Lawful.{IsState}
-use Rattle.broker_model.specs.Tables.{OffsetRow, LockRow, with_offset, is_same_queue, distinct_queues, is_held_by_other, granted, with_locks, without_locks}
+use Rattle.broker_model.specs.Tables.{OffsetRow, LockRow, is_row_of, with_offset, is_same_queue, distinct_queues, is_held_by_other, granted, with_locks, without_locks}
 use Rattle.broker_model.specs.Answers.{request_answer, done_reply}
 use Rattle.broker_model.specs.Appended.{drafts_of}
 use Rattle.broker_model.specs.Refusals.{refusal_of}
 use Rattle.broker_model.specs.Step.{changed, request_changed, stored, pull_offset}
 use Rattle.group_tables.specs.Held.{lock_of, HasLocks}
 use Rattle.group_tables.specs.Locks.{lock_row}
-use Rattle.group_tables.specs.Offsets.{offset_of, offset_row, HasOffsets}
+use Rattle.group_tables.specs.Offsets.{offset_of, offset_row, HasOffsets, IsOffset}
 use Rattle.group_tables.specs.declared.groups.Groups.{Groups}
 use Rattle.group_tables.specs.declared.locks.Lock.{Lock}
 use Rattle.lock_body.specs.Granted.{HasShortNames}
@@ -26,6 +30,8 @@ use Rattle.broker_core.specs.declared.parts.Parts.{Parts}
 use Rattle.broker_core.specs.Carries.{Stays}
 use Rattle.broker_core.specs.Represents.{Represents}
 use Rattle.broker_core.proofs.ReadLemmas.{Does, asked_by}
+use Rattle.broker_core.proofs.SeenLemmas.{queue_parts}
+use Rattle.broker_core.proofs.StoreLemmas.{offset_low}
 use Rattle.broker_core.proofs.StateLemmasReads.{turn_remains}
 
 -- ---- tables that look up the same
@@ -55,9 +61,9 @@ groups_state s offsets locks is = record {
 }
 
 -- the parts with other groups
-pub represents_groups : (old : Parts) (groups : Groups) (s : State) (offsets : List OffsetRow) (locks : List LockRow) → Represents old s → HasOffsets groups offsets → HasLocks groups locks
+pub represents_groups : (old : Parts) (groups : Groups) (s : State) (offsets : List OffsetRow) (locks : List LockRow) → Represents old s → HasOffsets groups offsets → All IsOffset offsets → HasLocks groups locks
     → Represents (record old { groups = groups }) (record s { offsets = offsets; locks = locks })
-represents_groups old groups s offsets locks are has_offsets has_locks =
+represents_groups old groups s offsets locks are has_offsets kept has_locks =
     let n = are.numbers in
     record {
       state = groups_state s offsets locks are.state;
@@ -74,27 +80,54 @@ represents_groups old groups s offsets locks are has_offsets has_locks =
       clients = are.clients;
       offsets = has_offsets;
       locks = has_locks;
+      names = are.names;
+      kept = kept;
     }
 
 -- the parts with groups that keep the same
 pub represents_same_groups : (old : Parts) (groups : Groups) (s : State) → Represents old s → ((g t : List ℕ) (q : ℕ) → offset_of groups g t q ≡ offset_of old.groups g t q)
     → ((g t : List ℕ) (q : ℕ) → lock_of groups g t q ≡ lock_of old.groups g t q) → Represents (record old { groups = groups }) s
 represents_same_groups old groups s are offsets locks =
-    represents_groups old groups s s.offsets s.locks are (same_offsets old.groups groups s.offsets offsets are.offsets) (same_locks old.groups groups s.locks locks are.locks)
+    represents_groups old groups s s.offsets s.locks are (same_offsets old.groups groups s.offsets offsets are.offsets) are.kept (same_locks old.groups groups s.locks locks are.locks)
 
 -- ---- offsets
+
+-- consumers see no more of a queue than there is
+seen_few : (topic : List ℕ) (queue n : ℕ) (records : List Entry) → length (queue_of (take n records) topic queue) ≤ length (queue_of records topic queue)
+seen_few topic queue n records =
+    let parts = ap (λ (rs : List Entry). length rs) (queue_parts records n topic queue) in
+    let sum = length-append (queue_of (take n records) topic queue) (queue_of (drop n records) topic queue) in
+    omega (arith, parts, sum)
+
+-- a group's name in a field is a name
+pub name_of_field : (name : List ℕ) → IsFieldName name → IsName name
+name_of_field name is = (is.some, is.short)
+
+-- an offset that is at most the queue's end can be kept
+can_keep : (core : Parts) (s : State) (group topic : List ℕ) (queue offset : ℕ) → Represents core s → is_legal topic ≡ true → IsName group → IsUtf8 group → queue < 2 ^ 31
+    → IsOffset (offset_row group topic queue (min offset (queue_max (seen s) topic queue)))
+can_keep core s group topic queue offset are legal name text low =
+    let few = seen_few topic queue (s.dispatched - s.log.base.records) s.log.records in
+    let end = offset_low core s topic queue are in
+    record { topic = legal; group = name; text = text; queue = low; offset = omega (arith, few, end) }
+
+without_row : (p : OffsetRow → Bool) (row : OffsetRow) (rows : List OffsetRow) → IsOffset row → All IsOffset rows → All IsOffset (row ∷ filter p rows)
+without_row p row rows is all = All-cons IsOffset row (filter p rows) is (All-filter p IsOffset rows all)
 
 -- an offset was stored, at most the queue's end
 pub offset_stored : {A E : Type 0} (old : Parts) (groups : Groups) (group topic : List ℕ) (queue offset end kept : ℕ) (result : Result A E) → ((s : State) → Represents old s → end ≡ queue_max (seen s) topic queue) → kept ≡ min offset end
     → OnOk result ((rows : List OffsetRow) → HasOffsets old.groups rows → HasOffsets groups (with_offset (offset_row group topic queue kept) rows)) → ((g t : List ℕ) (q : ℕ) → lock_of groups g t q ≡ lock_of old.groups g t q)
-    → OnOk result ((s : State) → Represents old s → Represents (record old { groups = groups }) (stored s group topic queue (Some offset)))
-offset_stored old groups group topic queue offset end kept (Ok u) end_is kept_is rows locks = λ s are.
+    → IsName group → IsUtf8 group → queue < 2 ^ 31
+    → OnOk result ((s : State) → Represents old s → is_legal topic ≡ true → Represents (record old { groups = groups }) (stored s group topic queue (Some offset)))
+offset_stored old groups group topic queue offset end kept (Ok u) end_is kept_is rows locks name text low = λ s are legal.
     let row : kept ≡ min offset (queue_max (seen s) topic queue) = kept_is ∙ ap (λ (n : ℕ). min offset n) (end_is s are) in
     let new = with_offset (offset_row group topic queue (min offset (queue_max (seen s) topic queue))) s.offsets in
     represents_groups old groups s new s.locks are
     (subst (λ (n : ℕ). HasOffsets groups (with_offset (offset_row group topic queue n) s.offsets)) row (rows s.offsets are.offsets))
+    (without_row (λ other. not (is_row_of group topic queue other)) (offset_row group topic queue (min offset (queue_max (seen s) topic queue))) s.offsets
+    (can_keep old s group topic queue offset are legal name text low) are.kept)
     (same_locks old.groups groups s.locks locks are.locks)
-offset_stored old groups group topic queue offset end kept (Err fault) end_is kept_is rows locks = tt
+offset_stored old groups group topic queue offset end kept (Err fault) end_is kept_is rows locks name text low = tt
 
 -- none was
 pub offset_unstored : {A E : Type 0} (old : Parts) (groups : Groups) (result : Result A E) → OnErr result ((g t : List ℕ) (q : ℕ) → offset_of groups g t q ≡ offset_of old.groups g t q)
@@ -104,9 +137,11 @@ offset_unstored old groups (Err fault) offsets locks = λ s are. represents_same
 
 -- a pull stored its offset
 pub commit_stored : {A E : Type 0} (old new : Parts) (q : PullSaid) (group topic : List ℕ) (queue offset : ℕ) (result : Result A E) → group ≡ q.group → topic ≡ q.topic → queue ≡ q.queue → pull_offset q ≡ Some offset
-    → OnOk result ((s : State) → Represents old s → Represents new (stored s group topic queue (Some offset))) → OnOk result ((s : State) → Represents old s → Represents new (stored s q.group q.topic q.queue (pull_offset q)))
+    → OnOk result ((s : State) → Represents old s → is_legal topic ≡ true → Represents new (stored s group topic queue (Some offset)))
+    → OnOk result ((s : State) → Represents old s → is_legal q.topic ≡ true → Represents new (stored s q.group q.topic q.queue (pull_offset q)))
 commit_stored old new q group topic queue offset (Ok u) same_group same_topic same_queue is done =
-    λ s are. subst (λ (t : State). Represents new t) (λ i. stored s (same_group i) (same_topic i) (same_queue i) (sym is i)) (done s are)
+    λ s are legal. subst (λ (t : State). Represents new t) (λ i. stored s (same_group i) (same_topic i) (same_queue i) (sym is i))
+    (done s are (subst (λ (t : List ℕ). is_legal t ≡ true) (sym same_topic) legal))
 commit_stored old new q group topic queue offset (Err fault) same_group same_topic same_queue is done = tt
 
 -- it stored none
@@ -137,7 +172,7 @@ lock_done old groups s l now moment group client queues given are time same_grou
     let got : given ≡ granted (max now s.now) l.group l.client s.locks l.queues = given_is s.locks are.locks ∙ (λ i. granted (now_is i) (same_group i) (same_client i) s.locks (same_queues i)) in
     let locks : HasLocks groups (with_locks (max now s.now) l.group l.client (granted (max now s.now) l.group l.client s.locks l.queues) s.locks) =
     subst (λ (rows : List LockRow). HasLocks groups rows) (λ i. with_locks (now_is i) (same_group i) (same_client i) (got i) s.locks) (locked s.locks are.locks) in
-    (represents_groups old groups s s.offsets _ are (same_offsets old.groups groups s.offsets offsets are.offsets) locks, got)
+    (represents_groups old groups s s.offsets _ are (same_offsets old.groups groups s.offsets offsets are.offsets) are.kept locks, got)
 
 -- it freed them
 pub unlock_done : (old : Parts) (groups : Groups) (s : State) (l : LockSaid) (group client : List ℕ) (queues : List QueueName) → Represents old s → group ≡ l.group → client ≡ l.client → queues ≡ l.queues
@@ -146,7 +181,7 @@ pub unlock_done : (old : Parts) (groups : Groups) (s : State) (l : LockSaid) (gr
 unlock_done old groups s l group client queues are same_group same_client same_queues freed offsets =
     let locks : HasLocks groups (without_locks l.group l.client l.queues s.locks) =
     subst (λ (rows : List LockRow). HasLocks groups rows) (λ i. without_locks (same_group i) (same_client i) (same_queues i) s.locks) (freed s.locks are.locks) in
-    represents_groups old groups s s.offsets _ are (same_offsets old.groups groups s.offsets offsets are.offsets) locks
+    represents_groups old groups s s.offsets _ are (same_offsets old.groups groups s.offsets offsets are.offsets) are.kept locks
 
 -- ---- the queues that are granted
 

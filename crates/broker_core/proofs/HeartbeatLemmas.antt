@@ -38,6 +38,8 @@ represents_clients old clients s table are has =
       clients = has;
       offsets = are.offsets;
       locks = are.locks;
+      names = are.names;
+      kept = are.kept;
     }
 
 pub does_beat : (old : Parts) (link : ℕ) (host : List ℕ) (now : ℕ) (b : Said)

@@ -21,6 +21,7 @@ pub mod StateLemmasReads
 pub mod StateLemmasTurns
 pub mod StepLemmas
 pub mod StoreLemmas
+pub mod LegalLemmas
 pub mod TableLemmas
 pub mod TopicLemmas
 pub mod TurnLemmas

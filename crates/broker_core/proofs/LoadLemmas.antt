@@ -1,13 +1,13 @@
 -- One record more is loaded.
-use Rattle.std.proofs.Common.{◌≡◌, ⊎_elim, refl, ap, sym, ◌∙◌, subst, arith, ℕ, zero, suc, ◌+◌, ◌<◌, ◌≤◌, ◌^◌, ◌==◌, ◌&&◌, max, min, cond, find, Bool, true, false, List, [], ◌∷◌, ◌++◌, length, map, codes, slice_get, slice_set, All, Option, Some, None, Result, Ok, Err, OnOk}
+use Rattle.std.proofs.Common.{◌≡◌, ⊎_elim, refl, ap, sym, ◌∙◌, subst, arith, ℕ, zero, suc, ◌+◌, ◌<◌, ◌≤◌, ◌^◌, ◌==◌, ◌&&◌, max, min, cond, find, is_some, Bool, true, false, List, [], ◌∷◌, ◌++◌, length, map, codes, slice_get, slice_set, Option, Some, None, Result, Ok, Err, OnOk}
 use Rattle.std.specs.Str.{bytes_eq}
 use Rattle.std.proofs.lemmas.Bool.{cases_Bool, false_from_ne_true}
-use Rattle.std.specs.Option.{option_map}
+use Rattle.std.specs.Option.{option_map, option_or, unwrap_or}
 use Rattle.std.proofs.lemmas.List.{length-map}
-use Rattle.std.proofs.lemmas.List.Elements.{All-nil, All-cons, All-head, All-tail}
+use Rattle.std.proofs.lemmas.List.Elements.{All-cons, All-push}
 use Rattle.std.proofs.lemmas.Slice.Eq.{bytes_eq-Decides}
 use Rattle.record_codec.specs.Entry.{Entry}
-use Rattle.record_codec.specs.Layout.{size}
+use Rattle.record_codec.specs.Layout.{size, is_legal}
 use Rattle.record_codec.specs.Props.{value_of}
 use Rattle.record_codec.specs.Units.{unit_of}
 use Rattle.record_codec.specs.declared.unit.Unit.{Unit as QueueUnit}
@@ -24,20 +24,20 @@ use Rattle.queue_view.specs.Added.{Added, added_to}
 use Rattle.queue_view.specs.Tables.{Table, number_of, with_unit, added_of}
 use Rattle.queue_view.proofs.Lists.{some_one}
 use Rattle.queue_view.proofs.NumberedLemmas.{number_of-set, number_within}
-use Rattle.broker_model.specs.Tables.{TopicRow, OffsetRow, queues_in, with_topic, is_row_of}
+use Rattle.broker_model.specs.Tables.{TopicRow, OffsetRow, queues_in, is_row_of}
 use Rattle.broker_model.specs.Lawful.{IsTopic}
 use Rattle.broker_model.specs.Run.{store_time, with_queue, with_own_queue, with_real_queue, with_topics_of, cut_offsets}
 use Rattle.client_tables.specs.Counts.{queues_of}
 use Rattle.group_tables.specs.Held.{lock_of}
-use Rattle.group_tables.specs.Offsets.{offset_of, offset_row, HasOffsets}
+use Rattle.group_tables.specs.Offsets.{offset_of, offset_row, HasOffsets, IsOffset}
 use Rattle.group_tables.specs.declared.groups.Groups.{Groups}
 use Rattle.group_tables.proofs.OffsetLemmas.{in_turn}
 use Rattle.broker_core.specs.declared.loaded.Loaded.{Loaded}
-use Rattle.broker_core.specs.Represents.{AreTabled, AreTablesOf, stored_unit}
-use Rattle.broker_core.specs.Loads.{whole_log, known_with, own_with, AreForOwnTopics, IsLoadedFrom, IsLoadedWith}
+use Rattle.broker_core.specs.Represents.{AreTabled, AreTablesOf, stored_unit, IsNamed}
+use Rattle.broker_core.specs.Loads.{whole_log, topic_row, known_with, own_with, AreForOwnTopics, IsLoadedFrom, IsLoadedWith}
 use Rattle.broker_core.proofs.TableLemmas.{there_is, as_added, is_its_table, to_view, from_view, map_push, tabled_kept, tabled_push}
 use Rattle.broker_core.proofs.SeenLemmas.{number_at, none_of}
-use Rattle.broker_core.proofs.TopicLemmas.{made_count, queues_with}
+use Rattle.broker_core.proofs.TopicLemmas.{made_count}
 
 -- ---- topics
 
@@ -139,47 +139,98 @@ loads saved records r old new row is own rows items tables topics end store low 
   topics = λ other. topics other ∙ own_same (queues_of old.topics) (queues_in (with_topics_of records saved)) is.topics r.topic r.queue other
       ∙ sym (queues_with_own r.topic r.queue (with_topics_of records saved) other) ∙ ap (λ (ts : List TopicRow). queues_in ts other) (sym (topics_push records r saved own));
   plain = is.plain;
+  names = is.names;
   own = own_push records r is.own own;
   end = end ∙ sym (end_of-append no_base records r);
   store = store ∙ ap store_time (sym (last_push records r));
   low = low;
   offsets = subst (λ (g : Groups). HasOffsets g []) (sym groups) is.offsets;
   locks = subst (λ (g : Groups). (group topic : List ℕ) (queue : ℕ) → lock_of g group topic queue ≡ None) (sym groups) is.locks;
+  rows_kept = is.rows_kept;
 }
 
 -- ---- topics of the kept file
 
--- a topic with at least so many queues is one
-grown : (row : TopicRow) (n : ℕ) → IsTopic row → n ≤ 1024 → IsTopic (record { topic = row.topic; queues = max row.queues n })
-grown row n is low = let some = is.some in let few = is.few in record { some = omega (arith, some); few = omega (arith, few, low); plain = is.plain }
+or_some : (o other : Option ℕ) → is_some o ≡ true → option_or o other ≡ o
+or_some None other some = cc some
+or_some (Some n) other some = refl
 
-are_topics : (topic : List ℕ) (n : ℕ) (rows : List TopicRow) → IsTopic (record { topic = topic; queues = n }) → All IsTopic rows → All IsTopic (with_topic topic n rows)
-are_topics topic n [] is all = All-cons IsTopic (record { topic = topic; queues = n }) [] is (All-nil IsTopic)
-are_topics topic n (row ∷ rows) is all = ⊎_elim
-    (λ (mine : bytes_eq row.topic topic ≡ true). rw mine (All-cons IsTopic (record { topic = row.topic; queues = max row.queues n }) rows (grown row n (All-head IsTopic row rows all) is.few) (All-tail IsTopic row rows all)))
-    (λ (another : bytes_eq row.topic topic ≡ false). rw another (All-cons IsTopic row (with_topic topic n rows) (All-head IsTopic row rows all) (are_topics topic n rows is (All-tail IsTopic row rows all))))
-    (cases_Bool (bytes_eq row.topic topic))
+or_none : (o : Option ℕ) → option_or o None ≡ o
+or_none None = refl
+or_none (Some n) = refl
 
--- a topic was loaded
-pub loads_topic : (saved : List TopicRow) (old new : Loaded) (topic : List ℕ) (n : ℕ) → IsLoadedFrom saved [] old → IsTopic (record { topic = topic; queues = n })
-    → new ≡ record old { topics = new.topics } → ((other : List ℕ) → queues_of new.topics other ≡ made_count (bytes_eq topic other) (queues_of old.topics topic) n (queues_of old.topics other))
-    → IsLoadedFrom (with_topic topic n saved) [] new
-loads_topic saved old new topic n is plain others made = subst (λ (l : Loaded). IsLoadedFrom (with_topic topic n saved) [] l) (sym others) (record {
+is_none : (o : Option ℕ) → is_some o ≡ false → o ≡ None
+is_none None none = refl
+is_none (Some n) none = cc none
+
+-- rows with one topic more behind them
+queues_push : (rows : List TopicRow) (row : TopicRow) (other : List ℕ)
+    → queues_in (rows ++ row ∷ []) other ≡ option_or (queues_in rows other) (cond (bytes_eq row.topic other) (Some row.queues) None)
+queues_push [] row other = ⊎_elim
+    (λ (its : bytes_eq row.topic other ≡ true). rw its refl) (λ (not_its : bytes_eq row.topic other ≡ false). rw not_its refl) (cases_Bool (bytes_eq row.topic other))
+queues_push (first ∷ rows) row other = ⊎_elim
+    (λ (its : bytes_eq first.topic other ≡ true). rw its refl)
+    (λ (not_its : bytes_eq first.topic other ≡ false). rw not_its (queues_push rows row other))
+    (cases_Bool (bytes_eq first.topic other))
+
+known_count : (b : Bool) (n : ℕ) (found : Option ℕ) → (b ≡ true → is_some found ≡ true) → found ≡ option_or found (cond b (Some n) None)
+known_count true n found known = sym (or_some found (Some n) (known refl))
+known_count false n found known = sym (or_none found)
+
+made_new : (b : Bool) (had : Option ℕ) (n : ℕ) (found : Option ℕ) → had ≡ None → (b ≡ true → found ≡ None) → made_count b had n found ≡ option_or found (cond b (Some n) None)
+made_new true had n found none same =
+    let least : max 0 n ≡ n = omega arith in
+    ap (λ (o : Option ℕ). Some (max (unwrap_or o 0) n)) none ∙ ap (λ (k : ℕ). Some k) least ∙ sym (ap (λ (o : Option ℕ). option_or o (Some n)) (same refl))
+made_new false had n found none same = sym (or_none found)
+
+-- a topic that was loaded already stays
+pub loads_known : (saved : List TopicRow) (old : Loaded) (topic : List ℕ) (n : ℕ) → IsLoadedFrom saved [] old → IsTopic (topic_row topic n) → is_legal topic ≡ true → is_some (queues_of old.topics topic) ≡ true
+    → IsLoadedFrom (saved ++ topic_row topic n ∷ []) [] old
+loads_known saved old topic n is plain legal known = record {
   rows = is.rows;
   tabled = is.tabled;
   queues = is.queues;
-  topics = λ other. made other
-      ∙ ap (λ had. made_count (bytes_eq topic other) had n (queues_of old.topics other)) (is.topics topic)
-      ∙ ap (λ rest. made_count (bytes_eq topic other) (queues_in saved topic) n rest) (is.topics other)
-      ∙ sym (queues_with topic n saved other);
-  plain = are_topics topic n saved plain is.plain;
+  topics = λ other.
+      let found : queues_of old.topics other ≡ option_or (queues_of old.topics other) (cond (bytes_eq topic other) (Some n) None) =
+      known_count (bytes_eq topic other) n (queues_of old.topics other)
+      (λ b. ap (λ (t : List ℕ). is_some (queues_of old.topics t)) (sym ((bytes_eq-Decides topic other).0 b)) ∙ known) in
+      found ∙ ap (λ (o : Option ℕ). option_or o (cond (bytes_eq topic other) (Some n) None)) (is.topics other) ∙ sym (queues_push saved (topic_row topic n) other);
+  plain = All-push IsTopic saved (topic_row topic n) is.plain plain;
+  names = All-push IsNamed saved (topic_row topic n) is.names legal;
   own = is.own;
   end = is.end;
   store = is.store;
   low = is.low;
   offsets = is.offsets;
   locks = is.locks;
-})
+  rows_kept = is.rows_kept;
+}
+
+-- another one was loaded
+pub loads_topic : (saved : List TopicRow) (old new : Loaded) (topic : List ℕ) (n : ℕ) → IsLoadedFrom saved [] old → IsTopic (topic_row topic n) → is_legal topic ≡ true → is_some (queues_of old.topics topic) ≡ false
+    → new ≡ record old { topics = new.topics } → ((other : List ℕ) → queues_of new.topics other ≡ made_count (bytes_eq topic other) (queues_of old.topics topic) n (queues_of old.topics other))
+    → IsLoadedFrom (saved ++ topic_row topic n ∷ []) [] new
+loads_topic saved old new topic n is plain legal unknown others made =
+    let none = is_none (queues_of old.topics topic) unknown in
+    subst (λ (l : Loaded). IsLoadedFrom (saved ++ topic_row topic n ∷ []) [] l) (sym others) (record {
+      rows = is.rows;
+      tabled = is.tabled;
+      queues = is.queues;
+      topics = λ other. made other
+          ∙ made_new (bytes_eq topic other) (queues_of old.topics topic) n (queues_of old.topics other) none
+          (λ b. ap (queues_of old.topics) (sym ((bytes_eq-Decides topic other).0 b)) ∙ none)
+          ∙ ap (λ (o : Option ℕ). option_or o (cond (bytes_eq topic other) (Some n) None)) (is.topics other)
+          ∙ sym (queues_push saved (topic_row topic n) other);
+      plain = All-push IsTopic saved (topic_row topic n) is.plain plain;
+      names = All-push IsNamed saved (topic_row topic n) is.names legal;
+      own = is.own;
+      end = is.end;
+      store = is.store;
+      low = is.low;
+      offsets = is.offsets;
+      locks = is.locks;
+      rows_kept = is.rows_kept;
+    })
 
 -- ---- offsets of the kept file
 
@@ -216,11 +267,11 @@ offset_first old new row rows set has g t q =
 
 -- an offset was loaded
 pub loads_offset : {A E : Type 0} (saved : List TopicRow) (records : List Entry) (kept : List OffsetRow) (old : Loaded) (groups : Groups) (group topic : List ℕ) (queue offset end cut : ℕ) (result : Result A E)
-    → IsLoadedWith saved records kept old → end ≡ queue_max (whole_log records) topic queue → cut ≡ min offset end
+    → IsLoadedWith saved records kept old → IsOffset (offset_row group topic queue offset) → end ≡ queue_max (whole_log records) topic queue → cut ≡ min offset end
     → OnOk result ((g t : List ℕ) (q : ℕ) → offset_of groups g t q ≡ cond (bytes_eq group g && (bytes_eq topic t && (queue == q))) (Some cut) (offset_of old.groups g t q))
     → ((g t : List ℕ) (q : ℕ) → lock_of groups g t q ≡ lock_of old.groups g t q)
     → OnOk result (IsLoadedWith saved records (offset_row group topic queue offset ∷ kept) (record old { groups = groups }))
-loads_offset saved records kept old groups group topic queue offset end cut (Ok u) is end_is cut_is set locks =
+loads_offset saved records kept old groups group topic queue offset end cut (Ok u) is may end_is cut_is set locks =
     let row = offset_row group topic queue cut in
     let low : cut ≡ min offset (queue_max (whole_log records) topic queue) = cut_is ∙ ap (λ n. min offset n) end_is in
     record {
@@ -229,6 +280,7 @@ loads_offset saved records kept old groups group topic queue offset end cut (Ok 
       queues = is.queues;
       topics = is.topics;
       plain = is.plain;
+      names = is.names;
       own = is.own;
       end = is.end;
       store = is.store;
@@ -236,5 +288,6 @@ loads_offset saved records kept old groups group topic queue offset end cut (Ok 
       offsets = subst (λ (n : ℕ). HasOffsets groups (offset_row group topic queue n ∷ cut_offsets (whole_log records) kept)) low
           (offset_first old.groups groups row (cut_offsets (whole_log records) kept) set is.offsets);
       locks = λ g t q. locks g t q ∙ is.locks g t q;
+      rows_kept = All-cons IsOffset (offset_row group topic queue offset) kept may is.rows_kept;
     }
-loads_offset saved records kept old groups group topic queue offset end cut (Err fault) is end_is cut_is set locks = tt
+loads_offset saved records kept old groups group topic queue offset end cut (Err fault) is may end_is cut_is set locks = tt

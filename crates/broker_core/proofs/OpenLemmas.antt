@@ -1,12 +1,12 @@
 -- The state of an opening, and that the parts represent it.
 use Rattle.std.proofs.Common.{◌≡◌, ⊎_elim, refl, ap, sym, ◌∙◌, subst, arith, ℕ, zero, suc, ◌+◌, ◌-◌, ◌*◌, ◌<◌, ◌≤◌, ◌^◌, max, true, false, List, [], ◌∷◌, length, take, codes, slice_get, All, IfSome, Option, Some, None}
 use Rattle.std.specs.Str.{bytes_eq}
-use Rattle.std.proofs.lemmas.Bool.{cases_Bool}
-use Rattle.std.proofs.lemmas.List.Elements.{All-nil, All-cons, All-head, All-tail}
+use Rattle.std.proofs.lemmas.Bool.{cases_Bool, and_parts}
+use Rattle.std.proofs.lemmas.List.Elements.{All-nil, All-cons, All-head, All-tail, All-map, All-weaker}
 use Rattle.std.proofs.Math.Nat.{div-mul-le_self, eq-or-lt_of_le}
 use Rattle.std.proofs.Math.Seq.{take-length}
 use Rattle.record_codec.specs.Entry.{Entry}
-use Rattle.record_codec.specs.Layout.{size, IsHost}
+use Rattle.record_codec.specs.Layout.{size, IsHost, is_legal, is_entry, IsRecord}
 use Rattle.record_codec.specs.Props.{value_of}
 use Rattle.log_model.specs.Admissible.{is_system_topic, level_topic, most_queues}
 use Rattle.log_model.specs.Bases.{Base, no_base, geometry}
@@ -25,18 +25,19 @@ use Rattle.mq_outside.specs.declared.frozen_ranges.FrozenRanges.{FrozenRanges}
 use Rattle.broker_events.specs.declared.event.Setup.{Setup}
 use Rattle.broker_model.specs.State as model
 use Rattle.broker_model.specs.State.{State, Saved, FailedTurn}
-use Rattle.broker_model.specs.Tables.{TopicRow}
+use Rattle.broker_model.specs.Tables.{TopicRow, OffsetRow}
 use Rattle.broker_model.specs.Lawful.{IsState, IsTopic, IsFailedTurn}
 use Rattle.broker_model.specs.Removal.{IsCutAt}
-use Rattle.broker_model.specs.Run.{opened, store_time, with_queue, with_own_queue, with_real_queue, with_topics_of}
+use Rattle.broker_model.specs.Run.{opened, store_time, with_queue, with_own_queue, with_real_queue, with_topics_of, cut_offset, cut_offsets}
 use Rattle.std.specs.Option.{option_map, option_to_list}
 use Rattle.group_clients.specs.Held.{HasClients}
 use Rattle.group_clients.specs.declared.clients.Clients.{Clients}
 use Rattle.broker_model.specs.Clients.{no_clients}
 use Rattle.group_tables.specs.Locks.{lock_row}
+use Rattle.group_tables.specs.Offsets.{IsOffset}
 use Rattle.group_tables.specs.declared.locks.Lock.{Lock}
 use Rattle.broker_core.specs.declared.loaded.Loaded.{Loaded}
-use Rattle.broker_core.specs.Represents.{Represents, AreOut, AreTabled, AreTablesOf, HasRoom, setup_of}
+use Rattle.broker_core.specs.Represents.{Represents, AreOut, AreTabled, AreTablesOf, HasRoom, IsNamed, setup_of}
 use Rattle.broker_core.specs.Loads.{whole_log, AreForOwnTopics, MayOpen}
 
 -- ---- topics
@@ -76,6 +77,43 @@ known_topics_are (r ∷ records) rows own low all =
     let with_r = are_own_topics r.topic r.queue rows (low zero r refl) all in
     known_topics_are records (with_real_queue (value_of (codes "REAL_TOPIC") r.props) r (with_own_queue r.topic r.queue rows)) (λ k q at. own (suc k) q at) (λ k q at. low (suc k) q at)
     (subst (λ (o : Option (List ℕ)). All IsTopic (with_real_queue o r (with_own_queue r.topic r.queue rows))) (sym first) with_r)
+
+named_queue : (topic : List ℕ) (queue : ℕ) (rows : List TopicRow) → is_legal topic ≡ true → All IsNamed rows → All IsNamed (with_queue topic queue rows)
+named_queue topic queue [] legal all = All-cons IsNamed (record { topic = topic; queues = max 4 (queue + 1) }) [] legal (All-nil IsNamed)
+named_queue topic queue (row ∷ rows) legal all = ⊎_elim
+    (λ (mine : bytes_eq row.topic topic ≡ true). rw mine
+    (All-cons IsNamed (record { topic = row.topic; queues = max row.queues (queue + 1) }) rows (All-head IsNamed row rows all) (All-tail IsNamed row rows all)))
+    (λ (another : bytes_eq row.topic topic ≡ false). rw another
+    (All-cons IsNamed row (with_queue topic queue rows) (All-head IsNamed row rows all) (named_queue topic queue rows legal (All-tail IsNamed row rows all))))
+    (cases_Bool (bytes_eq row.topic topic))
+
+named_own : (topic : List ℕ) (queue : ℕ) (rows : List TopicRow) → is_legal topic ≡ true → All IsNamed rows → All IsNamed (with_own_queue topic queue rows)
+named_own topic queue rows legal all = ⊎_elim
+    (λ (own : is_system_topic topic ≡ true). rw own all)
+    (λ (plain : is_system_topic topic ≡ false). rw plain (named_queue topic queue rows legal all))
+    (cases_Bool (is_system_topic topic))
+
+known_names : (records : List Entry) (rows : List TopicRow) → AreForOwnTopics records → ((k : ℕ) (r : Entry) → slice_get records k ≡ Some r → is_legal r.topic ≡ true) → All IsNamed rows
+    → All IsNamed (with_topics_of records rows)
+known_names [] rows own legal all = all
+known_names (r ∷ records) rows own legal all =
+    let first = own zero r refl in
+    let with_r = named_own r.topic r.queue rows (legal zero r refl) all in
+    known_names records (with_real_queue (value_of (codes "REAL_TOPIC") r.props) r (with_own_queue r.topic r.queue rows)) (λ k q at. own (suc k) q at) (λ k q at. legal (suc k) q at)
+    (subst (λ (o : Option (List ℕ)). All IsNamed (with_real_queue o r (with_own_queue r.topic r.queue rows))) (sym first) with_r)
+
+-- a record that has a layout has a topic with a legal name
+legal_topic : (r : Entry) → IsRecord r → is_legal r.topic ≡ true
+unfolding is_entry
+legal_topic r is = (and_parts _ _ (and_parts _ _ (and_parts _ _ (and_parts _ _ (and_parts _ _ (and_parts _ _ is.entry).0).0).0).0).0).0
+
+-- ---- stored offsets
+
+cut_kept : (log : Log) (row : OffsetRow) → IsOffset row → IsOffset (cut_offset log row)
+cut_kept log row is = let low = is.offset in record { topic = is.topic; group = is.group; text = is.text; queue = is.queue; offset = omega (arith, low) }
+
+all_cut : (log : Log) (rows : List OffsetRow) → All IsOffset rows → All IsOffset (cut_offsets log rows)
+all_cut log rows all = All-map IsOffset (cut_offset log) rows (All-weaker IsOffset (λ row. IsOffset (cut_offset log row)) (λ row is. cut_kept log row is) rows all)
 
 -- ---- numbers
 
@@ -218,4 +256,6 @@ represents_opened setup saved records loaded stored pending queues clients count
       clients = nobody;
       offsets = may.of_log.offsets;
       locks = λ group q. ap (λ (lock : Option Lock). option_to_list (option_map (lock_row group q.topic q.queue) lock)) (sym (may.of_log.locks group q.topic q.queue));
+      names = known_names records saved.topics may.of_log.own (λ k r at. legal_topic r (may.lawful.each k r at).layout) may.of_log.names;
+      kept = all_cut (whole_log records) saved.offsets may.of_log.rows_kept;
     }

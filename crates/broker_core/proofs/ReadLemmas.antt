@@ -98,6 +98,8 @@ represents_read old new s now are is low =
       clients = are.clients;
       offsets = are.offsets;
       locks = are.locks;
+      names = are.names;
+      kept = are.kept;
     } in
     subst (λ (p : Parts). Represents p t) (sym is) there
 

@@ -238,6 +238,8 @@ represents_dispatched old s to tables are more within tabled queues = record {
   clients = are.clients;
   offsets = are.offsets;
   locks = are.locks;
+  names = are.names;
+  kept = are.kept;
 }
 
 pub dispatches : (old : Parts) (s : State) (most to : ℕ) (tables : List Table) → Represents old s → to ≡ min old.pending.flushed (old.dispatched + most)

@@ -38,7 +38,7 @@ abbrev is_in : List ℕ → ℕ → Entry → Bool
 is_in topic queue r = bytes_eq r.topic topic && (r.queue == queue)
 
 -- the records of a queue: those of the first n records, and the rest
-queue_parts : (records : List Entry) (n : ℕ) (topic : List ℕ) (queue : ℕ) → queue_of records topic queue ≡ queue_of (take n records) topic queue ++ queue_of (drop n records) topic queue
+pub queue_parts : (records : List Entry) (n : ℕ) (topic : List ℕ) (queue : ℕ) → queue_of records topic queue ≡ queue_of (take n records) topic queue ++ queue_of (drop n records) topic queue
 queue_parts records n topic queue =
     ap (λ (rs : List Entry). queue_of rs topic queue) (sym (take-append-drop n records)) ∙ filter-append (is_in topic queue) (take n records) (drop n records)
 

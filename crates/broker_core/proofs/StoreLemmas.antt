@@ -2,11 +2,12 @@
 use Rattle.std.proofs.Common.{◌≡◌, ⊎_elim, refl, ap, sym, ◌∙◌, subst, arith, ℕ, ◌+◌, ◌-◌, ◌^◌, ◌<◌, ◌≤◌, ◌==◌, ◌&&◌, max, Bool, true, false, List, [], ◌∷◌, length, slice_get, Option, Some, None, All, is_some, Result, Ok, Err, OnOk, OnErr, if◌then◌else◌}
 use Rattle.std.specs.Option.{unwrap_or}
 use Rattle.std.specs.Str.{bytes_eq}
-use Rattle.std.proofs.lemmas.Bool.{cases_Bool}
+use Rattle.std.proofs.lemmas.Bool.{cases_Bool, and_from, lt-ltb}
 use Rattle.std.proofs.lemmas.Slice.Eq.{bytes_eq-Decides}
 use Rattle.std.proofs.lemmas.List.{length-map}
 use Rattle.std.proofs.lemmas.List.Elements.{All-head, All-tail}
 use Rattle.record_codec.specs.Entry.{Entry}
+use Rattle.record_codec.specs.Layout.{is_legal}
 use Rattle.record_codec.specs.Drafts.{entry_of, draft_size, IsEncodable}
 use Rattle.record_codec.specs.declared.draft.Draft.{Draft}
 use Rattle.record_codec.specs.declared.draft.Place.{Place}
@@ -28,7 +29,7 @@ use Rattle.queue_view.specs.declared.stored.StoredUnit.{StoredUnit}
 use Rattle.client_tables.specs.declared.topics.Topics.{Topics}
 use Rattle.client_tables.specs.Counts.{queues_of}
 use Rattle.broker_core.specs.declared.parts.Parts.{Parts}
-use Rattle.broker_core.specs.Represents.{Represents, stored_unit}
+use Rattle.broker_core.specs.Represents.{Represents, stored_unit, IsNamed}
 use Rattle.broker_core.specs.Appends.{IsNextPlace, MayStand}
 use Rattle.broker_core.specs.Stores.{IsPlainDraft}
 use Rattle.broker_events.specs.declared.event.Setup.{Setup as BootSetup}
@@ -62,6 +63,19 @@ found_topic (row ∷ rows) topic n all found = ⊎_elim
     record { some = omega (arith, some, same); few = omega (arith, few, same); plain = subst (λ (t : List ℕ). is_system_topic t ≡ false) name is.plain })
     (λ (another : bytes_eq row.topic topic ≡ false). found_topic rows topic n (All-tail IsTopic row rows all) (rest_found row rows topic n another found))
     (cases_Bool (bytes_eq row.topic topic))
+
+pub found_named : (rows : List TopicRow) (topic : List ℕ) (n : ℕ) → All IsNamed rows → queues_in rows topic ≡ Some n → is_legal topic ≡ true
+found_named [] topic n all found = cc found
+found_named (row ∷ rows) topic n all found = ⊎_elim
+    (λ (mine : bytes_eq row.topic topic ≡ true). subst (λ (t : List ℕ). is_legal t ≡ true) ((bytes_eq-Decides row.topic topic).0 mine) (All-head IsNamed row rows all))
+    (λ (another : bytes_eq row.topic topic ≡ false). found_named rows topic n (All-tail IsNamed row rows all) (rest_found row rows topic n another found))
+    (cases_Bool (bytes_eq row.topic topic))
+
+-- the topic of a draft that can be written has a legal name
+pub legal_draft : (segment : ℕ) (d : Draft) → IsPlainDraft segment d → is_legal d.topic ≡ true
+legal_draft segment d plain =
+    let none = HasNoFault-from segment d plain.passes in
+    and_from _ _ none.named (lt-ltb (length d.topic) 128 (omega (arith, none.topic)))
 
 -- ---- the place
 
@@ -149,7 +163,8 @@ keeps_count core topic other n known = ⊎_elim
 -- a topic that is known is made with as many queues as it has
 pub represents_known : (core : Parts) (s : State) (topic : List ℕ) (n : ℕ) → Represents core s → queues_of core.topics topic ≡ Some n → Represents core (with_made s topic n)
 represents_known core s topic n are known =
-    represents_made core core.topics s topic n are (found_topic s.topics topic n are.state.topics (sym (are.topics topic) ∙ known)) (λ other. keeps_count core topic other n known)
+    represents_made core core.topics s topic n are (found_topic s.topics topic n are.state.topics (sym (are.topics topic) ∙ known))
+    (found_named s.topics topic n are.names (sym (are.topics topic) ∙ known)) (λ other. keeps_count core topic other n known)
 
 pub stored_known : (core : Parts) (topics : Topics) (s : State) (topic : List ℕ) (o : Option ℕ) (made : ℕ) → is_some o ≡ true → o ≡ queues_of topics topic → core.topics ≡ topics → Represents core s
     → Represents core (with_made s topic (unwrap_or o made))

@@ -5,6 +5,7 @@ use Rattle.std.specs.Str.{bytes_eq}
 use Rattle.std.proofs.lemmas.Bool.{cases_Bool, false_from_ne_true}
 use Rattle.std.proofs.lemmas.Slice.Eq.{bytes_eq-Decides}
 use Rattle.std.proofs.lemmas.List.Elements.{All-nil, All-cons, All-head, All-tail}
+use Rattle.record_codec.specs.Layout.{is_legal}
 use Rattle.log_model.specs.Admissible.{is_system_topic}
 use Rattle.broker_model.specs.Tables.{TopicRow, queues_in, with_topic}
 use Rattle.broker_model.specs.State.{State, Out}
@@ -13,7 +14,7 @@ use Rattle.broker_model.specs.Lawful.{IsState, IsTopic, IsTurn, IfOut}
 use Rattle.client_tables.specs.declared.topics.Topics.{Topics}
 use Rattle.client_tables.specs.Counts.{queues_of}
 use Rattle.broker_core.specs.declared.parts.Parts.{Parts}
-use Rattle.broker_core.specs.Represents.{Represents, HasNumbers}
+use Rattle.broker_core.specs.Represents.{Represents, HasNumbers, IsNamed}
 
 -- what a table of topics says once one was made
 abbrev pub made_count : Bool → Option ℕ → ℕ → Option ℕ → Option ℕ
@@ -127,6 +128,8 @@ represents_later old s now are later time =
       clients = are.clients;
       offsets = are.offsets;
       locks = are.locks;
+      names = are.names;
+      kept = are.kept;
     }
 
 numbers_topics : (old : Parts) (topics : Topics) (s : State) → HasNumbers old s → HasNumbers (record old { topics = topics }) s
@@ -159,13 +162,22 @@ represents_same_topics old topics s are same = record {
   clients = are.clients;
   offsets = are.offsets;
   locks = are.locks;
+  names = are.names;
+  kept = are.kept;
 }
 
+named_with : (topic : List ℕ) (n : ℕ) (rows : List TopicRow) → is_legal topic ≡ true → All IsNamed rows → All IsNamed (with_topic topic n rows)
+named_with topic n [] legal all = All-cons IsNamed (record { topic = topic; queues = n }) [] legal (All-nil IsNamed)
+named_with topic n (row ∷ rows) legal all = ⊎_elim
+    (λ (mine : bytes_eq row.topic topic ≡ true). rw mine (All-cons IsNamed (record { topic = row.topic; queues = max row.queues n }) rows (All-head IsNamed row rows all) (All-tail IsNamed row rows all)))
+    (λ (another : bytes_eq row.topic topic ≡ false). rw another (All-cons IsNamed row (with_topic topic n rows) (All-head IsNamed row rows all) (named_with topic n rows legal (All-tail IsNamed row rows all))))
+    (cases_Bool (bytes_eq row.topic topic))
+
 -- the parts with a topic more
-pub represents_made : (old : Parts) (topics : Topics) (s : State) (topic : List ℕ) (n : ℕ) → Represents old s → IsTopic (record { topic = topic; queues = n })
+pub represents_made : (old : Parts) (topics : Topics) (s : State) (topic : List ℕ) (n : ℕ) → Represents old s → IsTopic (record { topic = topic; queues = n }) → is_legal topic ≡ true
     → ((other : List ℕ) → queues_of topics other ≡ made_count (bytes_eq topic other) (queues_of old.topics topic) n (queues_of old.topics other))
     → Represents (record old { topics = topics }) (with_made s topic n)
-represents_made old topics s topic n are plain made =
+represents_made old topics s topic n are plain legal made =
     let numbers = are.numbers in
     record {
       state = state_made s topic n plain are.state;
@@ -195,16 +207,18 @@ represents_made old topics s topic n are plain made =
       clients = are.clients;
       offsets = are.offsets;
       locks = are.locks;
+      names = named_with topic n s.topics legal are.names;
+      kept = are.kept;
     }
 
 pub row_is : (read write : ℕ) → (0 < read) × (read ≤ 1024) → (0 < write) × (write ≤ 1024) → (0 < max read write) × (max read write ≤ 1024)
 row_is read write r w = let r0 = r.0 in let r1 = r.1 in let w1 = w.1 in (omega (arith, r0), omega (arith, r1, w1))
 
 -- a topic was made, at some time
-pub represents_topic : (old : Parts) (topics : Topics) (s : State) (topic : List ℕ) (read write now : ℕ) → Represents old s → (0 < read) × (read ≤ 1024) → (0 < write) × (write ≤ 1024) → is_system_topic topic ≡ false
+pub represents_topic : (old : Parts) (topics : Topics) (s : State) (topic : List ℕ) (read write now : ℕ) → Represents old s → (0 < read) × (read ≤ 1024) → (0 < write) × (write ≤ 1024) → is_legal topic ≡ true → is_system_topic topic ≡ false
     → now < 2 ^ 62 → ((other : List ℕ) → queues_of topics other ≡ made_count (bytes_eq topic other) (queues_of old.topics topic) (max read write) (queues_of old.topics other))
     → Represents (record old { topics = topics; now = max old.now now }) (record (with_made s topic (max read write)) { now = max now s.now })
-represents_topic old topics s topic read write now are r w own time made =
+represents_topic old topics s topic read write now are r w legal own time made =
     let row = row_is read write r w in
     let some = row.0 in
     let same = are.numbers.now in
@@ -212,4 +226,4 @@ represents_topic old topics s topic read write now are r w own time made =
     let is_max : max old.now now ≡ max now s.now = omega (arith, same) in
     subst (λ (n : ℕ). Represents (record old { topics = topics; now = n }) (record (with_made s topic (max read write)) { now = max now s.now })) (sym is_max)
     (represents_later (record old { topics = topics }) (with_made s topic (max read write)) (max now s.now)
-    (represents_made old topics s topic (max read write) are (record { some = row.0; few = row.1; plain = own }) made) (omega arith) (omega (arith, time, before)))
+    (represents_made old topics s topic (max read write) are (record { some = row.0; few = row.1; plain = own }) legal made) (omega arith) (omega (arith, time, before)))

@@ -114,6 +114,8 @@ represents_room old s stored none items end are = record {
   clients = are.clients;
   offsets = are.offsets;
   locks = are.locks;
+  names = are.names;
+  kept = are.kept;
 }
 
 empty_list : {A : Type 0} (xs : List A) → length xs ≡ 0 → xs ≡ []
@@ -198,6 +200,8 @@ represents_turn old s stored b count end are none items ends room pending same s
   clients = are.clients;
   offsets = are.offsets;
   locks = are.locks;
+  names = are.names;
+  kept = are.kept;
 }
 
 -- what a call that may begin a turn says, by its batch
@@ -299,6 +303,8 @@ represents_failed old s count turn out are there is held pending = record {
   clients = are.clients;
   offsets = are.offsets;
   locks = are.locks;
+  names = are.names;
+  kept = are.kept;
 }
 
 fails_one : (old : Parts) (s : State) (count : ℕ) (p : Option Out) (o : Option model.Out) → Represents old s → old.pending.out ≡ p → s.out ≡ o → IsSome p → AreOut p o → IsPendingOf s.log (with_failed old.pending count p)

@@ -17,15 +17,19 @@ use Rattle.broker_model.specs.Run.{store_time, with_topics_of, cut_offsets}
 use Rattle.broker_events.specs.declared.event.Setup.{Setup}
 use Rattle.client_tables.specs.Counts.{queues_of}
 use Rattle.group_tables.specs.Held.{lock_of}
-use Rattle.group_tables.specs.Offsets.{HasOffsets}
+use Rattle.group_tables.specs.Offsets.{HasOffsets, IsOffset}
 use Rattle.broker_core.specs.declared.loaded.Loaded.{Loaded}
-use Rattle.broker_core.specs.Represents.{AreTabled, AreTablesOf, AreCovered}
+use Rattle.broker_core.specs.Represents.{AreTabled, AreTablesOf, AreCovered, IsNamed}
 
 -- the log that has these records and begins at place 0
 abbrev pub whole_log : List Entry → Log
 whole_log records = record { base = no_base; records = records }
 
 -- ---- topics
+
+-- a row of a topic
+abbrev pub topic_row : List ℕ → ℕ → TopicRow
+topic_row topic queues = record { topic = topic; queues = queues }
 
 -- how many queues a topic has once it has this one: one that wasn't known has 4 or more
 abbrev pub count_with : Option ℕ → ℕ → ℕ
@@ -54,12 +58,14 @@ pub record IsLoadedWith (saved : List TopicRow) (records : List Entry) (kept : L
   pub queues : AreTablesOf no_base records 0 loaded.queues
   pub topics : (topic : List ℕ) → queues_of loaded.topics topic ≡ queues_in (with_topics_of records saved) topic
   pub plain : All IsTopic saved
+  pub names : All IsNamed saved
   pub own : AreForOwnTopics records
   pub end : loaded.end ≡ end_of no_base records
   pub store : loaded.store ≡ store_time (last_of records)
   pub low : loaded.store < 2 ^ 62
   pub offsets : HasOffsets loaded.groups (cut_offsets (whole_log records) kept)
   pub locks : (group topic : List ℕ) (queue : ℕ) → lock_of loaded.groups group topic queue ≡ None
+  pub rows_kept : All IsOffset kept
 
 -- the same, before any offset was loaded
 abbrev pub IsLoadedFrom : List TopicRow → List Entry → Loaded → Type 0

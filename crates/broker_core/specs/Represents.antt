@@ -1,17 +1,17 @@
 -- Which state the parts of a core represent. Each part has a field, so that an event touches two or three of them.
-use Rattle.std.specs.Prelude.{◌≡◌, ℕ, ◌-◌, ◌*◌, ◌^◌, ◌<◌, ◌≤◌, List, length, take, map, slice_get, vec_len, vec_capacity}
+use Rattle.std.specs.Prelude.{◌≡◌, ℕ, ◌-◌, ◌*◌, ◌^◌, ◌<◌, ◌≤◌, List, length, take, map, slice_get, vec_len, vec_capacity, true, All}
 use Rattle.std.specs.Prelude.{Option, Some, None, IfSome}
 use Rattle.mq_outside.specs.Covers.{HasRange, HoldsRange}
 use Rattle.mq_outside.specs.declared.frozen_ranges.FrozenRanges.{FrozenRanges}
 use Rattle.record_codec.specs.Entry.{Entry}
-use Rattle.record_codec.specs.Layout.{size, layout}
+use Rattle.record_codec.specs.Layout.{size, layout, is_legal}
 use Rattle.record_codec.specs.Units.{unit_of}
 use Rattle.log_model.specs.Bases.{Base}
 use Rattle.log_model.specs.Numbered.{Log, count_of, place_end, below}
 use Rattle.log_model.specs.Queues.{queue_of}
 use Rattle.broker_model.specs.State as model
 use Rattle.broker_model.specs.State.{State}
-use Rattle.broker_model.specs.Tables.{queues_in}
+use Rattle.broker_model.specs.Tables.{TopicRow, queues_in}
 use Rattle.broker_model.specs.Lawful.{IsState}
 use Rattle.broker_events.specs.declared.event.Setup.{Setup}
 use Rattle.queue_view.specs.Tables.{Table, number_of}
@@ -24,7 +24,7 @@ use Rattle.pending_log.specs.declared.rows.Row.{Row}
 use Rattle.client_tables.specs.Counts.{queues_of}
 use Rattle.group_clients.specs.Held.{HasClients}
 use Rattle.group_tables.specs.Held.{HasLocks}
-use Rattle.group_tables.specs.Offsets.{HasOffsets}
+use Rattle.group_tables.specs.Offsets.{HasOffsets, IsOffset}
 use Rattle.broker_core.specs.declared.parts.Parts.{Parts}
 
 -- ---- numbers
@@ -98,9 +98,15 @@ AreTabled tables records rows =
     (k : ℕ) (r : Entry) (row : Row) → slice_get records k ≡ Some r → slice_get rows k ≡ Some row
     → number_of tables r.topic r.queue ≡ Some row.table
 
+-- ---- topics
+
+-- the topic has a legal name
+abbrev pub IsNamed : TopicRow → Type 0
+IsNamed row = is_legal row.topic ≡ true
+
 -- ---- all of it
 
--- the parts represent the state
+-- the parts represent the state, whose topics and stored offsets can be kept in files
 pub record Represents (core : Parts) (s : State) : Type 0 where
   pub state : IsState s
   pub numbers : HasNumbers core s
@@ -116,3 +122,5 @@ pub record Represents (core : Parts) (s : State) : Type 0 where
   pub clients : HasClients core.clients s.clients
   pub offsets : HasOffsets core.groups s.offsets
   pub locks : HasLocks core.groups s.locks
+  pub names : All IsNamed s.topics
+  pub kept : All IsOffset s.offsets

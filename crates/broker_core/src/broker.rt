@@ -14,6 +14,8 @@ ghost use Rattle.broker_core.specs.Makes.{Makes, shown_of};
 use crate::loaded::Loaded;
 use crate::parts::Parts;
 use broker_events::{Event, Said, Setup};
+use client_tables::Topics;
+use group_tables::Groups;
 use mq_outside::FrozenRanges;
 use std::alloc::{AllocError, Global};
 use std::marker::Model;
@@ -52,6 +54,20 @@ impl Core {
         Core {
             parts: Parts::open(alloc, setup, loaded, stored),
         }
+    }
+
+    /// The topics of clients.
+    pub fn topics(&self) -> &Topics
+        ensures { result.now ≡ self.now.topics }
+    {
+        &self.parts.topics
+    }
+
+    /// What consumer groups keep.
+    pub fn groups(&self) -> &Groups
+        ensures { result.now ≡ self.now.groups }
+    {
+        &self.parts.groups
     }
 
     /// Makes one step. Want of memory comes only at a request and at `Take`, and changes nothing.

@@ -1,6 +1,9 @@
 //! The offsets that consumer groups store for queues. A stored offset is at most the end of its queue, as consumers see it.
 
-ghost use Rattle.std.specs.Prelude.{◌≡◌, ◌<◌, ◌^◌, Some, OnOk, OnErr};
+ghost use Rattle.std.specs.Prelude.{◌≡◌, ◌<◌, ◌^◌, Some, OnOk, OnErr, true};
+ghost use Rattle.std.specs.Str.{IsUtf8};
+ghost use Rattle.mq_bytes.specs.Clients.{IsName};
+ghost use Rattle.record_codec.specs.Layout.{is_legal};
 ghost use Rattle.request_fields.specs.declared.request.Request.TheVariants.{OffsetOf, SetOffset};
 ghost use Rattle.broker_model.specs.State.{State};
 ghost use Rattle.broker_model.specs.Step.{if_natural, pull_offset, stored};
@@ -46,7 +49,10 @@ impl Parts {
         queue: u32,
         offset: u64,
     ) -> Result<(), AllocError>
-        ensures stored { OnOk result ((s : State) → Represents self.old s
+        requires group { IsName group.now }
+        requires text { IsUtf8 group.now }
+        requires queue { queue < 2 ^ 31 }
+        ensures stored { OnOk result ((s : State) → Represents self.old s → is_legal topic.now ≡ true
             → Represents self.new (stored s group.now topic.now queue (Some offset))) }
         ensures stays { OnErr result (Stays self.old self.new) }
     {
@@ -56,7 +62,7 @@ impl Parts {
 
     /// Stores the offset that a pull says besides, if it does. At `Err` nothing changes.
     pub(crate) fn commit(&mut self, asked: &PullFields) -> Result<(), AllocError>
-        ensures stored { OnOk result ((s : State) → Represents self.old s
+        ensures stored { OnOk result ((s : State) → Represents self.old s → is_legal asked.now.topic ≡ true
             → Represents self.new (stored s asked.now.group asked.now.topic asked.now.queue (pull_offset asked.now))) }
         ensures stays { OnErr result (Stays self.old self.new) }
     {

@@ -1,14 +1,15 @@
 //! What is loaded before the broker opens: each record's row, the tables of queues, the topics, and the offsets that were kept.
 
-ghost use Rattle.std.specs.Prelude.{◌≡◌, ◌<◌, ◌≤◌, ◌+◌, ◌^◌, ◌++◌, ◌∷◌, [], ℕ, List, Some, false};
+ghost use Rattle.std.specs.Prelude.{◌≡◌, ◌<◌, ◌≤◌, ◌+◌, ◌^◌, ◌++◌, ◌∷◌, [], ℕ, List, Some, false, true};
 ghost use Rattle.std.specs.Prelude.{OnOk, IsTrue, if◌then◌else◌};
 ghost use Rattle.record_codec.specs.Entry.{Entry};
+ghost use Rattle.record_codec.specs.Layout.{is_legal};
 ghost use Rattle.log_model.specs.Admissible.{is_system_topic as is_system};
 ghost use Rattle.log_model.specs.Numbered.{queue_max};
-ghost use Rattle.broker_model.specs.Tables.{TopicRow, OffsetRow, with_topic};
-ghost use Rattle.group_tables.specs.Offsets.{offset_row};
+ghost use Rattle.broker_model.specs.Tables.{TopicRow, OffsetRow};
+ghost use Rattle.group_tables.specs.Offsets.{offset_row, IsOffset};
 ghost use Rattle.client_tables.specs.Counts.{queues_of};
-ghost use Rattle.broker_core.specs.Loads.{IsLoadedFrom, IsLoadedWith, whole_log, count_with, known_with, own_with};
+ghost use Rattle.broker_core.specs.Loads.{IsLoadedFrom, IsLoadedWith, whole_log, topic_row, count_with, known_with, own_with};
 
 use client_tables::Topics;
 use group_tables::Groups;
@@ -99,14 +100,18 @@ impl Loaded {
         }
     }
 
-    /// Loads a topic of the kept file, before all records. One that was loaded already gets the greater number of queues.
+    /// Loads a topic of the kept file, before all records. One that was loaded already stays as it is.
     pub fn add_topic(&mut self, alloc: Global, topic: &str, queues: u32) -> Result<(), AllocError>
+        requires legal { is_legal topic.now ≡ true }
         requires plain { is_system topic.now ≡ false }
         requires some { 0 < queues }
         requires few { queues ≤ 1024 }
         ensures { (saved : List TopicRow) → IsLoadedFrom saved [] self.old
-            → OnOk result (IsLoadedFrom (with_topic topic.now queues saved) [] self.new) }
+            → OnOk result (IsLoadedFrom (saved ++ topic_row topic.now queues ∷ []) [] self.new) }
     {
+        if self.topics.find(topic).is_some() {
+            return Ok(());
+        }
         let name = String::from_str(alloc, topic)?;
         self.topics.reserve()?;
         self.topics.make(name, queues);
@@ -161,6 +166,7 @@ impl Loaded {
         queue: u32,
         offset: u64,
     ) -> Result<(), AllocError>
+        requires { IsOffset (offset_row group.now topic.now queue offset) }
         ensures { (saved : List TopicRow) (records : List Entry) (kept : List OffsetRow) → IsLoadedWith saved records kept self.old
             → OnOk result (IsLoadedWith saved records (offset_row group.now topic.now queue offset ∷ kept) self.new) }
     {

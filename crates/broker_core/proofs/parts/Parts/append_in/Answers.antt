@@ -8,7 +8,7 @@ use Rattle.client_tables.specs.Counts.{queues_of, room_in}
 use Rattle.broker_core.specs.declared.parts.Parts.{Parts}
 use Rattle.broker_core.specs.Represents.{Represents}
 use Rattle.broker_core.proofs.TopicLemmas.{made_count, represents_made, represents_same_topics}
-use Rattle.broker_core.proofs.StoreLemmas.{stored_known, none_made, on_err, on_ok}
+use Rattle.broker_core.proofs.StoreLemmas.{stored_known, none_made, legal_draft, on_err, on_ok}
 use Rattle.broker_core.proofs.parts.Parts.append_in.Goals as goal
 
 pub returns-then-is_some-clause-appended : goal.returns-then-is_some-clause-appended
@@ -41,4 +41,5 @@ returns-clause-appended c s are may =
     let few = c.requires.made.1 in
     subst (λ (n : ℕ). Represents (record now { topics = c.make.new.self }) (with_made t d.topic n)) (none_made c.args.known c.args.made none)
     (represents_made now c.make.new.self t d.topic c.args.made mid (record { some = c.requires.made.0; few = omega (arith, few); plain = c.requires.plain.topic })
+    (legal_draft c.args.self.now.setup.segment d c.requires.plain)
     (λ other. c.make.ensures other ∙ ap (λ (name : List ℕ). made_count (bytes_eq name other) (queues_of T name) c.args.made (queues_of T other)) topic))

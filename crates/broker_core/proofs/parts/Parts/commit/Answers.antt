@@ -1,7 +1,21 @@
-use Rattle.std.proofs.Common.{◌∙◌, ap, sym}
-use Rattle.request_fields.specs.Requests.{PullSaid}
-use Rattle.broker_core.proofs.GroupLemmas.{commit_stored, commit_none}
+use Rattle.std.proofs.Common.{◌≡◌, ◌∙◌, ap, sym, subst, arith, ℕ, List}
+use Rattle.mq_bytes.specs.Clients.{IsName}
+use Rattle.request_fields.specs.Requests.{PullSaid, KeepsPull}
+use Rattle.broker_core.proofs.GroupLemmas.{name_of_field, commit_stored, commit_none}
 use Rattle.broker_core.proofs.parts.Parts.commit.Goals as goal
+
+pub store_offset-requires-clause-group : goal.store_offset-requires-clause-group
+store_offset-requires-clause-group c =
+    let keeps : KeepsPull c.args.asked.now = subst (λ (x : PullSaid). KeepsPull x) c.asked.view_is c.asked.invariant in
+    let group : c.as_str.result.now ≡ c.args.asked.now.group = c.as_str.ensures.value ∙ ap (λ (x : PullSaid). x.group) c.asked.view_is in
+    subst (λ (name : List ℕ). IsName name) (sym group) (name_of_field c.args.asked.now.group keeps.group)
+
+pub store_offset-requires-clause-queue : goal.store_offset-requires-clause-queue
+store_offset-requires-clause-queue c =
+    let keeps : KeepsPull c.args.asked.now = subst (λ (x : PullSaid). KeepsPull x) c.asked.view_is c.asked.invariant in
+    let queue : c.asked.inside.queue ≡ c.args.asked.now.queue = ap (λ (x : PullSaid). x.queue) c.asked.view_is in
+    let low = keeps.queue in
+    omega (arith, low, queue)
 
 pub returns-in-Some-clause-stored : goal.returns-in-Some-clause-stored
 returns-in-Some-clause-stored c =
@@ -13,4 +27,4 @@ returns-in-Some-clause-stored c =
     (sym c.committed.ensures ∙ c.in-Some.is) c.store_offset.ensures.stored
 
 pub returns-in-None-clause-stored : goal.returns-in-None-clause-stored
-returns-in-None-clause-stored c s are = commit_none c.args.self.now c.args.asked.now s (sym c.committed.ensures ∙ c.in-None.is) are
+returns-in-None-clause-stored c s are legal = commit_none c.args.self.now c.args.asked.now s (sym c.committed.ensures ∙ c.in-None.is) are

@@ -50,5 +50,5 @@ returns-clause-carries c link s are =
       subst (λ (w : model.Answer). IsToldAs c.in_ok-reply.reply w) (sym (topic_answers s link c.args.host c.args.now t taken)) (is_plain_reply c.in_ok-reply.reply 0 (codes "") c.in_ok-reply.ensures),
       subst (λ (u : State). Represents (record c.args.self.now { topics = c.make.new.self; now = c.max-self.result }) u) (sym (topic_after s link c.args.host c.args.now t taken))
           (subst (λ (n : ℕ). Represents (record c.args.self.now { topics = c.make.new.self; now = n }) (record (with_made s t.topic (max t.read t.write)) { now = max c.args.now s.now })) (sym c.max-self.ensures)
-          (represents_topic c.args.self.now c.make.new.self s t.topic t.read t.write c.args.now are keeps.read keeps.write own c.requires.now made)),
+          (represents_topic c.args.self.now c.make.new.self s t.topic t.read t.write c.args.now are keeps.read keeps.write legal own c.requires.now made)),
     )

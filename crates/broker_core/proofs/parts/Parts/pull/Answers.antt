@@ -5,6 +5,7 @@ use Rattle.broker_model.specs.Refusals.{pull_refusal}
 use Rattle.broker_model.specs.Answers.{pulled_reply, pull_of}
 use Rattle.broker_model.specs.Step.{stored, pull_offset}
 use Rattle.broker_core.proofs.ReadLemmas.{carries_refusal, carries_done, does_pull, is_refused_as, is_allowed, refusal_pull, asked_by}
+use Rattle.broker_core.proofs.LegalLemmas.{pull_legal}
 use Rattle.broker_core.proofs.parts.Parts.pull.Goals as goal
 
 pub returns-in-Some-clause-carries : goal.returns-in-Some-clause-carries
@@ -21,4 +22,8 @@ returns-in_ok-commit-in-None-clause-carries c link host =
     carries_done old c.commit.new.self c.told.new.self (asked_by link host c.args.now (Pull q)) (λ s. model.Replies (pulled_reply (pull_of s q))) (λ s. stored s q.group q.topic q.queue (pull_offset q)) c.told.result
     (does_pull old link host c.args.now q (is_allowed old (λ (s : State). pull_refusal s q) c.refuses_pull.result c.refuses_pull.ensures c.in-None.is))
     c.requires.time c.told.ensures.moved
-    (λ s are. (c.in_ok-commit-in-None.ensures.stored s are, c.told.ensures.told (model.Replies (pulled_reply (pull_of s q))) (c.in_ok-reply-in-None.ensures s are)))
+    (λ s are. (
+      c.in_ok-commit-in-None.ensures.stored s are
+          (pull_legal old s q are (is_allowed old (λ (s : State). pull_refusal s q) c.refuses_pull.result c.refuses_pull.ensures c.in-None.is s are)),
+      c.told.ensures.told (model.Replies (pulled_reply (pull_of s q))) (c.in_ok-reply-in-None.ensures s are),
+    ))

@@ -1,5 +1,7 @@
-use Rattle.std.proofs.Common.{◌≡◌, ◌∙◌, ap, subst, None, Some, codes, rules}
-use Rattle.request_fields.specs.Requests.{SetOffsetSaid}
+use Rattle.std.proofs.Common.{◌≡◌, ◌∙◌, ap, sym, subst, arith, ℕ, List, true, None, Some, codes, rules}
+use Rattle.mq_bytes.specs.Clients.{IsName}
+use Rattle.record_codec.specs.Layout.{is_legal}
+use Rattle.request_fields.specs.Requests.{SetOffsetSaid, KeepsSetOffset}
 use Rattle.request_fields.specs.declared.request.Request.TheVariants.{SetOffset}
 use Rattle.broker_model.specs.State.{State}
 use Rattle.broker_model.specs.Events as model
@@ -9,7 +11,22 @@ use Rattle.broker_model.specs.Step.{stored}
 use Rattle.broker_core.specs.Represents.{Represents}
 use Rattle.broker_core.proofs.AnswerLemmas.{is_plain_reply}
 use Rattle.broker_core.proofs.ReadLemmas.{carries_refusal, carries_done, does_set_offset, queue_rows, is_refused_as, is_allowed, refusal_set_offset, asked_by}
+use Rattle.broker_core.proofs.GroupLemmas.{name_of_field}
+use Rattle.broker_core.proofs.LegalLemmas.{queue_legal}
 use Rattle.broker_core.proofs.parts.Parts.set_offset.Goals as goal
+
+pub store_offset-requires-clause-group : goal.store_offset-requires-clause-group
+store_offset-requires-clause-group c =
+    let keeps : KeepsSetOffset c.args.asked.now = subst (λ (x : SetOffsetSaid). KeepsSetOffset x) c.asked.view_is c.asked.invariant in
+    let group : c.as_str.result.now ≡ c.args.asked.now.group = c.as_str.ensures.value ∙ ap (λ (x : SetOffsetSaid). x.group) c.asked.view_is in
+    subst (λ (name : List ℕ). IsName name) (sym group) (name_of_field c.args.asked.now.group keeps.group)
+
+pub store_offset-requires-clause-queue : goal.store_offset-requires-clause-queue
+store_offset-requires-clause-queue c =
+    let keeps : KeepsSetOffset c.args.asked.now = subst (λ (x : SetOffsetSaid). KeepsSetOffset x) c.asked.view_is c.asked.invariant in
+    let queue : c.asked.inside.queue ≡ c.args.asked.now.queue = ap (λ (x : SetOffsetSaid). x.queue) c.asked.view_is in
+    let low = keeps.queue in
+    omega (arith, low, queue)
 
 pub returns-in-Some-clause-carries : goal.returns-in-Some-clause-carries
 returns-in-Some-clause-carries c link host =
@@ -34,6 +51,8 @@ returns-clause-carries c link host =
     (does_set_offset old link host c.args.now q (is_allowed old (λ (s : State). queue_refusal s q.topic q.queue) c.refuses_queue.result rows allowed))
     c.requires.time c.told.ensures.moved
     (λ s are. (
-      subst (λ (t : State). Represents c.store_offset.new.self t) (λ i. stored s (group i) (topic i) (queue i) (Some (offset i))) (c.in_ok-store_offset.ensures.stored s are),
+      subst (λ (t : State). Represents c.store_offset.new.self t) (λ i. stored s (group i) (topic i) (queue i) (Some (offset i))) (c.in_ok-store_offset.ensures.stored s are
+          (subst (λ (t : List ℕ). is_legal t ≡ true) (sym topic)
+          (queue_legal old s q.topic q.queue are (is_allowed old (λ (s : State). queue_refusal s q.topic q.queue) c.refuses_queue.result rows allowed s are)))),
       c.told.ensures.told (model.Replies done_reply) (is_plain_reply c.in_ok-reply.reply 0 (codes "") c.in_ok-reply.ensures),
     ))
