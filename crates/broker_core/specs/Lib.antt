@@ -3,6 +3,7 @@ pub mod Asked
 pub mod Carries
 pub mod Loads
 pub mod Makes
+pub mod Owner
 pub mod Pieces
 pub mod Reads
 pub mod Represents

@@ -9,7 +9,7 @@ use std::alloc::{AllocError, Global};
 /// The broker for a caller that has it alone, and with it the key.
 #[derive(Drop)]
 pub struct Alone {
-    core: Core,
+    pub(crate) core: Core,
 }
 
 impl Alone {
