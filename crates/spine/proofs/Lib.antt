@@ -1,2 +1,4 @@
 pub mod Runs
 pub mod AtTurn
+pub mod Looking
+pub mod Waits

@@ -1,4 +1,6 @@
+pub mod Awaits
 pub mod Entries
+pub mod Owner
 pub mod Stands
 pub mod Seen
 pub mod Passes

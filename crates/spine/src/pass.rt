@@ -1,8 +1,8 @@
 //! A pass at its spine: it makes steps as `Calls` says, each by one turn with one entry.
 
-ghost use Rattle.std.specs.Prelude.{◌≡◌, ◌≤◌, length, Some, IsSome, IfSome};
+ghost use Rattle.std.specs.Prelude.{◌≡◌, ◌≤◌, length, Some, IsSome, IfSome, IfOk, OnErr};
 ghost use Rattle.std.proofs.Props.{props};
-ghost use Rattle.broker_events.specs.Steps.{IsKeyed};
+ghost use Rattle.broker_events.specs.Steps.{IsKeyed, IsAnswerTo, MayTakeMemory, said_in};
 ghost use Rattle.broker_events.specs.Shown.{Accepts};
 ghost use Rattle.story_lock.specs.Passes.{IsPassOf, HasSeat, HasKey, numbers_of};
 ghost use Rattle.story_lock.specs.Owned.{StepsBy};
@@ -96,7 +96,7 @@ impl<'a, R: Wait> SpinePass<'a, R> {
         self.pass = Some(self.spine.story.join(pass, watched));
     }
 
-    // One turn, with one entry: the event with what was said.
+    // One turn, with one entry: the event with what was said. Who waits for a flush turn that it ends is woken.
     pub(crate) fn turn(&mut self, alloc: Global, event: &Event) -> Option<Said>
         requires key { IsKeyed event.now → IfSome self.old.pass (λ p. HasKey p) }
         requires accepted { Accepts (shown_by self.old.pass) event.now }
@@ -110,6 +110,7 @@ impl<'a, R: Wait> SpinePass<'a, R> {
         let mut turn = self.spine.story.enter(self.rt, pass);
         let said = turn.state().step(alloc, event);
         self.pass = Some(turn.end(event, &said));
+        self.spine.tell(self.rt, event);
         said
     }
 }
@@ -127,7 +128,15 @@ impl<'a, R: Wait> Calls for SpinePass<'a, R> {
 
     ghost shown = { λ x. shown_by x.pass };
 
-    fn call(&mut self, alloc: Global, event: &Event) -> Result<Said, AllocError> {
+    // Besides what the trait says, the pass stays at its spine.
+    fn call(&mut self, alloc: Global, event: &Event) -> Result<Said, AllocError>
+        requires key { IsKeyed event.now → IfSome self.old.pass (λ p. HasKey p) }
+        requires accepted { Accepts (shown_by self.old.pass) event.now }
+        ensures spine { self.new.spine.now ≡ self.old.spine.now }
+        ensures makes { StepsBy (λ x. x.pass) self.old event.now (said_in result) self.new }
+        ensures answer { IfOk result (IsAnswerTo event.now) }
+        ensures memory { OnErr result (MayTakeMemory event.now) }
+    {
         match self.turn(alloc, event) {
             Some(said) => Ok(said),
             None => Err(AllocError),

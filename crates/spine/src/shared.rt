@@ -1,6 +1,7 @@
 //! The core as the lock keeps it, and what it is for it to stand for a history.
 
 ghost use Rattle.std.specs.Prelude.{◌≡◌, Option};
+ghost use Rattle.std.specs.Fn.{FnOnceReturnsAt};
 ghost use Rattle.broker_events.specs.Shown.{Accepts};
 ghost use Rattle.broker_core.specs.Makes.{MakesStep, shown_of};
 ghost use Rattle.spine.specs.Entries.{Fits};
@@ -43,5 +44,22 @@ impl Shared {
             Ok(said) => Some(said),
             Err(_) => None,
         }
+    }
+
+    /// Makes one step, and answers besides what `f` gives on the core after it.
+    pub(crate) fn step_and_read<T, F: FnOnce(&Core) -> T>(
+        &mut self,
+        alloc: Global,
+        event: &Event,
+        f: F,
+    ) -> (Option<Said>, T)
+        requires accepted { Accepts (shown_of self.old.core) event.now }
+        requires callable { F.IsAlwaysCallable f }
+        ensures step { MakesStep self.old.core event.now result.0 self.new.core }
+        ensures fits { Fits event.now result.0 }
+        ensures read { FnOnceReturnsAt F.FnOnce f self.new.core result.1 }
+    {
+        let said = self.step(alloc, event);
+        (said, f(&self.core))
     }
 }

@@ -5,6 +5,8 @@ ghost use Rattle.std.specs.Prelude.{◌≡◌};
 use crate::pass::SpinePass;
 use crate::shared::{Pass, Shared};
 use broker_core::Core;
+use broker_events::Event;
+use flush_waits::FlushWaits;
 use std::alloc::{AllocError, Global};
 use std::sync::Wait;
 use story_lock::Story;
@@ -12,6 +14,8 @@ use story_lock::Story;
 /// The broker for many callers.
 pub struct Spine {
     pub(crate) story: Story<Shared>,
+    // Where callers wait for flush turns.
+    pub(crate) waits: FlushWaits,
 }
 
 impl Spine {
@@ -32,7 +36,13 @@ impl Spine {
         ensures err { IfErr result (λ e. e.0 ≡ core) }
     {
         match Story::new(alloc, Shared { core }, seats) {
-            Ok((story, pass)) => Ok((Spine { story }, pass)),
+            Ok((story, pass)) => Ok((
+                Spine {
+                    story,
+                    waits: FlushWaits::new(),
+                },
+                pass,
+            )),
             Err((shared, fault)) => {
                 let Shared { core } = shared;
                 Err((core, fault))
@@ -60,8 +70,18 @@ impl Spine {
         requires { IsPassOf self.story pass }
         ensures { (history : List (AnEvent × Option ASaid)) × StandsFor self.story pass history result }
     {
-        let Spine { story } = self;
+        let Spine { story, waits: _ } = self;
         let Shared { core } = story.close(rt, pass);
         core
+    }
+
+    // Wakes those whose record was held by the flush turn that this event ends, if it ends one.
+    pub(crate) fn tell<R: Wait>(&self, rt: &R, event: &Event) {
+        match event {
+            Event::Flushed(receipt) => self.waits.wake(rt, receipt.from, receipt.count),
+            // It doesn't say which records the turn held.
+            Event::FlushFailed { count: _ } => self.waits.wake_all(rt),
+            _ => {}
+        }
     }
 }
