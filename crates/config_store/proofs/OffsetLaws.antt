@@ -19,7 +19,7 @@ one_value (Some m) n e =
     cc
 
 -- what a row says can be kept
-found_ok : (rows : List OffsetRow) (group topic : List ℕ) (queue offset : ℕ) → All IsOffset rows → offset_in rows group topic queue ≡ Some offset
+pub found_ok : (rows : List OffsetRow) (group topic : List ℕ) (queue offset : ℕ) → All IsOffset rows → offset_in rows group topic queue ≡ Some offset
     → IsOffset (record { group = group; topic = topic; queue = queue; offset = offset })
 found_ok [] group topic queue offset ok found = absurd cc
 found_ok (row ∷ rows) group topic queue offset ok found = ⊎_elim

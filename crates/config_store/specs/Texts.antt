@@ -1,11 +1,9 @@
 -- The texts of the two kept files.
-use Rattle.std.specs.Prelude.{◌≡◌, ℕ, ◌<◌, ◌≤◌, ◌^◌, List, [], ◌∷◌, ◌++◌, codes, true, option_and_then, unwrap_or}
-use Rattle.std.specs.Str.{IsUtf8}
-use Rattle.mq_bytes.specs.Clients.{IsName}
+use Rattle.std.specs.Prelude.{ℕ, ◌<◌, ◌≤◌, List, [], ◌∷◌, ◌++◌, codes, option_and_then, unwrap_or}
 use Rattle.mq_bytes.specs.Decimal.{digits_of}
-use Rattle.record_codec.specs.Layout.{is_legal}
 use Rattle.log_model.specs.Admissible.{IsPlainTopic}
 use Rattle.broker_model.specs.Tables.{TopicRow, OffsetRow}
+pub use Rattle.group_tables.specs.Offsets.{IsOffset}
 use Rattle.serde_json.specs.Data.{Data, number, unsigned, object, Members, no_members, member, put}
 use Rattle.serde_json.specs.Find.{get_member, as_object}
 use Rattle.serde_json.specs.Written.{compact_text}
@@ -38,14 +36,6 @@ offsets_data rows = object (member (codes "offsetTable") (object (offset_members
 -- its text, with no space
 abbrev pub offsets_text_of : List OffsetRow → List ℕ
 offsets_text_of rows = compact_text (offsets_data rows)
-
--- an offset that can be kept: of a topic with a legal name and of a group with one of 1 to 120 bytes of UTF-8
-pub record IsOffset (row : OffsetRow) : Type 0 where
-  pub topic : is_legal row.topic ≡ true
-  pub group : IsName row.group
-  pub text : IsUtf8 row.group
-  pub queue : row.queue < 2 ^ 31
-  pub offset : row.offset < 2 ^ 62
 
 -- ---- topics
 

@@ -1,14 +1,16 @@
 //! Loads the two kept files. An absent one has no rows.
 
-ghost use Rattle.std.specs.Prelude.{IfOk};
+ghost use Rattle.std.specs.Prelude.{All, IfOk};
 ghost use Rattle.mq_outside.specs.Disk.{Moves, Rests};
 ghost use Rattle.mq_outside.specs.Files.{Same};
 ghost use Rattle.config_store.specs.Configs.{OFFSETS as OFFSETS_NAME, TOPICS as TOPICS_NAME, HasConfig, HasOffsets, HasTopics};
+ghost use Rattle.config_store.specs.Texts.{IsOffset, IsKeptTopic};
 ghost use Rattle.config_store.specs.Faults.{OnBadText, CountsConfigFault, IsBadText, IsNoOffsets, IsNoTopics};
 
 use crate::reading::{read_offsets, read_topics};
-use crate::rows::{GroupOffset, TopicQueues};
 use crate::text_fault::TextFault;
+use client_tables::TopicQueues;
+use group_tables::GroupOffset;
 use mq_outside::{DiskFault, Keep};
 use std::alloc::Global;
 
@@ -37,6 +39,7 @@ pub enum ConfigFault {
 // The rows of the file of offsets.
 fn load_offsets<P: Keep>(alloc: Global, keep: &mut P) -> Result<Vec<GroupOffset>, ConfigFault>
     ensures read { P.tells → IfOk result (λ rows. HasOffsets ((P.state keep.old).reads OFFSETS_NAME) rows.items) }
+    ensures each { IfOk result (λ rows. All IsOffset rows.items) }
     ensures bad { P.tells → OnBadText result (IsNoOffsets (P.state keep.old).reads) }
     ensures moves { P.tells → Moves Same (P.state keep.old) (P.state keep.new) }
     ensures cause { CountsConfigFault result (P.faults keep.old) (P.faults keep.new) }
@@ -57,6 +60,7 @@ fn load_offsets<P: Keep>(alloc: Global, keep: &mut P) -> Result<Vec<GroupOffset>
 // The rows of the file of topics.
 fn load_topics<P: Keep>(alloc: Global, keep: &mut P) -> Result<Vec<TopicQueues>, ConfigFault>
     ensures read { P.tells → IfOk result (λ rows. HasTopics ((P.state keep.old).reads TOPICS_NAME) rows.items) }
+    ensures each { IfOk result (λ rows. All IsKeptTopic rows.items) }
     ensures bad { P.tells → OnBadText result (IsNoTopics (P.state keep.old).reads) }
     ensures moves { P.tells → Moves Same (P.state keep.old) (P.state keep.new) }
     ensures cause { CountsConfigFault result (P.faults keep.old) (P.faults keep.new) }
@@ -77,6 +81,9 @@ fn load_topics<P: Keep>(alloc: Global, keep: &mut P) -> Result<Vec<TopicQueues>,
 /// What the two kept files have. The keep stays as it is.
 pub fn load_config<P: Keep>(alloc: Global, keep: &mut P) -> Result<Config, ConfigFault>
     ensures read { P.tells → IfOk result (λ config. HasConfig (P.state keep.old).reads config.offsets.items config.topics.items) }
+
+    // Whatever the keep tells, each row can be kept.
+    ensures each { IfOk result (λ config. All IsOffset config.offsets.items × All IsKeptTopic config.topics.items) }
 
     // `BadText` comes only where the file of that name isn't the text of any rows.
     ensures bad { P.tells → OnBadText result (IsBadText (P.state keep.old).reads) }

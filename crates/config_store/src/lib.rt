@@ -4,13 +4,13 @@
 mod config;
 mod laws;
 mod reading;
-mod rows;
 mod storing;
 mod text_fault;
 mod writing;
 
+pub use client_tables::TopicQueues;
 pub use config::{Config, ConfigFault, load_config};
+pub use group_tables::GroupOffset;
 pub use laws::{offsets_have_one_text, topics_have_one_text};
-pub use rows::{GroupOffset, TopicQueues};
 pub use storing::store_config;
 pub use writing::{offsets_text, topics_text};

@@ -17,9 +17,10 @@ ghost use Rattle.config_store.specs.Texts.{key_of, IsOffset, IsKeptTopic, offset
 ghost use Rattle.config_store.specs.Reads.{number_in, AreKeyRows, AreQueueRows, AreTableRows, AreTopicRows};
 ghost use Rattle.config_store.specs.Configs.{IsOffsetsText, IsTopicsText};
 
-use crate::rows::{GroupOffset, TopicQueues};
 use crate::text_fault::TextFault;
 use crate::writing::{offsets_text, topics_text};
+use client_tables::TopicQueues;
+use group_tables::GroupOffset;
 use itoa::Buffer;
 use log_model::is_system_topic;
 use mq_bytes::Text;

@@ -15,7 +15,8 @@ ghost use Rattle.serde_json.specs.Written.{compact_text, members_have_float};
 ghost use Rattle.config_store.specs.Texts.{key_of, members_at, with_offset_row, with_topic_row};
 ghost use Rattle.config_store.specs.Texts.{offset_members, topic_members, offsets_text_of, topics_text_of};
 
-use crate::rows::{GroupOffset, TopicQueues};
+use client_tables::TopicQueues;
+use group_tables::GroupOffset;
 use itoa::Buffer;
 use serde_json::{Map, Value};
 use std::alloc::{AllocError, Global};
