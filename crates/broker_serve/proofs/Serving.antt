@@ -6,7 +6,8 @@ use Rattle.log_opening.specs.Opens.{OpensLog, OpensKept}
 use Rattle.log_opening.specs.declared.opening.Opened.{Opened}
 use Rattle.store_open.specs.declared.format.Sizes.{Sizes}
 use Rattle.store_open.specs.declared.serve_words.ServeCommand.{ServeCommand}
-use Rattle.broker_serve.specs.Serves.{StandsSince, HasServed, setup_by}
+use Rattle.serve_threads.specs.Served.{StandsSince}
+use Rattle.broker_serve.specs.Serves.{HasServed, setup_by}
 
 -- the core that is left stands for a history since the opening of a log
 pub has_served : (left : Option Parts) (command : ServeCommand) (segment : ℕ) (tells : Type 0) (files : Files) (opened : Opened) → OpensLog (setup_by command segment) opened

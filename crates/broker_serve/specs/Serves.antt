@@ -1,18 +1,12 @@
 -- What a run of `serve` leaves.
-use Rattle.std.specs.Prelude.{ℕ, List, Option}
+use Rattle.std.specs.Prelude.{ℕ}
 use Rattle.mq_outside.specs.Files.{Files}
-use Rattle.broker_events.specs.declared.event.Event.{Event}
 use Rattle.broker_events.specs.declared.event.Setup.{Setup}
-use Rattle.broker_events.specs.declared.said.Said.{Said}
 use Rattle.broker_core.specs.declared.parts.Parts.{Parts}
 use Rattle.log_opening.specs.Opens.{OpensLog, OpensKept}
 use Rattle.log_opening.specs.declared.opening.Opened.{Opened}
+use Rattle.serve_threads.specs.Served.{StandsSince}
 use Rattle.store_open.specs.declared.serve_words.ServeCommand.{ServeCommand}
-use Rattle.spine.specs.Stands.{Stands}
-
--- The second core stands for one history that begins with the first: a run of steps, each with the answer that was said.
-abbrev pub StandsSince : Parts → Parts → Type 0
-StandsSince start now = (history : List (Event × Option Said)) × Stands start history now
 
 -- what the words set up, in segments of this size
 abbrev pub setup_by : ServeCommand → ℕ → Setup

@@ -1,12 +1,7 @@
-//! The broker over many links: a few loops serve them, and one flusher writes what all of them append.
+//! The whole run of `serve`: the words, the opening, the links, and the last flush.
 #![tactic(auto)]
 
-mod event_loop;
-mod flusher;
-mod linked;
 mod run;
-mod served;
-mod shared;
+mod statuses;
 
-pub use event_loop::LoopEnd;
 pub use run::{Ended, World, run_serve};

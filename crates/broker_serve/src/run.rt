@@ -13,21 +13,21 @@ ghost use Rattle.store_open.specs.ServeWords.{IsServeCommand, IsFirstWrongOfServ
 ghost use Rattle.store_open.specs.Statuses.{FitsTable};
 ghost use Rattle.store_open.specs.declared.format.Sizes.{Sizes as TheSizes};
 ghost use Rattle.store_open.specs.declared.serve_words.ServeCommand.{ServeCommand as ACommand};
-ghost use Rattle.broker_serve.specs.Serves.{StandsSince, HasServed};
+ghost use Rattle.serve_threads.specs.Served.{StandsSince};
+ghost use Rattle.broker_serve.specs.Serves.{HasServed};
 
-use crate::event_loop::LoopEnd;
-use crate::served::{Bounds, Loops, Served, serve};
+use crate::statuses::{last_status, status_of_fault, status_of_loops, status_of_reader};
 use broker_core::Core;
 use broker_events::Setup;
+use event_loops::Bounds;
 use log_opening::{Opened, open_log};
-use log_recovery::RecoverFault;
 use mq_outside::{Clock, Disk, DiskFault, Keep};
 use mq_peers::{Door, Ready};
+use serve_threads::{Loops, Served, serve};
 use std::alloc::Global;
 use std::sync::Wait;
 use std::thread::Threads;
 use store_open::{ServeCommand, Status, open_format, read_serve_words};
-use worker_turns::FlushEnd;
 
 /// The links that `serve` has, and its clock. The door isn't open.
 #[derive(Drop)]
@@ -58,52 +58,6 @@ fn unserved<D: Disk + Drop>(disk: D, status: Status) -> Ended<D>
         status,
         core: None,
         disk,
-    }
-}
-
-// The status of a log that could not be opened.
-fn status_of_fault(alloc: Global, fault: RecoverFault) -> Status
-    ensures { (result.code ≢ 1) × (result.code ≢ 6) × FitsTable result }
-{
-    match fault {
-        RecoverFault::Damaged(place, name) => Status::damaged(place, name),
-        RecoverFault::Failed => Status::plain(alloc, 5),
-        RecoverFault::Memory => Status::plain(alloc, 7),
-    }
-}
-
-// The status of a reader that could not be made.
-fn status_of_reader(alloc: Global, fault: DiskFault) -> Status
-    ensures { (result.code ≢ 1) × (result.code ≢ 6) × FitsTable result }
-{
-    match fault {
-        DiskFault::Failed => Status::plain(alloc, 5),
-        DiskFault::Memory => Status::plain(alloc, 7),
-    }
-}
-
-// The status of how the loops ended.
-fn status_of_loops(alloc: Global, end: LoopEnd) -> Status
-    ensures { (result.code ≢ 1) × (result.code ≢ 6) × FitsTable result }
-{
-    match end {
-        LoopEnd::Done => Status::plain(alloc, 0),
-        LoopEnd::Clock => Status::named(alloc, 10, "clock"),
-        LoopEnd::Door | LoopEnd::Poll => Status::named(alloc, 10, "door"),
-        LoopEnd::Memory => Status::plain(alloc, 7),
-    }
-}
-
-// The status of loops that ended like this, where the last flush turn ended like that.
-fn last_status(alloc: Global, end: LoopEnd, last: FlushEnd) -> Status
-    ensures { (result.code ≢ 1) × (result.code ≢ 6) × FitsTable result }
-{
-    match last {
-        FlushEnd::Memory => Status::plain(alloc, 7),
-        FlushEnd::Failed(_) | FlushEnd::Misplaced if end == LoopEnd::Done => Status::plain(
-            alloc, 5,
-        ),
-        _ => status_of_loops(alloc, end),
     }
 }
 
@@ -190,6 +144,28 @@ where
     }
 }
 
+// Makes a reader for each loop and serves links over an open log.
+fn serve_loops<
+    W: Wait + Threads + Sync,
+    P: Ready + Send + Sync + Drop,
+    D: Disk + Send + Drop,
+    K: Clock + Send + Drop,
+>(rt: &W, alloc: Global, opened: Opened, loops: Loops<P>, clock: K, disk: D) -> Ended<D>
+where
+    D::Reader: Send,
+    requires none_out { (shown_of opened.core).out ≡ None }
+    requires inside { D.tells → IsInside opened.flusher.file.base opened.flusher.file.offset (D.state disk) }
+    ensures status { (result.status.code ≢ 1) × (result.status.code ≢ 6) × FitsTable result.status }
+    ensures stands { IfSome result.core (StandsSince opened.core) }
+    ensures outside { D.tells → StaysOutside (D.state disk) (D.state result.disk) }
+{
+    let mut disk = disk;
+    match readers_of(alloc, &mut disk) {
+        Err(fault) => unserved(disk, status_of_reader(alloc, fault)),
+        Ok(readers) => serve_open(rt, alloc, opened, loops, clock, readers, disk),
+    }
+}
+
 // Opens the door and serves links over an open log.
 fn serve_log<
     W: Wait + Threads + Sync,
@@ -220,13 +196,9 @@ where
     if door.open(port_of(command)).is_err() {
         return unserved(disk, Status::named(alloc, 10, "door"));
     }
-    let Ok(loops) = Loops::new(alloc, ready, door, bounds_of(command)) else {
-        return unserved(disk, Status::plain(alloc, 7));
-    };
-    let mut disk = disk;
-    match readers_of(alloc, &mut disk) {
-        Err(fault) => unserved(disk, status_of_reader(alloc, fault)),
-        Ok(readers) => serve_open(rt, alloc, opened, loops, clock, readers, disk),
+    match Loops::new(alloc, ready, door, bounds_of(command)) {
+        Err(end) => unserved(disk, status_of_loops(alloc, end)),
+        Ok(loops) => serve_loops(rt, alloc, opened, loops, clock, disk),
     }
 }
 

@@ -1,7 +1,7 @@
 use Rattle.std.proofs.Common.{◌≡◌, None}
 use Rattle.log_model.specs.Stored.{StaysOutside}
 use Rattle.segment_files.specs.Turn.{IsInside}
-use Rattle.broker_serve.proofs.flusher.keep_flushing.Given as goal
+use Rattle.serve_threads.proofs.flusher.flush_all.Given as goal
 
 abbrev pub invariant-loop : goal.invariant-loop
 invariant-loop g l = record {

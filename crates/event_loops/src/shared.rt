@@ -1,22 +1,26 @@
 //! What the threads of a running broker see of each other: who sleeps, what has ended, and links on their way to a loop.
 
-use mq_peers::{Ready, Wake};
+ghost use Rattle.std.specs.Prelude.{◌≡◌, []};
+
+use mq_peers::{Link, Ready, Wake};
 use std::alloc::Global;
 use std::collections::VecDeque;
 use std::sync::atomic::{AtomicU64, Ordering};
 use std::sync::{Mutex, Wait};
 use std::thread::Parker;
 
-/// A link that was let in, with its number.
+/// A link that was let in, with its number. It has given and taken nothing yet.
 #[derive(Drop)]
-pub(crate) struct NewLink<L: Drop> {
-    pub(crate) number: u32,
-    pub(crate) link: L,
+pub struct NewLink<L: Link + Drop> {
+    pub number: u32,
+    pub link: L,
+    pub ghost given: { L.tells → L.given link ≡ [] },
+    pub ghost taken: { L.tells → L.taken link ≡ [] },
 }
 
 /// A loop, as the other threads see it.
 #[derive(Drop)]
-pub(crate) struct Port<P: Ready> {
+pub struct Port<P: Ready> {
     inbox: Mutex<VecDeque<NewLink<P::Link>>>,
     // 1 while the loop waits for a flush turn.
     awaits: AtomicU64,
@@ -25,7 +29,7 @@ pub(crate) struct Port<P: Ready> {
 
 impl<P: Ready> Port<P> {
     /// A loop that these wakes reach.
-    pub(crate) fn new(alloc: Global, waker: P::Waker) -> Port<P> {
+    pub fn new(alloc: Global, waker: P::Waker) -> Port<P> {
         Port {
             inbox: Mutex::new(VecDeque::new(alloc)),
             awaits: AtomicU64::new(0),
@@ -34,37 +38,42 @@ impl<P: Ready> Port<P> {
     }
 
     /// Hands a link over. Where memory wants for it the link is dropped, which closes it.
-    pub(crate) fn hand_over<R: Wait>(&self, rt: &R, link: NewLink<P::Link>) {
+    pub fn hand_over<R: Wait>(&self, rt: &R, link: NewLink<P::Link>) {
         let _ = self.inbox.lock(rt).push_back(link);
         self.waker.wake();
     }
 
     /// The next link that was handed over.
-    pub(crate) fn take<R: Wait>(&self, rt: &R) -> Option<NewLink<P::Link>> {
+    pub fn take<R: Wait>(&self, rt: &R) -> Option<NewLink<P::Link>> {
         self.inbox.lock(rt).pop_front()
     }
 
+    /// Whether no link is on its way to the loop.
+    pub fn is_empty<R: Wait>(&self, rt: &R) -> bool {
+        self.inbox.lock(rt).is_empty()
+    }
+
     /// From now on the end of a flush turn wakes the loop.
-    pub(crate) fn await_turn(&self) {
+    pub fn await_turn(&self) {
         self.awaits.store(1, Ordering::SeqCst);
     }
 
     /// A flush turn has ended: wakes the loop if it waits for one.
-    pub(crate) fn turn_ended(&self) {
+    pub fn turn_ended(&self) {
         if self.awaits.swap(0, Ordering::SeqCst) == 1 {
             self.waker.wake();
         }
     }
 
     /// Wakes the loop.
-    pub(crate) fn wake(&self) {
+    pub fn wake(&self) {
         self.waker.wake();
     }
 }
 
 /// What all threads share.
 #[derive(Drop)]
-pub(crate) struct Shared {
+pub struct Shared {
     // What the flusher sleeps on.
     bell: Parker,
     // How many flush turns have ended.
@@ -83,7 +92,7 @@ pub(crate) struct Shared {
 }
 
 impl Shared {
-    pub(crate) fn new() -> Shared {
+    pub fn new() -> Shared {
         Shared {
             bell: Parker::new(),
             turns: AtomicU64::new(0),
@@ -97,22 +106,22 @@ impl Shared {
     }
 
     /// Something is pending: the flusher makes a turn.
-    pub(crate) fn ring(&self) {
+    pub fn ring(&self) {
         self.bell.unpark();
     }
 
     /// Sleeps until something is pending.
-    pub(crate) fn sleep<R: Wait>(&self, rt: &R) {
+    pub fn sleep<R: Wait>(&self, rt: &R) {
         self.bell.park(rt);
     }
 
     /// How many flush turns have ended, up to overflow.
-    pub(crate) fn turns(&self) -> u64 {
+    pub fn turns(&self) -> u64 {
         self.turns.load(Ordering::SeqCst)
     }
 
     /// One more flush turn has ended, and failed where this is the disk's count of faults.
-    pub(crate) fn count_turn(&self, failed: Option<u64>) {
+    pub fn count_turn(&self, failed: Option<u64>) {
         let word = match failed {
             Some(count) => count.saturating_add(1),
             None => 0,
@@ -122,7 +131,7 @@ impl Shared {
     }
 
     /// The disk's count of faults, where the last turn failed.
-    pub(crate) fn failed(&self) -> Option<u64> {
+    pub fn failed(&self) -> Option<u64> {
         match self.failed.load(Ordering::SeqCst) {
             0 => None,
             word => Some(word - 1),
@@ -130,54 +139,54 @@ impl Shared {
     }
 
     /// How many links were let in and have not ended.
-    pub(crate) fn open_links(&self) -> u64 {
+    pub fn open_links(&self) -> u64 {
         self.open.load(Ordering::SeqCst)
     }
 
     /// A link was let in.
-    pub(crate) fn link_opened(&self) {
+    pub fn link_opened(&self) {
         self.open.fetch_add(1, Ordering::SeqCst);
     }
 
     /// A link has ended, so that the door may let in another.
-    pub(crate) fn link_ended(&self) {
+    pub fn link_ended(&self) {
         self.open.fetch_sub(1, Ordering::SeqCst);
         self.retry.store(1, Ordering::SeqCst);
     }
 
     /// Whether a link has ended since this was asked.
-    pub(crate) fn take_retry(&self) -> bool {
+    pub fn take_retry(&self) -> bool {
         self.retry.swap(0, Ordering::SeqCst) == 1
     }
 
     /// No further link is let in.
-    pub(crate) fn close(&self) {
+    pub fn close(&self) {
         self.closed.store(1, Ordering::SeqCst);
     }
 
     /// Whether no further link is let in.
-    pub(crate) fn is_closed(&self) -> bool {
+    pub fn is_closed(&self) -> bool {
         self.closed.load(Ordering::SeqCst) == 1
     }
 
     /// The loops are to end.
-    pub(crate) fn end(&self) {
+    pub fn end(&self) {
         self.ending.store(1, Ordering::SeqCst);
     }
 
     /// Whether the loops are to end.
-    pub(crate) fn is_ending(&self) -> bool {
+    pub fn is_ending(&self) -> bool {
         self.ending.load(Ordering::SeqCst) == 1
     }
 
     /// The loops have ended: the flusher makes its last turns.
-    pub(crate) fn loops_ended(&self) {
+    pub fn loops_ended(&self) {
         self.over.store(1, Ordering::SeqCst);
         self.ring();
     }
 
     /// Whether the loops have ended.
-    pub(crate) fn is_over(&self) -> bool {
+    pub fn is_over(&self) -> bool {
         self.over.load(Ordering::SeqCst) == 1
     }
 }

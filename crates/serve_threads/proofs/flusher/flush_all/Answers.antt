@@ -1,5 +1,5 @@
 use Rattle.log_model.proofs.OutsideLemmas.{outside_start, outside_then}
-use Rattle.broker_serve.proofs.flusher.flush_all.Goals as goal
+use Rattle.serve_threads.proofs.flusher.flush_all.Goals as goal
 
 pub loop-init : goal.loop-init
 loop-init g c = record {

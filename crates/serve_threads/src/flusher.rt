@@ -4,8 +4,8 @@ ghost use Rattle.std.specs.Prelude.{◌≡◌, None};
 ghost use Rattle.log_model.specs.Stored.{StaysOutside};
 ghost use Rattle.segment_files.specs.Turn.{IsInside};
 
-use crate::shared::{Port, Shared};
 use broker_events::Calls;
+use event_loops::{Port, Shared};
 use group_flush::Flusher;
 use mq_outside::Disk;
 use mq_peers::Ready;

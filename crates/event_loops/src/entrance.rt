@@ -1,0 +1,47 @@
+//! The door, which one loop has: it numbers the links in the order in which they come.
+
+use crate::event_loop::LoopEnd;
+use crate::shared::NewLink;
+use mq_outside::Failed;
+use mq_peers::{Door, Ready};
+
+/// How many links may be open at a time, and how many are let in in all, if that is bounded.
+#[derive(Debug, Clone, Copy, PartialEq, Eq)]
+pub struct Bounds {
+    pub open: u32,
+    pub most: Option<u32>,
+}
+
+// The door, with what came in by it.
+#[derive(Drop)]
+pub(crate) struct Entrance<P: Ready> {
+    pub(crate) door: P::Door,
+    // How many links came so far.
+    pub(crate) came: u32,
+    pub(crate) bounds: Bounds,
+}
+
+impl<P: Ready> Entrance<P> {
+    // Whether no further link is let in.
+    pub(crate) fn is_done(&self) -> bool {
+        match self.bounds.most {
+            Some(most) => self.came >= most,
+            None => self.came == u32::MAX,
+        }
+    }
+
+    // The next link at the door, with its number.
+    pub(crate) fn accept(&mut self) -> Result<Option<NewLink<P::Link>>, LoopEnd> {
+        match self.door.accept() {
+            Ok(Some(link)) => {
+                self.came = self.came.saturating_add(1);
+                Ok(Some(NewLink {
+                    number: self.came,
+                    link,
+                }))
+            }
+            Ok(None) => Ok(None),
+            Err(Failed) => Err(LoopEnd::Door),
+        }
+    }
+}

@@ -1,0 +1,236 @@
+//! The links of a loop: each is read and served, and then what is due on each is sent.
+
+ghost use Rattle.std.specs.Prelude.{◌≡◌, ◌<◌, ◌^◌, [], length, IfSome};
+
+use crate::shared::Shared;
+use broker_events::{Calls, Event as BrokerEvent};
+use link_service::Linked;
+use mq_outside::Reader;
+use mq_peers::{Event, Link};
+use std::alloc::Global;
+
+/// So many links a loop has at most.
+const LINKS_MAX: usize = 1 << 16;
+
+/// A link that a loop serves, with its number.
+#[derive(Drop)]
+pub struct Numbered<L: Link + Drop> {
+    pub(crate) number: u32,
+    pub(crate) linked: Linked<L>,
+}
+
+/// The links of one of several loops. It takes those that fall to it, with greater and greater numbers.
+#[derive(Drop)]
+pub struct Links<L: Link + Drop> {
+    // Which loop it is, of how many.
+    pub(crate) number: usize,
+    pub(crate) loops: usize,
+    // The greatest number that a link of it had.
+    pub(crate) newest: u32,
+    pub(crate) slots: Vec<Option<Numbered<L>>>,
+}
+
+// It was reported.
+fn report_one<L: Link + Drop>(slot: &mut Option<Numbered<L>>, event: &Event) {
+    if let Some(numbered) = slot {
+        numbered
+            .linked
+            .report(event.readable, event.writable, event.ended);
+    }
+}
+
+// Serves what came on one link. Answers whether a request was given to the broker.
+fn hear_one<L: Link + Drop, C: Calls>(
+    alloc: Global,
+    calls: &mut C,
+    slot: &mut Option<Numbered<L>>,
+    buffer: &mut [u8],
+    now: u64,
+    failed: Option<u64>,
+) -> bool
+    requires { now < 2 ^ 62 }
+{
+    let Some(numbered) = slot else {
+        return false;
+    };
+    numbered.linked.hear(alloc, calls, buffer, now, failed)
+}
+
+// Serves what came on each link. Answers whether a request was given to the broker.
+fn hear_each<L: Link + Drop, C: Calls>(
+    alloc: Global,
+    calls: &mut C,
+    slots: &mut [Option<Numbered<L>>],
+    buffer: &mut [u8],
+    now: u64,
+    failed: Option<u64>,
+) -> bool
+    requires { now < 2 ^ 62 }
+{
+    let mut any = false;
+    for slot in slots.iter_mut() {
+        let given = hear_one(alloc, calls, slot, buffer, now, failed);
+        any = any || given;
+    }
+    any
+}
+
+// Tells the broker that a link has ended.
+fn leave<C: Calls>(alloc: Global, calls: &mut C, link: u32) {
+    let _ = calls.call(alloc, &BrokerEvent::Leave { link });
+}
+
+// Sends what is due on one link, and ends it where it has nothing more to do. Answers whether it has.
+fn reply_one<L: Link + Drop, C: Calls, R: Reader>(
+    alloc: Global,
+    calls: &mut C,
+    numbered: &mut Numbered<L>,
+    reader: &mut R,
+) -> bool {
+    numbered.linked.reply(alloc, calls, reader);
+    if !numbered.linked.has_ended() {
+        return false;
+    }
+    leave(alloc, calls, numbered.number);
+    numbered.linked.close();
+    true
+}
+
+// The same of a slot, which is free where the link has ended.
+fn reply_slot<L: Link + Drop, C: Calls, R: Reader>(
+    alloc: Global,
+    calls: &mut C,
+    slot: &mut Option<Numbered<L>>,
+    reader: &mut R,
+) -> bool {
+    let ended = match slot {
+        Some(numbered) => reply_one(alloc, calls, numbered, reader),
+        None => false,
+    };
+    if ended {
+        *slot = None;
+    }
+    ended
+}
+
+// Sends what is due on each link, and lets go of those that have ended. Answers whether any has.
+fn reply_each<L: Link + Drop, C: Calls, R: Reader>(
+    alloc: Global,
+    shared: &Shared,
+    calls: &mut C,
+    slots: &mut [Option<Numbered<L>>],
+    reader: &mut R,
+) -> bool {
+    let mut any = false;
+    for slot in slots.iter_mut() {
+        if reply_slot(alloc, calls, slot, reader) {
+            shared.link_ended();
+            any = true;
+        }
+    }
+    any
+}
+
+// The first free slot.
+fn free_in<L: Link + Drop>(slots: &[Option<Numbered<L>>]) -> Option<usize>
+    ensures { IfSome result (λ at. at < length slots.now) }
+{
+    slots.iter().position(|slot| slot.is_none())
+}
+
+impl<L: Link + Drop> Links<L> {
+    /// No links, of this loop of so many.
+    pub(crate) fn new(alloc: Global, number: usize, loops: usize) -> Links<L> {
+        Links {
+            number,
+            loops,
+            newest: 0,
+            slots: Vec::new(alloc),
+        }
+    }
+
+    /// The loop that serves the link with this number.
+    pub(crate) fn loop_of(&self, link: u32) -> usize {
+        link as usize % self.loops.max(1)
+    }
+
+    /// Whether a link with this number may be served: it falls to this loop, and comes after all that the loop had.
+    pub(crate) fn may_have(&self, link: u32) -> bool {
+        self.newest < link && self.loop_of(link) == self.number
+    }
+
+    /// A slot for one more link, if there is one.
+    pub(crate) fn free_slot(&mut self) -> Option<usize>
+        ensures { IfSome result (λ at. at < length self.new.slots.items) }
+    {
+        if let Some(at) = free_in(self.slots.as_slice()) {
+            return Some(at);
+        }
+        if self.slots.len() >= LINKS_MAX || self.slots.push(None).is_err() {
+            return None;
+        }
+        Some(self.slots.len() - 1)
+    }
+
+    /// Serves this link from now on, in a free slot.
+    pub(crate) fn put(&mut self, alloc: Global, slot: usize, number: u32, link: L)
+        requires within { slot < length self.old.slots.items }
+        requires given { L.tells → L.given link ≡ [] }
+        requires taken { L.tells → L.taken link ≡ [] }
+    {
+        let linked = Linked::new(alloc, number, link);
+        self.newest = number;
+        self.slots[slot] = Some(Numbered { number, linked });
+    }
+
+    /// The link with this token was reported.
+    pub(crate) fn report(&mut self, event: &Event) {
+        if let Some(slot) = self.slots.get_mut(event.token as usize) {
+            report_one(slot, event);
+        }
+    }
+
+    /// Serves what came on each link. Answers whether a request was given to the broker. Where the last flush turn failed, with
+    /// the disk's count, a request that found no room before it is refused.
+    pub(crate) fn hear<C: Calls>(
+        &mut self,
+        alloc: Global,
+        calls: &mut C,
+        buffer: &mut [u8],
+        now: u64,
+        failed: Option<u64>,
+    ) -> bool
+        requires { now < 2 ^ 62 }
+    {
+        hear_each(alloc, calls, self.slots.as_mut_slice(), buffer, now, failed)
+    }
+
+    /// Sends what is due on each link, and lets go of those that have ended. Answers whether any has.
+    pub(crate) fn reply<C: Calls, R: Reader>(
+        &mut self,
+        alloc: Global,
+        shared: &Shared,
+        calls: &mut C,
+        reader: &mut R,
+    ) -> bool {
+        reply_each(alloc, shared, calls, self.slots.as_mut_slice(), reader)
+    }
+
+    /// Whether a link waits for a flush turn, and whether one can go on at once.
+    pub(crate) fn outlook(&self) -> (bool, bool) {
+        let mut awaits = false;
+        let mut has_more = false;
+        for slot in &self.slots {
+            if let Some(numbered) = slot {
+                awaits = awaits || numbered.linked.awaits();
+                has_more = has_more || numbered.linked.has_more();
+            }
+        }
+        (awaits, has_more)
+    }
+
+    /// Whether there is none.
+    pub(crate) fn is_empty(&self) -> bool {
+        !self.slots.iter().any(|slot| slot.is_some())
+    }
+}

@@ -1,0 +1,11 @@
+//! The broker over many links, from the core that is opened to the core that is left: two loops serve the links, and one flusher
+//! writes what they append.
+#![tactic(auto)]
+
+mod flusher;
+mod loops;
+mod served;
+mod threads;
+
+pub use loops::Loops;
+pub use served::{Served, serve};
