@@ -1,0 +1,19 @@
+//! Tests of what is read and written: bytes, records, frames, requests, replies, sends, arguments and formats.
+#![tactic(auto)]
+
+#[cfg(test)]
+mod ask_tests;
+#[cfg(test)]
+mod byte_tests;
+#[cfg(test)]
+mod config_tests;
+#[cfg(test)]
+mod frame_tests;
+#[cfg(test)]
+mod record_tests;
+#[cfg(test)]
+mod reply_tests;
+#[cfg(test)]
+mod request_tests;
+#[cfg(test)]
+mod store_tests;

@@ -1,0 +1,348 @@
+//! The command line, word by word, and the opening of stores in memory.
+
+use mq_outside::{Disk, MemDisk, MemKeep, Room};
+use std::alloc::{AllocError, Global};
+use std::test::Fail;
+use store_open::{
+    AskedSizes, Command, ServeCommand, Sizes, Status, open_format, read_serve_words, read_words,
+};
+
+const LOG: &str = "commitlog/00000000000000000000";
+
+const OF_4096: &[u8] = b"mq_broker 1 4096 65536 262144\n";
+
+const OF_A_GIBIBYTE: &[u8] = b"mq_broker 1 1073741824 65536 262144\n";
+
+const SMALLEST: &[u8] = b"mq_broker 1 4096 1 2\n";
+
+const NOTHING: AskedSizes = AskedSizes {
+    segment: None,
+    slots: None,
+    entries: None,
+};
+
+const DEFAULTS: Command = Command {
+    sync: true,
+    sizes: NOTHING,
+    host: [127, 0, 0, 1, 0, 0, 42, 159],
+};
+
+const SERVE_DEFAULTS: ServeCommand = ServeCommand {
+    sync: true,
+    sizes: NOTHING,
+    host: [127, 0, 0, 1, 0, 0, 42, 159],
+    links: 1024,
+    connections: None,
+};
+
+#[test]
+fn each_option_of_pipe_is_read(rt: HostRuntime) -> Result<(), Fail> {
+    assert_eq!(rt; read_words(&["pipe"]), Ok(DEFAULTS));
+    for (value, sync) in [("sync", true), ("async", false)] {
+        let read = read_words(&["pipe", "--flush", value]);
+        assert_eq!(rt; read, Ok(Command { sync, ..DEFAULTS }), "{value}");
+    }
+    let sizes = [
+        (
+            "--segment",
+            "4096",
+            AskedSizes {
+                segment: Some(4096),
+                ..NOTHING
+            },
+        ),
+        (
+            "--segment",
+            "1073741824",
+            AskedSizes {
+                segment: Some(1_073_741_824),
+                ..NOTHING
+            },
+        ),
+        (
+            "--slots",
+            "1",
+            AskedSizes {
+                slots: Some(1),
+                ..NOTHING
+            },
+        ),
+        (
+            "--slots",
+            "5000000",
+            AskedSizes {
+                slots: Some(5_000_000),
+                ..NOTHING
+            },
+        ),
+        (
+            "--entries",
+            "2",
+            AskedSizes {
+                entries: Some(2),
+                ..NOTHING
+            },
+        ),
+        (
+            "--entries",
+            "20000000",
+            AskedSizes {
+                entries: Some(20_000_000),
+                ..NOTHING
+            },
+        ),
+    ];
+    for (option, value, sizes) in sizes {
+        let read = read_words(&["pipe", option, value]);
+        assert_eq!(rt; read, Ok(Command { sizes, ..DEFAULTS }), "{option} {value}");
+    }
+    let all = [
+        "pipe",
+        "--entries",
+        "9",
+        "--host",
+        "10.2.30.255:65535",
+        "--slots",
+        "8",
+        "--segment",
+        "65536",
+        "--flush",
+        "async",
+    ];
+    let said = Command {
+        sync: false,
+        sizes: AskedSizes {
+            segment: Some(65536),
+            slots: Some(8),
+            entries: Some(9),
+        },
+        host: [10, 2, 30, 255, 0, 0, 255, 255],
+    };
+    assert_eq!(rt; read_words(&all), Ok(said));
+    Ok(())
+}
+
+#[test]
+fn the_first_word_of_pipe_that_does_not_fit_is_told(rt: HostRuntime) -> Result<(), Fail> {
+    assert_eq!(rt; read_words(&[]), Err(0));
+    assert_eq!(rt; read_words(&["dump"]), Err(0));
+    assert_eq!(rt; read_words(&["pipe", "--links", "1"]), Err(1));
+    assert_eq!(rt; read_words(&["pipe", "--flush"]), Err(2));
+    assert_eq!(rt;
+        read_words(&["pipe", "--segment", "4096", "--segment", "4096"]),
+        Err(3)
+    );
+    let rows = [
+        ("--flush", "often"),
+        ("--segment", ""),
+        ("--segment", "4095"),
+        ("--segment", "04096"),
+        ("--segment", "+4096"),
+        ("--segment", "4096 "),
+        ("--segment", "1073741825"),
+        ("--slots", "0"),
+        ("--slots", "5000001"),
+        ("--entries", "1"),
+        ("--entries", "20000001"),
+        ("--host", "1.2.3.4:0"),
+    ];
+    for (option, value) in rows {
+        assert_eq!(rt;
+            read_words(&["pipe", option, value]),
+            Err(2),
+            "{option} {value}"
+        );
+    }
+    Ok(())
+}
+
+#[test]
+fn the_options_of_links_are_read(rt: HostRuntime) -> Result<(), Fail> {
+    assert_eq!(rt; read_serve_words(&["serve"]), Ok(SERVE_DEFAULTS));
+    for (value, n) in [("1", 1), ("4096", 4096)] {
+        let read = read_serve_words(&["serve", "--links", value]);
+        let said = ServeCommand {
+            links: n,
+            ..SERVE_DEFAULTS
+        };
+        assert_eq!(rt; read, Ok(said), "{value}");
+        let read = read_serve_words(&["serve", "--connections", value]);
+        let said = ServeCommand {
+            connections: Some(n),
+            ..SERVE_DEFAULTS
+        };
+        assert_eq!(rt; read, Ok(said), "{value}");
+    }
+    let all = [
+        "serve",
+        "--connections",
+        "2",
+        "--links",
+        "3",
+        "--host",
+        "1.2.3.4:256",
+        "--segment",
+        "65536",
+        "--flush",
+        "async",
+    ];
+    let said = ServeCommand {
+        sync: false,
+        sizes: AskedSizes {
+            segment: Some(65536),
+            ..NOTHING
+        },
+        host: [1, 2, 3, 4, 0, 0, 1, 0],
+        links: 3,
+        connections: Some(2),
+    };
+    assert_eq!(rt; read_serve_words(&all), Ok(said));
+    Ok(())
+}
+
+#[test]
+fn the_first_word_of_serve_that_does_not_fit_is_told(rt: HostRuntime) -> Result<(), Fail> {
+    assert_eq!(rt; read_serve_words(&["pipe"]), Err(0));
+    assert_eq!(rt; read_serve_words(&["serve", "serve"]), Err(1));
+    assert_eq!(rt; read_serve_words(&["serve", "--port", "1"]), Err(1));
+    assert_eq!(rt;
+        read_serve_words(&["serve", "--links", "1", "--links", "1"]),
+        Err(3)
+    );
+    assert_eq!(rt;
+        read_serve_words(&["serve", "--links", "1", "--host"]),
+        Err(4)
+    );
+    let rows = [
+        ("--host", "1.2.3.4"),
+        ("--host", "1.2.3:80"),
+        ("--host", "1.2.3.4.5:80"),
+        ("--host", "1.2.3.256:80"),
+        ("--host", "1.02.3.4:80"),
+        ("--host", "1.2.3.4:65536"),
+        ("--host", "localhost:80"),
+        ("--links", "0"),
+        ("--links", "4097"),
+        ("--links", "+1"),
+        ("--connections", "0"),
+        ("--connections", "4097"),
+    ];
+    for (option, value) in rows {
+        assert_eq!(rt;
+            read_serve_words(&["serve", option, value]),
+            Err(2),
+            "{option} {value}"
+        );
+    }
+    Ok(())
+}
+
+// A store of which nothing fails: its format, and a log file where it has one.
+fn store(
+    alloc: Global,
+    format: Option<&[u8]>,
+    has_log: bool,
+) -> Result<(MemDisk, MemKeep), AllocError> {
+    let room = Room {
+        bytes: 4096,
+        files: 4,
+        calls: 16,
+    };
+    let mut disk = MemDisk::new(alloc, Vec::new(alloc), room, Vec::new(alloc))?;
+    if has_log {
+        let _written = disk.write_at(LOG, 0, b"1");
+    }
+    let mut texts = Vec::new(alloc);
+    if let Some(text) = format {
+        texts.push((String::from_str(alloc, "format")?, text.to_vec(alloc)?))?;
+    }
+    Ok((disk, MemKeep::new(alloc, texts, Vec::new(alloc))?))
+}
+
+#[test]
+fn a_store_is_opened_with_the_sizes_that_its_format_says(rt: HostRuntime) -> Result<(), Fail> {
+    let alloc = rt.alloc();
+    let of_4096 = AskedSizes {
+        segment: Some(4096),
+        ..NOTHING
+    };
+    let least = AskedSizes {
+        segment: Some(4096),
+        slots: Some(1),
+        entries: Some(2),
+    };
+    let rows = [
+        (
+            None,
+            false,
+            NOTHING,
+            (1_073_741_824, 65_536, 262_144),
+            OF_A_GIBIBYTE,
+        ),
+        (None, false, of_4096, (4096, 65_536, 262_144), OF_4096),
+        (None, false, least, (4096, 1, 2), SMALLEST),
+        (
+            Some(OF_4096),
+            true,
+            NOTHING,
+            (4096, 65_536, 262_144),
+            OF_4096,
+        ),
+        (
+            Some(OF_4096),
+            true,
+            of_4096,
+            (4096, 65_536, 262_144),
+            OF_4096,
+        ),
+        (Some(SMALLEST), true, least, (4096, 1, 2), SMALLEST),
+    ];
+    for (format, has_log, asked, (segment, slots, entries), text) in rows {
+        let (mut disk, mut keep) = store(alloc, format, has_log)?;
+        let opened = open_format(alloc, &mut disk, &mut keep, &asked);
+        let sizes = Sizes {
+            segment,
+            slots,
+            entries,
+        };
+        assert_eq!(rt; opened.ok(), Some(sizes));
+        assert_eq!(rt; keep.bytes("format"), Some(text));
+    }
+    Ok(())
+}
+
+#[test]
+fn another_store_is_refused_by_name(rt: HostRuntime) -> Result<(), Fail> {
+    let alloc = rt.alloc();
+    let other: &[u8] = b"mq_broker 2 4096 65536 262144\n";
+    let padded: &[u8] = b"mq_broker 1 04096 65536 262144\n";
+    let segment = AskedSizes {
+        segment: Some(8192),
+        ..NOTHING
+    };
+    let slots = AskedSizes {
+        slots: Some(1),
+        ..NOTHING
+    };
+    let entries = AskedSizes {
+        entries: Some(2),
+        ..NOTHING
+    };
+    let rows = [
+        (None, true, NOTHING, LOG),
+        (Some(OF_4096), true, segment, "format"),
+        (Some(OF_4096), true, slots, "format"),
+        (Some(OF_4096), true, entries, "format"),
+        (Some(other), true, NOTHING, "format"),
+        (Some(padded), true, NOTHING, "format"),
+    ];
+    for (format, has_log, asked, name) in rows {
+        let (mut disk, mut keep) = store(alloc, format, has_log)?;
+        let opened = open_format(alloc, &mut disk, &mut keep, &asked);
+        let status = opened.err().unwrap_or(Status::plain(alloc, 0));
+        assert_eq!(rt; status.code, 6);
+        assert_eq!(rt; status.name.as_str(), name);
+        assert_eq!(rt; keep.bytes("format"), format);
+    }
+    Ok(())
+}
