@@ -1,4 +1,6 @@
-pub mod BlockLemmas
+pub mod PlaceLemmas
+pub mod TimeLemmas
+pub mod TimedLemmas
 pub mod ListLemmas
 pub mod TableLemmas
 pub mod NumberLemmas

@@ -1,11 +1,10 @@
 -- The table: what is changed of it, and what is due.
-use Rattle.std.proofs.Common.{◌≡◌, ◌∙◌, ℕ, zero, suc, ◌+◌, ◌-◌, Bool, true, false, cond, nat_lt, List, [], ◌∷◌, length, slice_get, Option, Some, None, refl, sym, ap, subst, arith}
+use Rattle.std.proofs.Common.{◌≡◌, ◌∙◌, ℕ, zero, suc, ◌+◌, ◌-◌, ◌<◌, ◌≤◌, Bool, true, false, cond, nat_lt, List, [], ◌∷◌, length, slice_get, Option, Some, None, refl, sym, ap, subst, arith}
 use Rattle.std.proofs.lemmas.Bool.{ltb-false}
 use Rattle.std.proofs.lemmas.Option.{same_Some}
 use Rattle.half_view.specs.declared.check.Check.{Check}
 use Rattle.half_view.specs.declared.row.HalfRow.{HalfRow}
 use Rattle.half_view.specs.Halves.{HalfTable, index_of, change, changed, is_due_row, check_row, due_from}
-use Rattle.half_view.specs.Blocks.{NoneIsDue}
 use Rattle.half_view.proofs.ListLemmas.{change_past}
 
 -- ---- a half message that doesn't stand
@@ -20,6 +19,11 @@ pub changed_absent : (f : HalfRow → HalfRow) (h : ℕ) (t : HalfTable) → Non
 changed_absent f h t is = absent_by f h t (nat_lt h t.low) (nat_lt (h - t.low) (length t.halves)) refl is
 
 -- ---- the first that is due
+
+-- of the half messages with these indexes none is due
+abbrev pub NoneIsDue : ℕ → ℕ → List HalfRow → ℕ → ℕ → Type 0
+NoneIsDue now low rows from to = (k : ℕ) (row : HalfRow) → from ≤ k → k < to
+    → slice_get rows k ≡ Some row → is_due_row now (low + k) row ≡ false
 
 next_none : (now own : ℕ) (x : HalfRow) (xs : List HalfRow) (k : ℕ) → NoneIsDue now own (x ∷ xs) 0 (suc k) → (is_due_row now own x ≡ false) × NoneIsDue now (own + 1) xs 0 k
 next_none now own x xs k none = (

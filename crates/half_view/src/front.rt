@@ -1,13 +1,11 @@
 //! The front of the half messages, which is cut off where segments of the log are removed.
 
-ghost use Rattle.std.specs.Prelude.{◌≡◌, ◌<◌, ◌≤◌, ◌+◌, ◌*◌, ◌^◌, length, drop, filter, nat_le, vec_len, vec_capacity};
+ghost use Rattle.std.specs.Prelude.{◌≡◌, ◌≤◌, ◌+◌, drop, filter, nat_le, vec_len, vec_capacity};
 ghost use Rattle.std.specs.List.{position_or_len};
 ghost use Rattle.std.specs.List.Sorted.{IsNonDecreasingBy};
 ghost use Rattle.half_view.specs.declared.row.HalfRow.{HalfRow};
 ghost use Rattle.half_view.specs.Halves.{place_of};
-ghost use Rattle.half_view.specs.Blocks.{AreBelow};
 
-use crate::blocks::{BLOCK, tighten};
 use crate::row::HalfRow;
 
 // The index of the first half message that stands at this place or past it, where the places don't fall.
@@ -31,17 +29,4 @@ pub(crate) fn drop_front(rows: &mut Vec<HalfRow>, count: usize)
     let left = rows.len() - count;
     rows.as_mut_slice().rotate_left(count);
     rows.truncate(left);
-}
-
-// The bound of each block is that of its half messages.
-pub(crate) fn tighten_all(rows: &Vec<HalfRow>, bounds: &mut Vec<u64>, low: u64)
-    requires all { length rows.now.items ≤ 256 * length bounds.old.items }
-    requires small { low + vec_len rows.now ≤ 2 ^ 62 }
-    ensures bounds { length bounds.new.items ≡ length bounds.old.items }
-    ensures below { AreBelow low rows.now.items bounds.new.items }
-{
-    let blocks = (rows.len() + BLOCK - 1) / BLOCK;
-    for block in 0..blocks {
-        tighten(rows, bounds, low, block);
-    }
 }

@@ -2,7 +2,6 @@
 #![tactic(auto)]
 
 mod add_head;
-mod blocks;
 mod check;
 mod due;
 mod front;
@@ -10,6 +9,8 @@ mod head;
 mod kinds;
 pub mod laws;
 mod row;
+mod rows;
+mod times;
 mod view;
 
 pub use check::Check;

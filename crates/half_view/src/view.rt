@@ -16,12 +16,13 @@ ghost use Rattle.half_view.specs.Halves.{HalfTable, row_at, index_of, renewed_ro
 ghost use Rattle.half_view.specs.OfLog.{AreHalvesOf, CutsHalves, empty_log, origin_in, due_origin, check_of as check_of_origin, settling_in};
 ghost use Rattle.half_view.specs.OfLog.{committed_by, discarded_by, with_settlement};
 
-use crate::blocks::{BLOCK, first_due, named_at, push, renew_at, settle_at};
 use crate::check::Check;
 use crate::due::check_of;
-use crate::front::{drop_front, first_from, tighten_all};
+use crate::front::{drop_front, first_from};
 use crate::kinds::{is_copy, is_discard, is_half, named_half, rolled_back};
 use crate::row::HalfRow;
+use crate::rows::{named_at, push, renew_at, set_all, settle_at};
+use crate::times::{NEVER, Times};
 use log_model::OriginState;
 use record_codec::View;
 use std::alloc::{AllocError, Global};
@@ -36,8 +37,8 @@ pub struct HalfView {
     // How many half messages were removed: the queue offset of the first one.
     low: u64,
     halves: Vec<HalfRow>,
-    // For each block of half messages the earliest time at which one of them is due.
-    bounds: Vec<u64>,
+    // From when on each of them is due, and room for more.
+    times: Times,
 }
 
 impl Model for HalfView {
@@ -45,12 +46,12 @@ impl Model for HalfView {
 
     ghost Value = { HalfTable };
 
-    ghost use Rattle.half_view.specs.Blocks.{AreBlocks};
+    ghost use Rattle.half_view.specs.Due.{AreTimed};
     ghost use Rattle.half_view.specs.Rooms.{table_of};
 
-    ghost view = { λ v. table_of v.low v.halves v.bounds };
+    ghost view = { λ v. table_of v.low v.halves v.times };
 
-    ghost invariant = { λ v. AreBlocks v.low v.halves.items v.bounds.items };
+    ghost invariant = { λ v. AreTimed v.low v.halves.items v.times };
 }
 
 impl HalfView {
@@ -63,7 +64,7 @@ impl HalfView {
         HalfView {
             low: 0,
             halves: Vec::new(alloc),
-            bounds: Vec::new(alloc),
+            times: Times::new(alloc),
         }
     }
 
@@ -78,8 +79,8 @@ impl HalfView {
         if self.low + count as u64 >= OFFSET_MAX {
             return Err(AllocError);
         }
-        if count / BLOCK >= self.bounds.len() {
-            self.bounds.push(u64::MAX)?;
+        if count >= self.times.len() {
+            self.times.grow(alloc)?;
         }
         self.halves.reserve(1)
     }
@@ -106,7 +107,7 @@ impl HalfView {
         let count = first_from(&self.halves, place);
         drop_front(&mut self.halves, count);
         self.low += count as u64;
-        tighten_all(&self.halves, &mut self.bounds, self.low);
+        set_all(&self.halves, &mut self.times, self.low);
     }
 
     // The index of the half message with this queue offset.
@@ -132,7 +133,7 @@ impl HalfView {
         if let Some(k) = self.index(half) {
             renew_at(
                 &mut self.halves,
-                &mut self.bounds,
+                &mut self.times,
                 self.low,
                 k,
                 renewal,
@@ -161,7 +162,7 @@ impl HalfView {
             checks: 0,
             state: OriginState::Open,
         };
-        push(&mut self.halves, &mut self.bounds, self.low, row);
+        push(&mut self.halves, &mut self.times, self.low, row);
     }
 
     /// The half message with this queue offset, where one is told and it stands, is settled by the record with this number;
@@ -174,7 +175,7 @@ impl HalfView {
             return;
         };
         if let Some(k) = self.index(half) {
-            settle_at(&mut self.halves, &mut self.bounds, self.low, k, how, number);
+            settle_at(&mut self.halves, &mut self.times, self.low, k, how, number);
         }
     }
 
@@ -325,7 +326,7 @@ impl HalfView {
     fn due_check(&self, now: u64) -> Option<Check>
         ensures { result ≡ due_of now self.now }
     {
-        let k = first_due(&self.halves, &self.bounds, self.low, now)?;
+        let k = self.times.first(now.min(NEVER - 1))?;
         Some(check_of(&self.halves[k], self.low + k as u64))
     }
 

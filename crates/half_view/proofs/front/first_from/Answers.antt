@@ -2,7 +2,7 @@ use Rattle.std.proofs.Common.{◌≡◌, ◌≤◌, true, false, List, length, r
 use Rattle.std.specs.List.Sorted.{IsNonDecreasingBy, IsPartitionPoint}
 use Rattle.std.proofs.lemmas.List.Sorted.{IsPartitionedBy-ltb, IsPartitionPoint-from_clause}
 use Rattle.half_view.specs.declared.row.HalfRow.{HalfRow}
-use Rattle.half_view.proofs.BlockLemmas.{before_place, from_place, first_is, rest_is}
+use Rattle.half_view.proofs.PlaceLemmas.{before_place, from_place, first_is, rest_is}
 use Rattle.half_view.proofs.front.first_from.Goals as goal
 
 pub returns : goal.returns

@@ -10,7 +10,7 @@ use Rattle.half_view.proofs.view.HalfView.cut.Goals as goal
 
 pub returns-clause-records : goal.returns-clause-records
 returns-clause-records c segment n log later well are cut at =
-    let t : HalfTable = table_of c.self.inside.low c.self.inside.halves c.self.inside.bounds in
+    let t : HalfTable = table_of c.self.inside.low c.self.inside.halves c.self.inside.times in
     let before : AreHalvesOf log t = subst (λ (x : HalfTable). AreHalvesOf log x) (sym c.self.view_is) are in
     let rise = places_rise segment log t well before in
     let left = cut_follows segment n log later well cut t 0 before in

@@ -3,7 +3,7 @@ use Rattle.half_view.specs.Halves.{settled_row}
 use Rattle.log_model.specs.declared.origin.OriginState.{OriginState}
 use Rattle.std.proofs.Common.{set, ap, ◌+◌}
 use Rattle.half_view.proofs.ListLemmas.{change_read}
-use Rattle.half_view.proofs.blocks.settle_at.Goals as goal
+use Rattle.half_view.proofs.rows.settle_at.Goals as goal
 
 pub returns-clause-rows : goal.returns-clause-rows
 returns-clause-rows c =

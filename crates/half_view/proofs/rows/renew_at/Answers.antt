@@ -1,7 +1,7 @@
 use Rattle.std.proofs.Common.{◌∙◌, arith, ℕ, set, ap, ◌+◌}
 use Rattle.half_view.specs.Halves.{renewed_row}
 use Rattle.half_view.proofs.ListLemmas.{change_read}
-use Rattle.half_view.proofs.blocks.renew_at.Goals as goal
+use Rattle.half_view.proofs.rows.renew_at.Goals as goal
 
 pub returns-clause-rows : goal.returns-clause-rows
 returns-clause-rows c =

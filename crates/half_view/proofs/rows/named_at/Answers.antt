@@ -4,9 +4,9 @@ use Rattle.std.proofs.lemmas.List.Sorted.{IsPartitionedBy-ltb, IsPartitionPoint-
 use Rattle.std.proofs.lemmas.Option.{same_Some}
 use Rattle.half_view.specs.declared.row.HalfRow.{HalfRow}
 use Rattle.half_view.proofs.ListLemmas.{get_read, get_within}
-use Rattle.half_view.proofs.BlockLemmas.{before_point, behind_point, place_found, place_absent}
-use Rattle.half_view.proofs.blocks.named_at.Goals.{else-k-len-via-then-k-len+else-index-place, else-k-len-via-else-k-len}
-use Rattle.half_view.proofs.blocks.named_at.Goals as goal
+use Rattle.half_view.proofs.PlaceLemmas.{before_point, behind_point, place_found, place_absent}
+use Rattle.half_view.proofs.rows.named_at.Goals.{else-k-len-via-then-k-len+else-index-place, else-k-len-via-else-k-len}
+use Rattle.half_view.proofs.rows.named_at.Goals as goal
 
 pub returns-then-index-place : goal.returns-then-index-place
 returns-then-index-place c rising =
