@@ -40,7 +40,7 @@ fn double(alloc: Global, slots: &mut Vec<u64>) -> Result<(), AllocError>
     slots.extend_from_slice(copy.as_slice())
 }
 
-// Makes slots for a table of so many rows: the first ones, or twice as many where a slot has more than four rows.
+// Makes slots for a table of so many rows: the first ones, or twice as many where there is a row for each.
 pub(crate) fn grow(alloc: Global, slots: &mut Vec<u64>, rows: usize) -> Result<(), AllocError>
     ensures some { OnOk result (0 < length slots.new.items) }
     ensures kept { 0 < length slots.old.items → 0 < length slots.new.items }
@@ -51,7 +51,7 @@ pub(crate) fn grow(alloc: Global, slots: &mut Vec<u64>, rows: usize) -> Result<(
         *slots = first;
         return Ok(());
     }
-    if slots.len() < SLOTS_MAX && rows / 4 >= slots.len() {
+    if slots.len() < SLOTS_MAX && rows >= slots.len() {
         return double(alloc, slots);
     }
     Ok(())
