@@ -1,3 +1,4 @@
 pub mod DueLemmas
 pub mod GrowthLemmas
 pub mod CutLemmas
+pub mod IdleLemmas

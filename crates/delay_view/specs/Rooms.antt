@@ -1,5 +1,5 @@
 -- How a delay level is kept.
-use Rattle.std.specs.Prelude.{◌≡◌, ℕ, ◌+◌, ◌-◌, ◌<◌, ◌≤◌, ◌^◌, min, List, length}
+use Rattle.std.specs.Prelude.{◌≡◌, ℕ, ◌+◌, ◌-◌, ◌<◌, ◌≤◌, ◌^◌, ◌||◌, min, nat_le, nat_lt, List, length, slice_get, Bool, true, Some}
 use Rattle.chunks.specs.Lists.{Roomy}
 use Rattle.delay_view.specs.Levels.{Level}
 
@@ -19,6 +19,12 @@ pub record IsLevel (low : ℕ) (times : List ℕ) (seen copied : ℕ) : Type 0 w
   pub small : low + length times < 2 ^ 63
   pub few : copied ≤ 2 ^ 62
 
--- there are eighteen
-pub record AreAll (levels : List Level) : Type 0 where
+-- the next message was removed or isn't dispatched
+abbrev pub is_idle : Level → Bool
+is_idle l = nat_lt l.copied l.low || nat_le (l.low + l.seen) l.copied
+
+-- There are eighteen, and the first so many have no message to deliver.
+pub record AreAll (levels : List Level) (idle : ℕ) : Type 0 where
   pub all : length levels ≡ 18
+  pub few : idle ≤ 18
+  pub none : (k : ℕ) (l : Level) → k < idle → slice_get levels k ≡ Some l → is_idle l ≡ true

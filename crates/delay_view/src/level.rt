@@ -3,6 +3,7 @@
 
 ghost use Rattle.std.specs.Prelude.{◌≡◌, ◌<◌, ◌≤◌, ◌+◌, ◌^◌, length, OnOk};
 ghost use Rattle.delay_view.specs.Levels.{empty_level, started, with_room, with_time, with_next_seen, with_next_copied, cut_at, next_time, has_come};
+ghost use Rattle.delay_view.specs.Rooms.{is_idle};
 
 use chunks::Chunks;
 use std::alloc::{AllocError, Global};
@@ -130,6 +131,13 @@ impl LevelTable {
         ensures { result ≡ self.now.copied }
     {
         self.copied
+    }
+
+    // Whether the next message isn't seen or was removed.
+    pub(crate) fn is_idle(&self) -> bool
+        ensures { result ≡ is_idle self.now }
+    {
+        self.copied < self.low || self.low + self.seen as u64 <= self.copied
     }
 
     // When the next message is to be delivered, `None` where it isn't seen or was removed.

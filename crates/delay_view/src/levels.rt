@@ -1,7 +1,8 @@
 //! One level among all, and the lowest that is due.
 
-ghost use Rattle.std.specs.Prelude.{◌≡◌, ◌<◌, ◌≤◌, ◌+◌, ◌^◌, length, slice_get, slice_set, Some, OnOk, vec_len};
-ghost use Rattle.delay_view.specs.Levels.{Level, started, with_room, with_time, with_next_seen, with_next_copied, cut_at};
+ghost use Rattle.std.specs.Prelude.{◌≡◌, ◌≢◌, ◌<◌, ◌≤◌, ◌+◌, ◌^◌, ℕ, drop, length, slice_get, slice_set, Some, true, OnOk, vec_len};
+ghost use Rattle.delay_view.specs.Levels.{Level, started, with_room, with_time, with_next_seen, with_next_copied, cut_at, due_from};
+ghost use Rattle.delay_view.specs.Rooms.{is_idle};
 
 use crate::level::LevelTable;
 use std::alloc::{AllocError, Global};
@@ -84,4 +85,35 @@ pub(crate) fn cut_one(levels: &mut Vec<LevelTable>, k: usize, min: u64)
 {
     let level = &mut levels[k];
     level.cut(min);
+}
+
+// A message of level `k` was delivered, and none of the first `idle` levels beside it has one to deliver: how many of the first
+// ones have none now.
+pub(crate) fn idle_after(levels: &Vec<LevelTable>, idle: usize, k: usize) -> usize
+    requires there { k < vec_len levels.now }
+    requires few { idle ≤ vec_len levels.now }
+    requires others { (j : ℕ) (l : Level) → j < idle → j ≢ k → slice_get levels.now.items j ≡ Some l → is_idle l ≡ true }
+    ensures few { result ≤ vec_len levels.now }
+    ensures none { (j : ℕ) (l : Level) → j < result → slice_get levels.now.items j ≡ Some l → is_idle l ≡ true }
+{
+    if !levels[k].is_idle() {
+        return idle.min(k);
+    }
+    if idle == k { k + 1 } else { idle }
+}
+
+// The lowest level that is due but for the first `idle` ones, with the offset of its next message.
+pub(crate) fn lowest_from(levels: &Vec<LevelTable>, idle: usize, now: u64) -> Option<(u8, u64)>
+    requires idle { idle ≤ vec_len levels.now }
+    requires few { vec_len levels.now ≤ 18 }
+    ensures { result ≡ due_from now (1 + idle) (drop idle levels.now.items) }
+{
+    let mut number = idle as u8 + 1;
+    for level in &levels[idle..] {
+        if level.is_due(now) {
+            return Some((number, level.progress()));
+        }
+        number += 1;
+    }
+    None
 }

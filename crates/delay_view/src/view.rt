@@ -10,7 +10,9 @@ ghost use Rattle.delay_view.specs.Levels.{Level, empty_level, started, with_room
 ghost use Rattle.delay_view.specs.OfLog.{AreLevelsOf, CutsLevels, IsLevelOf, IsMessageOf, IsCopyOf, delivery_time, empty_log};
 
 use crate::level::LevelTable;
-use crate::levels::{add_time, copy_one, cut_one, make_room, see_one, start_one};
+use crate::levels::{
+    add_time, copy_one, cut_one, idle_after, lowest_from, make_room, see_one, start_one,
+};
 use std::alloc::{AllocError, Global};
 use std::marker::Model;
 
@@ -21,6 +23,8 @@ pub const LEVELS: u8 = 18;
 #[derive(Drop)]
 pub struct DelayView {
     levels: Vec<LevelTable>,
+    // The first so many levels have no message that was dispatched and is to be delivered.
+    idle: usize,
 }
 
 impl Model for DelayView {
@@ -33,7 +37,7 @@ impl Model for DelayView {
 
     ghost view = { λ v. v.levels.items };
 
-    ghost invariant = { λ v. AreAll v.levels.items };
+    ghost invariant = { λ v. AreAll v.levels.items v.idle };
 }
 
 impl DelayView {
@@ -54,7 +58,7 @@ impl DelayView {
         for _ in 0..LEVELS {
             levels.push(LevelTable::new(alloc))?;
         }
-        Ok(DelayView { levels })
+        Ok(DelayView { levels, idle: 0 })
     }
 
     /// The next message of a level has the offset `items`, and `copies` were delivered: of a log of which records were removed.
@@ -69,6 +73,7 @@ impl DelayView {
         ensures records { (base : Base) (d : ℕ) (l : Level) → items ≡ base.queues level_topic (level - 1) → copies ≡ base.levels level
             → slice_get self.new (level - 1) ≡ Some l → IsLevelOf (empty_log base) d level l }
     {
+        self.idle = self.idle.min(level as usize - 1);
         start_one(&mut self.levels, level as usize - 1, items, copies);
     }
 
@@ -109,6 +114,7 @@ impl DelayView {
         ensures level { (l : Level) → slice_get self.old (level - 1) ≡ Some l
             → self.new ≡ slice_set self.old (level - 1) (with_next_seen l) }
     {
+        self.idle = self.idle.min(level as usize - 1);
         see_one(&mut self.levels, level as usize - 1);
     }
 
@@ -123,6 +129,7 @@ impl DelayView {
             → self.new ≡ slice_set self.old (level - 1) (with_next_copied l) }
     {
         copy_one(&mut self.levels, level as usize - 1);
+        self.idle = idle_after(&self.levels, self.idle, level as usize - 1);
     }
 
     /// Removes the messages of a level below an offset, which are dispatched; takes no memory.
@@ -137,6 +144,7 @@ impl DelayView {
             → IsLevelOf log d level l → CutsLevels log n later → later.records ≤ d → min ≡ later.queues level_topic (level - 1)
             → slice_get self.new (level - 1) ≡ Some m → IsLevelOf (above log later) d level m }
     {
+        self.idle = self.idle.min(level as usize - 1);
         cut_one(&mut self.levels, level as usize - 1, min);
     }
 
@@ -175,14 +183,7 @@ impl DelayView {
     fn lowest_due(&self, now: u64) -> Option<(u8, u64)>
         ensures { result ≡ due_of now self.now }
     {
-        let mut number = 1;
-        for level in &self.levels {
-            if level.is_due(now) {
-                return Some((number, level.progress()));
-            }
-            number += 1;
-        }
-        None
+        lowest_from(&self.levels, self.idle, now)
     }
 
     /// The lowest level whose next message is seen and is to be delivered at `now` or before, in milliseconds, and the queue
