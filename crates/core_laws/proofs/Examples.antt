@@ -19,7 +19,7 @@ use Rattle.broker_model.specs.StepExamples.{sends, stores}
 use Rattle.broker_model.specs.Examples.{no_log}
 use Rattle.core_laws.specs.Offsets.{StoresOnly}
 use Rattle.core_laws.specs.Replay.{StandsFor}
-use Rattle.core_laws.specs.Examples.{setup, at_opening, stepped, answered, at_send, at_take, at_flush, at_look, hi_record, hi_reply, at_dispatch, asked_pull, pull_said, at_pull, until_dispatch, at_store, at_saving, until_saving, until_crash, is_one, at_crash, at_cut, tables_of}
+use Rattle.core_laws.specs.Examples.{setup, at_opening, stepped, answered, at_send, at_take, at_flush, at_look, hi_record, hi_reply, at_dispatch, asked_pull, pull_said, at_pull, until_dispatch, at_store, at_saving, until_saving, until_crash, from_pull, is_one, at_crash, at_cut, tables_of}
 
 -- what may happen happens
 pub goes : (b : Boot) (e : Events.Event) → IsPossible b.now e → Goes b (answered b e) (stepped b e)
@@ -172,6 +172,9 @@ hi_is_acknowledged = record {
 
 pub run_to_dispatch : Run at_opening until_dispatch at_dispatch
 run_to_dispatch = (at_send, sends_it, tt, (at_take, takes_it, tt, (at_flush, flushes_it, tt, (at_look, looks_at_it, tt, (at_dispatch, dispatches_it, tt, refl)))))
+
+pub run_from_pull : Run at_pull from_pull at_crash
+run_from_pull = (at_store, stores_it, tt, (at_saving, saves_it, tt, (at_crash, crashes, tt, refl)))
 
 pub run_to_saving : RunWith (StoresOnly is_one) at_opening until_saving at_saving
 run_to_saving = (at_send, sends_it, tt, (at_take, takes_it, tt, (at_flush, flushes_it, tt, (at_look, looks_at_it, tt, (at_dispatch, dispatches_it, tt, (at_pull, pulls_it, tt, (at_store, stores_it, stored_is_1, (at_saving, saves_it, tt, refl))))))))

@@ -32,6 +32,7 @@ pub mod RemovalExamples
 pub mod Removed
 pub mod Renewals
 pub mod Replay
+pub mod ReplayExamples
 pub mod Runs
 pub mod Steps
 pub mod Texts

@@ -15,7 +15,7 @@ use Rattle.log_model.specs.Bases.{Base, no_base}
 use Rattle.log_model.specs.Kinds.{is_half, is_delayed, is_text, origin_text}
 use Rattle.log_model.specs.Log.{end_from}
 use Rattle.log_model.specs.Numbered.{Log, place_end}
-use Rattle.log_model.specs.Transactions.{is_origin}
+use Rattle.log_model.specs.Transactions.{is_origin, is_renewal}
 use Rattle.broker_model.specs.State.{Setup}
 use Rattle.broker_model.specs.Events
 use Rattle.broker_model.specs.Refusals.{refusal_of}
@@ -47,24 +47,24 @@ one_more b c d (first ∷ moves) move run goes = (run.0, run.1, tt, one_more run
 are_possible : ArePossible at_empty events
 unfolding read_props pieces pair_in until decimal_value digits after changed request_changed is_refused drafts_of refusal_of answer_of
     carried_out_answer request_answer appended level_delay
-are_possible = (tt, (tt, (tt, (tt, (refl, (tt, (tt, (tt, (tt, (tt, (refl, (tt, (refl, (tt, tt))))))))))))))
+are_possible = (tt, (tt, (tt, (tt, (tt, (refl, (tt, (tt, (tt, (tt, (tt, (refl, (tt, (refl, (tt, tt)))))))))))))))
 
-seven_records : length at_full.now.log.records ≡ 7
+eight_records : length at_full.now.log.records ≡ 8
 unfolding read_props pieces pair_in until decimal_value digits after changed request_changed is_refused drafts_of refusal_of answer_of
     carried_out_answer request_answer appended level_delay
-seven_records = refl
+eight_records = refl
 
-all_dispatched : at_full.now.dispatched ≡ 7
+all_dispatched : at_full.now.dispatched ≡ 8
 unfolding read_props pieces pair_in until decimal_value digits after changed request_changed is_refused drafts_of refusal_of answer_of
     carried_out_answer request_answer appended level_delay
 all_dispatched = refl
 
-all_flushed : at_full.now.flushed ≡ 7
+all_flushed : at_full.now.flushed ≡ 8
 unfolding read_props pieces pair_in until decimal_value digits after changed request_changed is_refused drafts_of refusal_of answer_of
     carried_out_answer request_answer appended level_delay
 all_flushed = refl
 
-all_done : settled_number at_full.now ≡ 7
+all_done : settled_number at_full.now ≡ 8
 unfolding read_props pieces pair_in until decimal_value digits after changed request_changed is_refused drafts_of refusal_of answer_of
     carried_out_answer request_answer appended level_delay
 all_done = refl
@@ -84,7 +84,7 @@ unfolding read_props pieces pair_in until decimal_value digits after changed req
     carried_out_answer request_answer appended level_delay
 saved_base_stays = refl
 
-front_ends : end_from 0 (take 6 at_full.now.log.records) ≡ 2522
+front_ends : end_from 0 (take 7 at_full.now.log.records) ≡ 2755
 unfolding read_props pieces pair_in until decimal_value digits after changed request_changed is_refused drafts_of refusal_of answer_of
     carried_out_answer request_answer appended level_delay
 front_ends = refl
@@ -94,25 +94,35 @@ unfolding read_props pieces pair_in until decimal_value digits after changed req
     carried_out_answer request_answer appended level_delay
 log_ends = refl
 
-next_place : map (λ r. r.offset) (drop 6 at_full.now.log.records) ≡ 4096 ∷ []
+next_place : map (λ r. r.offset) (drop 7 at_full.now.log.records) ≡ 4096 ∷ []
 unfolding read_props pieces pair_in until decimal_value digits after changed request_changed is_refused drafts_of refusal_of answer_of
     carried_out_answer request_answer appended level_delay
 next_place = refl
 
-no_half_behind : map is_half (drop 6 at_full.now.log.records) ≡ false ∷ []
+no_half_behind : map is_half (drop 7 at_full.now.log.records) ≡ false ∷ []
 unfolding read_props pieces pair_in until decimal_value digits after changed request_changed is_refused drafts_of refusal_of answer_of
     carried_out_answer request_answer appended level_delay
 no_half_behind = refl
 
-origins_are : map (is_origin 0) at_full.now.log.records ≡ true ∷ false ∷ false ∷ false ∷ false ∷ false ∷ false ∷ []
+origins_are : map (is_origin 0) at_full.now.log.records ≡ true ∷ false ∷ false ∷ false ∷ false ∷ false ∷ false ∷ false ∷ []
 unfolding read_props pieces pair_in until decimal_value digits after changed request_changed is_refused drafts_of refusal_of answer_of
     carried_out_answer request_answer appended level_delay
 origins_are = refl
 
-delayed_are : map is_delayed at_full.now.log.records ≡ false ∷ false ∷ false ∷ true ∷ false ∷ false ∷ false ∷ []
+renewals_are : map (is_renewal 0) at_full.now.log.records ≡ false ∷ true ∷ false ∷ false ∷ false ∷ false ∷ false ∷ false ∷ []
+unfolding read_props pieces pair_in until decimal_value digits after changed request_changed is_refused drafts_of refusal_of answer_of
+    carried_out_answer request_answer appended level_delay
+renewals_are = refl
+
+delayed_are : map is_delayed at_full.now.log.records ≡ false ∷ false ∷ false ∷ false ∷ true ∷ false ∷ false ∷ false ∷ []
 unfolding read_props pieces pair_in until decimal_value digits after changed request_changed is_refused drafts_of refusal_of answer_of
     carried_out_answer request_answer appended level_delay
 delayed_are = refl
+
+pub base_after_removal : at_removed.now.log.base.records ≡ 7
+unfolding read_props pieces pair_in until decimal_value digits after changed request_changed is_refused drafts_of refusal_of answer_of
+    carried_out_answer request_answer appended level_delay
+base_after_removal = refl
 
 pub left_after_removal : map (λ r. r.offset) at_removed.now.log.records ≡ 4096 ∷ []
 unfolding read_props pieces pair_in until decimal_value digits after changed request_changed is_refused drafts_of refusal_of answer_of
@@ -127,13 +137,13 @@ left_after_crash = refl
 -- ---- the base may come next
 
 -- what is at an index of a list is at it of the list's images
-map_at : {B : Type 0} (f : Entry → B) (xs : List Entry) (k : ℕ) (r : Entry) → slice_get xs k ≡ Some r → slice_get (map f xs) k ≡ Some (f r)
+pub map_at : {B : Type 0} (f : Entry → B) (xs : List Entry) (k : ℕ) (r : Entry) → slice_get xs k ≡ Some r → slice_get (map f xs) k ≡ Some (f r)
 map_at f [] k r got = absurd (cc)
 map_at {B = B} f (x ∷ xs) zero r got = ap (λ (y : Entry). Some (f y)) (same_Some x r got)
 map_at f (x ∷ xs) (suc k) r got = map_at f xs k r got
 
 -- and what is at an index of the images comes from the list
-at_map : (f : Entry → Bool) (xs : List Entry) (k : ℕ) (b : Bool) → slice_get (map f xs) k ≡ Some b → (r : Entry) × (slice_get xs k ≡ Some r) × (f r ≡ b)
+pub at_map : (f : Entry → Bool) (xs : List Entry) (k : ℕ) (b : Bool) → slice_get (map f xs) k ≡ Some b → (r : Entry) × (slice_get xs k ≡ Some r) × (f r ≡ b)
 at_map f [] k b got = absurd (cc)
 at_map f (x ∷ xs) zero b got = (x, refl, same_Some (f x) b got)
 at_map f (x ∷ xs) (suc k) b got = at_map f xs k b got
@@ -146,51 +156,51 @@ named_first place n log topic queue = all (take n log.records)
     all [] = refl
     all (r ∷ records) = ap (λ (b : Bool). (bytes_eq r.topic topic && (r.queue == queue)) || b) (all records)
 
-six_long : 6 ≤ length at_full.now.log.records
-six_long = omega (arith, seven_records)
+seven_long : 7 ≤ length at_full.now.log.records
+seven_long = omega (arith, eight_records)
 
-counts : IsBaseAfter at_full.now.log.base (take 6 at_full.now.log.records) next_base
+counts : IsBaseAfter at_full.now.log.base (take 7 at_full.now.log.records) next_base
 counts = record {
-  records = omega (arith, length_take 6 at_full.now.log.records six_long, ap (λ (b : Base). b.records) base_stays);
+  records = omega (arith, length_take 7 at_full.now.log.records seven_long, ap (λ (b : Base). b.records) base_stays);
   queues = λ topic queue. omega (arith, ap (λ (b : Base). b.queues topic queue) base_stays);
   levels = λ level low high. omega (arith, ap (λ (b : Base). b.levels level) base_stays);
 }
 
 -- the only record behind it stands at its place, and is no half message
-place_behind_it : (r : Entry) → slice_get at_full.now.log.records 6 ≡ Some r → 4096 ≡ r.offset
+place_behind_it : (r : Entry) → slice_get at_full.now.log.records 7 ≡ Some r → 4096 ≡ r.offset
 place_behind_it r at =
-    let got = map_at (λ r. r.offset) (drop 6 at_full.now.log.records) 0 r (get_drop 6 6 at_full.now.log.records r (omega arith) at) in
+    let got = map_at (λ r. r.offset) (drop 7 at_full.now.log.records) 0 r (get_drop 7 7 at_full.now.log.records r (omega arith) at) in
     same_Some 4096 r.offset (sym (ap (λ (l : List ℕ). slice_get l 0) next_place) ∙ got)
 
-half_behind_it : (k : ℕ) (r : Entry) → 6 ≤ k → slice_get at_full.now.log.records k ≡ Some r → is_half r ≡ false
+half_behind_it : (k : ℕ) (r : Entry) → 7 ≤ k → slice_get at_full.now.log.records k ≡ Some r → is_half r ≡ false
 half_behind_it k r high at =
-    let got = map_at is_half (drop 6 at_full.now.log.records) (k - 6) r (get_drop 6 k at_full.now.log.records r high at) in
-    only (k - 6) (sym (ap (λ (l : List Bool). slice_get l (k - 6)) no_half_behind) ∙ got)
+    let got = map_at is_half (drop 7 at_full.now.log.records) (k - 7) r (get_drop 7 k at_full.now.log.records r high at) in
+    only (k - 7) (sym (ap (λ (l : List Bool). slice_get l (k - 7)) no_half_behind) ∙ got)
   where
     only : (j : ℕ) → slice_get (false ∷ []) j ≡ Some (is_half r) → is_half r ≡ false
     only zero got = sym (same_Some false (is_half r) got)
     only (suc j) got = absurd (cc)
 
-whole_families : AreWholeFamilies at_full.now.log.records 6
+whole_families : AreWholeFamilies at_full.now.log.records 7
 whole_families i k origin r low at is high got renewal =
     let half = (and_parts (is_half r) (is_text _ (origin_text r)) renewal).0 in
     let e : true ≡ false = sym half ∙ half_behind_it k r high got in cc
 
-cut : IsCutAt at_full.now.setup.segment at_full.now.log 6 next_base
+cut : IsCutAt at_full.now.setup.segment at_full.now.log 7 next_base
 cut = record {
-  long = six_long;
+  long = seven_long;
   counts = counts;
-  named = λ topic queue. named_first 4096 6 at_full.now.log topic queue
-      ∙ sym (ap (λ (b : Base). is_named b topic queue || has_queue (take 6 at_full.now.log.records) topic queue) base_stays);
+  named = λ topic queue. named_first 4096 7 at_full.now.log topic queue
+      ∙ sym (ap (λ (b : Base). is_named b topic queue || has_queue (take 7 at_full.now.log.records) topic queue) base_stays);
   begins = subst (λ (x : Setup). 4096 ≡ 4096 / x.segment * x.segment) (sym setup_stays) refl;
-  behind = omega (arith, ap (λ (b : Base). end_from b.place (take 6 at_full.now.log.records)) base_stays, front_ends);
+  behind = omega (arith, ap (λ (b : Base). end_from b.place (take 7 at_full.now.log.records)) base_stays, front_ends);
   before = λ r at. omega (arith, place_behind_it r at);
   within = omega (arith, log_ends);
 }
 
 is_removable : IsRemovable at_full.now next_base
 is_removable = record {
-  count = 6;
+  count = 7;
   cut = cut;
   dispatched = omega (arith, all_dispatched);
   done = omega (arith, all_done);
@@ -220,11 +230,11 @@ run_to_saved = one_more at_empty at_full at_saved (moves_of at_empty events) (Sa
 pub removes_it : Goes at_saved (answered at_saved (Events.Trim next_base)) at_removed
 removes_it = goes at_saved (Events.Trim next_base) (refl, omega (arith, ap (λ (b : Base). b.records) base_stays))
 
-pub crashes : Goes at_saved (Crashes 7 small) at_restart
+pub crashes : Goes at_saved (Crashes 8 small) at_restart
 crashes = (
   record {
     no_less = omega (arith, all_flushed);
-    no_more = omega (arith, seven_records, ap (λ (b : Base). b.records) base_stays);
+    no_more = omega (arith, eight_records, ap (λ (b : Base). b.records) base_stays);
     segment = ap (λ (x : Setup). x.segment) (sym setup_stays);
   },
   refl,
@@ -240,7 +250,12 @@ half_is_counted =
     let there = at_map (is_origin 0) at_full.now.log.records 0 true (ap (λ (l : List Bool). slice_get l 0) origins_are) in
     (there.0, stands_in 0 there.0 there.1, there.2, omega arith)
 
-pub delayed_is_counted : (item : Entry) × StandsAt at_saved.now 3 item × (is_delayed item ≡ true) × (3 < at_saved.now.saved.base.records)
+pub renewal_is_counted : (renewal : Entry) × StandsAt at_saved.now 1 renewal × (is_renewal 0 renewal ≡ true)
+renewal_is_counted =
+    let there = at_map (is_renewal 0) at_full.now.log.records 1 true (ap (λ (l : List Bool). slice_get l 1) renewals_are) in
+    (there.0, stands_in 1 there.0 there.1, there.2)
+
+pub delayed_is_counted : (item : Entry) × StandsAt at_saved.now 4 item × (is_delayed item ≡ true) × (4 < at_saved.now.saved.base.records)
 delayed_is_counted =
-    let there = at_map is_delayed at_full.now.log.records 3 true (ap (λ (l : List Bool). slice_get l 3) delayed_are) in
-    (there.0, stands_in 3 there.0 there.1, there.2, omega arith)
+    let there = at_map is_delayed at_full.now.log.records 4 true (ap (λ (l : List Bool). slice_get l 4) delayed_are) in
+    (there.0, stands_in 4 there.0 there.1, there.2, omega arith)

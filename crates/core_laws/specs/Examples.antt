@@ -116,6 +116,10 @@ at_crash = record { now = crashed at_saving.now 1 setup; before = [] }
 abbrev pub until_crash : List Move
 until_crash = until_saving ++ Crashes 1 setup ∷ []
 
+-- what comes behind the pull
+abbrev pub from_pull : List Move
+from_pull = answered at_pull (stores 9) ∷ SavesOffsets ∷ Crashes 1 setup ∷ []
+
 -- the same store, opened with a saved offset that lies past the end of its queue
 abbrev pub at_cut : Boot
 at_cut = record {

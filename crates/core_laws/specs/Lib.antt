@@ -11,4 +11,5 @@ pub mod Pulls
 pub mod RemovalExamples
 pub mod Removed
 pub mod Replay
+pub mod ReplayExamples
 pub mod Sound

@@ -1,5 +1,5 @@
--- A run of a removal: a half message is committed and a delayed message delivered, two long messages fill the first segment, and it is
--- removed.
+-- A run of a removal: a half message is asked for and committed, a delayed message is delivered, two long messages fill the first
+-- segment, and it is removed.
 use Rattle.std.specs.Prelude.{ℕ, ◌++◌, List, [], ◌∷◌, length, map, take, replicate, codes, true}
 use Rattle.std.specs.List.{count_by}
 use Rattle.log_model.specs.Bases.{Base, no_base}
@@ -46,12 +46,12 @@ at_empty = record { now = opened small no_log (record { offsets = []; topics = [
 abbrev pub sends_long : Events.Event
 sends_long = asks (Send (record (hi []) { body = replicate 1700 120 }))
 
--- The half message and its Commit are the records 0 to 2, the delayed message and its delivery 3 and 4, and the long ones 5 and 6. The
--- last one begins the next segment.
+-- The half message, its renewal and its Commit are the records 0 to 3, the delayed message and its delivery 4 and 5, and the long
+-- ones 6 and 7. The last one begins the next segment.
 abbrev pub events : List Events.Event
-events = sends half_props ∷ asks commit ∷ sends (codes "DELAY" ++ 1 ∷ codes "1") ∷ Events.Take ∷ Events.Flushed 4 ∷ Events.Dispatch 4
-    ∷ Events.Deliver 2000 ∷ sends_long ∷ sends_long ∷ Events.Take ∷ Events.Flushed 2 ∷ Events.Take ∷ Events.Flushed 1
-    ∷ Events.Dispatch 3 ∷ []
+events = sends half_props ∷ Events.Check 7000 ∷ asks commit ∷ sends (codes "DELAY" ++ 1 ∷ codes "1") ∷ Events.Take ∷ Events.Flushed 5
+    ∷ Events.Dispatch 5 ∷ Events.Deliver 8000 ∷ sends_long ∷ sends_long ∷ Events.Take ∷ Events.Flushed 2 ∷ Events.Take
+    ∷ Events.Flushed 1 ∷ Events.Dispatch 3 ∷ []
 
 abbrev pub at_full : Boot
 at_full = boot_after at_empty events
@@ -70,7 +70,7 @@ base_of_first n log place = record {
 
 -- the base of the first segment's records is saved, and taken over
 abbrev pub next_base : Base
-next_base = base_of_first 6 at_full.now.log 4096
+next_base = base_of_first 7 at_full.now.log 4096
 
 abbrev pub at_saved : Boot
 at_saved = with_saved at_full (record at_full.now.saved { base = next_base })
@@ -83,4 +83,4 @@ at_removed = stepped at_saved (Events.Trim next_base)
 
 -- or all crashes before it is taken over, and the next boot begins at it
 abbrev pub at_restart : Boot
-at_restart = record { now = crashed at_saved.now 7 small; before = [] }
+at_restart = record { now = crashed at_saved.now 8 small; before = [] }

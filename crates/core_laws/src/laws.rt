@@ -26,6 +26,7 @@ ghost use Rattle.core_laws.specs.Pulls.{IsSliceOf};
 ghost use Rattle.core_laws.specs.RemovalExamples as removals;
 ghost use Rattle.core_laws.specs.Removed.{IsSettledBehind, IsDeliveredBehind, WasDelivered};
 ghost use Rattle.core_laws.specs.Replay.{Tables, StandsFor, IsReplayOf};
+ghost use Rattle.core_laws.specs.ReplayExamples as replays;
 
 /// What was acknowledged stays, whatever crashes, until it is removed. A crash keeps the records from the saved base's number up to
 /// a number that is no lower than the flushed one.
@@ -153,26 +154,44 @@ pub fn a_run_happens()
     ensures dispatched { Run examples.at_opening examples.until_dispatch examples.at_dispatch }
     ensures pulled { Goes examples.at_dispatch (Steps (events.Asks examples.asked_pull) (Some (events.Replies examples.pull_said)))
         examples.at_pull }
+    ensures later { Run examples.at_pull examples.from_pull examples.at_crash }
     ensures found { slice_get examples.pull_said.body 0 ≡ Some examples.hi_record }
     ensures saved { RunWith (StoresOnly examples.is_one) examples.at_opening examples.until_saving examples.at_saving }
     ensures crash { Goes examples.at_saving (Crashes 1 examples.setup) examples.at_crash }
     ensures kept { slice_get examples.at_crash.now.log.records 0 ≡ Some examples.hi_record }
     ensures offset { map (λ row. row.offset) examples.at_crash.now.offsets ≡ 1 ∷ [] }
     ensures cut { IsOpening examples.at_cut × (map (λ row. row.offset) examples.at_cut.now.offsets ≡ 0 ∷ []) }
-    ensures tables { (s : State) → StandsFor (examples.tables_of s) s }
 {}
 
-/// The law on halves speaks of something: a half message is sent and flushed, and a Commit of it is answered once its copy and op
-/// record are flushed. Or a crash keeps the copy alone: the Commit that is said again is answered at once, and there is still one copy. Or
-/// it is rolled back, and a Commit is refused.
+/// The law on tables speaks of something: each state has tables that stand for it. A record that is on the disk is in its queue there
+/// once it is dispatched, and not before; behind an opening over a log its records are in queues and under their keys. A crash that keeps
+/// a copy keeps a half message committed, and one that keeps a delivery keeps the progress of its level.
+pub fn a_replay_happens()
+    ensures tables { (s : State) → StandsFor (examples.tables_of s) s }
+    ensures waits { (count_of examples.at_look.now.log ≡ 1) × ((examples.tables_of examples.at_look.now).queues (codes "T") 0 ≡ []) }
+    ensures dispatched { (examples.at_dispatch.now.dispatched ≡ count_of examples.at_dispatch.now.log)
+        × ((examples.tables_of examples.at_dispatch.now).queues (codes "T") 0 ≡ examples.hi_record ∷ []) }
+    ensures opened { IsOpening replays.at_keyed
+        × ((examples.tables_of replays.at_keyed.now).queues (codes "T") 0 ≡ replays.keyed_record ∷ [])
+        × ((examples.tables_of replays.at_keyed.now).keys replays.hash_of_key ≡ replays.keyed_record ∷ []) }
+    ensures crashed { Goes commits.at_commit (Crashes 2 examples.setup) commits.at_kept_copy
+        × ((examples.tables_of commits.at_kept_copy.now).states 0 ≡ Committed) }
+    ensures delivered { Goes deliveries.at_delivered (Crashes 2 examples.setup) deliveries.at_crash
+        × ((examples.tables_of deliveries.at_crash.now).levels 1 ≡ 1) }
+{}
+
+/// The laws on halves and on Commits speak of something: a half message is sent and flushed, and a Commit of it is answered once its
+/// copy and op record are flushed. Or a crash keeps the copy alone: the Commit that is said again is answered at once, and there is still
+/// one copy. Or it is rolled back, and a Commit is refused.
 pub fn a_commit_happens()
-    ensures answered { AnswersAfter examples.at_opening commits.until_told commits.at_told commits.commits done_reply 2 }
-    ensures verdict { is_verdict_on commits.at_flushed.now 0 8 commits.commits ≡ true }
+    ensures answered { (answers : AnswersAfter examples.at_opening commits.until_told commits.at_told commits.commits done_reply 2)
+        × (is_verdict_on answers.asked.now 0 8 commits.commits ≡ true) }
+    ensures appended { Goes commits.at_flushed (Steps commits.commits (Some (events.After done_reply 2 1))) commits.at_commit
+        × ((copy : Entry) × StandsAt commits.at_commit.now 1 copy × (is_copy copy ≡ true) × (count_of commits.at_flushed.now.log ≤ 1)) }
     ensures copied { copies commits.at_commit.now.log.records 0 ≡ 1 }
-    ensures again { AnswersAtOnce examples.at_opening commits.until_again commits.at_again commits.commits done_reply }
-    ensures waits { (commits.at_kept_copy.now.setup.sync ≡ true)
-        × (half_waits (named_half commits.at_kept_copy.now commits.commit_said) ≡ true) }
-    ensures again_verdict { is_verdict_on commits.at_kept_copy.now 0 8 commits.commits ≡ true }
+    ensures again { (answers : AnswersAtOnce examples.at_opening commits.until_again commits.at_again commits.commits done_reply)
+        × (is_verdict_on answers.asked.now 0 8 commits.commits ≡ true) × (answers.asked.now.setup.sync ≡ true)
+        × (half_waits (named_half answers.asked.now commits.commit_said) ≡ true) }
     ensures once { copies commits.at_again.now.log.records 0 ≡ 1 }
     ensures committed { (transaction_state commits.at_told.now.log.records 0 ≡ Committed)
         × (transaction_state commits.at_again.now.log.records 0 ≡ Committed) }
@@ -185,27 +204,30 @@ pub fn a_commit_happens()
 /// once its time has come. The delivery, with the number 0 of its level, is flushed too. Then all crashes, and the delivery that is asked
 /// for again comes to nothing.
 pub fn a_delivery_happens()
+    ensures opening { IsOpening examples.at_opening × InOrder examples.at_opening.now.log }
     ensures run { Run examples.at_opening deliveries.until_delivered deliveries.at_delivered }
-    ensures delivered { map (λ r. value_of (codes "DELAY_FROM") r.props) deliveries.at_delivered.now.log.records
-        ≡ None ∷ Some (delivery_text 1 0) ∷ [] }
+    ensures delivered { (x : Entry) × StandsAt deliveries.at_delivered.now 1 x × Delivers 1 0 x }
     ensures flushed { deliveries.at_delivered.now.flushed ≡ 2 }
     ensures crash { Run deliveries.at_delivered deliveries.until_again deliveries.at_again
+        × ((y : Entry) × StandsAt deliveries.at_again.now 1 y × Delivers 1 0 y)
         × (map (λ r. value_of (codes "DELAY_FROM") r.props) deliveries.at_again.now.log.records ≡ None ∷ Some (delivery_text 1 0) ∷ []) }
 {}
 
-/// The law on removal speaks of something: in segments of 4,096 bytes a half message is sent and committed, `hi` is sent with the delay
-/// level 1 and delivered, and two long messages follow, of which the second begins the next segment. All is flushed and dispatched.
-/// The base of the first segment may be saved, and counts the half message and the delayed one; once it is taken over, or once all
-/// crashes, the log begins with the last message.
+/// The law on removal speaks of something: in segments of 4,096 bytes a half message is sent, asked for and committed, `hi` is sent with
+/// the delay level 1 and delivered, and two long messages follow, of which the second begins the next segment. All is flushed and
+/// dispatched. The base of the first segment may be saved, and counts the half message, its renewal and the delayed message; once it is
+/// taken over, or once all crashes, the log begins with the last message.
 pub fn a_removal_happens()
     ensures opening { IsOpening removals.at_empty × InOrder removals.at_empty.now.log }
     ensures saved { Run removals.at_empty removals.until_saved removals.at_saved }
     ensures half { (origin : Entry) × StandsAt removals.at_saved.now 0 origin × (is_origin 0 origin ≡ true)
         × (0 < removals.at_saved.now.saved.base.records) }
-    ensures delayed { (item : Entry) × StandsAt removals.at_saved.now 3 item × (is_delayed item ≡ true)
-        × (3 < removals.at_saved.now.saved.base.records) }
+    ensures renewal { (renewal : Entry) × StandsAt removals.at_saved.now 1 renewal × (is_renewal 0 renewal ≡ true) }
+    ensures delayed { (item : Entry) × StandsAt removals.at_saved.now 4 item × (is_delayed item ≡ true)
+        × (4 < removals.at_saved.now.saved.base.records) }
     ensures removed { Goes removals.at_saved (examples.answered removals.at_saved (events.Trim removals.next_base)) removals.at_removed
+        × (removals.at_removed.now.log.base.records ≡ 7)
         × (map (λ r. r.offset) removals.at_removed.now.log.records ≡ 4096 ∷ []) }
-    ensures crash { Goes removals.at_saved (Crashes 7 removals.small) removals.at_restart
+    ensures crash { Goes removals.at_saved (Crashes 8 removals.small) removals.at_restart
         × (map (λ r. r.offset) removals.at_restart.now.log.records ≡ 4096 ∷ []) }
 {}
