@@ -1,6 +1,7 @@
 pub mod Appends
 pub mod Asked
 pub mod Carries
+pub mod Counts
 pub mod Loads
 pub mod Makes
 pub mod Owner

@@ -7,16 +7,19 @@ ghost use Rattle.broker_model.specs.State.{State, Saved};
 ghost use Rattle.broker_model.specs.Run.{opened};
 ghost use Rattle.broker_events.specs.Shown.{Accepts, moved};
 ghost use Rattle.broker_events.specs.Steps.{IsAnswerTo, MayTakeMemory, said_in};
+ghost use Rattle.broker_core.specs.Counts.{AreCountsOf};
 ghost use Rattle.broker_core.specs.Represents.{Represents, setup_of};
 ghost use Rattle.broker_core.specs.Loads.{MayOpen, whole_log};
 ghost use Rattle.broker_core.specs.Makes.{Makes, shown_of};
 
+use crate::counts::Counts;
 use crate::loaded::Loaded;
 use crate::parts::Parts;
 use broker_events::{Event, Said, Setup};
 use client_tables::Topics;
 use group_tables::Groups;
 use mq_outside::FrozenRanges;
+use queue_view::QueueView;
 use std::alloc::{AllocError, Global};
 use std::marker::Model;
 
@@ -68,6 +71,20 @@ impl Core {
         ensures { result.now ≡ self.now.groups }
     {
         &self.parts.groups
+    }
+
+    /// The tables of queues.
+    pub fn queues(&self) -> &QueueView
+        ensures { result.now ≡ self.now.queues }
+    {
+        &self.parts.queues
+    }
+
+    /// How many records there are.
+    pub fn counts(&self) -> Counts
+        ensures { (s : State) → Represents self.now s → AreCountsOf s result }
+    {
+        self.parts.counts()
     }
 
     /// Makes one step. Want of memory comes only at a request and at `Take`, and changes nothing.

@@ -6,6 +6,7 @@ mod alone;
 mod append;
 mod broker;
 mod consumer_offsets;
+mod counts;
 mod dispatch;
 mod heartbeats;
 mod loaded;
@@ -27,6 +28,7 @@ mod turns;
 
 pub use alone::Alone;
 pub use broker::Core;
+pub use counts::Counts;
 pub use loaded::Loaded;
 pub use owner::Owner;
 pub use pieces::{add_piece, no_pieces};
