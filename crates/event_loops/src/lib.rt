@@ -4,9 +4,12 @@
 
 mod entrance;
 mod event_loop;
+mod laws;
 mod links;
 mod shared;
 
 pub use entrance::Bounds;
 pub use event_loop::{Around, EventLoop, LoopEnd};
+pub use laws::{a_loop_is_told_from_its_beginning_on, each_link_of_a_loop_is_answered_in_order};
+pub use links::{Links, Numbered};
 pub use shared::{NewLink, Port, Shared};

@@ -1,6 +1,9 @@
 //! The links of a loop: each is read and served, and then what is due on each is sent.
 
-ghost use Rattle.std.specs.Prelude.{◌≡◌, ◌<◌, ◌^◌, [], length, IfSome};
+ghost use Rattle.std.specs.Prelude.{◌≡◌, ◌<◌, ◌^◌, [], true, false, slice_get, Option, Some, None, IfSome};
+ghost use Rattle.broker_events.specs.declared.event.Event.TheVariants.{Leave};
+ghost use Rattle.broker_events.specs.declared.said.Said.{Said};
+ghost use Rattle.event_loops.specs.Tales.{Acts, Keeps, LeadsBy, GoesOn, IsSeenAs, loop_of as loop_of_link};
 
 use crate::shared::Shared;
 use broker_events::{Calls, Event as BrokerEvent};
@@ -31,7 +34,9 @@ pub struct Links<L: Link + Drop> {
 }
 
 // It was reported.
-fn report_one<L: Link + Drop>(slot: &mut Option<Numbered<L>>, event: &Event) {
+fn report_one<L: Link + Drop>(slot: &mut Option<Numbered<L>>, event: &Event)
+    ensures { IsSeenAs L.given L.taken slot.old slot.new }
+{
     if let Some(numbered) = slot {
         numbered
             .linked
@@ -40,7 +45,23 @@ fn report_one<L: Link + Drop>(slot: &mut Option<Numbered<L>>, event: &Event) {
 }
 
 // Serves what came on one link. Answers whether a request was given to the broker.
-fn hear_one<L: Link + Drop, C: Calls>(
+fn hear_one<L: Link + Drop, C: Calls, R: Reader>(
+    alloc: Global,
+    calls: &mut C,
+    numbered: &mut Numbered<L>,
+    buffer: &mut [u8],
+    now: u64,
+    failed: Option<u64>,
+) -> bool
+    requires { now < 2 ^ 62 }
+    ensures went { LeadsBy C.makes calls.old calls.new
+        (λ acts. Acts L.tells R.gives L.given L.taken (Some numbered.old) acts (Some numbered.new)) }
+{
+    numbered.linked.hear(alloc, calls, buffer, now, failed)
+}
+
+// The same of a slot.
+fn hear_slot<L: Link + Drop, C: Calls, R: Reader>(
     alloc: Global,
     calls: &mut C,
     slot: &mut Option<Numbered<L>>,
@@ -49,15 +70,16 @@ fn hear_one<L: Link + Drop, C: Calls>(
     failed: Option<u64>,
 ) -> bool
     requires { now < 2 ^ 62 }
+    ensures went { LeadsBy C.makes calls.old calls.new (λ acts. Acts L.tells R.gives L.given L.taken slot.old acts slot.new) }
 {
-    let Some(numbered) = slot else {
-        return false;
-    };
-    numbered.linked.hear(alloc, calls, buffer, now, failed)
+    match slot {
+        Some(numbered) => hear_one::<L, C, R>(alloc, calls, numbered, buffer, now, failed),
+        None => false,
+    }
 }
 
 // Serves what came on each link. Answers whether a request was given to the broker.
-fn hear_each<L: Link + Drop, C: Calls>(
+fn hear_each<L: Link + Drop, C: Calls, R: Reader>(
     alloc: Global,
     calls: &mut C,
     slots: &mut [Option<Numbered<L>>],
@@ -66,17 +88,20 @@ fn hear_each<L: Link + Drop, C: Calls>(
     failed: Option<u64>,
 ) -> bool
     requires { now < 2 ^ 62 }
+    ensures went { LeadsBy C.makes calls.old calls.new (λ acts. Keeps L.tells R.gives L.given L.taken slots.old acts slots.new) }
 {
     let mut any = false;
-    for slot in slots.iter_mut() {
-        let given = hear_one(alloc, calls, slot, buffer, now, failed);
-        any = any || given;
+    for i in 0..slots.len() {
+        let slot = &mut slots[i];
+        any |= hear_slot::<L, C, R>(alloc, calls, slot, buffer, now, failed);
     }
     any
 }
 
 // Tells the broker that a link has ended.
-fn leave<C: Calls>(alloc: Global, calls: &mut C, link: u32) {
+fn leave<C: Calls>(alloc: Global, calls: &mut C, link: u32)
+    ensures { (said : Option Said) × C.makes calls.old (Leave link) said calls.new }
+{
     let _ = calls.call(alloc, &BrokerEvent::Leave { link });
 }
 
@@ -86,7 +111,12 @@ fn reply_one<L: Link + Drop, C: Calls, R: Reader>(
     calls: &mut C,
     numbered: &mut Numbered<L>,
     reader: &mut R,
-) -> bool {
+) -> bool
+    ensures replied { result ≡ false → LeadsBy C.makes calls.old calls.new
+        (λ acts. Acts L.tells R.gives L.given L.taken (Some numbered.old) acts (Some numbered.new)) }
+    ensures left { result ≡ true → LeadsBy C.makes calls.old calls.new
+        (λ acts. Acts L.tells R.gives L.given L.taken (Some numbered.old) acts None) }
+{
     numbered.linked.reply(alloc, calls, reader);
     if !numbered.linked.has_ended() {
         return false;
@@ -102,15 +132,17 @@ fn reply_slot<L: Link + Drop, C: Calls, R: Reader>(
     calls: &mut C,
     slot: &mut Option<Numbered<L>>,
     reader: &mut R,
-) -> bool {
-    let ended = match slot {
-        Some(numbered) => reply_one(alloc, calls, numbered, reader),
-        None => false,
+) -> bool
+    ensures went { LeadsBy C.makes calls.old calls.new (λ acts. Acts L.tells R.gives L.given L.taken slot.old acts slot.new) }
+{
+    let Some(numbered) = slot else {
+        return false;
     };
-    if ended {
-        *slot = None;
+    if !reply_one(alloc, calls, numbered, reader) {
+        return false;
     }
-    ended
+    *slot = None;
+    true
 }
 
 // Sends what is due on each link, and lets go of those that have ended. Answers whether any has.
@@ -120,9 +152,12 @@ fn reply_each<L: Link + Drop, C: Calls, R: Reader>(
     calls: &mut C,
     slots: &mut [Option<Numbered<L>>],
     reader: &mut R,
-) -> bool {
+) -> bool
+    ensures went { LeadsBy C.makes calls.old calls.new (λ acts. Keeps L.tells R.gives L.given L.taken slots.old acts slots.new) }
+{
     let mut any = false;
-    for slot in slots.iter_mut() {
+    for i in 0..slots.len() {
+        let slot = &mut slots[i];
         if reply_slot(alloc, calls, slot, reader) {
             shared.link_ended();
             any = true;
@@ -133,14 +168,17 @@ fn reply_each<L: Link + Drop, C: Calls, R: Reader>(
 
 // The first free slot.
 fn free_in<L: Link + Drop>(slots: &[Option<Numbered<L>>]) -> Option<usize>
-    ensures { IfSome result (λ at. at < length slots.now) }
+    ensures { IfSome result (λ at. slice_get slots.now at ≡ Some None) }
 {
     slots.iter().position(|slot| slot.is_none())
 }
 
 impl<L: Link + Drop> Links<L> {
     /// No links, of this loop of so many.
-    pub(crate) fn new(alloc: Global, number: usize, loops: usize) -> Links<L> {
+    pub(crate) fn new(alloc: Global, number: usize, loops: usize) -> Links<L>
+        ensures loops { (result.loops ≡ loops) × (result.number ≡ number) }
+        ensures none { result.slots.items ≡ [] }
+    {
         Links {
             number,
             loops,
@@ -150,33 +188,55 @@ impl<L: Link + Drop> Links<L> {
     }
 
     /// The loop that serves the link with this number.
-    pub(crate) fn loop_of(&self, link: u32) -> usize {
+    pub(crate) fn loop_of(&self, link: u32) -> usize
+        ensures { result ≡ loop_of_link self.now.loops link }
+    {
         link as usize % self.loops.max(1)
     }
 
     /// Whether a link with this number may be served: it falls to this loop, and comes after all that the loop had.
-    pub(crate) fn may_have(&self, link: u32) -> bool {
+    pub(crate) fn may_have(&self, link: u32) -> bool
+        ensures { result ≡ true → (self.now.newest < link) × (loop_of_link self.now.loops link ≡ self.now.number) }
+    {
         self.newest < link && self.loop_of(link) == self.number
     }
 
+    // One more slot, if there is memory for it.
+    fn add_slot<R: Reader>(&mut self) -> Option<usize>
+        ensures free { IfSome result (λ at. slice_get self.new.slots.items at ≡ Some None) }
+        ensures went { GoesOn L.tells R.gives L.given L.taken self.old [] self.new }
+        ensures newest { self.new.newest ≡ self.old.newest }
+    {
+        let at = self.slots.len();
+        match self.slots.push(None) {
+            Ok(()) => Some(at),
+            Err(_) => None,
+        }
+    }
+
     /// A slot for one more link, if there is one.
-    pub(crate) fn free_slot(&mut self) -> Option<usize>
-        ensures { IfSome result (λ at. at < length self.new.slots.items) }
+    pub(crate) fn free_slot<R: Reader>(&mut self) -> Option<usize>
+        ensures free { IfSome result (λ at. slice_get self.new.slots.items at ≡ Some None) }
+        ensures went { GoesOn L.tells R.gives L.given L.taken self.old [] self.new }
+        ensures newest { self.new.newest ≡ self.old.newest }
     {
         if let Some(at) = free_in(self.slots.as_slice()) {
             return Some(at);
         }
-        if self.slots.len() >= LINKS_MAX || self.slots.push(None).is_err() {
+        if self.slots.len() >= LINKS_MAX {
             return None;
         }
-        Some(self.slots.len() - 1)
+        self.add_slot::<R>()
     }
 
     /// Serves this link from now on, in a free slot.
-    pub(crate) fn put(&mut self, alloc: Global, slot: usize, number: u32, link: L)
-        requires within { slot < length self.old.slots.items }
+    pub(crate) fn put<R: Reader>(&mut self, alloc: Global, slot: usize, number: u32, link: L)
+        requires free { slice_get self.old.slots.items slot ≡ Some None }
+        requires newest { self.old.newest < number }
+        requires falls { loop_of_link self.old.loops number ≡ self.old.number }
         requires given { L.tells → L.given link ≡ [] }
         requires taken { L.tells → L.taken link ≡ [] }
+        ensures went { GoesOn L.tells R.gives L.given L.taken self.old [] self.new }
     {
         let linked = Linked::new(alloc, number, link);
         self.newest = number;
@@ -184,15 +244,19 @@ impl<L: Link + Drop> Links<L> {
     }
 
     /// The link with this token was reported.
-    pub(crate) fn report(&mut self, event: &Event) {
-        if let Some(slot) = self.slots.get_mut(event.token as usize) {
+    pub(crate) fn report<R: Reader>(&mut self, event: &Event)
+        ensures went { GoesOn L.tells R.gives L.given L.taken self.old [] self.new }
+    {
+        let at = event.token as usize;
+        if at < self.slots.len() {
+            let slot = &mut self.slots[at];
             report_one(slot, event);
         }
     }
 
     /// Serves what came on each link. Answers whether a request was given to the broker. Where the last flush turn failed, with
     /// the disk's count, a request that found no room before it is refused.
-    pub(crate) fn hear<C: Calls>(
+    pub(crate) fn hear<C: Calls, R: Reader>(
         &mut self,
         alloc: Global,
         calls: &mut C,
@@ -201,8 +265,9 @@ impl<L: Link + Drop> Links<L> {
         failed: Option<u64>,
     ) -> bool
         requires { now < 2 ^ 62 }
+        ensures went { LeadsBy C.makes calls.old calls.new (λ acts. GoesOn L.tells R.gives L.given L.taken self.old acts self.new) }
     {
-        hear_each(alloc, calls, self.slots.as_mut_slice(), buffer, now, failed)
+        hear_each::<L, C, R>(alloc, calls, self.slots.as_mut_slice(), buffer, now, failed)
     }
 
     /// Sends what is due on each link, and lets go of those that have ended. Answers whether any has.
@@ -212,7 +277,9 @@ impl<L: Link + Drop> Links<L> {
         shared: &Shared,
         calls: &mut C,
         reader: &mut R,
-    ) -> bool {
+    ) -> bool
+        ensures went { LeadsBy C.makes calls.old calls.new (λ acts. GoesOn L.tells R.gives L.given L.taken self.old acts self.new) }
+    {
         reply_each(alloc, shared, calls, self.slots.as_mut_slice(), reader)
     }
 

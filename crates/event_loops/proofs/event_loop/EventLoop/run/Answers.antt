@@ -1,0 +1,19 @@
+use Rattle.event_loops.proofs.Told.{goes_nowhere, goes_quietly, goes_leading}
+use Rattle.event_loops.proofs.event_loop.EventLoop.run.Goals as goal
+
+pub loop-init : goal.loop-init
+loop-init g c = record {
+  next = tt;
+  finite = tt;
+  went = goes_quietly g.P.Link.Link.tells g.R.Reader.gives g.P.Link.Link.given g.P.Link.Link.taken g.C.Calls.makes _ _ _ (goes_nowhere g.P.Link.Link.tells g.R.Reader.gives g.P.Link.Link.given g.P.Link.Link.taken _);
+}
+
+pub returns-in-Err : goal.returns-in-Err
+returns-in-Err g c = record { went = goes_leading g.P.Link.Link.tells g.R.Reader.gives g.P.Link.Link.given g.P.Link.Link.taken g.C.Calls.makes _ _ _ _ _ _ c.loop.invariant.went c.pass.ensures.went }
+
+pub loop-preserved : goal.loop-preserved
+loop-preserved g c = record {
+  next = tt;
+  finite = tt;
+  went = goes_leading g.P.Link.Link.tells g.R.Reader.gives g.P.Link.Link.given g.P.Link.Link.taken g.C.Calls.makes _ _ _ _ _ _ c.loop.invariant.went c.pass.ensures.went;
+}

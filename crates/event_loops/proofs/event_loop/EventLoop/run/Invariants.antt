@@ -1,0 +1,10 @@
+use Rattle.event_loops.specs.Tales.{GoesOn, LeadsBy}
+use Rattle.event_loops.proofs.event_loop.EventLoop.run.Given as goal
+
+abbrev pub invariant-loop : goal.invariant-loop
+invariant-loop g l = record {
+  next : (goal.iterator-loop g).can_next l.iterator';
+  finite : (goal.iterator-loop g).is_finite l.iterator';
+  went : LeadsBy g.C.Calls.makes l.fn.calls l.calls
+      (λ acts. GoesOn g.P.Link.Link.tells g.R.Reader.gives g.P.Link.Link.given g.P.Link.Link.taken l.fn.self.links acts l.self.links);
+}

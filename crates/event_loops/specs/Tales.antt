@@ -1,0 +1,128 @@
+-- What a loop does for its links: the steps of each, between those of the others.
+use Rattle.std.specs.Prelude.{◌≡◌, ◌⊎◌, ◌≤◌, ◌<◌, ◌==◌, ◌++◌, ◌%◌, ℕ, List, [], ◌∷◌, filter, max, slice_get, Option, Some, None}
+use Rattle.mq_outside.specs.Readings.{Giving}
+use Rattle.broker_events.specs.Makes.{Makes}
+use Rattle.broker_events.specs.declared.event.Event.TheVariants.{Leave}
+use Rattle.broker_events.specs.declared.said.Said.{Said}
+use Rattle.session.specs.Owing.{Steps}
+use Rattle.session.specs.Serving.{Made}
+use Rattle.link_service.specs.Transcripts.{Seen, WentOn, IsFresh, IsTranscript, seen_of}
+use Rattle.event_loops.specs.declared.links.Numbered.{Numbered}
+use Rattle.event_loops.specs.declared.links.Links.{Links}
+
+-- ---- steps by links
+
+-- steps that were made for one link
+pub record Act : Type 0 where
+  pub link : ℕ
+  pub made : Made
+
+-- these steps, for this link
+abbrev pub act : ℕ → Made → Act
+act link made = record { link = link; made = made }
+
+-- the steps of all acts, in order
+abbrev pub steps_of : List Act → Made
+steps_of [] = []
+steps_of (one ∷ acts) = one.made ++ steps_of acts
+
+-- the steps that were made for this link, in order
+abbrev pub made_for : ℕ → List Act → Made
+made_for link acts = steps_of (filter (λ one. one.link == link) acts)
+
+-- ---- the tale of one link
+
+-- the link with this number went on from its beginning to how it is seen now, and made these steps
+pub record IsServed (tells : Type 0) (gives : Giving) (number : ℕ) (made : Made) (now : Seen) : Type 0 where
+  pub host : List ℕ
+  pub first : Seen
+  pub fresh : IsFresh tells number host first
+  pub went : WentOn tells gives first made now
+
+-- nothing, or one step, which tells that the link has ended
+abbrev pub MayLeave : ℕ → Made → Type 0
+MayLeave number [] = Unit {0}
+MayLeave number (step ∷ steps) = (step.0 ≡ Leave number) × (steps ≡ [])
+
+-- What was made for a link: its passes from its beginning on, and behind them at most its `Leave`.
+pub record IsTale (tells : Type 0) (gives : Giving) (number : ℕ) (made : Made) : Type 0 where
+  pub passes : Made
+  pub end : Made
+  pub both : made ≡ passes ++ end
+  pub leaves : MayLeave number end
+  pub now : Seen
+  pub served : IsServed tells gives number passes now
+
+-- The same, and so each reply is its request's: the passes are a transcript of the link.
+pub record IsAnsweredInOrder (tells : Type 0) (gives : Giving) (number : ℕ) (made : Made) : Type 0 where
+  pub passes : Made
+  pub end : Made
+  pub both : made ≡ passes ++ end
+  pub leaves : MayLeave number end
+  pub now : Seen
+  pub host : List ℕ
+  pub transcript : IsTranscript tells gives number host passes now
+
+-- ---- the links of a loop
+
+-- the loop, of so many, that serves the link with this number
+abbrev pub loop_of : ℕ → ℕ → ℕ
+loop_of loops link = link % max loops 1
+
+-- a link of a loop, as it is seen
+abbrev pub seen_in : {L : Type 0} → (L → List ℕ) → (L → List ℕ) → Numbered L → Seen
+seen_in given taken numbered = seen_of given taken numbered.linked
+
+-- What a loop has done for its links by these acts: for each link that it has now, and for each that it ever had, the steps that were
+-- made for it are its tale. There are none for a number that isn't one of its links'.
+pub record IsTold {L : Type 0} (tells : Type 0) (gives : Giving) (given taken : L → List ℕ) (loops number : ℕ) (acts : List Act)
+    (newest : ℕ) (links : List (Option (Numbered L))) : Type 0 where
+  pub present : (i : ℕ) (at : Numbered L) → slice_get links i ≡ Some (Some at)
+      → IsServed tells gives at.number (made_for at.number acts) (seen_in given taken at)
+  pub apart : (i j : ℕ) (at other : Numbered L) → slice_get links i ≡ Some (Some at) → slice_get links j ≡ Some (Some other)
+      → at.number ≡ other.number → i ≡ j
+  pub within : (i : ℕ) (at : Numbered L) → slice_get links i ≡ Some (Some at) → (at.number ≤ newest) × (loop_of loops at.number ≡ number)
+  pub later : (link : ℕ) → newest < link → made_for link acts ≡ []
+  pub each : (link : ℕ) → (made_for link acts ≡ []) ⊎ ((loop_of loops link ≡ number) × IsTale tells gives link (made_for link acts))
+
+-- what holds of a loop's acts and links still holds after these
+abbrev pub Keeps : {L : Type 0} → Type 0 → Giving → (L → List ℕ) → (L → List ℕ) → List (Option (Numbered L)) → List Act
+    → List (Option (Numbered L)) → Type 0
+Keeps tells gives given taken old acts new = (loops number newest : ℕ) (before : List Act)
+    → IsTold tells gives given taken loops number before newest old
+    → IsTold tells gives given taken loops number (before ++ acts) newest new
+
+-- what these acts did for one link, or where there is none: a pass, and maybe its end
+abbrev pub Acts : {L : Type 0} → Type 0 → Giving → (L → List ℕ) → (L → List ℕ) → Option (Numbered L) → List Act → Option (Numbered L)
+    → Type 0
+Acts tells gives given taken None acts new = (acts ≡ []) × (new ≡ None)
+Acts tells gives given taken (Some old) acts None = (made : Made) × (after : Seen) × (said : Option Said)
+    × WentOn tells gives (seen_in given taken old) made after
+    × (acts ≡ act old.number made ∷ act old.number ((Leave old.number, said) ∷ []) ∷ [])
+Acts tells gives given taken (Some old) acts (Some new) = (made : Made) × (new.number ≡ old.number)
+    × WentOn tells gives (seen_in given taken old) made (seen_in given taken new) × (acts ≡ act old.number made ∷ [])
+
+-- some acts lead from x to y, and of them this is so
+pub record LeadsBy {C : Type 0} (makes : Steps C) (x y : C) (P : List Act → Type 0) : Type 0 where
+  pub acts : List Act
+  pub leads : Makes makes x (steps_of acts) y
+  pub so : P acts
+
+-- ---- a loop
+
+-- what a loop has done for its links by these acts
+abbrev pub IsToldOf : {L : Type 0} → Type 0 → Giving → (L → List ℕ) → (L → List ℕ) → List Act → Links L → Type 0
+IsToldOf tells gives given taken acts links =
+    IsTold tells gives given taken links.loops links.number acts links.newest links.slots.items
+
+-- the loop went on by these acts
+pub record GoesOn {L : Type 0} (tells : Type 0) (gives : Giving) (given taken : L → List ℕ) (old : Links L) (acts : List Act)
+    (new : Links L) : Type 0 where
+  pub same : (new.loops ≡ old.loops) × (new.number ≡ old.number)
+  pub keeps : (before : List Act) → IsToldOf tells gives given taken before old → IsToldOf tells gives given taken (before ++ acts) new
+
+-- the same link as before, which is seen as before
+abbrev pub IsSeenAs : {L : Type 0} → (L → List ℕ) → (L → List ℕ) → Option (Numbered L) → Option (Numbered L) → Type 0
+IsSeenAs given taken None new = new ≡ None
+IsSeenAs given taken (Some old) None = ⊥
+IsSeenAs given taken (Some old) (Some new) = (new.number ≡ old.number) × (seen_in given taken new ≡ seen_in given taken old)

@@ -1,0 +1,23 @@
+//! What holds of every loop. The functions do nothing: each stands for its law.
+
+ghost use Rattle.std.specs.Prelude.{◌≡◌, ℕ, List, []};
+ghost use Rattle.session.specs.Serving.{Made};
+ghost use Rattle.event_loops.specs.Tales.{Act, GoesOn, IsToldOf, IsTale, IsAnsweredInOrder};
+ghost use Rattle.event_loops.specs.declared.links.Links.{Links as TheLinks};
+
+use link_service::a_link_is_answered_in_order;
+use mq_outside::Reader;
+use mq_peers::Link;
+
+/// What a loop has done that began without links, it has done for its links: for each number the tale of one link, or nothing.
+pub fn a_loop_is_told_from_its_beginning_on<L: Link, R: Reader>()
+    ensures { (old new : TheLinks L) (acts : List Act) → old.slots.items ≡ [] → GoesOn L.tells R.gives L.given L.taken old acts new
+        → IsToldOf L.tells R.gives L.given L.taken acts new }
+{}
+
+/// What a loop made for a link, from its beginning on, is a transcript of the link, and behind it at most its `Leave`.
+pub fn each_link_of_a_loop_is_answered_in_order<L: Link, R: Reader>()
+    ensures { (number : ℕ) (made : Made) → IsTale L.tells R.gives number made → IsAnsweredInOrder L.tells R.gives number made }
+{
+    a_link_is_answered_in_order::<L, R>();
+}
