@@ -24,7 +24,7 @@ import tempfile
 import threading
 import time
 
-from wire import PROGRAM, frame, number, pull, pulled, records, reply_of, send
+from wire import PROGRAM, commit, frame, number, pull, pulled, records, reply_of, send, stored
 
 WAIT = 10  # seconds until what has to come is missed
 
@@ -633,6 +633,63 @@ def _(folder):
                 found = server.link().pull_all(topic, 1 + max(offset for offset, _, _ in told))
                 for offset, place, body in told:
                     want((found[offset]["body"], found[offset]["place"]) == (body, place), f"offset {offset} of {topic} is another message")
+
+
+def kept_texts(folder):
+    """The texts of the two kept files, None where one is absent."""
+    paths = [os.path.join(folder, "store", "config", name) for name in ("consumerOffset.json", "topics.json")]
+    return [open(path, "rb").read() if os.path.exists(path) else None for path in paths]
+
+
+def texts_with(offset):
+    return [b'{"offsetTable":{"T@G":{"0":%d}}}' % offset, b'{"topicConfigTable":{"T":{"queues":4}}}']
+
+
+@check("a stored offset and a new topic are kept a few seconds later without a further request, and outlive kill -9 and an end")
+def _(folder):
+    if FORGETS or not IS_SERVE:
+        raise Skipped("it isn't this program's")
+    with Server(folder) as server:
+        link = server.link()
+        link.store([b"0", b"1", b"2"], "T")
+        link.pull_all("T", 3)
+        want(link.ask(commit(3, 2))["code"] == 0, "the offset isn't stored")
+        end = time.time() + 7
+        while kept_texts(folder) != texts_with(2):
+            want(time.time() < end, "seven seconds later the kept files are", kept_texts(folder))
+            time.sleep(0.05)
+        server.kill()
+    with Server(folder, "--connections", "1") as server:
+        link = server.link()
+        reply = link.ask(stored(0))
+        want((reply["code"], reply["extFields"].get("offset")) == (0, "2"), "once it was started again the offset is", reply)
+        want(link.ask(commit(1, 3))["code"] == 0, "the offset isn't stored")
+        link.close()
+        want(server.child.wait(WAIT) == 0, "it ended with status", server.child.returncode)
+        server.kill()
+    want(kept_texts(folder) == texts_with(3), "at its end the kept files are", kept_texts(folder))
+
+
+@check("a kept file that isn't of its form is status 8, and one that can't be replaced ends nobody and is status 10 at the end")
+def _(folder):
+    if FORGETS or not IS_SERVE:
+        raise Skipped("it isn't this program's")
+    with Server(folder) as server:
+        server.link().store([b"0"], "T")
+    log, path = records(folder), os.path.join(folder, "store", "config", "topics.json")
+    with open(path, "wb") as file:
+        file.write(b'{"topicConfigTable": {}}')
+    ended = subprocess.run([PROGRAM, "serve", "--host", f"127.0.0.1:{free_port()}"], cwd=folder, stdin=subprocess.DEVNULL, timeout=WAIT)
+    want(ended.returncode == 8 and kept_texts(folder) == [None, b'{"topicConfigTable": {}}'] and records(folder) == log,
+         "it ended with status", ended.returncode, "and the kept files are", kept_texts(folder))
+    os.remove(path)
+    with Server(folder, "--connections", "1") as server:
+        os.mkdir(path)  # no text is put in its place
+        link = server.link()
+        link.store([b"1"], "T")
+        link.close()
+        want(server.child.wait(WAIT) == 10, "it ended with status", server.child.returncode)
+        server.kill()
 
 
 @check("a full disk is told with code 10; what was answered before is pulled still, and stands")

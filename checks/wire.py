@@ -53,6 +53,20 @@ def pull(opaque, topic, at, most=32, flag=0, binary=False, **fields):
     return frame({"code": 11, "extFields": ext, "flag": flag, "opaque": opaque, "version": 395}, b"", binary)
 
 
+def of_group(code, opaque, group="G", topic="T", queue=0, binary=False, **fields):
+    """A request about the offset that a consumer group has of a queue."""
+    ext = {"consumerGroup": group, "topic": topic, "queueId": str(queue), **fields}
+    return frame({"code": code, "extFields": ext, "flag": 0, "opaque": opaque, "version": 395}, b"", binary)
+
+
+def stored(opaque, **names):
+    return of_group(14, opaque, **names)
+
+
+def commit(opaque, offset, **names):
+    return of_group(15, opaque, commitOffset=str(offset), **names)
+
+
 def binary_header(text):
     """The header that these bytes are, as a JSON header would say it."""
     at = 17

@@ -14,7 +14,7 @@ use Rattle.request_stream.specs.declared.stop.Stop.TheVariants as stops
 use Rattle.request_stream.specs.declared.stop.Halt.{Halt}
 use Rattle.request_stream.specs.declared.stop.Halt.TheVariants.{BadFrame, Read, Stopped}
 use Rattle.broker_run.specs.Closing.{IsFailed, CountsRun}
-use Rattle.broker_run.specs.Promise.{StatusOf, StatusTells, StatusTellsFault, AllFaults, Causes, CountsStatus}
+use Rattle.broker_run.specs.Promise.{StatusOf, StatusTells, StatusTellsFault, AllFaults, Causes, CountsStatus, CountsEnd}
 use Rattle.broker_run.specs.declared.ended.Ended.{Ended}
 
 -- ---- a run from a log that is open
@@ -177,12 +177,13 @@ known_codes status (inr (inr (inr (inr (inr (inl e)))))) = inl (omega (arith, e)
 known_codes status (inr (inr (inr (inr (inr (inr e)))))) = inr e
 
 -- and a run, seen from before the opening
-pub run_causes : (status : Status) (old new : AllFaults) (disk : ℕ) → disk ≡ old.disk → CountsStatus status old.source new.source old.sink new.sink disk new.disk old.clock new.clock → Causes status old new
-run_causes status old new disk same counts = record {
+pub run_causes : (status : Status) (old new : AllFaults) (disk : ℕ) → disk ≡ old.disk → (keep : ℕ) → keep ≡ old.keep
+    → CountsEnd status old.source new.source old.sink new.sink disk new.disk old.clock new.clock keep new.keep → Causes status old new
+run_causes status old new disk same keep same_keep counts = record {
   read = counts.read;
   write = counts.write;
   disk_failed = λ e. subst (λ (n : ℕ). Rises n new.disk) same (counts.disk_failed e);
-  device = λ e. inl (counts.clock_failed e);
+  device = λ e. subst (λ (n : ℕ). ((status.name ≡ codes "clock") × Rises old.clock new.clock) ⊎ ((status.name ≡ codes "keep") × Rises n new.keep)) same_keep (counts.device e);
   known = known_codes status counts.known;
 }
 

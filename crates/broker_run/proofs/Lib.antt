@@ -1,3 +1,4 @@
+pub mod KeptLemmas
 mod CauseLemmas
 mod ClosingLemmas
 mod QuietLemmas

@@ -21,7 +21,10 @@ use Rattle.request_stream.specs.Piping.{FaultAt, EndsInside, IsBadAt, EndsBy, Pi
 use Rattle.request_stream.specs.declared.stop.Halt.{Halt}
 use Rattle.request_stream.specs.declared.stop.Halt.TheVariants.{BadFrame, Read, Stopped}
 use Rattle.request_stream.specs.declared.stop.Stop.TheVariants as stops
-use Rattle.broker_run.specs.Promise.{Seen, KeepSeen, AllFaults, Causes, StatusTells, StatusOf, StatusTellsFault, before, Served, Refused, Unrecovered, IsNotServed, Call, IsQuiet, EndsWell}
+use Rattle.mq_outside.specs.declared.faults.DiskFault.{DiskFault}
+use Rattle.mq_outside.specs.declared.faults.DiskFault.TheVariants as keeper
+use Rattle.config_store.specs.Faults.{IsBadText}
+use Rattle.broker_run.specs.Promise.{Seen, KeepSeen, AllFaults, Causes, StatusTells, StatusOf, StatusAfter, TellsKeep, StatusTellsFault, before, Served, Refused, Misread, Unrecovered, IsNotServed, Call, IsQuiet, EndsWell}
 
 -- ---- bytes that are whole frames
 
@@ -78,13 +81,33 @@ module _ {D : Type 0} (words : List (List ℕ)) (status : Status) (seen : Seen D
   quiet_status ended (Err broken.Memory) good tells = inr tells
   quiet_status ended (Err broken.Misplaced) good tells = absurd tells
 
+  -- nor for the kept files
+  quiet_kept : TellsKeep status → EndsWell status
+  quiet_kept (inl ten) = absurd (no_device ten.0)
+  quiet_kept (inr seven) = inr seven
+
+  quiet_after : {A B : Type 0} (ended : Result A Halt) (last : Result (Option ℕ) Broken) (replaced : Result B DiskFault) → ((place : ℕ) → ended ≡ Err (BadFrame place) → ⊥)
+      → StatusAfter status ended last replaced → EndsWell status
+  quiet_after ended last (Ok done) good tells = quiet_status ended last good tells
+  quiet_after ended last (Err keeper.Memory) good seven = inr seven
+  quiet_after ended last (Err keeper.Failed) good (inl it) = quiet_kept it.1
+  quiet_after ended last (Err keeper.Failed) good (inr it) = quiet_status ended last good it.0
+
+  quiet_misread : Misread status seen keep → EndsWell status
+  quiet_misread it = by_why it.why
+    where
+      by_why : ((status.code ≡ 8) × (status.place ≡ 0) × (keep.tells → IsBadText keep.old.reads status.name)) ⊎ ((status.code ≡ 7) ⊎ ((status.code ≡ 10) × (status.name ≡ codes "keep"))) → EndsWell status
+      by_why (inl bad) = absurd (quiet.formed status.name (bad.2 quiet.keep_tells))
+      by_why (inr (inl seven)) = inr seven
+      by_why (inr (inr ten)) = absurd (no_device ten.0)
+
   quiet_served : (command : Command) → Served command status seen keep → EndsWell status
   quiet_served command served =
       let piped = served.some.ran.piped in
       let same : quiet.bytes ≡ piped.bytes = append_cancel_left seen.source.given quiet.bytes piped.bytes (sym quiet.given_is ∙ piped.given_is quiet.source_tells) in
       let cut = subst (λ (l : List ℕ). BeginsWith 0 l quiet.frames quiet.end []) same quiet.cut in
       let few = subst (λ (l : List ℕ). length l < stream_limit) same quiet.few in
-      quiet_status served.ended served.last
+      quiet_after served.ended served.last served.replaced
       (λ place is. never_bad piped.bytes quiet.frames piped.frames quiet.end piped.at place piped.rest seen.source.tells seen.source.left_then cut few piped.cut
       (subst (λ (r : Result (Unit {0}) Halt). EndsBy r piped.at piped.rest piped.bytes seen.source.tells seen.source.left_then) is piped.ends))
       served.tells
@@ -114,6 +137,9 @@ module _ {D : Type 0} (words : List (List ℕ)) (status : Status) (seen : Seen D
       (λ (other : IsNotServed call.command status seen keep). ⊎_elim
       (λ (refused : Refused status seen). quiet_refused
       (λ six. let it = foreign quiet.disk_tells quiet.keep_tells six in quiet.own it.0 status.name it.1 it.2) refused)
+      (λ (later : Misread status seen keep ⊎ Unrecovered call.command status seen keep). ⊎_elim
+      (λ (bad : Misread status seen keep). quiet_misread bad)
       (λ (lost : Unrecovered call.command status seen keep). quiet_unrecovered call.command call.asked lost)
+      later)
       other.why)
       call.called

@@ -20,7 +20,7 @@ use Rattle.log_model.proofs.StoredLemmas.{first_keeps, keeps_then, has_less}
 use Rattle.segment_files.specs.Turn.{IsReady, IsPlaced, NextOpens, Growing, growing}
 use Rattle.segment_files.proofs.Ready.{ready_as, ready_first_records}
 use Rattle.remoting_frame.specs.declared.frame.Frame.{Frame}
-use Rattle.broker_model.specs.State.{State}
+use Rattle.broker_model.specs.State.{State, Saved}
 use Rattle.broker_model.specs.Run.{Boot, Move, Steps, Run}
 use Rattle.broker_events.specs.declared.event.Event.{Event}
 use Rattle.broker_events.specs.declared.said.Said.{Said}
@@ -28,7 +28,7 @@ use Rattle.broker_events.specs.Steps.{event_of}
 use Rattle.broker_core.specs.declared.alone.Alone.{Alone}
 use Rattle.broker_core.specs.declared.parts.Parts.{Parts}
 use Rattle.broker_core.specs.Represents.{Represents}
-use Rattle.log_opening.specs.Opens.{OpensOver, OpensKept, OpensOurs, OpensLog}
+use Rattle.log_opening.specs.Opens.{OpensWith, OpensKeptWith, OpensOursWith, OpensLogWith}
 use Rattle.log_opening.specs.declared.opening.Opened.{Opened}
 use Rattle.request_acts.specs.Acts.{Act, HasUnwritten, Acts, Acted, DiskView, Place, place_of, growing_at, turns_of, steps_of}
 use Rattle.request_acts.specs.Turning.{AreAllTurns}
@@ -45,7 +45,7 @@ use Rattle.flush_story.proofs.Keeps.{kept_as}
 use Rattle.flush_story.proofs.Turns.{order_on, exact_later, turned_most}
 use Rattle.kept_log.specs.Leads.{alone}
 use Rattle.kept_log.proofs.ActStory.{acts_lead, acts_written}
-use Rattle.broker_run.specs.Promise.{AreMoves, RunsTo, opened_over, Seen, before, behind, sides_for, Leaves, Survives, RunFrom, BeginsWithKept, KeepsOn, RunsFromSome, KeepsAfter, StatusOf, StatusTellsFault, ServedOver, Unrecovered, KeepSeen}
+use Rattle.broker_run.specs.Promise.{AreMoves, RunsTo, opened_over, Seen, before, behind, sides_for, Leaves, Survives, RunFrom, BeginsWithKept, KeepsOn, RunsFromSome, KeepsAfter, LeavesDisk, KeepsOpen, StatusTellsFault, ServedOver, Unrecovered, KeepSeen}
 use Rattle.broker_run.proofs.CauseLemmas.{damage_told}
 use Rattle.request_stream.specs.declared.stop.Halt.{Halt}
 use Rattle.request_stream.specs.declared.stop.Halt.TheVariants.{BadFrame, Read, Stopped}
@@ -127,10 +127,10 @@ ready_exact setup log at ready =
           (stands_exact S ready.shape files (stands_more S ready.shape ready.reach (used ready.shape) files low (ready.writes.stores.each.at files image)));
     }
 
-keeps_after : (setup : Setup) (log : List Entry) (acts : List Act) (u : State) (p : DiskState) (r : Growing) → EachImage (AreSegmentFiles (whole setup.segment) log) p
-    → Keeps (opened_over setup log).now u (turns_of acts) p r → KeepsAfter setup log acts u p r.disk
-keeps_after setup log acts u p r opened kept =
-    let s = (opened_over setup log).now in
+keeps_after : (setup : Setup) (saved : Saved) (log : List Entry) (acts : List Act) (u : State) (p : DiskState) (r : Growing) → EachImage (AreSegmentFiles (whole setup.segment) log) p
+    → Keeps (opened_over setup saved log).now u (turns_of acts) p r → KeepsAfter setup log acts u p r.disk
+keeps_after setup saved log acts u p r opened kept =
+    let s = (opened_over setup saved log).now in
     let all : flushed_in s ≡ length log = omega arith in
     let S : geometry_of u ≡ whole setup.segment = λ i. geometry ((kept.grows.setup i).segment) ((kept.grows.log i).base) in
     record {
@@ -146,18 +146,17 @@ keeps_after setup log acts u p r opened kept =
     }
 
 -- all of the log is flushed
-open_for : (setup : Setup) (log : List Entry) (at : Growing) → IsReady (stored (whole setup.segment) log (length log)) 0 at → IsOpenFor (opened_over setup log).now at
-open_for setup log at ready =
-    let none : length log ≡ flushed_in (opened_over setup log).now = omega arith in
+open_for : (setup : Setup) (saved : Saved) (log : List Entry) (at : Growing) → IsReady (stored (whole setup.segment) log (length log)) 0 at → IsOpenFor (opened_over setup saved log).now at
+open_for setup saved log at ready =
+    let none : length log ≡ flushed_in (opened_over setup saved log).now = omega arith in
     record { behind = 0; few = omega arith; ready = subst (λ (n : ℕ). IsReady (stored (whole setup.segment) log n) 0 at) none ready }
 
-pub run_from : {D : Type 0} (it : Opened) (ended : Ended) (seen : Seen D) (setup : Setup) (log : List Entry) (x y : Alone) (reads : ℕ) → OpensOver setup log it → x.core ≡ it.core
+pub run_from : {D : Type 0} (it : Opened) (ended : Ended) (seen : Seen D) (setup : Setup) (saved : Saved) (log : List Entry) (x y : Alone) (reads : ℕ) → OpensWith setup saved log it → x.core ≡ it.core
     → ServesToEnd (sides_for seen) ended seen.source x (point_of (place_of it.flusher.file seen.old) reads seen.taken seen.readings) y seen.new seen.taken_then seen.readings_then
-    → RunFrom setup log ended.reading ended.last seen
-    (λ acts reached. seen.disk.tells → IsReady (stored (whole setup.segment) log (length log)) 0 (growing it.flusher.file (before seen)) → KeepsAfter setup log acts reached (before seen) (behind seen))
-run_from {D = D} it ended seen setup log x y reads opens same served =
+    → RunFrom setup saved log ended.reading ended.last seen (λ acts reached. LeavesDisk it seen setup log acts reached × Represents y.core reached)
+run_from {D = D} it ended seen setup saved log x y reads opens same served =
     let sides = sides_for seen in
-    let s = (opened_over setup log).now in
+    let s = (opened_over setup saved log).now in
     let place : Place D = place_of it.flusher.file seen.old in
     let start = point_of place reads seen.taken seen.readings in
     let mid = point_of served.mid served.reads seen.taken_then seen.readings_then in
@@ -183,18 +182,43 @@ run_from {D = D} it ended seen setup log x y reads opens same served =
       flushed = served.flushed;
       reached = led.reached;
       runs = record { moves = moves.0; boot = moves.1; are = moves.2; run = moves.3; reached_is = moves.4 };
-      done = λ told ready. keeps_after setup log acts led.reached (before seen) (growing served.final.file (behind seen))
-          (ready_exact setup log (growing it.flusher.file (before seen)) ready)
-          (keeps_same s led.reached (turns_of acts) (before seen) (growing_at seen.disk served.final) (behind seen) (served.back told)
-          (led.keeps told (open_for setup log (growing it.flusher.file (before seen)) ready)));
+      done = (
+        λ told ready. keeps_after setup saved log acts led.reached (before seen) (growing served.final.file (behind seen))
+            (ready_exact setup log (growing it.flusher.file (before seen)) ready)
+            (keeps_same s led.reached (turns_of acts) (before seen) (growing_at seen.disk served.final) (behind seen) (served.back told)
+            (led.keeps told (open_for setup saved log (growing it.flusher.file (before seen)) ready))),
+        led.represents,
+      );
     }
+
+-- the same run, of whose last state more is said
+pub run_with : {D A : Type 0} (setup : Setup) (saved : Saved) (log : List Entry) (ended : Result A Halt) (last : Result (Option ℕ) Broken) (seen : Seen D) (P : List Act → State → Type 0) (R Q : State → Type 0)
+    → ((reached : State) → R reached → Q reached) → RunFrom setup saved log ended last seen (λ acts reached. P acts reached × R reached)
+    → RunFrom setup saved log ended last seen (λ acts reached. P acts reached × Q reached)
+run_with setup saved log ended last seen P R Q as_well ran = record {
+  calls = ran.calls;
+  served = ran.served;
+  closed = ran.closed;
+  place = ran.place;
+  mid = ran.mid;
+  final = ran.final;
+  reads = ran.reads;
+  reads_then = ran.reads_then;
+  first = ran.first;
+  piped = ran.piped;
+  first_is = ran.first_is;
+  flushed = ran.flushed;
+  reached = ran.reached;
+  runs = ran.runs;
+  done = (ran.done.0, as_well ran.reached ran.done.1);
+}
 
 -- ---- no batch is misplaced
 
 -- the flusher writes where the log ends, all of which is flushed
-placed_for : (setup : Setup) (log : List Entry) (it : Opened) → OpensOver setup log it → IsPlacedFor (opened_over setup log).now it.flusher.file
-placed_for setup log it opens =
-    let none : length log ≡ flushed_in (opened_over setup log).now = omega arith in
+placed_for : (setup : Setup) (saved : Saved) (log : List Entry) (it : Opened) → OpensWith setup saved log it → IsPlacedFor (opened_over setup saved log).now it.flusher.file
+placed_for setup saved log it opens =
+    let none : length log ≡ flushed_in (opened_over setup saved log).now = omega arith in
     record { within = omega arith; placed = subst (λ (n : ℕ). IsPlaced (stored (whole setup.segment) log n) it.flusher.file) none (inl opens.placed) }
 
 begun_unwritten : (gives : Giving) (begun : Begun) (faults faults_then : ℕ) → Breaks gives stops.Misplaced begun faults faults_then → HasUnwritten (begun_acts begun)
@@ -220,17 +244,17 @@ flushes_placed view (Err broken.Misplaced) s x y p q are here acted = acts_writt
 flushes_placed view (Err broken.Memory) s x y p q are here acted = tt
 
 -- nor in a whole run
-pub run_placed : {D : Type 0} (it : Opened) (ended : Ended) (seen : Seen D) (setup : Setup) (log : List Entry) (x y : Alone) (reads : ℕ) → OpensOver setup log it → x.core ≡ it.core
+pub run_placed : {D : Type 0} (it : Opened) (ended : Ended) (seen : Seen D) (setup : Setup) (saved : Saved) (log : List Entry) (x y : Alone) (reads : ℕ) → OpensWith setup saved log it → x.core ≡ it.core
     → ServesToEnd (sides_for seen) ended seen.source x (point_of (place_of it.flusher.file seen.old) reads seen.taken seen.readings) y seen.new seen.taken_then seen.readings_then
     → ReadsPlaced ended.reading × FlushesPlaced ended.last
-run_placed {D = D} it ended seen setup log x y reads opens same served =
+run_placed {D = D} it ended seen setup saved log x y reads opens same served =
     let sides = sides_for seen in
-    let s = (opened_over setup log).now in
+    let s = (opened_over setup saved log).now in
     let place : Place D = place_of it.flusher.file seen.old in
     let start = point_of place reads seen.taken seen.readings in
     let mid = point_of served.mid served.reads seen.taken_then seen.readings_then in
     let are : Represents x.core s = subst (λ (c : Parts). Represents c s) (sym same) opens.represents in
-    let here = placed_for setup log it opens in
+    let here = placed_for setup saved log it opens in
     let first = acts_in sides ended.reading served.piped.frames x start served.served mid served.piped.ran in
     let led = acts_lead seen.disk first s x served.served place served.mid are
     (ran_happened sides ended.reading served.piped.frames x served.served start mid served.piped.ran) in (
@@ -256,9 +280,9 @@ seen_open seen disk = record {
   readings_then = seen.readings_then;
 }
 
-run_as : {D A : Type 0} (setup : Setup) (log : List Entry) (ended : Result A Halt) (last : Result (Option ℕ) Broken) (seen : Seen D) (disk : D) (P Q : List Act → State → Type 0)
-    → ((acts : List Act) (reached : State) → P acts reached → Q acts reached) → RunFrom setup log ended last (seen_open seen disk) P → RunFrom setup log ended last seen Q
-run_as setup log ended last seen disk P Q as_well ran = record {
+run_as : {D A : Type 0} (setup : Setup) (saved : Saved) (log : List Entry) (ended : Result A Halt) (last : Result (Option ℕ) Broken) (seen : Seen D) (disk : D) (P Q : List Act → State → Type 0)
+    → ((acts : List Act) (reached : State) → P acts reached → Q acts reached) → RunFrom setup saved log ended last (seen_open seen disk) P → RunFrom setup saved log ended last seen Q
+run_as setup saved log ended last seen disk P Q as_well ran = record {
   calls = ran.calls;
   served = ran.served;
   closed = ran.closed;
@@ -324,22 +348,29 @@ survives setup log flushed opening acts reached old mid new leaves kept = record
   stores = kept.stores;
 }
 
-module _ {D : Type 0} (it : Opened) (status : Status) (seen : Seen D) (disk : D) (setup : Setup) (served : ServedOver it status (seen_open seen disk)) where
-  pub runs_some : OpensLog setup it → RunsFromSome setup served.ended served.last seen
+module _ {D : Type 0} (it : Opened) (status : Status) (seen : Seen D) (disk : D) (setup : Setup) (saved : Saved) (keep : KeepSeen) (kept : State → Type 0)
+    (as_well : (reached : State) → KeepsOpen status keep reached → kept reached) (served : ServedOver it status (seen_open seen disk) keep) where
+  -- what is left of the kept files
+  pub left_open : OpensLogWith setup saved it → (s : State) × KeepsOpen status keep s
+  left_open opens = let ran = served.runs setup saved opens.records opens.opens in (ran.reached, ran.done.1)
+
+  pub runs_some : OpensLogWith setup saved it → RunsFromSome setup saved served.ended served.last seen kept
   runs_some opens = record {
     log = opens.records;
-    ran = run_as setup opens.records served.ended served.last seen disk _ (λ acts reached. Unit {0}) (λ acts reached kept. tt) (served.runs setup opens.records opens.opens);
+    ran = run_as setup saved opens.records served.ended served.last seen disk _ (λ acts reached. kept reached) (λ acts reached done. as_well reached done.1)
+        (served.runs setup saved opens.records opens.opens);
   }
 
-  pub begins_with : (files : Files) → files ≡ (before seen).reads → OpensKept setup files it → BeginsWithKept setup served.ended served.last seen
+  pub begins_with : (files : Files) → files ≡ (before seen).reads → OpensKeptWith setup saved files it → BeginsWithKept setup saved served.ended served.last seen kept
   begins_with files same opens = record {
     records = opens.records;
     keeps = subst (λ (f : Files). RecoveryKeeps (whole setup.segment) opens.records f) same opens.keeps;
-    ran = run_as setup opens.records served.ended served.last seen disk _ (λ acts reached. Unit {0}) (λ acts reached kept. tt) (served.runs setup opens.records opens.opens);
+    ran = run_as setup saved opens.records served.ended served.last seen disk _ (λ acts reached. kept reached) (λ acts reached done. as_well reached done.1)
+        (served.runs setup saved opens.records opens.opens);
   }
 
-  pub keeps_on : seen.disk.tells → (log : List Entry) (flushed : ℕ) → OpensOurs setup log flushed (seen.disk.state disk) it → Throughout (before seen) (seen.disk.state disk) (Leaves (whole setup.segment) log flushed)
-      → KeepsOn setup log flushed served.ended served.last seen
+  pub keeps_on : seen.disk.tells → (log : List Entry) (flushed : ℕ) → OpensOursWith setup saved log flushed (seen.disk.state disk) it → Throughout (before seen) (seen.disk.state disk) (Leaves (whole setup.segment) log flushed)
+      → KeepsOn setup saved log flushed served.ended served.last seen kept
   keeps_on told log flushed opens leaves =
       let opening = take opens.number log in
       let long : opens.number ≡ length opening = omega (arith, opens.high, length-take opens.number log) in
@@ -347,11 +378,14 @@ module _ {D : Type 0} (it : Opened) (status : Status) (seen : Seen D) (disk : D)
         number = opens.number;
         low = opens.low;
         high = opens.high;
-        ran = run_as setup opening served.ended served.last seen disk _
-            (λ acts reached. Survives (whole setup.segment) log flushed opening (turns_of acts) reached.log.records (before seen) (behind seen))
-            (λ acts reached kept. survives setup log flushed opening acts reached (before seen) (seen.disk.state disk) (behind seen) leaves
-            (kept told (subst (λ (n : ℕ). IsReady (stored (whole setup.segment) opening n) 0 (growing it.flusher.file (seen.disk.state disk))) long opens.ready)))
-            (served.runs setup opening opens.opens);
+        ran = run_as setup saved opening served.ended served.last seen disk _
+            (λ acts reached. Survives (whole setup.segment) log flushed opening (turns_of acts) reached.log.records (before seen) (behind seen) × kept reached)
+            (λ acts reached done. (
+              survives setup log flushed opening acts reached (before seen) (seen.disk.state disk) (behind seen) leaves
+                  (done.0 told (subst (λ (n : ℕ). IsReady (stored (whole setup.segment) opening n) 0 (growing it.flusher.file (seen.disk.state disk))) long opens.ready)),
+              as_well reached done.1,
+            ))
+            (served.runs setup saved opening opens.opens);
       }
 
 -- ---- a log that was not recovered

@@ -2,8 +2,10 @@
 use Rattle.std.specs.Prelude.{◌≡◌, ◌≢◌, ◌⊎◌, ℕ, ◌+◌, ◌<◌, ◌≤◌, ◌++◌, List, [], ◌∷◌, codes, length, take}
 use Rattle.std.specs.Prelude.{Bool, true, Option, Some, None, Result, Ok, Err}
 use Rattle.mq_outside.specs.Counts.{Rises}
-use Rattle.mq_outside.specs.Files.{Files}
-use Rattle.mq_outside.specs.Disk.{DiskState, EachImage, Rests, Throughout}
+use Rattle.mq_outside.specs.Files.{Files, OldOrNew}
+use Rattle.mq_outside.specs.Disk.{DiskState, EachImage, IsCrashImage, Rests, Throughout}
+use Rattle.mq_outside.specs.declared.faults.DiskFault.{DiskFault}
+use Rattle.mq_outside.specs.declared.faults.DiskFault.TheVariants as keeper
 use Rattle.mq_outside.specs.Readings.{Giving}
 use Rattle.remoting_frame.specs.Streams.{BeginsWith}
 use Rattle.remoting_frame.specs.declared.frame.Frame.{Frame}
@@ -20,7 +22,8 @@ use Rattle.store_open.specs.Openings.{FORMAT, AreSizesOf, IsForeign, IsOpened, P
 use Rattle.store_open.specs.declared.format.Sizes.{Sizes}
 use Rattle.store_open.specs.declared.words.Command.{Command}
 use Rattle.store_open.specs.declared.status.Status.{Status}
-use Rattle.broker_model.specs.State.{State}
+use Rattle.broker_model.specs.State.{State, Saved}
+use Rattle.broker_model.specs.Tables.{OffsetRow, TopicRow}
 use Rattle.broker_model.specs.Events as model
 use Rattle.broker_model.specs.Run.{Boot, Move, Steps, Run, opened}
 use Rattle.broker_events.specs.declared.event.Event.{Event}
@@ -30,7 +33,12 @@ use Rattle.broker_events.specs.Steps.{event_of, SaysIn}
 use Rattle.broker_core.specs.declared.alone.Alone.{Alone}
 use Rattle.broker_core.specs.Loads.{whole_log}
 use Rattle.broker_core.specs.Represents.{setup_of}
-use Rattle.log_opening.specs.Opens.{OpensOver, no_saved}
+use Rattle.config_store.specs.Configs.{OFFSETS, TOPICS, HasConfig, KeepsConfig, PutsConfig}
+use Rattle.config_store.specs.Faults.{IsBadText}
+use Rattle.config_store.specs.declared.config.ConfigFault.{ConfigFault}
+use Rattle.config_store.specs.declared.config.ConfigFault.TheVariants.{BadText, Failed as KeepFailed, Memory as NoMemoryHere}
+use Rattle.config_store.specs.Texts.{offsets_text_of, topics_text_of}
+use Rattle.log_opening.specs.Opens.{OpensWith, saved_as}
 use Rattle.log_opening.specs.declared.opening.Opened.{Opened}
 use Rattle.request_acts.specs.Acts.{Act, Acted, DiskView, Place, steps_of, turns_of}
 use Rattle.request_acts.specs.Turning.{AreAllTurns}
@@ -64,11 +72,44 @@ StatusOf status ended (Ok last) = StatusTells status ended last
 StatusOf status ended (Err broken.Memory) = status.code ≡ 7
 StatusOf status ended (Err broken.Misplaced) = ⊥
 
+-- ---- the status once the kept files were replaced, or not
+
+-- a status that tells that the keep failed, or that there was no memory to tell it
+abbrev pub TellsKeep : Status → Type 0
+TellsKeep status = ((status.code ≡ 10) × (status.name ≡ codes "keep")) ⊎ (status.code ≡ 7)
+
+-- the status that is told where the kept files were replaced or not, and would be told of all before: want of memory comes before
+-- all else, and that the keep failed is told where nothing else is
+abbrev pub StatusKept : {A : Type 0} → Status → Status → Result A DiskFault → Type 0
+StatusKept status else_told (Ok done) = status ≡ else_told
+StatusKept status else_told (Err keeper.Memory) = status.code ≡ 7
+StatusKept status else_told (Err keeper.Failed) = ((else_told.code ≡ 0) × TellsKeep status) ⊎ ((else_told.code ≢ 0) × (status ≡ else_told))
+
+-- the source ended, and nothing is pending
+abbrev pub AllWell : {A : Type 0} → Result A Halt → Result (Option ℕ) Broken → Type 0
+AllWell (Ok done) (Ok None) = Unit {0}
+AllWell (Ok done) (Ok (Some count)) = ⊥
+AllWell (Ok done) (Err fault) = ⊥
+AllWell (Err halt) last = ⊥
+
+-- what ended the reading, the last flush turns and the replacement of the kept files tell the status
+abbrev pub StatusAfter : {A B : Type 0} → Status → Result A Halt → Result (Option ℕ) Broken → Result B DiskFault → Type 0
+StatusAfter status ended last (Ok done) = StatusOf status ended last
+StatusAfter status ended last (Err keeper.Memory) = status.code ≡ 7
+StatusAfter status ended last (Err keeper.Failed) =
+    (AllWell ended last × TellsKeep status) ⊎ (StatusOf status ended last × (status.code ≢ 0))
+
 -- the status that tells why the log was not recovered
 abbrev pub StatusTellsFault : Status → RecoverFault → Type 0
 StatusTellsFault status (Damaged place name) = (status.code ≡ 8) × (status.place ≡ place) × (status.name ≡ name)
 StatusTellsFault status DiskFailed = status.code ≡ 5
 StatusTellsFault status NoMemory = status.code ≡ 7
+
+-- the status that tells why the kept files were not loaded, or that there was no memory to tell it
+abbrev pub StatusTellsConfig : Status → ConfigFault → Type 0
+StatusTellsConfig status (BadText name) = ((status.code ≡ 8) × (status.place ≡ 0) × (status.name ≡ name.now)) ⊎ (status.code ≡ 7)
+StatusTellsConfig status KeepFailed = TellsKeep status
+StatusTellsConfig status NoMemoryHere = status.code ≡ 7
 
 -- ---- the run of the model
 
@@ -84,16 +125,16 @@ AreMoves (step ∷ steps) (move ∷ moves) =
 abbrev pub pipe_setup : Command → Sizes → Setup
 pipe_setup command sizes = record { segment = sizes.segment; host = command.host; sync = command.sync }
 
--- the boot that opens over this log
-abbrev pub opened_over : Setup → List Entry → Boot
-opened_over setup log = record { now = opened (setup_of setup) (whole_log log) no_saved; before = [] }
+-- the boot that opens over this log, with what was kept beside it
+abbrev pub opened_over : Setup → Saved → List Entry → Boot
+opened_over setup saved log = record { now = opened (setup_of setup) (whole_log log) saved; before = [] }
 
 -- a run of the model from the opening over this log, whose moves are these acts' steps
-pub record RunsTo (setup : Setup) (log : List Entry) (acts : List Act) (reached : State) : Type 0 where
+pub record RunsTo (setup : Setup) (saved : Saved) (log : List Entry) (acts : List Act) (reached : State) : Type 0 where
   pub moves : List Move
   pub boot : Boot
   pub are : AreMoves (steps_of acts) moves
-  pub run : Run (opened_over setup log) moves boot
+  pub run : Run (opened_over setup saved log) moves boot
   pub reached_is : boot.now ≡ reached
 
 -- ---- what is seen of a call
@@ -132,11 +173,51 @@ behind seen = seen.disk.state seen.new
 abbrev pub sides_for : {D : Type 0} → Seen D → Sides Alone D
 sides_for seen = sides_of alone seen.gives seen.disk seen.sink seen.clock
 
--- a keep over a call
+-- a keep over a call, and how often it has failed
 pub record KeepSeen : Type 1 where
   pub tells : Type 0
   pub old : DiskState
   pub new : DiskState
+  pub failed : ℕ
+  pub failed_then : ℕ
+
+-- ---- the kept files
+
+-- From old to new each of the three texts is as it was or is this one, and each other one is as it was.
+pub record ReplacesAll (format offsets topics : List ℕ) (old new : Files) : Type 0 where
+  pub format_is : OldOrNew format (old FORMAT) (new FORMAT)
+  pub offsets_are : OldOrNew offsets (old OFFSETS) (new OFFSETS)
+  pub topics_are : OldOrNew topics (old TOPICS) (new TOPICS)
+  pub others : (name : List ℕ) → name ≢ FORMAT → name ≢ OFFSETS → name ≢ TOPICS → new name ≡ old name
+
+-- a crash image of this keep, but that each of the three may have its new text
+abbrev pub IsImageKept : List ℕ → List ℕ → List ℕ → DiskState → Files → Type 0
+IsImageKept format offsets topics keep files = (before : Files) × IsCrashImage keep before × ReplacesAll format offsets topics before files
+
+-- So it is as it is read, and in each crash image of each moment.
+pub record PutsAll (format offsets topics : List ℕ) (old new : DiskState) : Type 0 where
+  pub reads : ReplacesAll format offsets topics old.reads new.reads
+  pub at_each : Throughout old new (IsImageKept format offsets topics old)
+
+-- the two kept files have the texts of this state, and stay so through a crash
+abbrev pub KeepsTexts : State → DiskState → Type 0
+KeepsTexts s keep = KeepsConfig (offsets_text_of s.offsets) (topics_text_of s.topics) keep
+
+-- At the end of a run the two kept files have the texts of this state, unless memory ran out or the keep failed; with status 0 they
+-- always have.
+pub record EndsKept (status : Status) (keep : KeepSeen) (s : State) : Type 0 where
+  pub done : keep.tells → status.code ≢ 7 → (Rises keep.failed keep.failed_then → ⊥) → KeepsTexts s keep.new
+  pub well : keep.tells → status.code ≡ 0 → KeepsTexts s keep.new
+
+-- The same, and meanwhile each of them was as before or had the text of this state: from a keep on whose format stands.
+pub record KeepsOpen (status : Status) (keep : KeepSeen) (s : State) : Type 0 where
+  pub puts : keep.tells → PutsConfig (offsets_text_of s.offsets) (topics_text_of s.topics) keep.old keep.new
+  pub ends : EndsKept status keep s
+
+-- and from before the opening on, in which the format may have been put
+pub record KeepsState (format : List ℕ) (status : Status) (keep : KeepSeen) (s : State) : Type 0 where
+  pub puts : keep.tells → PutsAll format (offsets_text_of s.offsets) (topics_text_of s.topics) keep.old keep.new
+  pub ends : EndsKept status keep s
 
 -- ---- a run from a store
 
@@ -164,8 +245,8 @@ pub record Survives (S : Geometry) (stored : List Entry) (flushed : ℕ) (log : 
 
 -- The requests of the source were served by a core that was opened over this log, and then flush turns were made. All that
 -- happened is a run of the model.
-pub record RunFrom {D A : Type 0} (setup : Setup) (log : List Entry) (ended : Result A Halt) (last : Result (Option ℕ) Broken)
-    (seen : Seen D) (holds : List Act → State → Type 0) : Type 0 where
+pub record RunFrom {D A : Type 0} (setup : Setup) (saved : Saved) (log : List Entry) (ended : Result A Halt)
+    (last : Result (Option ℕ) Broken) (seen : Seen D) (holds : List Act → State → Type 0) : Type 0 where
   pub calls : Alone
   pub served : Alone
   pub closed : Alone
@@ -181,43 +262,52 @@ pub record RunFrom {D A : Type 0} (setup : Setup) (log : List Entry) (ended : Re
       served (point_of mid reads_then seen.taken_then seen.readings_then) piped.ran
   pub flushed : Acted alone seen.disk (AreAllTurns last) served mid closed final
   pub reached : State
-  pub runs : RunsTo setup log (first ++ flushed.acts) reached
+  pub runs : RunsTo setup saved log (first ++ flushed.acts) reached
   pub done : holds (first ++ flushed.acts) reached
 
--- A run from the log that recovery keeps of the files as they were read.
-pub record BeginsWithKept {D A : Type 0} (setup : Setup) (ended : Result A Halt) (last : Result (Option ℕ) Broken)
-    (seen : Seen D) : Type 0 where
+-- A run from the log that recovery keeps of the files as they were read, which leaves of the kept files what is said of its state.
+pub record BeginsWithKept {D A : Type 0} (setup : Setup) (saved : Saved) (ended : Result A Halt) (last : Result (Option ℕ) Broken)
+    (seen : Seen D) (kept : State → Type 0) : Type 0 where
   pub records : List Entry
   pub keeps : Keeps (whole setup.segment) records (before seen).reads
-  pub ran : RunFrom setup records ended last seen (λ acts reached. Unit {0})
+  pub ran : RunFrom setup saved records ended last seen (λ acts reached. kept reached)
 
 -- A run from a prefix of the stored log that has all that was flushed, and every crash leaves what it flushed.
-pub record KeepsOn {D A : Type 0} (setup : Setup) (stored : List Entry) (flushed : ℕ) (ended : Result A Halt)
-    (last : Result (Option ℕ) Broken) (seen : Seen D) : Type 0 where
+pub record KeepsOn {D A : Type 0} (setup : Setup) (saved : Saved) (stored : List Entry) (flushed : ℕ) (ended : Result A Halt)
+    (last : Result (Option ℕ) Broken) (seen : Seen D) (kept : State → Type 0) : Type 0 where
   pub number : ℕ
   pub low : flushed ≤ number
   pub high : number ≤ length stored
-  pub ran : RunFrom setup (take number stored) ended last seen
+  pub ran : RunFrom setup saved (take number stored) ended last seen
       (λ acts reached. Survives (whole setup.segment) stored flushed (take number stored) (turns_of acts) reached.log.records
-      (before seen) (behind seen))
+      (before seen) (behind seen) × kept reached)
 
 -- A run from some log.
-pub record RunsFromSome {D A : Type 0} (setup : Setup) (ended : Result A Halt) (last : Result (Option ℕ) Broken)
-    (seen : Seen D) : Type 0 where
+pub record RunsFromSome {D A : Type 0} (setup : Setup) (saved : Saved) (ended : Result A Halt) (last : Result (Option ℕ) Broken)
+    (seen : Seen D) (kept : State → Type 0) : Type 0 where
   pub log : List Entry
-  pub ran : RunFrom setup log ended last seen (λ acts reached. Unit {0})
+  pub ran : RunFrom setup saved log ended last seen (λ acts reached. kept reached)
 
--- Requests were served from a log that was opened, in a store of these sizes, as the command asks.
+-- Requests were served from a log that was opened with what the kept files had, in a store of these sizes, as the command asks. At
+-- the end the kept files were replaced by the texts of the run's last state.
 pub record Served {D : Type 0} (command : Command) (status : Status) (seen : Seen D) (keep : KeepSeen) : Type 0 where
   pub ended : Result (Unit {0}) Halt
   pub last : Result (Option ℕ) Broken
-  pub tells : StatusOf status ended last
+  pub replaced : Result (Unit {0}) DiskFault
+  pub tells : StatusAfter status ended last replaced
   pub sizes : Sizes
   pub opened_as : IsOpened command.sizes sizes seen.disk.tells (before seen).reads keep.tells keep.old keep.new
-  pub some : RunsFromSome (pipe_setup command sizes) ended last seen
-  pub begins : seen.disk.tells → BeginsWithKept (pipe_setup command sizes) ended last seen
+  pub offsets : List OffsetRow
+  pub topics : List TopicRow
+  pub config : keep.tells → HasConfig keep.old.reads offsets topics
+  pub some : RunsFromSome (pipe_setup command sizes) (saved_as offsets topics) ended last seen
+      (KeepsState (own_format (keep.old.reads FORMAT) command.sizes) status keep)
+  pub begins : seen.disk.tells → BeginsWithKept (pipe_setup command sizes) (saved_as offsets topics) ended last seen
+      (KeepsState (own_format (keep.old.reads FORMAT) command.sizes) status keep)
   pub durable : seen.disk.tells → (log : List Entry) (flushed : ℕ) → StoresLog (whole sizes.segment) log flushed (before seen)
-      → IsHonest (whole sizes.segment) log flushed (before seen).reads → KeepsOn (pipe_setup command sizes) log flushed ended last seen
+      → IsHonest (whole sizes.segment) log flushed (before seen).reads
+      → KeepsOn (pipe_setup command sizes) (saved_as offsets topics) log flushed ended last seen
+      (KeepsState (own_format (keep.old.reads FORMAT) command.sizes) status keep)
 
 -- nothing was read from the source or the clock, and nothing written to the sink
 pub record IsUntouched {D : Type 0} (seen : Seen D) : Type 0 where
@@ -244,17 +334,23 @@ pub record Unrecovered {D : Type 0} (command : Command) (status : Status) (seen 
       → IsHonest (whole sizes.segment) stored flushed (before seen).reads
       → Throughout (before seen) (behind seen) (Leaves (whole sizes.segment) stored flushed)
 
--- The opening ended the call.
+-- The kept files were not loaded: status 8 tells which of them isn't of its form. The disk is as it was.
+pub record Misread {D : Type 0} (status : Status) (seen : Seen D) (keep : KeepSeen) : Type 0 where
+  pub why : ((status.code ≡ 8) × (status.place ≡ 0) × (keep.tells → IsBadText keep.old.reads status.name))
+      ⊎ ((status.code ≡ 7) ⊎ ((status.code ≡ 10) × (status.name ≡ codes "keep")))
+  pub still : seen.disk.tells → Rests (before seen) (behind seen)
+
+-- The opening ended the call. At each moment the format is as it was before, or the right text, and no other text changes.
 pub record IsNotServed {D : Type 0} (command : Command) (status : Status) (seen : Seen D) (keep : KeepSeen) : Type 0 where
   pub untouched : IsUntouched seen
-  pub why : Refused status seen ⊎ Unrecovered command status seen keep
+  pub why : Refused status seen ⊎ (Misread status seen keep ⊎ Unrecovered command status seen keep)
+  pub puts : keep.tells → PutsOnly (own_format (keep.old.reads FORMAT) command.sizes) keep.old keep.new
 
--- The words are a command, and this came of it. At each moment the format is as it was before, or the right text.
+-- The words are a command, and this came of it.
 pub record Call {D : Type 0} (words : List (List ℕ)) (status : Status) (seen : Seen D) (keep : KeepSeen) : Type 0 where
   pub command : Command
   pub asked : IsCommand words command
   pub called : Served command status seen keep ⊎ IsNotServed command status seen keep
-  pub puts : keep.tells → PutsOnly (own_format (keep.old.reads FORMAT) command.sizes) keep.old keep.new
 
 -- each fault of a device is told only where the device's count rose
 pub record Causes (status : Status) (old new : AllFaults) : Type 0 where
@@ -275,14 +371,20 @@ pub record KeepsAfter (setup : Setup) (log : List Entry) (acts : List Act) (reac
   pub exact : AreExact (whole setup.segment) reached.log.records (length log) (turns_of acts) new
   pub stores : StoresLog (whole setup.segment) reached.log.records (length log + turned_in (turns_of acts)) new
 
--- The requests were served from each log over which this was opened.
-pub record ServedOver {D : Type 0} (it : Opened) (status : Status) (seen : Seen D) : Type 0 where
+-- what such a run leaves of the disk, where all of the log was flushed
+abbrev pub LeavesDisk : {D : Type 0} → Opened → Seen D → Setup → List Entry → List Act → State → Type 0
+LeavesDisk it seen setup log acts reached =
+    seen.disk.tells → IsReady (stored (whole setup.segment) log (length log)) 0 (growing it.flusher.file (before seen))
+    → KeepsAfter setup log acts reached (before seen) (behind seen)
+
+-- The requests were served from each log over which this was opened, and then the kept files were replaced.
+pub record ServedOver {D : Type 0} (it : Opened) (status : Status) (seen : Seen D) (keep : KeepSeen) : Type 0 where
   pub ended : Result (Unit {0}) Halt
   pub last : Result (Option ℕ) Broken
-  pub tells : StatusOf status ended last
-  pub runs : (setup : Setup) (log : List Entry) → OpensOver setup log it → RunFrom setup log ended last seen
-      (λ acts reached. seen.disk.tells → IsReady (stored (whole setup.segment) log (length log)) 0 (growing it.flusher.file (before seen))
-      → KeepsAfter setup log acts reached (before seen) (behind seen))
+  pub replaced : Result (Unit {0}) DiskFault
+  pub tells : StatusAfter status ended last replaced
+  pub runs : (setup : Setup) (saved : Saved) (log : List Entry) → OpensWith setup saved log it → RunFrom setup saved log ended last seen
+      (λ acts reached. LeavesDisk it seen setup log acts reached × KeepsOpen status keep reached)
 
 -- the causes of the statuses of such a run
 pub record CountsStatus (status : Status) (source source_then sink sink_then disk disk_then clock clock_then : ℕ) : Type 0 where
@@ -294,10 +396,21 @@ pub record CountsStatus (status : Status) (source source_then sink sink_then dis
       ((status.code ≡ 5) ⊎ ((status.code ≡ 7) ⊎ (status.code ≡ 10))))))
   pub disk_grows : disk ≤ disk_then
 
+-- the same once the kept files were replaced, or not
+pub record CountsEnd (status : Status) (source source_then sink sink_then disk disk_then clock clock_then keep keep_then : ℕ) : Type 0 where
+  pub read : status.code ≡ 3 → Rises source source_then
+  pub write : status.code ≡ 4 → Rises sink sink_then
+  pub disk_failed : status.code ≡ 5 → Rises disk disk_then
+  pub device : status.code ≡ 10 → ((status.name ≡ codes "clock") × Rises clock clock_then)
+      ⊎ ((status.name ≡ codes "keep") × Rises keep keep_then)
+  pub known : (status.code ≡ 0) ⊎ ((status.code ≡ 2) ⊎ ((status.code ≡ 3) ⊎ ((status.code ≡ 4) ⊎
+      ((status.code ≡ 5) ⊎ ((status.code ≡ 7) ⊎ (status.code ≡ 10))))))
+
 -- ---- a call in which nothing fails
 
--- The words are a command, the store is this program's and undamaged, its options agree with its format, the bytes that were read are
--- whole frames, and no device's count rises. What is said of the store is said of its files and texts as they are told.
+-- The words are a command, the store is this program's and undamaged, its options agree with its format, its kept files are of their
+-- form, the bytes that were read are whole frames, and no device's count rises. What is said of the store is said of its files and
+-- texts as they are told.
 pub record IsQuiet {D : Type 0} (words : List (List ℕ)) (seen : Seen D) (keep : KeepSeen) (old new : AllFaults) : Type 0 where
   pub asked : (command : Command) × IsCommand words command
   pub disk_tells : seen.disk.tells
@@ -307,6 +420,7 @@ pub record IsQuiet {D : Type 0} (words : List (List ℕ)) (seen : Seen D) (keep 
       → IsForeign (before seen).reads (keep.old.reads FORMAT) command.sizes name → ⊥
   pub undamaged : (command : Command) (sizes : Sizes) (place : ℕ) (name : List ℕ) → IsCommand words command
       → AreSizesOf (keep.old.reads FORMAT) command.sizes sizes → IsDamagedAt (whole sizes.segment) (before seen).reads place name → ⊥
+  pub formed : (name : List ℕ) → IsBadText keep.old.reads name → ⊥
   pub bytes : List ℕ
   pub frames : List Frame
   pub end : ℕ

@@ -9,13 +9,16 @@ ghost use Rattle.store_open.specs.Words.{IsCommand, IsFirstWrong};
 ghost use Rattle.store_open.specs.declared.words.Command.{Command as TheCommand};
 ghost use Rattle.store_open.specs.Openings.{FORMAT, IsForeign};
 ghost use Rattle.store_open.specs.Statuses.{FitsTable};
+ghost use Rattle.config_store.specs.Configs.{OFFSETS, TOPICS};
 ghost use Rattle.request_acts.specs.Acts.{view_of};
-ghost use Rattle.broker_run.specs.Promise.{StatusTellsFault, Call, Causes, IsQuiet, EndsWell};
+ghost use Rattle.broker_run.specs.Promise.{StatusTellsFault, StatusTellsConfig, Call, Causes, IsQuiet, EndsWell};
 
 use crate::serving::serve_log;
 use broker_events::Setup;
-use log_opening::open_log;
+use config_store::{ConfigFault, load_config};
+use log_opening::open_log_with;
 use log_recovery::RecoverFault;
+use mq_bytes::Text;
 use mq_outside::{Clock, Disk, DiskFault, Keep, Sink, Source};
 use std::alloc::Global;
 use store_open::{Status, open_format, read_words};
@@ -32,8 +35,24 @@ fn status_of_fault(alloc: Global, fault: RecoverFault) -> Status
     }
 }
 
+// The status of kept files that could not be loaded.
+fn status_of_config(alloc: Global, fault: ConfigFault) -> Status
+    ensures tells { StatusTellsConfig result fault }
+    ensures table { FitsTable result }
+{
+    match fault {
+        ConfigFault::BadText(name) => match String::from_str(alloc, name) {
+            Ok(name) => Status::damaged(0, Text::of(name)),
+            Err(_) => Status::plain(alloc, 7),
+        },
+        ConfigFault::Failed => Status::named(alloc, 10, "keep"),
+        ConfigFault::Memory => Status::plain(alloc, 7),
+    }
+}
+
 /// Serves the requests of the source, one after another: each record is synced before its reply is written, and pulls are read
-/// from the log's files. The words are those of the command line. The run waits for nobody, and always returns.
+/// from the log's files. Consumers resume at the offsets of the kept files, which are replaced at the end. The words are those of
+/// the command line. The run waits for nobody, and always returns.
 pub fn run_pipe<S: Source, K: Sink, D: Disk, P: Keep, T: Clock>(
     alloc: Global,
     words: &[&str],
@@ -64,7 +83,13 @@ pub fn run_pipe<S: Source, K: Sink, D: Disk, P: Keep, T: Clock>(
           readings = T.readings clock.old;
           readings_then = T.readings clock.new;
         })
-        (record { tells = P.tells; old = P.state keep.old; new = P.state keep.new }) }
+        (record {
+          tells = P.tells;
+          old = P.state keep.old;
+          new = P.state keep.new;
+          failed = P.faults keep.old;
+          failed_then = P.faults keep.new;
+        }) }
 
     // Status 6 comes where the store is foreign, with the name of what shows it. It stays as it is.
     ensures foreign { D.tells → P.tells → result.code ≡ 6 → (command : TheCommand) × IsCommand (texts_of words.now) command
@@ -72,9 +97,10 @@ pub fn run_pipe<S: Source, K: Sink, D: Disk, P: Keep, T: Clock>(
     ensures theirs { P.tells → result.code ≡ 6 → Moves Same (P.state keep.old) (P.state keep.new) }
     // The disk's files outside the log's folder stay.
     ensures outside { D.tells → StaysOutside (D.state disk.old) (D.state disk.new) }
-    // A format that stands stays, and no other text of the keep is touched.
+    // A format that stands stays, and besides the two kept files no other text of the keep is touched.
     ensures stands { P.tells → (text : List ℕ) → (P.state keep.old).reads FORMAT ≡ Some text → (P.state keep.new).reads FORMAT ≡ Some text }
-    ensures kept { P.tells → (name : List ℕ) → name ≢ FORMAT → (P.state keep.new).reads name ≡ (P.state keep.old).reads name }
+    ensures kept { P.tells → (name : List ℕ) → name ≢ FORMAT → name ≢ OFFSETS → name ≢ TOPICS
+        → (P.state keep.new).reads name ≡ (P.state keep.old).reads name }
     // The status has a place and a name only where the table names one, and its cause.
     ensures table { FitsTable result }
     ensures causes { Causes result
@@ -107,7 +133,13 @@ pub fn run_pipe<S: Source, K: Sink, D: Disk, P: Keep, T: Clock>(
           readings = T.readings clock.old;
           readings_then = T.readings clock.new;
         })
-        (record { tells = P.tells; old = P.state keep.old; new = P.state keep.new })
+        (record {
+          tells = P.tells;
+          old = P.state keep.old;
+          new = P.state keep.new;
+          failed = P.faults keep.old;
+          failed_then = P.faults keep.new;
+        })
         (record {
           source = S.faults source.old;
           sink = K.faults sink.old;
@@ -131,6 +163,10 @@ pub fn run_pipe<S: Source, K: Sink, D: Disk, P: Keep, T: Clock>(
         Err(status) => return status,
         Ok(sizes) => sizes,
     };
+    let config = match load_config(alloc, keep) {
+        Err(fault) => return status_of_config(alloc, fault),
+        Ok(config) => config,
+    };
     let reader = match disk.reader(alloc) {
         Err(DiskFault::Failed) => return Status::plain(alloc, 5),
         Err(DiskFault::Memory) => return Status::plain(alloc, 7),
@@ -141,12 +177,14 @@ pub fn run_pipe<S: Source, K: Sink, D: Disk, P: Keep, T: Clock>(
         host: command.host,
         sync: command.sync,
     };
-    let opened = match open_log(alloc, disk, setup) {
+    let offsets = config.offsets.as_slice();
+    let topics = config.topics.as_slice();
+    let opened = match open_log_with(alloc, disk, setup, offsets, topics) {
         Err(fault) => {
             disk.take_back(reader);
             return status_of_fault(alloc, fault);
         }
         Ok(opened) => opened,
     };
-    serve_log(alloc, opened, reader, source, sink, disk, clock)
+    serve_log(alloc, opened, reader, source, sink, disk, keep, clock)
 }

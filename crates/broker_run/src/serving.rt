@@ -1,24 +1,27 @@
 //! Serves the requests of a source from a log that is open, and flushes what is left at the end.
 
-ghost use Rattle.std.specs.Prelude.{◌≡◌, List, ℕ, None};
+ghost use Rattle.std.specs.Prelude.{◌≡◌, ◌≢◌, List, ℕ, None};
 ghost use Rattle.record_codec.specs.Entry.{Entry};
 ghost use Rattle.log_model.specs.Stored.{StaysOutside};
 ghost use Rattle.segment_files.specs.Turn.{IsInside};
 ghost use Rattle.store_open.specs.Statuses.{FitsTable};
-ghost use Rattle.log_opening.specs.Opens.{OpensOver};
+ghost use Rattle.broker_model.specs.State.{Saved};
+ghost use Rattle.config_store.specs.Configs.{OFFSETS, TOPICS};
+ghost use Rattle.log_opening.specs.Opens.{OpensWith};
 ghost use Rattle.request_acts.specs.Acts.{IsFree, place_of, view_of};
 ghost use Rattle.request_stream.specs.Serving.{sides_of, point_of};
 ghost use Rattle.request_stream.specs.Piping.{source_of};
 ghost use Rattle.broker_run.specs.Closing.{ServesToEnd, CountsRun, ReadsPlaced, FlushesPlaced};
-ghost use Rattle.broker_run.specs.Promise.{StatusOf, StatusTells, ServedOver, CountsStatus};
+ghost use Rattle.broker_run.specs.Promise.{StatusOf, StatusTells, StatusKept, ServedOver, CountsEnd};
 ghost use Rattle.broker_events.specs.declared.event.Setup.{Setup as TheSetup};
 
 use crate::ended::Ended;
 use broker_core::Alone;
 use broker_events::Calls;
 use group_flush::Flusher;
+use keeper_turns::keep_core;
 use log_opening::Opened;
-use mq_outside::{Clock, Disk, Sink, Source};
+use mq_outside::{Clock, Disk, DiskFault, Keep, Sink, Source};
 use request_acts::{Broken, flush_all};
 use request_stream::{Halt, Stop, serve_source};
 use std::alloc::Global;
@@ -99,18 +102,40 @@ fn status_of(alloc: Global, ended: Ended) -> Status
     }
 }
 
-/// Serves the requests of the source from a log that is open, and answers the status.
+// The status behind the replacement of the kept files: want of memory comes before all else, and that the keep failed is told
+// where nothing else is.
+fn status_kept(alloc: Global, status: Status, kept: Result<(), DiskFault>) -> Status
+    requires table { FitsTable status }
+    ensures tells { StatusKept result status kept }
+    ensures table { FitsTable result }
+{
+    match kept {
+        Ok(()) => status,
+        Err(DiskFault::Memory) => Status::plain(alloc, 7),
+        Err(DiskFault::Failed) => {
+            if status.code == 0 {
+                Status::named(alloc, 10, "keep")
+            } else {
+                status
+            }
+        }
+    }
+}
+
+/// Serves the requests of the source from a log that is open, replaces the kept files by the texts of the broker then, and answers
+/// the status.
 #[tactic(auto, using(log_model::proofs::OutsideLemmas::outside_start))]
-pub(crate) fn serve_log<S: Source, K: Sink, D: Disk, T: Clock>(
+pub(crate) fn serve_log<S: Source, K: Sink, D: Disk, P: Keep, T: Clock>(
     alloc: Global,
     opened: Opened,
     reader: D::Reader,
     source: &mut S,
     sink: &mut K,
     disk: &mut D,
+    keep: &mut P,
     clock: &mut T,
 ) -> Status
-    requires over { (setup : TheSetup) × (log : List Entry) × OpensOver setup log opened }
+    requires over { (setup : TheSetup) × (saved : Saved) × (log : List Entry) × OpensWith setup saved log opened }
     requires inside { D.tells → IsInside opened.flusher.file.base opened.flusher.file.offset (D.state disk.old) }
     ensures served { ServedOver opened result
         (record {
@@ -125,11 +150,20 @@ pub(crate) fn serve_log<S: Source, K: Sink, D: Disk, T: Clock>(
           taken_then = K.taken sink.new;
           readings = T.readings clock.old;
           readings_then = T.readings clock.new;
+        })
+        (record {
+          tells = P.tells;
+          old = P.state keep.old;
+          new = P.state keep.new;
+          failed = P.faults keep.old;
+          failed_then = P.faults keep.new;
         }) }
     ensures outside { D.tells → StaysOutside (D.state disk.old) (D.state disk.new) }
+    ensures others { P.tells → (name : List ℕ) → name ≢ OFFSETS → name ≢ TOPICS
+        → (P.state keep.new).reads name ≡ (P.state keep.old).reads name }
     ensures table { FitsTable result }
-    ensures cause { CountsStatus result (S.faults source.old) (S.faults source.new) (K.faults sink.old) (K.faults sink.new)
-        (D.faults disk.old) (D.faults disk.new) (T.faults clock.old) (T.faults clock.new) }
+    ensures cause { CountsEnd result (S.faults source.old) (S.faults source.new) (K.faults sink.old) (K.faults sink.new)
+        (D.faults disk.old) (D.faults disk.new) (T.faults clock.old) (T.faults clock.new) (P.faults keep.old) (P.faults keep.new) }
 {
     let Opened { core, flusher } = opened;
     let mut calls = Alone::new(core);
@@ -144,5 +178,7 @@ pub(crate) fn serve_log<S: Source, K: Sink, D: Disk, T: Clock>(
         sink,
         clock,
     );
-    status_of(alloc, ended)
+    let core = calls.into_core();
+    let kept = keep_core(alloc, &core, keep);
+    status_kept(alloc, status_of(alloc, ended), kept)
 }

@@ -1,33 +1,203 @@
 -- What a run leaves, put together from its parts.
-use Rattle.std.proofs.Common.{◌≡◌, ℕ, Option, Some, None, IfSome, subst}
-use Rattle.mq_outside.specs.Files.{Files}
+use Rattle.std.proofs.Common.{◌≡◌, ◌≢◌, ◌⊎◌, inl, inr, refl, sym, ap, subst, ◌∙◌, arith, ℕ, List, [], Option, Some, None, IfSome, Result, Ok, Err, OnOk}
+use Rattle.std.specs.Prelude.{IfNone}
+use Rattle.mq_outside.specs.Files.{Files, OldOrNew, At}
+use Rattle.mq_outside.specs.Disk.{DiskState, IsCrashImage, IsDurable, Rests}
+use Rattle.mq_outside.specs.declared.faults.DiskFault.{DiskFault}
+use Rattle.mq_outside.proofs.Moments.{at_start, at_end, weaker, chained, throughout_rests, rests_then}
+use Rattle.broker_model.specs.State.{State}
+use Rattle.broker_model.specs.Tables.{OffsetRow, TopicRow}
+use Rattle.broker_events.specs.declared.event.Event.{Event}
+use Rattle.broker_events.specs.declared.said.Said.{Said}
 use Rattle.broker_core.specs.declared.parts.Parts.{Parts}
-use Rattle.log_opening.specs.Opens.{OpensLog, OpensKept}
+use Rattle.config_store.specs.Configs.{OFFSETS, TOPICS, HasConfig, HasOffsets, HasTopics}
+use Rattle.config_store.specs.Texts.{offsets_text_of, topics_text_of}
+use Rattle.keeper_turns.specs.Puts.{HasSuch, ReplacesBy, PutsBy, KeepsBy}
+use Rattle.keeper_turns.specs.Turns.{IsOffsetsOf, IsTopicsOf}
+use Rattle.keeper_turns.proofs.PutLemmas.{puts_rested}
+use Rattle.log_opening.specs.Opens.{OpensLogWith, OpensKeptWith, saved_as}
 use Rattle.log_opening.specs.declared.opening.Opened.{Opened}
+use Rattle.serve_threads.specs.Kept.{IsTextAlong, PutsAlong}
+use Rattle.serve_threads.specs.Served.{IsLeft}
+use Rattle.store_open.specs.Openings.{FORMAT, IsImageWith, IsOpened, PutsOnly, format_after, own_format}
+use Rattle.store_open.specs.ServeWords.{IsServeCommand}
+use Rattle.store_open.specs.declared.format.AskedSizes.{AskedSizes}
 use Rattle.store_open.specs.declared.format.Sizes.{Sizes}
 use Rattle.store_open.specs.declared.serve_words.ServeCommand.{ServeCommand}
-use Rattle.serve_threads.specs.Served.{StandsSince}
-use Rattle.broker_serve.specs.Serves.{HasServed, setup_by}
+use Rattle.store_open.specs.declared.status.Status.{Status}
+use Rattle.broker_serve.specs.Serves.{EndsOver, HasServed, LeavesCore, PutsAllAlong, PutsAllBy, ReplacesAllBy, ServesLog, ServesStore, setup_by}
 
--- the core that is left stands for a history since the opening of a log
-pub has_served : (left : Option Parts) (command : ServeCommand) (segment : ℕ) (tells : Type 0) (files : Files) (opened : Opened) → OpensLog (setup_by command segment) opened
-    → (tells → OpensKept (setup_by command segment) files opened) → IfSome left (StandsSince opened.core) → IfSome left (HasServed command segment tells files)
-has_served None command segment tells files opened over kept stands = tt
-has_served (Some core) command segment tells files opened over kept stands = record { opened = opened; over = over; kept = kept; stands = stands }
+-- ---- links that were served, or not
 
--- the same of files that are read as these, with what else is known of the words and the store
-pub has_served_by : (left : Option Parts) (Of : ServeCommand → Sizes → Type 0) (command : ServeCommand) (sizes : Sizes) (tells : Type 0) (files before : Files)
-    → (tells → files ≡ before) → Of command sizes → IfSome left (HasServed command sizes.segment tells files)
-    → IfSome left (λ core. (c : ServeCommand) × (s : Sizes) × Of c s × HasServed c s.segment tells before core)
-has_served_by None Of command sizes tells files before same of served = tt
-has_served_by (Some core) Of command sizes tells files before same of served = (
-  command,
-  sizes,
-  of,
-  record {
-    opened = served.opened;
-    over = served.over;
-    kept = λ told. subst (λ (f : Files). OpensKept (setup_by command sizes.segment) f served.opened) (same told) (served.kept told);
-    stands = served.stands;
-  },
-)
+pub ends_unserved : (start : Parts) (left : Option Parts) (status : Status) (told : Type 0) (old new : DiskState) → left ≡ None → Rests old new → EndsOver start left status told old new
+ends_unserved start left status told old new none rests = subst (λ o. EndsOver start o status told old new) (sym none) (λ tells. rests)
+
+pub ends_served : (start : Parts) (left : Option Parts) (status : Status) (told : Type 0) (old new : DiskState) (core : Parts) (kept : Result (Unit {0}) DiskFault) → left ≡ Some core → (status.code ≡ 0 → kept ≡ Ok tt)
+    → IsLeft start told kept old new core → EndsOver start left status told old new
+ends_served start left status told old new core kept some zero is = subst (λ o. EndsOver start o status told old new) (sym some) (record { kept = kept; zero = zero; left = is })
+
+module _ (command : ServeCommand) (segment : ℕ) (status : Status) (tells : Type 0) (files : Files) (told : Type 0) where
+  pub log_unserved : (offsets : List OffsetRow) (topics : List TopicRow) (left : Option Parts) (old new : DiskState) → left ≡ None → (told → Rests old new)
+      → ServesLog command segment offsets topics left status tells files told old new
+  log_unserved offsets topics left old new none rests = record {
+    still = λ is. rests;
+    served = subst (λ o. IfSome o (λ core. (opened : Opened) × OpensLogWith (setup_by command segment) (saved_as offsets topics) opened
+        × (tells → OpensKeptWith (setup_by command segment) (saved_as offsets topics) files opened)
+        × LeavesCore opened.core core status told old new)) (sym none) tt;
+  }
+
+  log_served : (offsets : List OffsetRow) (topics : List TopicRow) (left : Option Parts) (old new : DiskState) (opened : Opened) → OpensLogWith (setup_by command segment) (saved_as offsets topics) opened
+      → (tells → OpensKeptWith (setup_by command segment) (saved_as offsets topics) files opened) → EndsOver opened.core left status told old new
+      → ServesLog command segment offsets topics left status tells files told old new
+  log_served offsets topics None old new opened over kept ends = record { still = λ is. ends; served = tt }
+  log_served offsets topics (Some core) old new opened over kept ends = record { still = λ is. absurd (cc is); served = (opened, over, kept, ends) }
+
+  -- the same with the rows as they were given
+  pub log_served_with : (offsets given_offsets : List OffsetRow) (topics given_topics : List TopicRow) (left : Option Parts) (old new : DiskState) (opened : Opened)
+      → given_offsets ≡ offsets → given_topics ≡ topics → OpensLogWith (setup_by command segment) (saved_as given_offsets given_topics) opened
+      → (tells → OpensKeptWith (setup_by command segment) (saved_as given_offsets given_topics) files opened) → EndsOver opened.core left status told old new
+      → ServesLog command segment offsets topics left status tells files told old new
+  log_served_with offsets given_offsets topics given_topics left old new opened offsets_are topics_are over kept ends =
+      subst (λ (o : List OffsetRow). ServesLog command segment o topics left status tells files told old new) offsets_are
+      (subst (λ (t : List TopicRow). ServesLog command segment given_offsets t left status tells files told old new) topics_are
+      (log_served given_offsets given_topics left old new opened over kept ends))
+
+  pub store_unserved : (left : Option Parts) (old new : DiskState) → left ≡ None → (told → Rests old new) → ServesStore command segment left status tells files told old new
+  store_unserved left old new none rests = record {
+    still = λ is. rests;
+    served = subst (λ o. IfSome o (HasServed command segment status tells files told old.reads (λ start history. PutsAlong start history old new) new)) (sym none) tt;
+  }
+
+  -- with what was loaded, which changed nothing
+  pub store_served : (left : Option Parts) (offsets : List OffsetRow) (topics : List TopicRow) (old loaded new : DiskState) → (told → Rests old loaded) → (told → HasConfig old.reads offsets topics)
+      → ServesLog command segment offsets topics left status tells files told loaded new → ServesStore command segment left status tells files told old new
+  store_served None offsets topics old loaded new rests config it = record { still = λ is t. rests_then (rests t) (it.still refl t); served = tt }
+  store_served (Some core) offsets topics old loaded new rests config it =
+      let opened = it.served.0 in
+      let over = it.served.1 in
+      let kept = it.served.2 in
+      let ends = it.served.3 in
+      let left = ends.left in
+      record {
+        still = λ is. absurd (cc is);
+        served = record {
+          offsets = offsets;
+          topics = topics;
+          config = config;
+          opened = opened;
+          over = over;
+          kept = kept;
+          history = left.history;
+          stands = left.stands;
+          put = λ t. puts_rested (IsTextAlong (λ s. offsets_text_of s.offsets) opened.core left.history) (IsTextAlong (λ s. topics_text_of s.topics) opened.core left.history)
+              old loaded new (rests t) (left.puts t);
+          ends = λ t zero. subst (λ (r : Result (Unit {0}) DiskFault). OnOk r (KeepsBy (IsOffsetsOf core) (IsTopicsOf core) new)) (ends.zero zero) (left.done t);
+        };
+      }
+
+  -- no other text of the keep changed
+  pub store_others : (left : Option Parts) (old new : DiskState) → ServesStore command segment left status tells files told old new → told
+      → (name : List ℕ) → name ≢ OFFSETS → name ≢ TOPICS → new.reads name ≡ old.reads name
+  store_others None old new it tells_it name not_offsets not_topics = ap (λ (f : Files). f name) (it.still refl tells_it).same
+  store_others (Some core) old new it tells_it name not_offsets not_topics = (it.served.put tells_it).reads.others name not_offsets not_topics
+
+-- ---- from before the opening on
+
+-- the format put or not, and then the two files replaced or not
+then_replaced : (format : List ℕ) (P Q : List ℕ → Type 0) (old mid new : Files) → At FORMAT (OldOrNew format) old mid → ReplacesBy P Q mid new → ReplacesAllBy format P Q old new
+then_replaced format P Q old mid new opened replaced = record {
+  format_is = subst (λ (o : Option (List ℕ)). OldOrNew format (old FORMAT) o) (sym (replaced.others FORMAT (λ e. absurd (cc e)) (λ e. absurd (cc e)))) opened.here;
+  offsets_are = subst (λ (o : Option (List ℕ)). (new OFFSETS ≡ o) ⊎ HasSuch P (new OFFSETS)) (opened.others OFFSETS (λ e. absurd (cc e))) replaced.offsets_are;
+  topics_are = subst (λ (o : Option (List ℕ)). (new TOPICS ≡ o) ⊎ HasSuch Q (new TOPICS)) (opened.others TOPICS (λ e. absurd (cc e))) replaced.topics_are;
+  others = λ name not_format not_offsets not_topics. replaced.others name not_offsets not_topics ∙ opened.others name not_format;
+}
+
+-- the format alone
+format_alone : (format : List ℕ) (P Q : List ℕ → Type 0) (old new : Files) → At FORMAT (OldOrNew format) old new → ReplacesAllBy format P Q old new
+format_alone format P Q old new opened = record {
+  format_is = opened.here;
+  offsets_are = inl (opened.others OFFSETS (λ e. absurd (cc e)));
+  topics_are = inl (opened.others TOPICS (λ e. absurd (cc e)));
+  others = λ name not_format not_offsets not_topics. opened.others name not_format;
+}
+
+puts_all : (format : List ℕ) (P Q : List ℕ → Type 0) (old opened new : DiskState) → PutsOnly format old opened → PutsBy P Q opened new → PutsAllBy format P Q old new
+puts_all format P Q old opened new puts replaced =
+    let images = at_end puts.at_each in
+    record {
+      reads = then_replaced format P Q old.reads opened.reads new.reads puts.reads replaced.reads;
+      at_each = chained
+          (weaker puts.at_each (λ files image. (image.0, image.1, format_alone format P Q image.0 files image.2)))
+          (weaker replaced.at_each (λ files image.
+          let before = images.at image.0 image.1 in
+          (before.0, before.1, then_replaced format P Q before.0 image.0 files before.2 image.2)));
+    }
+
+-- a keep that rests once the format was put
+puts_still : (format : List ℕ) (old opened new : DiskState) → PutsOnly format old opened → Rests opened new → PutsOnly format old new
+puts_still format old opened new puts rests = record {
+  reads = subst (λ (files : Files). At FORMAT (OldOrNew format) old.reads files) (sym rests.same) puts.reads;
+  at_each = chained puts.at_each (throughout_rests rests (at_end puts.at_each));
+}
+
+-- nothing was put
+pub puts_no_format : (text : List ℕ) (keep : DiskState) → PutsOnly text keep keep
+puts_no_format text keep = record { reads = same keep.reads; at_each = at_start keep (IsImageWith text keep) (record { at = λ files image. (files, image, same files) }) }
+  where
+    same : (files : Files) → At FORMAT (OldOrNew text) files files
+    same files = record { here = inl refl; others = λ other apart. refl }
+
+-- the format stands, and stays so
+opened_kept : (P Q : List ℕ → Type 0) (asked : AskedSizes) (sizes : Sizes) (disk : Type 0) (files : Files) (keep : Type 0) (old opened new : DiskState) → (keep → PutsBy P Q opened new)
+    → IsOpened asked sizes disk files keep old opened → IsOpened asked sizes disk files keep old new
+opened_kept P Q asked sizes disk files keep old opened new puts is = record {
+  sizes_are = is.sizes_are;
+  own = is.own;
+  stands = λ told. (puts told).reads.others FORMAT (λ e. absurd (cc e)) (λ e. absurd (cc e)) ∙ is.stands told;
+  stays = λ told after image.
+      let put = puts told in
+      let found = put.at_each.each new.moment after put.at_each.later (omega arith) image in
+      found.2.others FORMAT (λ e. absurd (cc e)) (λ e. absurd (cc e)) ∙ is.stays told found.0 found.1 ∙ sym (put.reads.others FORMAT (λ e. absurd (cc e)) (λ e. absurd (cc e)));
+}
+
+-- what the kept files had, seen from before the format was put
+config_before : (format : List ℕ) (old opened : DiskState) (offsets : List OffsetRow) (topics : List TopicRow) → PutsOnly format old opened → HasConfig opened.reads offsets topics → HasConfig old.reads offsets topics
+config_before format old opened offsets topics puts has = record {
+  offsets_are = subst (λ (o : Option (List ℕ)). HasOffsets o offsets) (puts.reads.others OFFSETS (λ e. absurd (cc e))) has.offsets_are;
+  topics_are = subst (λ (o : Option (List ℕ)). HasTopics o topics) (puts.reads.others TOPICS (λ e. absurd (cc e))) has.topics_are;
+}
+
+-- a run over a store that was opened so
+pub run_served : (left : Option Parts) (words : List (List ℕ)) (command : ServeCommand) (sizes : Sizes) (status : Status) (tells : Type 0) (files before : Files) (told : Type 0) (old opened new : DiskState)
+    → (tells → files ≡ before) → IsServeCommand words command → IsOpened command.sizes sizes tells before told old opened
+    → (told → PutsOnly (own_format (old.reads FORMAT) command.sizes) old opened) → ServesStore command sizes.segment left status tells files told opened new
+    → IfSome left (λ core. (c : ServeCommand) × (s : Sizes) × (IsServeCommand words c × IsOpened c.sizes s tells before told old new)
+    × HasServed c s.segment status tells before told old.reads (λ start history. PutsAllAlong (own_format (old.reads FORMAT) c.sizes) start history old new) new core)
+run_served None words command sizes status tells files before told old opened new same asked is puts it = tt
+run_served (Some core) words command sizes status tells files before told old opened new same asked is puts it =
+    let run = it.served in
+    let P = IsTextAlong (λ s. offsets_text_of s.offsets) run.opened.core run.history in
+    let Q = IsTextAlong (λ s. topics_text_of s.topics) run.opened.core run.history in
+    let format = own_format (old.reads FORMAT) command.sizes in (
+      command,
+      sizes,
+      (asked, opened_kept P Q command.sizes sizes tells before told old opened new run.put is),
+      record {
+        offsets = run.offsets;
+        topics = run.topics;
+        config = λ t. config_before format old opened run.offsets run.topics (puts t) (run.config t);
+        opened = run.opened;
+        over = run.over;
+        kept = λ t. subst (λ (f : Files). OpensKeptWith (setup_by command sizes.segment) (saved_as run.offsets run.topics) f run.opened) (same t) (run.kept t);
+        history = run.history;
+        stands = run.stands;
+        put = λ t. puts_all format P Q old opened new (puts t) (run.put t);
+        ends = run.ends;
+      },
+    )
+
+-- where no links were served
+pub run_unserved : (left : Option Parts) (command : ServeCommand) (segment : ℕ) (status : Status) (tells : Type 0) (files : Files) (told : Type 0) (format : List ℕ) (old opened new : DiskState)
+    → (told → PutsOnly format old opened) → ServesStore command segment left status tells files told opened new → told → IfNone left ((text : List ℕ) × PutsOnly text old new)
+run_unserved None command segment status tells files told format old opened new puts it t = (format, puts_still format old opened new (puts t) (it.still refl t))
+run_unserved (Some core) command segment status tells files told format old opened new puts it t = tt

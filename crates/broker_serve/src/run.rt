@@ -1,29 +1,34 @@
 //! The whole run of `serve`: the words, the opening, the links, and the last flush.
 
-ghost use Rattle.std.specs.Prelude.{◌≡◌, ◌≢◌, ℕ, List, Some, None, IfSome};
+ghost use Rattle.std.specs.Prelude.{◌≡◌, ◌≢◌, ℕ, List, All, Some, None, Ok, IfSome, IfNone};
 ghost use Rattle.mq_outside.specs.Disk.{Moves};
 ghost use Rattle.mq_outside.specs.Files.{Same};
 ghost use Rattle.log_model.specs.Log.{IsSegmentSize};
 ghost use Rattle.log_model.specs.Stored.{StaysOutside};
 ghost use Rattle.segment_files.specs.Turn.{IsInside};
 ghost use Rattle.broker_core.specs.Makes.{shown_of};
-ghost use Rattle.store_open.specs.Openings.{FORMAT, IsForeign, IsOpened};
+ghost use Rattle.store_open.specs.Openings.{FORMAT, IsForeign, IsOpened, PutsOnly, own_format};
 ghost use Rattle.store_open.specs.Words.{texts_of};
 ghost use Rattle.store_open.specs.ServeWords.{IsServeCommand, IsFirstWrongOfServe};
 ghost use Rattle.store_open.specs.Statuses.{FitsTable};
 ghost use Rattle.store_open.specs.declared.format.Sizes.{Sizes as TheSizes};
 ghost use Rattle.store_open.specs.declared.serve_words.ServeCommand.{ServeCommand as ACommand};
-ghost use Rattle.serve_threads.specs.Served.{StandsSince};
-ghost use Rattle.broker_serve.specs.Serves.{HasServed};
+ghost use Rattle.config_store.specs.Configs.{OFFSETS, TOPICS};
+ghost use Rattle.config_store.specs.Texts.{IsKeptTopic};
+ghost use Rattle.group_tables.specs.Offsets.{IsOffset};
+ghost use Rattle.broker_serve.specs.Serves.{EndsOver, HasServed, PutsAllAlong, ServesLog, ServesStore};
 
-use crate::statuses::{last_status, status_of_fault, status_of_loops, status_of_reader};
+use crate::statuses::{
+    last_status, status_kept, status_of_config, status_of_fault, status_of_loops, status_of_reader,
+};
 use broker_core::Core;
 use broker_events::Setup;
+use config_store::{Config, load_config};
 use event_loops::Bounds;
-use log_opening::{Opened, open_log};
+use log_opening::{Opened, open_log_with};
 use mq_outside::{Clock, Disk, DiskFault, Keep};
 use mq_peers::{Door, Ready};
-use serve_threads::{Loops, Served, serve};
+use serve_threads::{Devices, Loops, Served, serve};
 use std::alloc::Global;
 use std::sync::Wait;
 use std::thread::Threads;
@@ -37,27 +42,33 @@ pub struct World<P: Ready + Drop, K: Clock + Drop> {
     pub clock: K,
 }
 
+/// Where `serve` has its messages, and beside them its format, its offsets and its topics.
+#[derive(Drop)]
+pub struct Store<D: Disk + Drop, E: Keep + Drop> {
+    pub disk: D,
+    pub keep: E,
+}
+
 /// How a run ended.
 #[derive(Drop)]
-pub struct Ended<D: Disk + Drop> {
+pub struct Ended<D: Disk + Drop, E: Keep + Drop> {
     /// The status, by the table of `store_open`.
     pub status: Status,
     /// The core that is left, where links were served.
     pub core: Option<Core>,
-    /// The disk.
-    pub disk: D,
+    pub store: Store<D, E>,
 }
 
 // A run that ended before links were served.
-fn unserved<D: Disk + Drop>(disk: D, status: Status) -> Ended<D>
+fn unserved<D: Disk + Drop, E: Keep + Drop>(store: Store<D, E>, status: Status) -> Ended<D, E>
     ensures status { result.status ≡ status }
     ensures core { result.core ≡ None }
-    ensures disk { result.disk ≡ disk }
+    ensures store { result.store ≡ store }
 {
     Ended {
         status,
         core: None,
-        disk,
+        store,
     }
 }
 
@@ -101,46 +112,74 @@ fn give_back<D: Disk>(disk: D, readers: (D::Reader, D::Reader)) -> D
     disk
 }
 
+// The status of a run of which this is left, and the rest of it.
+fn ended_of<D: Disk + Drop, E: Keep + Drop>(
+    alloc: Global,
+    served: Served<D, D::Reader, E>,
+) -> Ended<D, E>
+    ensures status { (result.status.code ≢ 1) × (result.status.code ≢ 6) × FitsTable result.status }
+    ensures zero { result.status.code ≡ 0 → served.kept ≡ Ok tt }
+    ensures core { result.core ≡ Some served.core }
+    ensures keep { result.store.keep ≡ served.keep }
+    ensures outside { D.tells → StaysOutside (D.state served.disk) (D.state result.store.disk) }
+{
+    let Served {
+        core,
+        disk,
+        readers,
+        keep,
+        kept,
+        end,
+        last,
+    } = served;
+    Ended {
+        status: status_kept(alloc, last_status(alloc, end, last), kept),
+        core: Some(core),
+        store: Store {
+            disk: give_back(disk, readers),
+            keep,
+        },
+    }
+}
+
 // Serves links over an open log, and gives the readers back.
 fn serve_open<
     W: Wait + Threads + Sync,
     P: Ready + Send + Sync + Drop,
     D: Disk + Send + Drop,
     K: Clock + Send + Drop,
+    E: Keep + Send + Drop,
 >(
     rt: &W,
     alloc: Global,
-    opened: Opened,
+    core: Core,
     loops: Loops<P>,
     clock: K,
-    readers: (D::Reader, D::Reader),
-    disk: D,
-) -> Ended<D>
+    devices: Devices<D, D::Reader, E>,
+) -> Ended<D, E>
 where
     D::Reader: Send,
-    requires none_out { (shown_of opened.core).out ≡ None }
-    requires inside { D.tells → IsInside opened.flusher.file.base opened.flusher.file.offset (D.state disk) }
+    requires none_out { (shown_of core).out ≡ None }
+    requires inside { D.tells → IsInside devices.flusher.file.base devices.flusher.file.offset (D.state devices.disk) }
     ensures status { (result.status.code ≢ 1) × (result.status.code ≢ 6) × FitsTable result.status }
-    ensures stands { IfSome result.core (StandsSince opened.core) }
-    ensures outside { D.tells → StaysOutside (D.state disk) (D.state result.disk) }
+    ensures ends { EndsOver core result.core result.status E.tells (E.state devices.keep) (E.state result.store.keep) }
+    ensures outside { D.tells → StaysOutside (D.state devices.disk) (D.state result.store.disk) }
 {
-    let Opened { core, flusher } = opened;
-    match serve(rt, alloc, core, loops, clock, readers, flusher, disk) {
-        Err((disk, readers)) => unserved(give_back(disk, readers), Status::plain(alloc, 7)),
-        Ok(served) => {
-            let Served {
-                core,
+    match serve(rt, alloc, core, loops, clock, devices) {
+        Err(devices) => {
+            let Devices {
+                flusher: _,
                 disk,
                 readers,
-                end,
-                last,
-            } = served;
-            Ended {
-                status: last_status(alloc, end, last),
-                core: Some(core),
+                keep,
+            } = devices;
+            let store = Store {
                 disk: give_back(disk, readers),
-            }
+                keep,
+            };
+            unserved(store, Status::plain(alloc, 7))
         }
+        Ok(served) => ended_of(alloc, served),
     }
 }
 
@@ -150,19 +189,36 @@ fn serve_loops<
     P: Ready + Send + Sync + Drop,
     D: Disk + Send + Drop,
     K: Clock + Send + Drop,
->(rt: &W, alloc: Global, opened: Opened, loops: Loops<P>, clock: K, disk: D) -> Ended<D>
+    E: Keep + Send + Drop,
+>(
+    rt: &W,
+    alloc: Global,
+    opened: Opened,
+    loops: Loops<P>,
+    clock: K,
+    store: Store<D, E>,
+) -> Ended<D, E>
 where
     D::Reader: Send,
     requires none_out { (shown_of opened.core).out ≡ None }
-    requires inside { D.tells → IsInside opened.flusher.file.base opened.flusher.file.offset (D.state disk) }
+    requires inside { D.tells → IsInside opened.flusher.file.base opened.flusher.file.offset (D.state store.disk) }
     ensures status { (result.status.code ≢ 1) × (result.status.code ≢ 6) × FitsTable result.status }
-    ensures stands { IfSome result.core (StandsSince opened.core) }
-    ensures outside { D.tells → StaysOutside (D.state disk) (D.state result.disk) }
+    ensures ends { EndsOver opened.core result.core result.status E.tells (E.state store.keep) (E.state result.store.keep) }
+    ensures outside { D.tells → StaysOutside (D.state store.disk) (D.state result.store.disk) }
 {
-    let mut disk = disk;
+    let Store { mut disk, keep } = store;
     match readers_of(alloc, &mut disk) {
-        Err(fault) => unserved(disk, status_of_reader(alloc, fault)),
-        Ok(readers) => serve_open(rt, alloc, opened, loops, clock, readers, disk),
+        Err(fault) => unserved(Store { disk, keep }, status_of_reader(alloc, fault)),
+        Ok(readers) => {
+            let Opened { core, flusher } = opened;
+            let devices = Devices {
+                flusher,
+                disk,
+                readers,
+                keep,
+            };
+            serve_open(rt, alloc, core, loops, clock, devices)
+        }
     }
 }
 
@@ -172,21 +228,22 @@ fn serve_log<
     P: Ready + Send + Sync + Drop,
     D: Disk + Send + Drop,
     K: Clock + Send + Drop,
+    E: Keep + Send + Drop,
 >(
     rt: &W,
     alloc: Global,
     command: &ServeCommand,
     opened: Opened,
     world: World<P, K>,
-    disk: D,
-) -> Ended<D>
+    store: Store<D, E>,
+) -> Ended<D, E>
 where
     D::Reader: Send,
     requires none_out { (shown_of opened.core).out ≡ None }
-    requires inside { D.tells → IsInside opened.flusher.file.base opened.flusher.file.offset (D.state disk) }
+    requires inside { D.tells → IsInside opened.flusher.file.base opened.flusher.file.offset (D.state store.disk) }
     ensures status { (result.status.code ≢ 1) × (result.status.code ≢ 6) × FitsTable result.status }
-    ensures stands { IfSome result.core (StandsSince opened.core) }
-    ensures outside { D.tells → StaysOutside (D.state disk) (D.state result.disk) }
+    ensures ends { EndsOver opened.core result.core result.status E.tells (E.state store.keep) (E.state result.store.keep) }
+    ensures outside { D.tells → StaysOutside (D.state store.disk) (D.state result.store.disk) }
 {
     let World {
         ready,
@@ -194,90 +251,151 @@ where
         clock,
     } = world;
     if door.open(port_of(command)).is_err() {
-        return unserved(disk, Status::named(alloc, 10, "door"));
+        return unserved(store, Status::named(alloc, 10, "door"));
     }
     match Loops::new(alloc, ready, door, bounds_of(command)) {
-        Err(end) => unserved(disk, status_of_loops(alloc, end)),
-        Ok(loops) => serve_loops(rt, alloc, opened, loops, clock, disk),
+        Err(end) => unserved(store, status_of_loops(alloc, end)),
+        Ok(loops) => serve_loops(rt, alloc, opened, loops, clock, store),
     }
 }
 
-// Opens the log and serves links.
-fn serve_store<
+// Opens the log with what is kept beside it, and serves links.
+fn serve_config<
     W: Wait + Threads + Sync,
     P: Ready + Send + Sync + Drop,
     D: Disk + Send + Drop,
     K: Clock + Send + Drop,
+    E: Keep + Send + Drop,
 >(
     rt: &W,
     alloc: Global,
     command: &ServeCommand,
     segment: u32,
+    config: Config,
     world: World<P, K>,
-    disk: D,
-) -> Ended<D>
+    store: Store<D, E>,
+) -> Ended<D, E>
 where
     D::Reader: Send,
     requires size { IsSegmentSize segment }
+    requires offsets { All IsOffset config.offsets.items }
+    requires topics { All IsKeptTopic config.topics.items }
     ensures status { (result.status.code ≢ 1) × (result.status.code ≢ 6) × FitsTable result.status }
-    ensures served { IfSome result.core (HasServed command.now segment D.tells (D.state disk).reads) }
-    ensures outside { D.tells → StaysOutside (D.state disk) (D.state result.disk) }
+    ensures served { ServesLog command.now segment config.offsets.items config.topics.items result.core result.status
+        D.tells (D.state store.disk).reads E.tells (E.state store.keep) (E.state result.store.keep) }
+    ensures outside { D.tells → StaysOutside (D.state store.disk) (D.state result.store.disk) }
 {
     let setup = Setup {
         segment,
         host: command.host,
         sync: command.sync,
     };
-    let mut disk = disk;
-    match open_log(alloc, &mut disk, setup) {
-        Err(fault) => unserved(disk, status_of_fault(alloc, fault)),
-        Ok(opened) => serve_log(rt, alloc, command, opened, world, disk),
+    let Store { mut disk, keep } = store;
+    let offsets = config.offsets.as_slice();
+    let topics = config.topics.as_slice();
+    match open_log_with(alloc, &mut disk, setup, offsets, topics) {
+        Err(fault) => unserved(Store { disk, keep }, status_of_fault(alloc, fault)),
+        Ok(opened) => serve_log(rt, alloc, command, opened, world, Store { disk, keep }),
+    }
+}
+
+// Loads the kept files, opens the log and serves links.
+fn serve_store<
+    W: Wait + Threads + Sync,
+    P: Ready + Send + Sync + Drop,
+    D: Disk + Send + Drop,
+    K: Clock + Send + Drop,
+    E: Keep + Send + Drop,
+>(
+    rt: &W,
+    alloc: Global,
+    command: &ServeCommand,
+    segment: u32,
+    world: World<P, K>,
+    store: Store<D, E>,
+) -> Ended<D, E>
+where
+    D::Reader: Send,
+    requires size { IsSegmentSize segment }
+    ensures status { (result.status.code ≢ 1) × (result.status.code ≢ 6) × FitsTable result.status }
+    ensures served { ServesStore command.now segment result.core result.status
+        D.tells (D.state store.disk).reads E.tells (E.state store.keep) (E.state result.store.keep) }
+    ensures outside { D.tells → StaysOutside (D.state store.disk) (D.state result.store.disk) }
+{
+    let Store { disk, mut keep } = store;
+    match load_config(alloc, &mut keep) {
+        Err(fault) => unserved(Store { disk, keep }, status_of_config(alloc, fault)),
+        Ok(config) => serve_config(
+            rt,
+            alloc,
+            command,
+            segment,
+            config,
+            world,
+            Store { disk, keep },
+        ),
     }
 }
 
 /// Serves links over TCP, or whatever the door gives: the words are those of the command line, `serve` the first. Each request's
-/// record is on the disk before its reply is sent, unless the words say `--flush async`. It returns after as many links as
+/// record is on the disk before its reply is sent, unless the words say `--flush async`. Consumers resume at the offsets of the
+/// kept files, which follow a few seconds behind, and are replaced at the end. It returns after as many links as
 /// `--connections` says, once all of them have ended, or after a fault.
 pub fn run_serve<
     W: Wait + Threads + Sync,
     P: Ready + Send + Sync + Drop,
     D: Disk + Send + Drop,
-    E: Keep,
     K: Clock + Send + Drop,
->(rt: &W, alloc: Global, words: &[&str], world: World<P, K>, disk: D, keep: &mut E) -> Ended<D>
+    E: Keep + Send + Drop,
+>(rt: &W, alloc: Global, words: &[&str], world: World<P, K>, store: Store<D, E>) -> Ended<D, E>
 where
     D::Reader: Send,
     // Status 1 comes exactly where the words are no command, with the place of the first that doesn't fit. No device is asked.
     ensures usage { result.status.code ≡ 1 → IsFirstWrongOfServe (texts_of words.now) result.status.place }
     ensures wrong { ((command : ACommand) → IsServeCommand (texts_of words.now) command → ⊥) → result.status.code ≡ 1 }
-    ensures idle { result.status.code ≡ 1 → (result.disk ≡ disk) × (keep.new ≡ keep.old) }
+    ensures idle { result.status.code ≡ 1 → result.store ≡ store }
 
-    // Where links were served, they were served by the core of the log, which is the one that recovery keeps of the disk's files.
-    // The core that is left stands for one history of steps since.
+    // Where links were served, they were served by the core of the log with what the kept files had. The core that is left stands
+    // for one history of steps since, and the kept files have texts of states of this history.
     ensures served { IfSome result.core (λ core. (command : ACommand) × (sizes : TheSizes) × (IsServeCommand (texts_of words.now) command
-        × IsOpened command.sizes sizes D.tells (D.state disk).reads E.tells (E.state keep.old) (E.state keep.new))
-        × HasServed command sizes.segment D.tells (D.state disk).reads core) }
+        × IsOpened command.sizes sizes D.tells (D.state store.disk).reads E.tells (E.state store.keep) (E.state result.store.keep))
+        × HasServed command sizes.segment result.status D.tells (D.state store.disk).reads E.tells (E.state store.keep).reads
+        (λ start history. PutsAllAlong (own_format ((E.state store.keep).reads FORMAT) command.sizes) start history
+        (E.state store.keep) (E.state result.store.keep)) (E.state result.store.keep) core) }
+
+    // Else of the keep only the format of a new store was written.
+    ensures unserved { E.tells → IfNone result.core ((text : List ℕ) × PutsOnly text (E.state store.keep) (E.state result.store.keep)) }
 
     // Status 6 comes where the store is another's, with the name of what shows it. The keep stays as it is.
     ensures foreign { D.tells → E.tells → result.status.code ≡ 6 → (command : ACommand) × IsServeCommand (texts_of words.now) command
-        × IsForeign (D.state disk).reads ((E.state keep.old).reads FORMAT) command.sizes result.status.name }
-    ensures theirs { E.tells → result.status.code ≡ 6 → Moves Same (E.state keep.old) (E.state keep.new) }
+        × IsForeign (D.state store.disk).reads ((E.state store.keep).reads FORMAT) command.sizes result.status.name }
+    ensures theirs { E.tells → result.status.code ≡ 6 → Moves Same (E.state store.keep) (E.state result.store.keep) }
 
-    // The disk's files outside the log's folder stay, and so does each text of the keep but the format of a new store.
-    ensures outside { D.tells → StaysOutside (D.state disk) (D.state result.disk) }
-    ensures stands { E.tells → (text : List ℕ) → (E.state keep.old).reads FORMAT ≡ Some text → (E.state keep.new).reads FORMAT ≡ Some text }
-    ensures kept { E.tells → (name : List ℕ) → name ≢ FORMAT → (E.state keep.new).reads name ≡ (E.state keep.old).reads name }
+    // The disk's files outside the log's folder stay. So does a format that stands, and besides the two kept files no other text of
+    // the keep is touched.
+    ensures outside { D.tells → StaysOutside (D.state store.disk) (D.state result.store.disk) }
+    ensures stands { E.tells → (text : List ℕ) → (E.state store.keep).reads FORMAT ≡ Some text
+        → (E.state result.store.keep).reads FORMAT ≡ Some text }
+    ensures kept { E.tells → (name : List ℕ) → name ≢ FORMAT → name ≢ OFFSETS → name ≢ TOPICS
+        → (E.state result.store.keep).reads name ≡ (E.state store.keep).reads name }
 
     // The status has a place and a name only where the table names one.
     ensures table { FitsTable result.status }
 {
     let command = match read_serve_words(words) {
-        Err(place) => return unserved(disk, Status::at(alloc, 1, place)),
+        Err(place) => return unserved(store, Status::at(alloc, 1, place)),
         Ok(command) => command,
     };
-    let mut disk = disk;
-    match open_format(alloc, &mut disk, keep, &command.sizes) {
-        Err(status) => unserved(disk, status),
-        Ok(sizes) => serve_store(rt, alloc, &command, sizes.segment, world, disk),
+    let Store { mut disk, mut keep } = store;
+    match open_format(alloc, &mut disk, &mut keep, &command.sizes) {
+        Err(status) => unserved(Store { disk, keep }, status),
+        Ok(sizes) => serve_store(
+            rt,
+            alloc,
+            &command,
+            sizes.segment,
+            world,
+            Store { disk, keep },
+        ),
     }
 }

@@ -1,10 +1,12 @@
 //! The statuses of `serve`.
 
-ghost use Rattle.std.specs.Prelude.{◌≢◌};
+ghost use Rattle.std.specs.Prelude.{◌≡◌, ◌≢◌, Ok};
 ghost use Rattle.store_open.specs.Statuses.{FitsTable};
 
+use config_store::ConfigFault;
 use event_loops::LoopEnd;
 use log_recovery::RecoverFault;
+use mq_bytes::Text;
 use mq_outside::DiskFault;
 use std::alloc::Global;
 use store_open::Status;
@@ -18,6 +20,20 @@ pub(crate) fn status_of_fault(alloc: Global, fault: RecoverFault) -> Status
         RecoverFault::Damaged(place, name) => Status::damaged(place, name),
         RecoverFault::Failed => Status::plain(alloc, 5),
         RecoverFault::Memory => Status::plain(alloc, 7),
+    }
+}
+
+// The status of kept files that could not be loaded.
+pub(crate) fn status_of_config(alloc: Global, fault: ConfigFault) -> Status
+    ensures { (result.code ≢ 1) × (result.code ≢ 6) × FitsTable result }
+{
+    match fault {
+        ConfigFault::BadText(name) => match String::from_str(alloc, name) {
+            Ok(name) => Status::damaged(0, Text::of(name)),
+            Err(_) => Status::plain(alloc, 7),
+        },
+        ConfigFault::Failed => Status::named(alloc, 10, "keep"),
+        ConfigFault::Memory => Status::plain(alloc, 7),
     }
 }
 
@@ -53,5 +69,25 @@ pub(crate) fn last_status(alloc: Global, end: LoopEnd, last: FlushEnd) -> Status
             alloc, 5,
         ),
         _ => status_of_loops(alloc, end),
+    }
+}
+
+// The status behind the last replacement of the kept files: want of memory comes before all else, and that the keep failed is told
+// where nothing else is.
+pub(crate) fn status_kept(alloc: Global, status: Status, kept: Result<(), DiskFault>) -> Status
+    requires { (status.code ≢ 1) × (status.code ≢ 6) × FitsTable status }
+    ensures status { (result.code ≢ 1) × (result.code ≢ 6) × FitsTable result }
+    ensures zero { result.code ≡ 0 → kept ≡ Ok tt }
+{
+    match kept {
+        Ok(()) => status,
+        Err(DiskFault::Memory) => Status::plain(alloc, 7),
+        Err(DiskFault::Failed) => {
+            if status.code == 0 {
+                Status::named(alloc, 10, "keep")
+            } else {
+                status
+            }
+        }
     }
 }

@@ -1,5 +1,5 @@
 -- What was loaded of a log, and that the broker opens over it.
-use Rattle.std.proofs.Common.{◌≡◌, ⊎_elim, ap, sym, ◌∙◌, subst, refl, arith, ℕ, ◌+◌, ◌-◌, ◌*◌, ◌/◌, ◌%◌, ◌<◌, ◌≤◌, List, [], length, take, Err}
+use Rattle.std.proofs.Common.{◌≡◌, ⊎_elim, ap, sym, ◌∙◌, subst, refl, arith, ℕ, ◌+◌, ◌-◌, ◌*◌, ◌/◌, ◌%◌, ◌<◌, ◌≤◌, List, [], ◌∷◌, length, take, Err}
 use Rattle.std.proofs.lemmas.List.{take_all}
 use Rattle.std.proofs.lemmas.Nat.{div-mul-add}
 use Rattle.mq_outside.specs.Covers.{HoldsRange}
@@ -26,27 +26,33 @@ use Rattle.segment_files.specs.Turn.{GoesToEnd, IsReady, growing}
 use Rattle.segment_files.specs.declared.last_file.LastFile.{LastFile}
 use Rattle.segment_files.proofs.Ready.{stored_ready}
 use Rattle.broker_events.specs.declared.event.Setup.{Setup}
-use Rattle.broker_core.specs.Loads.{IsLoadedFrom, MayOpen, whole_log}
+use Rattle.broker_model.specs.Tables.{OffsetRow, TopicRow}
+use Rattle.broker_core.specs.Loads.{IsLoadedFrom, IsLoadedWith, MayOpen, whole_log}
 use Rattle.broker_core.specs.declared.loaded.Loaded.{Loaded}
 use Rattle.log_opening.specs.declared.loading.LoadedLog.{LoadedLog}
 use Rattle.log_opening.specs.Freezes.{HasUpTo, ArePieces}
-use Rattle.log_opening.specs.Opens.{no_saved, IsKeptLog, IsOurLog, CanOpen}
+use Rattle.log_opening.specs.Opens.{saved_as, IsKeptLog, IsOurLog, CanOpen}
 use Rattle.log_opening.proofs.LogLemmas.{stored_has_kept, covered_told, covered_none}
+
+pub no_rows : (rows : List OffsetRow) → length rows ≡ 0 → rows ≡ []
+no_rows [] none = refl
+no_rows (row ∷ rows) none = absurd (omega (arith, none))
 
 -- ---- what was loaded
 
--- that these records were loaded
-abbrev pub loaded_in : Loaded → List Entry → Type 0
-loaded_in loaded records = IsLoadedFrom [] records loaded
+-- that these records were loaded behind these topics
+abbrev pub loaded_in : List TopicRow → Loaded → List Entry → Type 0
+loaded_in topics loaded records = IsLoadedFrom topics records loaded
 
-pub kept_log : (S : Geometry) (old new : Files) (start : Loaded) (log : LoadedLog) → IsLoadedFrom [] [] start → Kept S old (loaded_in start) (loaded_in log.loaded) log.end
-    → ((records : List Entry) → Keeps S records old → HasKept S records new) → IsKeptLog S old new log
-kept_log S old new start log none kept has =
+pub kept_log : (S : Geometry) (topics : List TopicRow) (old new : Files) (start : Loaded) (log : LoadedLog) → IsLoadedFrom topics [] start
+    → Kept S old (loaded_in topics start) (loaded_in topics log.loaded) log.end
+    → ((records : List Entry) → Keeps S records old → HasKept S records new) → IsKeptLog S topics old new log
+kept_log S topics old new start log none kept has =
     record { records = kept.records; keeps = kept.keeps; loaded = kept.handed none; ends = kept.ends; has = has kept.records kept.keeps }
 
-pub our_log : (S : Geometry) (log : List Entry) (flushed : ℕ) (disk : DiskState) (start : Loaded) (it : LoadedLog) → IsLoadedFrom [] [] start → IsCrashImage disk disk.reads
-    → Recovered S log flushed (loaded_in start) (loaded_in it.loaded) disk it.end → IsOurLog S log flushed disk it
-our_log S log flushed disk start it none image found = record {
+pub our_log : (S : Geometry) (topics : List TopicRow) (log : List Entry) (flushed : ℕ) (disk : DiskState) (start : Loaded) (it : LoadedLog) → IsLoadedFrom topics [] start → IsCrashImage disk disk.reads
+    → Recovered S log flushed (loaded_in topics start) (loaded_in topics it.loaded) disk it.end → IsOurLog S topics log flushed disk it
+our_log S topics log flushed disk start it none image found = record {
   number = found.number;
   low = found.low;
   high = found.high;
@@ -58,13 +64,15 @@ our_log S log flushed disk start it none image found = record {
 
 -- ---- the opening
 
-pub may_open : (setup : Setup) (records : List Entry) (log : LoadedLog) (pieces : FrozenRanges) → CanOpen setup records log pieces → MayOpen setup no_saved records log.loaded pieces
-may_open setup records log pieces can = record { lawful = can.lawful; of_log = can.loaded; covered = can.covered; base = refl }
+pub may_open : (setup : Setup) (offsets : List OffsetRow) (topics : List TopicRow) (records : List Entry) (log : LoadedLog) (pieces : FrozenRanges) → CanOpen setup offsets topics records log pieces
+    → MayOpen setup (saved_as offsets topics) records log.loaded pieces
+may_open setup offsets topics records log pieces can = record { lawful = can.lawful; of_log = can.loaded; covered = can.covered; base = refl }
 
 -- over records that are read, where the disk tells what it holds
-pub can_told : (tells : Type 0) (setup : Setup) (records : List Entry) (files : Files) (log : LoadedLog) (pieces : FrozenRanges) → tells → IsLawful setup.segment (whole_log records) → IsLoadedFrom [] records log.loaded
-    → log.end ≡ end_of no_base records → HasKept (whole setup.segment) records files → ArePieces tells setup.segment log.end files pieces → CanOpen setup records log pieces
-can_told tells setup records files log pieces told lawful loaded ends has are = record {
+pub can_told : (tells : Type 0) (setup : Setup) (offsets : List OffsetRow) (topics : List TopicRow) (records : List Entry) (files : Files) (log : LoadedLog) (pieces : FrozenRanges) → tells
+    → IsLawful setup.segment (whole_log records) → IsLoadedWith topics records offsets log.loaded
+    → log.end ≡ end_of no_base records → HasKept (whole setup.segment) records files → ArePieces tells setup.segment log.end files pieces → CanOpen setup offsets topics records log pieces
+can_told tells setup offsets topics records files log pieces told lawful loaded ends has are = record {
   lawful = lawful;
   loaded = loaded;
   ends = ends;
@@ -72,19 +80,21 @@ can_told tells setup records files log pieces told lawful loaded ends has are = 
 }
 
 -- and over those that were loaded, where the pieces hold nothing
-pub can_some : (tells : Type 0) (setup : Setup) (old files : Files) (log : LoadedLog) (pieces : FrozenRanges) → Handed (whole setup.segment) (λ records. IsLoadedFrom [] records log.loaded) log.end
-    → (tells → IsKeptLog (whole setup.segment) old files log) → ArePieces tells setup.segment log.end files pieces → (records : List Entry) × CanOpen setup records log pieces
-can_some tells setup old files log pieces handed kept are = ⊎_elim
+pub can_some : (tells : Type 0) (setup : Setup) (offsets : List OffsetRow) (topics : List TopicRow) (old files : Files) (before log : LoadedLog) (pieces : FrozenRanges)
+    → Handed (whole setup.segment) (λ records. IsLoadedFrom topics records before.loaded) before.end → (tells → IsKeptLog (whole setup.segment) topics old files before)
+    → ((records : List Entry) → IsLoadedFrom topics records before.loaded → IsLoadedWith topics records offsets log.loaded) → log.end ≡ before.end
+    → ArePieces tells setup.segment log.end files pieces → (records : List Entry) × CanOpen setup offsets topics records log pieces
+can_some tells setup offsets topics old files before log pieces handed kept loaded ends are = ⊎_elim
     (λ (nothing : (place : ℕ) (bytes : List ℕ) → HoldsRange pieces.pieces.items place bytes). (
       handed.records,
       record {
         lawful = handed.lawful;
-        loaded = handed.handed;
-        ends = handed.ends;
-        covered = covered_none tells setup.segment handed.records log.end files pieces handed.lawful handed.ends are nothing;
+        loaded = loaded handed.records handed.handed;
+        ends = ends ∙ handed.ends;
+        covered = covered_none tells setup.segment handed.records log.end files pieces handed.lawful (ends ∙ handed.ends) are nothing;
       },
     ))
-    (λ (told : tells). let found = kept told in (found.records, can_told tells setup found.records files log pieces told found.keeps.well_formed found.loaded found.ends found.has are))
+    (λ (told : tells). let found = kept told in (found.records, can_told tells setup offsets topics found.records files log pieces told found.keeps.well_formed (loaded found.records found.loaded) (ends ∙ found.ends) found.has are))
     are.none
 
 -- the next bytes go where the log ends

@@ -5,4 +5,4 @@ mod freezing;
 mod loading;
 mod opening;
 
-pub use opening::{Opened, open_log};
+pub use opening::{Opened, open_log, open_log_with};

@@ -4,7 +4,7 @@
 #![tactic(auto)]
 
 use broker_run::run_pipe;
-use broker_serve::{World, run_serve};
+use broker_serve::{Store, World, run_serve};
 use mq_outside::{FolderDisk, FolderKeep, MachineClock, StdSink, StdSource};
 use mq_peers::{TcpDoor, TcpReady};
 use std::alloc::{AllocError, Global};
@@ -68,18 +68,16 @@ fn serve_links<W: Wait + Threads + Sync>(
     let Ok(ready) = TcpReady::new(rt, alloc) else {
         return Ok(NO_DEVICE);
     };
-    let disk = FolderDisk::new(rt, String::from_str(alloc, STORE)?);
-    let mut keep = FolderKeep::new(rt, String::from_str(alloc, STORE)?);
+    let store = Store {
+        disk: FolderDisk::new(rt, String::from_str(alloc, STORE)?),
+        keep: FolderKeep::new(rt, String::from_str(alloc, STORE)?),
+    };
     let world = World {
         ready,
         door: TcpDoor::new(rt),
         clock: MachineClock::new(rt),
     };
-    Ok(
-        run_serve(threads, alloc, words, world, disk, &mut keep)
-            .status
-            .code,
-    )
+    Ok(run_serve(threads, alloc, words, world, store).status.code)
 }
 
 // Runs as the words say, and answers the exit status.

@@ -3,9 +3,10 @@
 #![tactic(auto)]
 
 mod flusher;
+mod keeper;
 mod loops;
 mod served;
 mod threads;
 
 pub use loops::Loops;
-pub use served::{Served, serve};
+pub use served::{Devices, Served, serve};

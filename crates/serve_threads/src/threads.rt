@@ -4,15 +4,18 @@ ghost use Rattle.std.specs.Prelude.{◌≡◌, None};
 ghost use denote.Param.Send.{IsSync, IsSend};
 ghost use Rattle.log_model.specs.Stored.{StaysOutside};
 ghost use Rattle.segment_files.specs.Turn.{IsInside};
+ghost use Rattle.serve_threads.specs.Kept.{KeepsUp};
 
 use crate::flusher::keep_flushing;
+use crate::keeper::keep_up;
+use broker_core::Owner;
 use broker_events::Calls;
 use event_loops::{Around, EventLoop, LoopEnd};
 use group_flush::Flusher;
-use mq_outside::{Clock, Disk, Reader};
+use mq_outside::{Clock, Disk, Keep, Reader};
 use mq_peers::Ready;
 use std::sync::Wait;
-use std::thread::{Threads, join};
+use std::thread::{Parker, Threads, join};
 use worker_turns::FlushEnd;
 
 /// A loop with what it makes steps by, and what it reads pulls by.
@@ -109,7 +112,39 @@ impl<C: Calls + Drop, D: Disk + Drop> Flushing<C, D> {
     }
 }
 
-// Runs both loops until they have ended.
+/// What the keeper works with.
+#[derive(Drop)]
+pub(crate) struct Keeping<C: Owner + Drop, E: Keep + Drop> {
+    pub(crate) calls: C,
+    pub(crate) keep: E,
+}
+
+impl<C: Owner + Drop, E: Keep + Drop> Keeping<C, E> {
+    // Keeps up until the loops have ended.
+    fn run<W: Wait, P: Ready + Drop, K: Clock + Send + Drop>(
+        self,
+        around: &Around<'_, W, P, K>,
+        bell: &Parker,
+    ) -> Keeping<C, E>
+        ensures kept { KeepsUp C.sees E.tells self.calls (E.state self.keep) result.calls (E.state result.keep) }
+    {
+        let Keeping {
+            mut calls,
+            mut keep,
+        } = self;
+        keep_up(
+            around.rt,
+            around.alloc,
+            around.shared,
+            bell,
+            &mut calls,
+            &mut keep,
+        );
+        Keeping { calls, keep }
+    }
+}
+
+// Runs both loops until they have ended, and tells the flusher and the keeper so.
 fn run_loops<
     W: Wait + Threads + Sync,
     P: Ready + Send + Sync + Drop,
@@ -118,6 +153,7 @@ fn run_loops<
     R: Reader + Send + Drop,
 >(
     around: &Around<'_, W, P, K>,
+    bell: &Parker,
     first: Worker<P, C, R>,
     second: Worker<P, C, R>,
 ) -> (Worker<P, C, R>, Worker<P, C, R>) {
@@ -131,40 +167,96 @@ fn run_loops<
         { second.run(around) },
     );
     around.shared.loops_ended();
+    bell.unpark();
     both
 }
 
-/// Runs both loops and the flusher until the loops have ended and what they left is flushed.
+// Runs both loops, and the keeper until they have ended.
+fn run_kept<
+    W: Wait + Threads + Sync,
+    P: Ready + Send + Sync + Drop,
+    K: Clock + Send + Drop,
+    C: Owner + Send + Drop,
+    R: Reader + Send + Drop,
+    E: Keep + Send + Drop,
+>(
+    around: &Around<'_, W, P, K>,
+    first: Worker<P, C, R>,
+    second: Worker<P, C, R>,
+    keeping: Keeping<C, E>,
+) -> (Keeping<C, E>, (Worker<P, C, R>, Worker<P, C, R>))
+    ensures kept { KeepsUp C.sees E.tells keeping.calls (E.state keeping.keep) result.0.calls (E.state result.0.keep) }
+{
+    let bell = Parker::new();
+    let rings = &bell;
+    join(
+        around.rt,
+        move || -> Keeping<C, E>
+            ensures { KeepsUp C.sees E.tells keeping.calls (E.state keeping.keep) result.calls (E.state result.keep) }
+        { keeping.run(around, rings) },
+        move || -> (Worker<P, C, R>, Worker<P, C, R>)
+            requires { IsSync W.row × IsSend P.row × IsSync P.row × IsSend P.Link.row × IsSend P.Door.row × IsSend P.Waker.row
+                × IsSync P.Waker.row × IsSend K.row × IsSend C.row × IsSend R.row }
+        { run_loops(around, rings, first, second) },
+    )
+}
+
+/// What is left once the threads have ended.
+#[derive(Drop)]
+pub(crate) struct Ran<
+    P: Ready + Drop,
+    D: Disk + Drop,
+    C: Owner + Drop,
+    R: Reader + Drop,
+    E: Keep + Drop,
+> {
+    pub(crate) flushing: Flushing<C, D>,
+    pub(crate) keeping: Keeping<C, E>,
+    pub(crate) first: Worker<P, C, R>,
+    pub(crate) second: Worker<P, C, R>,
+}
+
+/// Runs both loops, the keeper and the flusher until the loops have ended and what they left is flushed.
 pub(crate) fn run_all<
     W: Wait + Threads + Sync,
     P: Ready + Send + Sync + Drop,
     D: Disk + Send + Drop,
     K: Clock + Send + Drop,
-    C: Calls + Send + Drop,
+    C: Owner + Send + Drop,
     R: Reader + Send + Drop,
+    E: Keep + Send + Drop,
 >(
     around: &Around<'_, W, P, K>,
     first: Worker<P, C, R>,
     second: Worker<P, C, R>,
     flushing: Flushing<C, D>,
-) -> (Flushing<C, D>, (Worker<P, C, R>, Worker<P, C, R>))
+    keeping: Keeping<C, E>,
+) -> Ran<P, D, C, R, E>
 where
     D::Reader: Send,
     requires key { C.has_key flushing.calls }
     requires none_out { (C.shown flushing.calls).out ≡ None }
     requires inside { D.tells → IsInside flushing.flusher.file.base flushing.flusher.file.offset (D.state flushing.disk) }
-    ensures outside { D.tells → StaysOutside (D.state flushing.disk) (D.state result.0.disk) }
+    ensures outside { D.tells → StaysOutside (D.state flushing.disk) (D.state result.flushing.disk) }
+    ensures kept { KeepsUp C.sees E.tells keeping.calls (E.state keeping.keep) result.keeping.calls (E.state result.keeping.keep) }
 {
-    join(
+    let (flushing, (keeping, (first, second))) = join(
         around.rt,
         move || -> Flushing<C, D>
             requires { C.has_key flushing.calls × ((C.shown flushing.calls).out ≡ None)
                 × (D.tells → IsInside flushing.flusher.file.base flushing.flusher.file.offset (D.state flushing.disk)) }
             ensures { D.tells → StaysOutside (D.state flushing.disk) (D.state result.disk) }
         { flushing.run(around) },
-        move || -> (Worker<P, C, R>, Worker<P, C, R>)
+        move || -> (Keeping<C, E>, (Worker<P, C, R>, Worker<P, C, R>))
             requires { IsSync W.row × IsSend P.row × IsSync P.row × IsSend P.Link.row × IsSend P.Door.row × IsSend P.Waker.row
-                × IsSync P.Waker.row × IsSend K.row × IsSend C.row × IsSend R.row }
-        { run_loops(around, first, second) },
-    )
+                × IsSync P.Waker.row × IsSend K.row × IsSend C.row × IsSend R.row × IsSend E.row }
+            ensures { KeepsUp C.sees E.tells keeping.calls (E.state keeping.keep) result.0.calls (E.state result.0.keep) }
+        { run_kept(around, first, second, keeping) },
+    );
+    Ran {
+        flushing,
+        keeping,
+        first,
+        second,
+    }
 }

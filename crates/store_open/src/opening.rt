@@ -53,6 +53,7 @@ fn put_format<P: Keep>(alloc: Global, keep: &mut P, text: &[u8]) -> Result<(), S
     ensures durable { P.tells → OnOk result (IsDurable FORMAT (P.state keep.new)) }
     ensures moves { P.tells → Moves (At FORMAT (OldOrNew text.now)) (P.state keep.old) (P.state keep.new) }
     ensures cause { IfErr result (λ status. (status.code ≡ 7) ⊎ ((status.code ≡ 10) × (status.name ≡ codes "keep") × Rises (P.faults keep.old) (P.faults keep.new))) }
+    ensures still { OnOk result (P.faults keep.new ≡ P.faults keep.old) }
     ensures table { IfErr result FitsTable }
 {
     match keep.replace(alloc, "format", text) {
@@ -87,6 +88,7 @@ pub fn open_format<D: Disk, P: Keep>(
     // it was before, or the right text.
     ensures rests { D.tells → Moves Same (D.state disk.old) (D.state disk.new) }
     ensures disk_still { OnOk result (D.faults disk.new ≡ D.faults disk.old) }
+    ensures keep_still { OnOk result (P.faults keep.new ≡ P.faults keep.old) }
     ensures puts { P.tells → PutsOnly (own_format ((P.state keep.old).reads FORMAT) asked.now) (P.state keep.old) (P.state keep.new) }
     ensures others { P.tells → (name : List ℕ) → name ≢ FORMAT → (P.state keep.new).reads name ≡ (P.state keep.old).reads name }
     ensures stands { P.tells → (text : List ℕ) → (P.state keep.old).reads FORMAT ≡ Some text → (P.state keep.new).reads FORMAT ≡ Some text }

@@ -10,7 +10,7 @@
 //! |    5 |          | the disk failed                                                                      |
 //! |    6 | a file   | foreign: this file stands without a format, or `format` is another than asked for    |
 //! |    7 |          | want of memory                                                                       |
-//! |    8 | a file   | damaged: no broker leaves this file as it is; `place` is the physical offset         |
+//! |    8 | a file   | damaged: no broker leaves this file as it is; `place` is the physical offset, or 0 of a kept text |
 //! |   10 | a device | the clock or the keep failed                                                         |
 
 ghost use Rattle.std.specs.Prelude.{◌≡◌, ◌≢◌, ◌⊎◌, []};

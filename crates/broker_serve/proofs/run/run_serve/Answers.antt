@@ -1,26 +1,57 @@
-use Rattle.std.proofs.Common.{sym, subst}
+use Rattle.std.proofs.Common.{◌∙◌, [], ap, sym, subst, ℕ, List}
+use Rattle.std.specs.Prelude.{IfNone}
+use Rattle.mq_outside.specs.Disk.{Moves}
+use Rattle.mq_outside.specs.Files.{Same}
 use Rattle.log_model.specs.Stored.{StaysOutside}
 use Rattle.log_model.proofs.OutsideLemmas.{outside_start, outside_same, outside_then}
-use Rattle.store_open.specs.Openings.{IsOpened}
-use Rattle.store_open.specs.Words.{texts_of}
-use Rattle.store_open.specs.ServeWords.{IsServeCommand}
+use Rattle.store_open.specs.Openings.{FORMAT, IsOpened, PutsOnly}
 use Rattle.store_open.proofs.SizeLemmas.{serve_asks_sizes}
-use Rattle.broker_serve.proofs.Serving.{has_served_by}
+use Rattle.broker_serve.proofs.Serving.{puts_no_format, run_served, run_unserved, store_others}
 use Rattle.broker_serve.proofs.run.run_serve.Goals as goal
 
 pub serve_store-requires-clause-size : goal.serve_store-requires-clause-size
 serve_store-requires-clause-size g c κs within = (c.in-Ok-open_format.ensures.allowed (serve_asks_sizes _ _ c.in-Ok.ensures.fits)).segment
 
+-- ---- the words don't fit
+
+pub returns-in-Err-clause-unserved : goal.returns-in-Err-clause-unserved
+returns-in-Err-clause-unserved g c = λ told.
+    let before = c.args.store.keep in
+    subst (λ o. IfNone o ((text : List ℕ) × PutsOnly text (g.E.Keep.state before) (g.E.Keep.state c.unserved.result.store.keep))) (sym c.unserved.ensures.core)
+    ([], subst (λ k. PutsOnly [] (g.E.Keep.state before) (g.E.Keep.state k)) (sym (ap (λ s. s.keep) c.unserved.ensures.store)) (puts_no_format [] _))
+
+-- ---- the store isn't opened
+
+pub returns-in-Err-open_format-clause-unserved : goal.returns-in-Err-open_format-clause-unserved
+returns-in-Err-open_format-clause-unserved g c = λ told.
+    let before = c.args.store.keep in
+    let ended = c.unserved-in-Err-open_format in
+    subst (λ o. IfNone o ((text : List ℕ) × PutsOnly text (g.E.Keep.state before) (g.E.Keep.state ended.result.store.keep))) (sym ended.ensures.core)
+    (_, subst (λ k. PutsOnly _ (g.E.Keep.state before) (g.E.Keep.state k)) (sym (ap (λ s. s.keep) ended.ensures.store)) (c.open_format.ensures.puts told))
+
 pub returns-in-Err-open_format-clause-outside : goal.returns-in-Err-open_format-clause-outside
 returns-in-Err-open_format-clause-outside g c = λ tells.
-    subst (λ d. StaysOutside (g.D.Disk.state c.args.disk) (g.D.Disk.state d)) (sym c.unserved-in-Err-open_format.ensures.disk) (outside_same (outside_start _) (c.open_format.ensures.rests tells))
+    subst (λ d. StaysOutside (g.D.Disk.state c.args.store.disk) (g.D.Disk.state d)) (sym (ap (λ s. s.disk) c.unserved-in-Err-open_format.ensures.store))
+    (outside_same (outside_start _) (c.open_format.ensures.rests tells))
+
+-- ---- the store is open
 
 pub returns-in-Ok-open_format-clause-served : goal.returns-in-Ok-open_format-clause-served
 returns-in-Ok-open_format-clause-served g c =
-    has_served_by _ (λ command sizes. IsServeCommand (texts_of c.args.words.now) command
-    × IsOpened command.sizes sizes g.D.Disk.tells (g.D.Disk.state c.args.disk).reads g.E.Keep.tells (g.E.Keep.state c.args.keep.now) (g.E.Keep.state c.open_format.new.keep))
-    _ _ _ _ _ (λ tells. (c.in-Ok-open_format.ensures.rests tells).reads) (c.in-Ok.ensures.fits, c.in-Ok-open_format.ensures.opened) c.serve_store.ensures.served
+    run_served _ _ _ _ _ _ _ _ _ _ _ _ (λ tells. (c.in-Ok-open_format.ensures.rests tells).reads) c.in-Ok.ensures.fits c.in-Ok-open_format.ensures.opened
+    c.in-Ok-open_format.ensures.puts c.serve_store.ensures.served
+
+pub returns-in-Ok-open_format-clause-unserved : goal.returns-in-Ok-open_format-clause-unserved
+returns-in-Ok-open_format-clause-unserved g c = run_unserved _ _ _ _ _ _ _ _ _ _ _ c.in-Ok-open_format.ensures.puts c.serve_store.ensures.served
 
 pub returns-in-Ok-open_format-clause-outside : goal.returns-in-Ok-open_format-clause-outside
 returns-in-Ok-open_format-clause-outside g c = λ tells.
     outside_then (outside_same (outside_start _) (c.in-Ok-open_format.ensures.rests tells)) (c.serve_store.ensures.outside tells)
+
+pub returns-in-Ok-open_format-clause-stands : goal.returns-in-Ok-open_format-clause-stands
+returns-in-Ok-open_format-clause-stands g c = λ told text stood.
+    store_others _ _ _ _ _ _ _ _ _ c.serve_store.ensures.served told FORMAT (λ e. absurd (cc e)) (λ e. absurd (cc e)) ∙ c.in-Ok-open_format.ensures.stands told text stood
+
+pub returns-in-Ok-open_format-clause-kept : goal.returns-in-Ok-open_format-clause-kept
+returns-in-Ok-open_format-clause-kept g c = λ told name not_format not_offsets not_topics.
+    store_others _ _ _ _ _ _ _ _ _ c.serve_store.ensures.served told name not_offsets not_topics ∙ c.in-Ok-open_format.ensures.others told name not_format

@@ -1,12 +1,25 @@
-use Rattle.std.proofs.Common.{sym, subst}
+use Rattle.std.proofs.Common.{sym, ap, subst}
+use Rattle.mq_outside.specs.Disk.{Rests}
+use Rattle.mq_outside.proofs.Moments.{rests_start}
 use Rattle.log_model.specs.Stored.{StaysOutside}
 use Rattle.log_model.proofs.OutsideLemmas.{outside_start}
+use Rattle.broker_serve.proofs.Serving.{ends_unserved}
 use Rattle.broker_serve.proofs.run.serve_log.Goals as goal
+
+pub returns-then-is_err-clause-ends : goal.returns-then-is_err-clause-ends
+returns-then-is_err-clause-ends g c =
+    ends_unserved _ _ _ _ _ _ c.unserved.ensures.core
+    (subst (λ k. Rests (g.E.Keep.state c.args.store.keep) (g.E.Keep.state k)) (sym (ap (λ s. s.keep) c.unserved.ensures.store)) (rests_start _))
 
 pub returns-then-is_err-clause-outside : goal.returns-then-is_err-clause-outside
 returns-then-is_err-clause-outside g c = λ tells.
-    subst (λ d. StaysOutside (g.D.Disk.state c.args.disk) (g.D.Disk.state d)) (sym c.unserved.ensures.disk) (outside_start _)
+    subst (λ d. StaysOutside (g.D.Disk.state c.args.store.disk) (g.D.Disk.state d)) (sym (ap (λ s. s.disk) c.unserved.ensures.store)) (outside_start _)
+
+pub returns-in-Err-clause-ends : goal.returns-in-Err-clause-ends
+returns-in-Err-clause-ends g c =
+    ends_unserved _ _ _ _ _ _ c.unserved-in-Err.ensures.core
+    (subst (λ k. Rests (g.E.Keep.state c.args.store.keep) (g.E.Keep.state k)) (sym (ap (λ s. s.keep) c.unserved-in-Err.ensures.store)) (rests_start _))
 
 pub returns-in-Err-clause-outside : goal.returns-in-Err-clause-outside
 returns-in-Err-clause-outside g c = λ tells.
-    subst (λ d. StaysOutside (g.D.Disk.state c.args.disk) (g.D.Disk.state d)) (sym c.unserved-in-Err.ensures.disk) (outside_start _)
+    subst (λ d. StaysOutside (g.D.Disk.state c.args.store.disk) (g.D.Disk.state d)) (sym (ap (λ s. s.disk) c.unserved-in-Err.ensures.store)) (outside_start _)

@@ -1,5 +1,27 @@
+use Rattle.std.proofs.Common.{◌∙◌, sym, ap, subst}
+use Rattle.mq_outside.specs.Disk.{Rests}
+use Rattle.mq_outside.proofs.Moments.{rests_start}
+use Rattle.log_model.specs.Stored.{StaysOutside}
 use Rattle.log_model.proofs.OutsideLemmas.{outside_then}
+use Rattle.serve_threads.specs.Served.{IsLeft}
+use Rattle.broker_serve.proofs.Serving.{ends_unserved, ends_served}
 use Rattle.broker_serve.proofs.run.serve_open.Goals as goal
 
+pub returns-in-Err-clause-ends : goal.returns-in-Err-clause-ends
+returns-in-Err-clause-ends g c =
+    let same = ap (λ s. s.keep) c.unserved.ensures.store ∙ ap (λ d. d.keep) c.in-Err.ensures.err in
+    ends_unserved _ _ _ _ _ _ c.unserved.ensures.core (subst (λ k. Rests (g.E.Keep.state c.args.devices.keep) (g.E.Keep.state k)) (sym same) (rests_start _))
+
+pub returns-in-Err-clause-outside : goal.returns-in-Err-clause-outside
+returns-in-Err-clause-outside g c = λ tells.
+    subst (λ d. StaysOutside (g.D.Disk.state c.args.devices.disk) (g.D.Disk.state d)) (sym (ap (λ s. s.disk) c.unserved.ensures.store))
+    (subst (λ d. StaysOutside (g.D.Disk.state d) (g.D.Disk.state c.give_back.result)) (ap (λ d. d.disk) c.in-Err.ensures.err) (c.give_back.ensures.outside tells))
+
+pub returns-in-Ok-clause-ends : goal.returns-in-Ok-clause-ends
+returns-in-Ok-clause-ends g c =
+    let served = c.in-Ok.served in
+    ends_served _ _ _ _ _ _ _ _ c.ended_of.ensures.core c.ended_of.ensures.zero
+    (subst (λ k. IsLeft c.args.core g.E.Keep.tells served.kept (g.E.Keep.state c.args.devices.keep) (g.E.Keep.state k) served.core) (sym c.ended_of.ensures.keep) c.in-Ok.ensures.left)
+
 pub returns-in-Ok-clause-outside : goal.returns-in-Ok-clause-outside
-returns-in-Ok-clause-outside g c = λ tells. outside_then (c.in-Ok.ensures.outside tells) (c.give_back-in-Ok.ensures.outside tells)
+returns-in-Ok-clause-outside g c = λ tells. outside_then (c.in-Ok.ensures.outside tells) (c.ended_of.ensures.outside tells)

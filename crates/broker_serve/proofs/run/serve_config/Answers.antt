@@ -1,0 +1,24 @@
+use Rattle.std.proofs.Common.{sym, ap, subst}
+use Rattle.mq_outside.specs.Disk.{Rests}
+use Rattle.mq_outside.proofs.Moments.{rests_start}
+use Rattle.log_model.specs.Stored.{StaysOutside}
+use Rattle.log_model.proofs.OutsideLemmas.{outside_then}
+use Rattle.broker_serve.proofs.Serving.{log_unserved, log_served_with}
+use Rattle.broker_serve.proofs.run.serve_config.Goals as goal
+
+pub returns-in-Err-clause-served : goal.returns-in-Err-clause-served
+returns-in-Err-clause-served g c =
+    log_unserved _ _ _ _ _ _ _ _ _ _ _ c.unserved.ensures.core
+    (λ told. subst (λ k. Rests (g.E.Keep.state c.args.store.keep) (g.E.Keep.state k)) (sym (ap (λ s. s.keep) c.unserved.ensures.store)) (rests_start _))
+
+pub returns-in-Err-clause-outside : goal.returns-in-Err-clause-outside
+returns-in-Err-clause-outside g c = λ tells.
+    subst (λ d. StaysOutside (g.D.Disk.state c.args.store.disk) (g.D.Disk.state d)) (sym (ap (λ s. s.disk) c.unserved.ensures.store)) (c.open_log_with.ensures.outside tells)
+
+pub returns-in-Ok-clause-served : goal.returns-in-Ok-clause-served
+returns-in-Ok-clause-served g c =
+    log_served_with _ _ _ _ _ _ _ c.as_slice-offsets.result.now _ c.as_slice-topics.result.now _ _ _ c.in-Ok.opened
+    c.as_slice-offsets.ensures.value c.as_slice-topics.ensures.value c.in-Ok.ensures.represents c.in-Ok.ensures.kept c.serve_log.ensures.ends
+
+pub returns-in-Ok-clause-outside : goal.returns-in-Ok-clause-outside
+returns-in-Ok-clause-outside g c = λ tells. outside_then (c.in-Ok.ensures.outside tells) (c.serve_log.ensures.outside tells)

@@ -1,0 +1,18 @@
+use Rattle.serve_threads.proofs.Keeping.{keeps_start, keeps_more}
+use Rattle.serve_threads.proofs.keeper.keep_up.Goals as goal
+
+pub loop-init : goal.loop-init
+loop-init g c = record {
+  next = tt;
+  finite = tt;
+  has = λ tells. tt;
+  kept = keeps_start _ _ _ _;
+}
+
+pub loop-preserved : goal.loop-preserved
+loop-preserved g c = record {
+  next = tt;
+  finite = tt;
+  has = c.keeper_turn.ensures.has;
+  kept = keeps_more _ _ _ _ _ _ _ _ _ c.loop.invariant.kept c.keeper_turn.ensures.kept;
+}
