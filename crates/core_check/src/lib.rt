@@ -1,0 +1,6 @@
+//! Does a core say of its queues what its log says?
+#![tactic(auto)]
+
+mod comparison;
+
+pub use comparison::compare;
