@@ -1,18 +1,22 @@
 -- What a run leaves of the kept files, and which status tells it.
-use Rattle.std.proofs.Common.{◌≡◌, ◌≢◌, ◌⊎◌, ⊎_elim, inl, inr, refl, ◌∙◌, sym, ap, subst, arith, codes, ℕ, ◌<◌, ◌≤◌, List, Option, Some, None, Result, Ok, Err}
+use Rattle.std.proofs.Common.{◌≡◌, ◌≢◌, ◌⊎◌, ⊎_elim, inl, inr, refl, ◌∙◌, sym, ap, subst, arith, codes, ℕ, ◌<◌, ◌≤◌, List, [], ◌∷◌, All, Option, Some, None, Result, Ok, Err}
 use Rattle.mq_outside.specs.Counts.{Rises, CountsDiskFault}
 use Rattle.mq_outside.specs.Disk.{DiskState, IsDurable, Rests, Throughout}
 use Rattle.mq_outside.specs.Files.{Files, OldOrNew, At}
 use Rattle.mq_outside.proofs.Moments.{at_end, weaker, chained, throughout_rests}
 use Rattle.mq_outside.specs.declared.faults.DiskFault.{DiskFault}
 use Rattle.mq_outside.specs.declared.faults.DiskFault.TheVariants as keeper
+use Rattle.std.proofs.lemmas.List.Elements.{All-nil, All-cons, All-head, All-tail}
+use Rattle.broker_model.specs.Lawful.{IsTopic}
 use Rattle.broker_model.specs.State.{State}
+use Rattle.broker_core.specs.declared.parts.Parts.{Parts}
+use Rattle.broker_core.specs.Represents.{Represents, IsNamed}
 use Rattle.broker_model.specs.Tables.{OffsetRow, TopicRow}
 use Rattle.config_store.specs.Configs.{OFFSETS, TOPICS, HasConfig, HasOffsets, HasTopics, PutsConfig, Replaces}
 use Rattle.config_store.specs.Faults.{IsBadText, OnBadText, CountsConfigFault}
 use Rattle.config_store.specs.declared.config.ConfigFault.{ConfigFault}
 use Rattle.config_store.specs.declared.config.ConfigFault.TheVariants.{BadText, Failed as KeepFailed, Memory as NoMemoryHere}
-use Rattle.config_store.specs.Texts.{offsets_text_of, topics_text_of}
+use Rattle.config_store.specs.Texts.{IsKeptTopic, offsets_text_of, topics_text_of}
 use Rattle.store_open.specs.Openings.{FORMAT, PutsOnly, IsOpened, format_after}
 use Rattle.store_open.specs.declared.format.Sizes.{Sizes}
 use Rattle.store_open.specs.declared.format.AskedSizes.{AskedSizes}
@@ -23,7 +27,7 @@ use Rattle.request_stream.specs.declared.stop.Halt.{Halt}
 use Rattle.request_stream.specs.declared.stop.Halt.TheVariants.{BadFrame, Read, Stopped}
 use Rattle.request_stream.specs.declared.stop.Stop.TheVariants as stops
 use Rattle.keeper_turns.specs.Turns.{HasKept}
-use Rattle.broker_run.specs.Promise.{StatusOf, StatusKept, StatusAfter, StatusTellsConfig, AllWell, TellsKeep, AllFaults, Causes, Seen, before, behind, KeepSeen, ReplacesAll, PutsAll, KeepsOpen, KeepsState, Misread, CountsStatus, CountsEnd}
+use Rattle.broker_run.specs.Promise.{StatusOf, StatusKept, StatusAfter, StatusTellsConfig, AllWell, TellsKeep, AllFaults, Causes, Seen, before, behind, KeepSeen, ReplacesAll, PutsAll, CanBeKept, KeepsOpen, KeepsState, Misread, CountsStatus, CountsEnd}
 use Rattle.broker_run.proofs.CauseLemmas.{quiet}
 
 -- ---- the status
@@ -95,17 +99,31 @@ counts_end status inner (Err keeper.Failed) source source_then sink sink_then di
 
 -- ---- what the kept files have at the end
 
+kept_topics : (rows : List TopicRow) → All IsTopic rows → All IsNamed rows → All IsKeptTopic rows
+kept_topics [] are named = All-nil IsKeptTopic
+kept_topics (row ∷ rows) are named =
+    let is = All-head IsTopic row rows are in
+    All-cons IsKeptTopic row rows (record { plain = (All-head IsNamed row rows named, is.plain); some = is.some; few = is.few })
+    (kept_topics rows (All-tail IsTopic row rows are) (All-tail IsNamed row rows named))
+
+-- what a core represents can be kept
+pub can_keep : (core : Parts) (s : State) → Represents core s → CanBeKept s
+can_keep core s is = (is.kept, kept_topics s.topics is.state.topics is.names)
+
 pub ends_kept : {B : Type 0} (status inner : Status) (keep : KeepSeen) (s : State) (kept : Result (Unit {0}) DiskFault) → HasKept keep.tells s kept keep.old keep.new → StatusKept status inner kept
-    → CountsDiskFault kept keep.failed keep.failed_then → KeepsOpen status keep s
-ends_kept status inner keep s (Ok done) has same cause = record {
+    → CountsDiskFault kept keep.failed keep.failed_then → CanBeKept s → KeepsOpen status keep s
+ends_kept status inner keep s (Ok done) has same cause formed = record {
+  formed = formed;
   puts = has.puts;
   ends = record { done = λ told memory failed. has.done told; well = λ told zero. has.done told };
 }
-ends_kept status inner keep s (Err keeper.Memory) has seven cause = record {
+ends_kept status inner keep s (Err keeper.Memory) has seven cause formed = record {
+  formed = formed;
   puts = has.puts;
   ends = record { done = λ told memory failed. absurd (memory seven); well = λ told zero. absurd (omega (arith, seven, zero)) };
 }
-ends_kept status inner keep s (Err keeper.Failed) has tells cause = record {
+ends_kept status inner keep s (Err keeper.Failed) has tells cause formed = record {
+  formed = formed;
   puts = has.puts;
   ends = record { done = λ told memory failed. absurd (failed cause); well = λ told zero. absurd (never status inner tells zero) };
 }
@@ -218,6 +236,7 @@ kept_from format status keep opened failed s same puts it = record {
     done = λ told memory quiet. it.ends.done told memory (λ rises. quiet (subst (λ (n : ℕ). Rises n keep.failed_then) same rises));
     well = it.ends.well;
   };
+  formed = it.formed;
 }
 
 -- a config that wasn't loaded has its cause

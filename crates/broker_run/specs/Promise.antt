@@ -1,6 +1,6 @@
 -- What one call of `run_pipe` did, by the status that it answered.
 use Rattle.std.specs.Prelude.{◌≡◌, ◌≢◌, ◌⊎◌, ℕ, ◌+◌, ◌<◌, ◌≤◌, ◌++◌, List, [], ◌∷◌, codes, length, take}
-use Rattle.std.specs.Prelude.{Bool, true, Option, Some, None, Result, Ok, Err}
+use Rattle.std.specs.Prelude.{Bool, true, All, Option, Some, None, Result, Ok, Err}
 use Rattle.mq_outside.specs.Counts.{Rises}
 use Rattle.mq_outside.specs.Files.{Files, OldOrNew}
 use Rattle.mq_outside.specs.Disk.{DiskState, EachImage, IsCrashImage, Rests, Throughout}
@@ -37,7 +37,8 @@ use Rattle.config_store.specs.Configs.{OFFSETS, TOPICS, HasConfig, KeepsConfig, 
 use Rattle.config_store.specs.Faults.{IsBadText}
 use Rattle.config_store.specs.declared.config.ConfigFault.{ConfigFault}
 use Rattle.config_store.specs.declared.config.ConfigFault.TheVariants.{BadText, Failed as KeepFailed, Memory as NoMemoryHere}
-use Rattle.config_store.specs.Texts.{offsets_text_of, topics_text_of}
+use Rattle.config_store.specs.Texts.{IsKeptTopic, offsets_text_of, topics_text_of}
+use Rattle.group_tables.specs.Offsets.{IsOffset}
 use Rattle.log_opening.specs.Opens.{OpensWith, saved_as}
 use Rattle.log_opening.specs.declared.opening.Opened.{Opened}
 use Rattle.request_acts.specs.Acts.{Act, Acted, DiskView, Place, steps_of, turns_of}
@@ -203,6 +204,10 @@ pub record PutsAll (format offsets topics : List ℕ) (old new : DiskState) : Ty
 abbrev pub KeepsTexts : State → DiskState → Type 0
 KeepsTexts s keep = KeepsConfig (offsets_text_of s.offsets) (topics_text_of s.topics) keep
 
+-- each offset and each topic of this state can be kept, so a file with its text is of its form, and the next run loads it
+abbrev pub CanBeKept : State → Type 0
+CanBeKept s = All IsOffset s.offsets × All IsKeptTopic s.topics
+
 -- At the end of a run the two kept files have the texts of this state, unless memory ran out or the keep failed; with status 0 they
 -- always have.
 pub record EndsKept (status : Status) (keep : KeepSeen) (s : State) : Type 0 where
@@ -213,11 +218,13 @@ pub record EndsKept (status : Status) (keep : KeepSeen) (s : State) : Type 0 whe
 pub record KeepsOpen (status : Status) (keep : KeepSeen) (s : State) : Type 0 where
   pub puts : keep.tells → PutsConfig (offsets_text_of s.offsets) (topics_text_of s.topics) keep.old keep.new
   pub ends : EndsKept status keep s
+  pub formed : CanBeKept s
 
 -- and from before the opening on, in which the format may have been put
 pub record KeepsState (format : List ℕ) (status : Status) (keep : KeepSeen) (s : State) : Type 0 where
   pub puts : keep.tells → PutsAll format (offsets_text_of s.offsets) (topics_text_of s.topics) keep.old keep.new
   pub ends : EndsKept status keep s
+  pub formed : CanBeKept s
 
 -- ---- a run from a store
 

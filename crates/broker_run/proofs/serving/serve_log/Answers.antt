@@ -3,7 +3,7 @@ use Rattle.broker_core.specs.declared.parts.Parts.{Parts}
 use Rattle.broker_core.specs.Represents.{Represents}
 use Rattle.std.proofs.Common.{sym, subst}
 use Rattle.broker_run.proofs.CauseLemmas.{counts_status}
-use Rattle.broker_run.proofs.KeptLemmas.{ends_kept, told_after, counts_end}
+use Rattle.broker_run.proofs.KeptLemmas.{can_keep, ends_kept, told_after, counts_end}
 use Rattle.broker_run.proofs.RunLemmas.{run_from, run_placed, run_with}
 use Rattle.broker_run.proofs.serving.serve_log.Goals as goal
 
@@ -18,7 +18,7 @@ returns-clause-served g c = record {
       run_with setup saved log c.serve_to_end-ended.result.reading c.serve_to_end-ended.result.last _ _ _ _
       (λ reached represents. ends_kept c.status_kept.result c.status_of.result _ reached c.keep_core-kept.result
       (c.keep_core-kept.ensures.kept reached (subst (λ (core : Parts). Represents core reached) (sym c.into_core-core.ensures) represents))
-      c.status_kept.ensures.tells c.keep_core-kept.ensures.cause)
+      c.status_kept.ensures.tells c.keep_core-kept.ensures.cause (can_keep c.serve_to_end-ended.new.calls.core reached represents))
       (run_from c.args.opened c.serve_to_end-ended.result _ setup saved log c.new-calls.result c.serve_to_end-ended.new.calls _ opens c.new-calls.ensures c.serve_to_end-ended.ensures.served);
 }
 
