@@ -110,7 +110,7 @@ kept_topics (row ∷ rows) are named =
 pub can_keep : (core : Parts) (s : State) → Represents core s → CanBeKept s
 can_keep core s is = (is.kept, kept_topics s.topics is.state.topics is.names)
 
-pub ends_kept : {B : Type 0} (status inner : Status) (keep : KeepSeen) (s : State) (kept : Result (Unit {0}) DiskFault) → HasKept keep.tells s kept keep.old keep.new → StatusKept status inner kept
+pub ends_kept : (status inner : Status) (keep : KeepSeen) (s : State) (kept : Result (Unit {0}) DiskFault) → HasKept keep.tells s kept keep.old keep.new → StatusKept status inner kept
     → CountsDiskFault kept keep.failed keep.failed_then → CanBeKept s → KeepsOpen status keep s
 ends_kept status inner keep s (Ok done) has same cause formed = record {
   formed = formed;
@@ -216,8 +216,8 @@ bad_before format old opened name puts (inr it) = inr (record {
 })
 
 -- they were not loaded
-pub misread : {D A : Type 0} (status : Status) (seen : Seen D) (keep : KeepSeen) (fault : ConfigFault) (format : List ℕ) (opened : DiskState) → StatusTellsConfig status fault
-    → (keep.tells → PutsOnly format keep.old opened) → (keep.tells → OnBadText {A = A} (Err fault) (IsBadText opened.reads)) → (seen.disk.tells → Rests (before seen) (behind seen)) → Misread status seen keep
+pub misread : {D : Type 0} (status : Status) (seen : Seen D) (keep : KeepSeen) (fault : ConfigFault) (format : List ℕ) (opened : DiskState) → StatusTellsConfig status fault
+    → (keep.tells → PutsOnly format keep.old opened) → (keep.tells → OnBadText {A = Unit {0}} (Err fault) (IsBadText opened.reads)) → (seen.disk.tells → Rests (before seen) (behind seen)) → Misread status seen keep
 misread status seen keep (BadText name) format opened (inl told) puts bad rests = record {
   why = inl (told.0, told.1, λ tells. subst (λ (n : List ℕ). IsBadText keep.old.reads n) (sym told.2) (bad_before format keep.old opened name.now (puts tells) (bad tells)));
   still = rests;
@@ -240,7 +240,7 @@ kept_from format status keep opened failed s same puts it = record {
 }
 
 -- a config that wasn't loaded has its cause
-pub config_causes : {A : Type 0} (status : Status) (fault : ConfigFault) (old new : AllFaults) → StatusTellsConfig status fault → CountsConfigFault {A = A} (Err fault) old.keep new.keep → Causes status old new
+pub config_causes : (status : Status) (fault : ConfigFault) (old new : AllFaults) → StatusTellsConfig status fault → CountsConfigFault {A = Unit {0}} (Err fault) old.keep new.keep → Causes status old new
 config_causes status (BadText name) old new (inl told) counts =
     quiet status 8 old new told.0 (omega arith) (λ e. omega (arith, e)) (λ e. omega (arith, e)) (λ e. omega (arith, e))
 config_causes status (BadText name) old new (inr seven) counts =

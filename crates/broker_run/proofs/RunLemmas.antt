@@ -348,12 +348,13 @@ survives setup log flushed opening acts reached old mid new leaves kept = record
   stores = kept.stores;
 }
 
+-- what is left of the kept files
+pub left_open : {D : Type 0} (it : Opened) (status : Status) (seen : Seen D) (setup : Setup) (saved : Saved) (keep : KeepSeen) → ServedOver it status seen keep → OpensLogWith setup saved it
+    → (s : State) × KeepsOpen status keep s
+left_open it status seen setup saved keep served opens = let ran = served.runs setup saved opens.records opens.opens in (ran.reached, ran.done.1)
+
 module _ {D : Type 0} (it : Opened) (status : Status) (seen : Seen D) (disk : D) (setup : Setup) (saved : Saved) (keep : KeepSeen) (kept : State → Type 0)
     (as_well : (reached : State) → KeepsOpen status keep reached → kept reached) (served : ServedOver it status (seen_open seen disk) keep) where
-  -- what is left of the kept files
-  pub left_open : OpensLogWith setup saved it → (s : State) × KeepsOpen status keep s
-  left_open opens = let ran = served.runs setup saved opens.records opens.opens in (ran.reached, ran.done.1)
-
   pub runs_some : OpensLogWith setup saved it → RunsFromSome setup saved served.ended served.last seen kept
   runs_some opens = record {
     log = opens.records;

@@ -1,4 +1,4 @@
-use Rattle.std.proofs.Common.{◌∙◌, inl, inr, ℕ, List, All, Option, Err, ap, sym, subst, refl}
+use Rattle.std.proofs.Common.{◌∙◌, inl, inr, ℕ, List, All, Option, Err, ap, sym, subst, refl, arith}
 use Rattle.mq_outside.specs.Files.{Files}
 use Rattle.broker_model.specs.State.{State}
 use Rattle.broker_model.specs.Tables.{OffsetRow, TopicRow}
@@ -7,7 +7,7 @@ use Rattle.config_store.specs.Configs.{HasConfig}
 use Rattle.config_store.specs.Texts.{IsKeptTopic, offsets_text_of, topics_text_of}
 use Rattle.config_store.specs.Faults.{CountsConfigFault}
 use Rattle.log_opening.specs.Opens.{saved_as}
-use Rattle.store_open.specs.Openings.{FORMAT, own_format}
+use Rattle.store_open.specs.Openings.{FORMAT, PutsOnly, own_format}
 use Rattle.mq_outside.proofs.Moments.{rests_start, rests_call}
 use Rattle.log_model.specs.Bases.{whole}
 use Rattle.log_model.proofs.OutsideLemmas.{outside_start, outside_same, outside_then}
@@ -83,11 +83,11 @@ returns-clause-fits g c = λ fits.
       failed_then = g.P.Keep.faults c.serve_log.new.keep;
     } in
     let own = own_format ((g.P.Keep.state c.args.keep.now).reads FORMAT) command.sizes in
-    let loaded = λ told. puts_still own _ _ _ (put told) (c.in-Ok-load_config.ensures.rests told) in
+    let loaded : keep.tells → PutsOnly own keep.old mid.old = λ told. puts_still own _ _ _ (put told) (c.in-Ok-load_config.ensures.rests told) in
     let kept = KeepsState own c.serve_log.result keep in
     let as_well = λ (s : State) (it : KeepsOpen c.serve_log.result mid s).
     kept_from own c.serve_log.result keep mid.old mid.failed s (c.in-Ok-load_config.ensures.cause ∙ c.in-Ok-open_format.ensures.keep_still) loaded it in
-    let left = left_open opened c.serve_log.result _ c.open_log_with.new.disk setup saved mid kept as_well served c.in-Ok-open_log_with.ensures.represents in
+    let left = left_open opened c.serve_log.result _ setup saved mid served c.in-Ok-open_log_with.ensures.represents in
     let some = runs_some opened c.serve_log.result _ c.open_log_with.new.disk setup saved mid kept as_well served c.in-Ok-open_log_with.ensures.represents in
     record {
       command = c.in-Ok.command;
