@@ -1,0 +1,29 @@
+//! Requests as bytes: sends to queue 0 of topic T, and a pull of it.
+
+use std::alloc::AllocError;
+
+const SEND: &[u8] =
+    b"{\"code\":10,\"extFields\":{\"bornTimestamp\":\"1000\",\"defaultTopic\":\"TBW102\",\"defaultTopicQueueNums\":\"4\",\"flag\":\"0\",\"producerGroup\":\"P\",\"queueId\":\"0\",\"sysFlag\":\"0\",\"topic\":\"T\"},\"flag\":0,\"language\":\"JAVA\",\"opaque\":7,\"serializeTypeCurrentRPC\":\"JSON\",\"version\":395}";
+
+const PULL: &[u8] =
+    b"{\"code\":11,\"opaque\":8,\"extFields\":{\"consumerGroup\":\"C\",\"topic\":\"T\",\"queueId\":\"0\",\"queueOffset\":\"0\",\"maxMsgNums\":\"32\",\"sysFlag\":\"0\"}}";
+
+// Appends a frame of this header and a body of so many bytes.
+fn put_frame(out: &mut Vec<u8>, header: &[u8], body: u32) -> Result<(), AllocError> {
+    let head = header.len().min(1 << 20) as u32;
+    let len = 4 + head + body.min(1 << 23);
+    out.extend_from_slice(&len.to_be_bytes())?;
+    out.extend_from_slice(&head.to_be_bytes())?;
+    out.extend_from_slice(header)?;
+    out.resize(out.len() + body as usize, b'x')
+}
+
+/// Appends a send with a body of so many bytes.
+pub(crate) fn put_send(out: &mut Vec<u8>, body: u32) -> Result<(), AllocError> {
+    put_frame(out, SEND, body)
+}
+
+/// Appends a pull from the first message on.
+pub(crate) fn put_pull(out: &mut Vec<u8>) -> Result<(), AllocError> {
+    put_frame(out, PULL, 0)
+}

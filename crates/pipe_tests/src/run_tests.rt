@@ -1,0 +1,136 @@
+//! Calls of `pipe` over devices in memory: sends, a pull of what was sent, and devices that fail.
+
+use crate::devices::{Ended, Failing, NOTHING, serve};
+use crate::frames::{put_pull, put_send};
+use std::alloc::{AllocError, Global};
+use std::test::Fail;
+
+/// How long the reply to a send that is served is.
+const SENT_LEN: usize = 191;
+
+/// How long the reply to a pull without records is, and a record with a body of two bytes.
+const PULLED_LEN: usize = 197;
+const RECORD_LEN: usize = 108;
+
+/// How often the disk is called while an empty store is opened.
+const OPENING: u64 = 6;
+
+// Three sends of two bytes.
+fn three_sends(alloc: Global) -> Result<Vec<u8>, AllocError> {
+    let mut bytes = Vec::new(alloc);
+    for _i in 0..3 {
+        put_send(&mut bytes, 2)?;
+    }
+    Ok(bytes)
+}
+
+// Two sends of two bytes, and a pull.
+fn two_sends_and_a_pull(alloc: Global) -> Result<Vec<u8>, AllocError> {
+    let mut bytes = Vec::new(alloc);
+    put_send(&mut bytes, 2)?;
+    put_send(&mut bytes, 2)?;
+    put_pull(&mut bytes)?;
+    Ok(bytes)
+}
+
+// Where the text ends that stands behind this place, or 0 where it doesn't.
+fn end_of(written: &[u8], from: usize, text: &[u8]) -> usize {
+    for at in from..written.len() {
+        if written[at..].starts_with(text) {
+            return at.saturating_add(text.len());
+        }
+    }
+    0
+}
+
+#[test]
+fn what_was_sent_is_pulled_by_the_same_call(rt: HostRuntime) -> Result<(), Fail> {
+    let mut written = Vec::new(rt.alloc());
+    let bytes = two_sends_and_a_pull(rt.alloc())?;
+    let ended = serve(rt.alloc(), bytes, &NOTHING, &mut written)?;
+    assert_eq!(rt; (ended.code, ended.log), (0, 2 * RECORD_LEN));
+    assert_eq!(rt; written.len(), 2 * SENT_LEN + PULLED_LEN + 2 * RECORD_LEN);
+    Ok(())
+}
+
+#[test]
+fn a_flush_that_fails_is_made_again_before_the_next_request(rt: HostRuntime) -> Result<(), Fail> {
+    let mut written = Vec::new(rt.alloc());
+    let bytes = two_sends_and_a_pull(rt.alloc())?;
+    let failing = Failing {
+        disk: (OPENING + 2, OPENING + 2),
+        ..NOTHING
+    };
+    let ended = serve(rt.alloc(), bytes, &failing, &mut written)?;
+    let first = end_of(&written, 0, b"\"remark\":\"flush 1\"");
+    let second = end_of(&written, first, b"\"code\":0,");
+    let both = end_of(&written, second, b"\"nextBeginOffset\":\"2\"");
+    assert_eq!(rt; (ended.code, ended.log), (0, 2 * RECORD_LEN));
+    assert!(rt; first > 0 && second > 0 && both > 0);
+    Ok(())
+}
+
+#[test]
+fn each_call_of_the_disk_that_fails_alone_ends_the_opening_or_is_told(
+    rt: HostRuntime,
+) -> Result<(), Fail> {
+    for call in 1..OPENING + 8 {
+        let mut written = Vec::new(rt.alloc());
+        let bytes = three_sends(rt.alloc())?;
+        let failing = Failing {
+            disk: (call, call),
+            ..NOTHING
+        };
+        let ended = serve(rt.alloc(), bytes, &failing, &mut written)?;
+        let is_told = end_of(&written, 0, b"\"remark\":\"flush 1\"") > 0;
+        if call <= OPENING {
+            assert_eq!(rt; (ended.code, written.len(), ended.log), (5, 0, 0), "{call}");
+        } else {
+            assert_eq!(rt; (ended.code, is_told, ended.log), (0, call <= OPENING + 6, 3 * RECORD_LEN), "{call}");
+        }
+    }
+    Ok(())
+}
+
+#[test]
+fn each_other_device_that_fails_ends_the_call_by_the_table(rt: HostRuntime) -> Result<(), Fail> {
+    // Which device's call fails, the status, the device that it names, how many bytes were written, and how many records stand.
+    let rows = [
+        (Failing { source: (1, 1), ..NOTHING }, 3, "", 0, 0),
+        (Failing { source: (2, 2), ..NOTHING }, 3, "", 3 * SENT_LEN, 3),
+        (Failing { sink: (1, 1), ..NOTHING }, 4, "", 0, 1),
+        (Failing { sink: (3, 3), ..NOTHING }, 4, "", 2 * SENT_LEN, 3),
+        (Failing { keep: (1, 1), ..NOTHING }, 10, "keep", 0, 0),
+        (Failing { keep: (2, 2), ..NOTHING }, 10, "keep", 0, 0),
+        (Failing { clock: (1, 1), ..NOTHING }, 10, "clock", 0, 0),
+        (Failing { clock: (3, 3), ..NOTHING }, 10, "clock", 2 * SENT_LEN, 2),
+    ];
+    for (failing, code, device, len, records) in rows {
+        let mut written = Vec::new(rt.alloc());
+        let bytes = three_sends(rt.alloc())?;
+        let ended = serve(rt.alloc(), bytes, &failing, &mut written)?;
+        let log = records * RECORD_LEN;
+        assert_eq!(rt; (ended, written.len()), (Ended { code, device, log }, len));
+    }
+    Ok(())
+}
+
+#[test]
+fn where_each_write_fails_each_send_is_told_the_count_and_the_last_flush_the_status(
+    rt: HostRuntime,
+) -> Result<(), Fail> {
+    let mut written = Vec::new(rt.alloc());
+    let bytes = three_sends(rt.alloc())?;
+    let failing = Failing {
+        disk: (OPENING + 1, OPENING + 100),
+        ..NOTHING
+    };
+    let ended = serve(rt.alloc(), bytes, &failing, &mut written)?;
+    // A turn behind each send, and one before each but the first.
+    let first = end_of(&written, 0, b"\"remark\":\"flush 1\"");
+    let second = end_of(&written, first, b"\"remark\":\"flush 3\"");
+    let third = end_of(&written, second, b"\"remark\":\"flush 5\"");
+    assert!(rt; first > 0 && second > 0 && third > 0);
+    assert_eq!(rt; (ended.code, ended.log), (5, 0));
+    Ok(())
+}
