@@ -1,5 +1,5 @@
 -- The opening over a log is one, and the tables of worked states are computed.
-use Rattle.std.proofs.Common.{◌≡◌, refl, sym, ap, subst, arith, ℕ, zero, suc, ◌+◌, ◌^◌, ◌<◌, List, [], ◌∷◌, length, take, slice_get, Bool, true, pos, Some, None, FitsSigned, w32}
+use Rattle.std.proofs.Common.{◌≡◌, refl, subst, arith, ℕ, zero, suc, ◌<◌, List, [], ◌∷◌, length, take, slice_get, true, pos, Some, FitsSigned, w32}
 use Rattle.std.specs.Prelude.{codes}
 use Rattle.std.specs.List.{AllByRecursion}
 use Rattle.std.specs.Str.{chars, is_utf8}
@@ -15,7 +15,7 @@ use Rattle.record_codec.specs.Layout.{is_entry, size, IsRecord}
 use Rattle.record_codec.specs.LaxProps.{read_props, pieces}
 use Rattle.record_codec.specs.Props.{pair_in, until, written}
 use Rattle.log_model.specs.Admissible.{IsAdmissible}
-use Rattle.log_model.specs.Bases.{Geometry, geometry, no_base}
+use Rattle.log_model.specs.Bases.{geometry, no_base}
 use Rattle.log_model.specs.Log.{Follows}
 use Rattle.log_model.specs.Numbered.{IsLawful, count_of}
 use Rattle.log_model.specs.Transactions.{Committed}

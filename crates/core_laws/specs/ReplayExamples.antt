@@ -1,5 +1,5 @@
 -- An opening over a log: `hi` with the key `Aa` stands in it.
-use Rattle.std.specs.Prelude.{ℕ, ◌++◌, List, [], ◌∷◌, codes}
+use Rattle.std.specs.Prelude.{ℕ, ◌++◌, [], ◌∷◌, codes}
 use Rattle.record_codec.specs.Entry.{Entry}
 use Rattle.log_model.specs.Bases.{no_base}
 use Rattle.log_model.specs.Numbered.{Log, next_record}
