@@ -1,5 +1,5 @@
 -- Which status has which cause.
-use Rattle.std.proofs.Common.{◌≡◌, ◌≢◌, ◌⊎◌, ⊎_elim, inl, inr, refl, codes, ◌∙◌, ℕ, ◌≤◌, List, [], ◌∷◌, Option, Some, None, Result, Ok, Err, ap, sym, subst, arith}
+use Rattle.std.proofs.Common.{◌≡◌, ◌≢◌, ◌⊎◌, ⊎_elim, inl, inr, refl, codes, ◌∙◌, ℕ, ◌≤◌, List, Option, Some, None, Result, Ok, Err, sym, subst, arith}
 use Rattle.mq_outside.specs.Counts.{Rises}
 use Rattle.log_recovery.specs.Recovered.{OnDamage, CountsRecoverFault}
 use Rattle.log_recovery.specs.declared.fault.RecoverFault.{RecoverFault}

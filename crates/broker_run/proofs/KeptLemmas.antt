@@ -1,7 +1,7 @@
 -- What a run leaves of the kept files, and which status tells it.
-use Rattle.std.proofs.Common.{◌≡◌, ◌≢◌, ◌⊎◌, ⊎_elim, inl, inr, refl, ◌∙◌, sym, ap, subst, arith, codes, ℕ, ◌<◌, ◌≤◌, List, [], ◌∷◌, All, Option, Some, None, Result, Ok, Err}
+use Rattle.std.proofs.Common.{◌≡◌, ◌≢◌, ◌⊎◌, inl, inr, ◌∙◌, sym, ap, subst, arith, ℕ, ◌<◌, List, [], ◌∷◌, All, Option, Some, None, Result, Ok, Err}
 use Rattle.mq_outside.specs.Counts.{Rises, CountsDiskFault}
-use Rattle.mq_outside.specs.Disk.{DiskState, IsDurable, Rests, Throughout}
+use Rattle.mq_outside.specs.Disk.{DiskState, Rests}
 use Rattle.mq_outside.specs.Files.{Files, OldOrNew, At}
 use Rattle.mq_outside.proofs.Moments.{at_end, weaker, chained, throughout_rests}
 use Rattle.mq_outside.specs.declared.faults.DiskFault.{DiskFault}

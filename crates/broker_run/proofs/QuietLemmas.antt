@@ -1,14 +1,11 @@
 -- A call in which nothing fails ends well.
-use Rattle.std.proofs.Common.{◌≡◌, ◌≢◌, ◌⊎◌, ⊎_elim, inl, inr, ◌∙◌, ℕ, ◌<◌, ◌++◌, List, [], Option, Some, None, Result, Ok, Err, length, codes, refl, sym, ap, subst, arith}
+use Rattle.std.proofs.Common.{◌≡◌, ◌⊎◌, ⊎_elim, inl, inr, ◌∙◌, ℕ, ◌<◌, List, [], Option, Some, None, Result, Ok, Err, length, codes, refl, sym, subst, arith}
 use Rattle.std.proofs.lemmas.List.{append_cancel_left}
 use Rattle.mq_outside.specs.Counts.{Rises}
-use Rattle.remoting_frame.specs.Frames.{next_of}
-use Rattle.remoting_frame.specs.Streams.{BeginsWith, End, nothing, part, faulty, IsCut}
+use Rattle.remoting_frame.specs.Streams.{BeginsWith, nothing, part, faulty, IsCut}
 use Rattle.remoting_frame.specs.declared.frame.Frame.{Frame}
 use Rattle.remoting_frame.specs.declared.fault.FrameFault.{FrameFault}
 use Rattle.remoting_frame.proofs.StreamLaws.{one_reading}
-use Rattle.log_model.specs.Bases.{whole}
-use Rattle.log_model.specs.Store.{IsDamagedAt}
 use Rattle.log_recovery.specs.declared.fault.RecoverFault.{RecoverFault}
 use Rattle.log_recovery.specs.declared.fault.RecoverFault.TheVariants.{Damaged, Failed as DiskFailed, Memory as NoMemory}
 use Rattle.store_open.specs.Words.{IsCommand}
@@ -17,7 +14,7 @@ use Rattle.store_open.specs.declared.status.Status.{Status}
 use Rattle.store_open.specs.declared.words.Command.{Command}
 use Rattle.request_acts.specs.declared.broken.Broken.{Broken}
 use Rattle.request_acts.specs.declared.broken.Broken.TheVariants as broken
-use Rattle.request_stream.specs.Piping.{FaultAt, EndsInside, IsBadAt, EndsBy, Piped, stream_limit}
+use Rattle.request_stream.specs.Piping.{FaultAt, EndsInside, IsBadAt, EndsBy, stream_limit}
 use Rattle.request_stream.specs.declared.stop.Halt.{Halt}
 use Rattle.request_stream.specs.declared.stop.Halt.TheVariants.{BadFrame, Read, Stopped}
 use Rattle.request_stream.specs.declared.stop.Stop.TheVariants as stops

@@ -1,7 +1,6 @@
 -- A run of `pipe` from a log that is open, and what every crash leaves of it.
 use Rattle.std.proofs.Math.Seq.{take-length}
-use Rattle.std.proofs.Common.{◌≡◌, ◌⊎◌, ⊎_elim, inl, inr, slice_get, ◌∙◌, ℕ, ◌+◌, ◌-◌, ◌≤◌, ◌++◌, List, [], ◌∷◌, Option, Some, None, Result, Ok, Err, length, take, refl, ap, sym, subst, arith, length-take}
-use Rattle.mq_outside.specs.Counts.{Rises}
+use Rattle.std.proofs.Common.{◌≡◌, ⊎_elim, inl, slice_get, ◌∙◌, ℕ, ◌+◌, ◌≤◌, ◌++◌, List, [], ◌∷◌, Option, Some, Result, Ok, Err, length, take, refl, ap, sym, subst, arith, length-take}
 use Rattle.mq_outside.specs.Readings.{Giving}
 use Rattle.mq_outside.specs.Files.{Files, Same}
 use Rattle.mq_outside.specs.Disk.{DiskState, EachImage, Moves, Rests, Throughout}
@@ -9,14 +8,13 @@ use Rattle.mq_outside.proofs.Moments.{each_same, at_start, at_end, goes_on, weak
 use Rattle.record_codec.specs.Entry.{Entry}
 use Rattle.log_model.specs.Bases.{Geometry, geometry, whole}
 use Rattle.log_model.specs.Log.{IsWellFormed}
-use Rattle.log_model.specs.Numbered.{Log}
 use Rattle.log_model.specs.Segments.{IsLogFile, Shape, opened, used, shape_of, AreFilesOf, AreSegmentFiles}
 use Rattle.log_model.proofs.Lists.{get_take}
 use Rattle.log_model.proofs.Steps.{stands_more, stands_exact}
 use Rattle.log_model.specs.Store.{Keeps as RecoveryKeeps, IsDamagedAt, IsHonest, StoresLog}
 use Rattle.log_model.specs.Stored.{Stored, HasRecords, HasFirst, FlushTurn, KeepsAtLeast, stored, turned_by, turned_in}
 use Rattle.log_model.proofs.OutsideLemmas.{stays_start, stays_same}
-use Rattle.log_model.proofs.StoredLemmas.{first_keeps, keeps_then, has_less}
+use Rattle.log_model.proofs.StoredLemmas.{first_keeps, keeps_then}
 use Rattle.segment_files.specs.Turn.{IsReady, IsPlaced, NextOpens, Growing, growing}
 use Rattle.segment_files.proofs.Ready.{ready_as, ready_first_records}
 use Rattle.remoting_frame.specs.declared.frame.Frame.{Frame}
@@ -32,20 +30,20 @@ use Rattle.log_opening.specs.Opens.{OpensWith, OpensKeptWith, OpensOursWith, Ope
 use Rattle.log_opening.specs.declared.opening.Opened.{Opened}
 use Rattle.request_acts.specs.Acts.{Act, HasUnwritten, Acts, Acted, DiskView, Place, place_of, growing_at, turns_of, steps_of}
 use Rattle.request_acts.specs.Turning.{AreAllTurns}
-use Rattle.request_stream.specs.Serving.{Sides, Point, point_of, sides_of, acts_of, Begun, Nothing, Asked, begun_acts, Breaks}
-use Rattle.request_stream.specs.Piping.{RanBy, acts_in, SourceSeen, Piped}
+use Rattle.request_stream.specs.Serving.{Sides, Point, point_of, acts_of, Begun, Nothing, Asked, begun_acts, Breaks}
+use Rattle.request_stream.specs.Piping.{RanBy, acts_in}
 use Rattle.log_recovery.specs.Recovered.{OnDamage, StaysFlushed}
 use Rattle.log_recovery.specs.declared.fault.RecoverFault.{RecoverFault}
 use Rattle.log_recovery.specs.declared.fault.RecoverFault.TheVariants.{Damaged, Failed as DiskFailed, Memory as NoMemory}
 use Rattle.store_open.specs.Openings.{IsOpened}
 use Rattle.broker_run.specs.Closing.{ServesToEnd, ReadsPlaced, FlushesPlaced}
 use Rattle.flush_story.specs.Story.{Reaches}
-use Rattle.flush_story.specs.Keeping.{IsPlacedFor, flushed_in, geometry_of, log_in, IsOpenFor, AreInOrder, AreExact, Keeps}
+use Rattle.flush_story.specs.Keeping.{IsPlacedFor, flushed_in, geometry_of, log_in, IsOpenFor, AreExact, Keeps}
 use Rattle.flush_story.proofs.Keeps.{kept_as}
 use Rattle.flush_story.proofs.Turns.{order_on, exact_later, turned_most}
 use Rattle.kept_log.specs.Leads.{alone}
 use Rattle.kept_log.proofs.ActStory.{acts_lead, acts_written}
-use Rattle.broker_run.specs.Promise.{AreMoves, RunsTo, opened_over, Seen, before, behind, sides_for, Leaves, Survives, RunFrom, BeginsWithKept, KeepsOn, RunsFromSome, KeepsAfter, LeavesDisk, KeepsOpen, StatusTellsFault, ServedOver, Unrecovered, KeepSeen}
+use Rattle.broker_run.specs.Promise.{AreMoves, opened_over, Seen, before, behind, sides_for, Leaves, Survives, RunFrom, BeginsWithKept, KeepsOn, RunsFromSome, KeepsAfter, LeavesDisk, KeepsOpen, StatusTellsFault, ServedOver, Unrecovered, KeepSeen}
 use Rattle.broker_run.proofs.CauseLemmas.{damage_told}
 use Rattle.request_stream.specs.declared.stop.Halt.{Halt}
 use Rattle.request_stream.specs.declared.stop.Halt.TheVariants.{BadFrame, Read, Stopped}

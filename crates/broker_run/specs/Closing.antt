@@ -1,8 +1,8 @@
 -- A source that was served to its end, with the last flush turns behind it.
-use Rattle.std.specs.Prelude.{◌≡◌, ◌⊎◌, ℕ, ◌≤◌, List, Option, Some, None, Result, Ok, Err}
+use Rattle.std.specs.Prelude.{ℕ, ◌≤◌, List, Option, Some, None, Result, Ok, Err}
 use Rattle.mq_outside.specs.Counts.{Rises}
 use Rattle.mq_outside.specs.Files.{Same}
-use Rattle.mq_outside.specs.Disk.{DiskState, Moves}
+use Rattle.mq_outside.specs.Disk.{Moves}
 use Rattle.request_acts.specs.Acts.{Acted, Place}
 use Rattle.request_acts.specs.Turning.{AreAllTurns}
 use Rattle.request_stream.specs.Serving.{Sides, Point, point_of}

@@ -1,6 +1,6 @@
 -- What one call of `run_pipe` did, by the status that it answered.
 use Rattle.std.specs.Prelude.{◌≡◌, ◌≢◌, ◌⊎◌, ℕ, ◌+◌, ◌<◌, ◌≤◌, ◌++◌, List, [], ◌∷◌, codes, length, take}
-use Rattle.std.specs.Prelude.{Bool, true, All, Option, Some, None, Result, Ok, Err}
+use Rattle.std.specs.Prelude.{All, Option, Some, None, Result, Ok, Err}
 use Rattle.mq_outside.specs.Counts.{Rises}
 use Rattle.mq_outside.specs.Files.{Files, OldOrNew}
 use Rattle.mq_outside.specs.Disk.{DiskState, EachImage, IsCrashImage, Rests, Throughout}

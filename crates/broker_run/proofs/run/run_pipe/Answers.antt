@@ -1,4 +1,4 @@
-use Rattle.std.proofs.Common.{◌∙◌, inl, inr, ℕ, List, All, Option, Err, ap, sym, subst, refl, arith}
+use Rattle.std.proofs.Common.{◌∙◌, inl, inr, ℕ, List, All, Err, ap, sym, subst, refl, arith}
 use Rattle.mq_outside.specs.Files.{Files}
 use Rattle.broker_model.specs.State.{State}
 use Rattle.broker_model.specs.Tables.{OffsetRow, TopicRow}

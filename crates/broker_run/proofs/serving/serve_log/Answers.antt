@@ -1,4 +1,3 @@
-use Rattle.broker_core.specs.declared.alone.Alone.{Alone}
 use Rattle.broker_core.specs.declared.parts.Parts.{Parts}
 use Rattle.broker_core.specs.Represents.{Represents}
 use Rattle.std.proofs.Common.{sym, subst}
