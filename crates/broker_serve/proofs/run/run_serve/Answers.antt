@@ -1,10 +1,8 @@
 use Rattle.std.proofs.Common.{◌∙◌, [], ap, sym, subst, ℕ, List}
 use Rattle.std.specs.Prelude.{IfNone}
-use Rattle.mq_outside.specs.Disk.{Moves}
-use Rattle.mq_outside.specs.Files.{Same}
 use Rattle.log_model.specs.Stored.{StaysOutside}
 use Rattle.log_model.proofs.OutsideLemmas.{outside_start, outside_same, outside_then}
-use Rattle.store_open.specs.Openings.{FORMAT, IsOpened, PutsOnly}
+use Rattle.store_open.specs.Openings.{FORMAT, PutsOnly, own_format}
 use Rattle.store_open.proofs.SizeLemmas.{serve_asks_sizes}
 use Rattle.broker_serve.proofs.Serving.{puts_no_format, run_served, run_unserved, store_others}
 use Rattle.broker_serve.proofs.run.run_serve.Goals as goal
@@ -26,8 +24,9 @@ pub returns-in-Err-open_format-clause-unserved : goal.returns-in-Err-open_format
 returns-in-Err-open_format-clause-unserved g c = λ told.
     let before = c.args.store.keep in
     let ended = c.unserved-in-Err-open_format in
+    let format = own_format ((g.E.Keep.state before).reads FORMAT) c.in-Ok.command.sizes in
     subst (λ o. IfNone o ((text : List ℕ) × PutsOnly text (g.E.Keep.state before) (g.E.Keep.state ended.result.store.keep))) (sym ended.ensures.core)
-    (_, subst (λ k. PutsOnly _ (g.E.Keep.state before) (g.E.Keep.state k)) (sym (ap (λ s. s.keep) ended.ensures.store)) (c.open_format.ensures.puts told))
+    (format, subst (λ k. PutsOnly format (g.E.Keep.state before) (g.E.Keep.state k)) (sym (ap (λ s. s.keep) ended.ensures.store)) (c.open_format.ensures.puts told))
 
 pub returns-in-Err-open_format-clause-outside : goal.returns-in-Err-open_format-clause-outside
 returns-in-Err-open_format-clause-outside g c = λ tells.
