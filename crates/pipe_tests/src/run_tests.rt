@@ -10,6 +10,7 @@ const SENT_LEN: usize = 191;
 
 /// How long the reply to a pull without records is, and a record with a body of two bytes.
 const PULLED_LEN: usize = 197;
+
 const RECORD_LEN: usize = 108;
 
 /// How often the disk is called while an empty store is opened.
@@ -86,7 +87,11 @@ fn each_call_of_the_disk_that_fails_alone_ends_the_opening_or_is_told(
         if call <= OPENING {
             assert_eq!(rt; (ended.code, written.len(), ended.log), (5, 0, 0), "{call}");
         } else {
-            assert_eq!(rt; (ended.code, is_told, ended.log), (0, call <= OPENING + 6, 3 * RECORD_LEN), "{call}");
+            assert_eq!(rt;
+                (ended.code, is_told, ended.log),
+                (0, call <= OPENING + 6, 3 * RECORD_LEN),
+                "{call}"
+            );
         }
     }
     Ok(())
@@ -96,14 +101,86 @@ fn each_call_of_the_disk_that_fails_alone_ends_the_opening_or_is_told(
 fn each_other_device_that_fails_ends_the_call_by_the_table(rt: HostRuntime) -> Result<(), Fail> {
     // Which device's call fails, the status, the device that it names, how many bytes were written, and how many records stand.
     let rows = [
-        (Failing { source: (1, 1), ..NOTHING }, 3, "", 0, 0),
-        (Failing { source: (2, 2), ..NOTHING }, 3, "", 3 * SENT_LEN, 3),
-        (Failing { sink: (1, 1), ..NOTHING }, 4, "", 0, 1),
-        (Failing { sink: (3, 3), ..NOTHING }, 4, "", 2 * SENT_LEN, 3),
-        (Failing { keep: (1, 1), ..NOTHING }, 10, "keep", 0, 0),
-        (Failing { keep: (2, 2), ..NOTHING }, 10, "keep", 0, 0),
-        (Failing { clock: (1, 1), ..NOTHING }, 10, "clock", 0, 0),
-        (Failing { clock: (3, 3), ..NOTHING }, 10, "clock", 2 * SENT_LEN, 2),
+        (
+            Failing {
+                source: (1, 1),
+                ..NOTHING
+            },
+            3,
+            "",
+            0,
+            0,
+        ),
+        (
+            Failing {
+                source: (2, 2),
+                ..NOTHING
+            },
+            3,
+            "",
+            3 * SENT_LEN,
+            3,
+        ),
+        (
+            Failing {
+                sink: (1, 1),
+                ..NOTHING
+            },
+            4,
+            "",
+            0,
+            1,
+        ),
+        (
+            Failing {
+                sink: (3, 3),
+                ..NOTHING
+            },
+            4,
+            "",
+            2 * SENT_LEN,
+            3,
+        ),
+        (
+            Failing {
+                keep: (1, 1),
+                ..NOTHING
+            },
+            10,
+            "keep",
+            0,
+            0,
+        ),
+        (
+            Failing {
+                keep: (2, 2),
+                ..NOTHING
+            },
+            10,
+            "keep",
+            0,
+            0,
+        ),
+        (
+            Failing {
+                clock: (1, 1),
+                ..NOTHING
+            },
+            10,
+            "clock",
+            0,
+            0,
+        ),
+        (
+            Failing {
+                clock: (3, 3),
+                ..NOTHING
+            },
+            10,
+            "clock",
+            2 * SENT_LEN,
+            2,
+        ),
     ];
     for (failing, code, device, len, records) in rows {
         let mut written = Vec::new(rt.alloc());
