@@ -15,10 +15,10 @@ pub returns-in-Err-clause-outside : goal.returns-in-Err-clause-outside
 returns-in-Err-clause-outside g c = λ tells.
     subst (λ d. StaysOutside (g.D.Disk.state c.args.store.disk) (g.D.Disk.state d)) (sym (ap (λ s. s.disk) c.unserved.ensures.store)) (c.open_log_with.ensures.outside tells)
 
-pub returns-clause-served : goal.returns-in-Ok-clause-served
+pub returns-clause-served : goal.returns-clause-served
 returns-clause-served g c =
     log_served_with _ _ _ _ _ _ _ c.as_slice-offsets.result.now _ c.as_slice-topics.result.now _ _ _ c.in-Ok.opened
     c.as_slice-offsets.ensures.value c.as_slice-topics.ensures.value c.in-Ok.ensures.represents c.in-Ok.ensures.kept c.serve_log.ensures.ends
 
-pub returns-clause-outside : goal.returns-in-Ok-clause-outside
+pub returns-clause-outside : goal.returns-clause-outside
 returns-clause-outside g c = λ tells. outside_then (c.in-Ok.ensures.outside tells) (c.serve_log.ensures.outside tells)
