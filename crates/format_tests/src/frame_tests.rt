@@ -48,7 +48,7 @@ fn said(alloc: Global, form: Form, bytes: &[u8]) -> Result<Vec<u8>, AllocError> 
 fn json_headers_say_what_their_texts_do_and_others_are_refused(
     rt: HostRuntime,
 ) -> Result<(), Fail> {
-    const ROWS: &[(&[u8], &[u8])] = &[
+    let rows: [(&[u8], &[u8]); 9] = [
         (REPLY, REPLY),
         (
             b"{\"code\":null,\"opaque\":7,\"code\":-2147483648}",
@@ -62,8 +62,7 @@ fn json_headers_say_what_their_texts_do_and_others_are_refused(
         (b"[1]", b""),
         (b"", b""),
     ];
-    for row in ROWS {
-        let (text, says) = *row;
+    for (text, says) in rows {
         assert!(rt;
             said(rt.alloc(), Form::Json, text)?.as_slice() == says,
             "at {text:?}"
@@ -74,7 +73,7 @@ fn json_headers_say_what_their_texts_do_and_others_are_refused(
 
 #[test]
 fn binary_pairs_are_read_whole_or_refused(rt: HostRuntime) -> Result<(), Fail> {
-    const ROWS: &[(&[u8], &[u8])] = &[
+    let rows: [(&[u8], &[u8]); 7] = [
         (
             b"\0\0\0\x10\0\x01a\0\0\0\x011\0\x01a\0\0\0\x012",
             b"{\"code\":0,\"extFields\":{\"a\":\"2\"},\"flag\":0,\"language\":\"OTHER\",\"opaque\":0,\"serializeTypeCurrentRPC\":\"JSON\",\"version\":0}",
@@ -87,8 +86,7 @@ fn binary_pairs_are_read_whole_or_refused(rt: HostRuntime) -> Result<(), Fail> {
         (b"\0\0\0\x05\0\x01a\0\0", b""),
     ];
     // Behind a code, a version, an opaque, a flag and a remark that are nothing.
-    for row in ROWS {
-        let (pairs, says) = *row;
+    for (pairs, says) in rows {
         let mut header = Vec::from_slice(rt.alloc(), &[0; 17])?;
         header.extend_from_slice(pairs)?;
         assert!(rt;

@@ -104,7 +104,7 @@ fn expect_text<R: Abort + AllocGlobal>(
 
 #[test]
 fn both_codes_of_a_send_are_read(rt: HostRuntime) -> Result<(), Fail> {
-    const ROWS: &[(&[u8], &[u8], &str)] = &[
+    let rows: [(&[u8], &[u8], &str); 2] = [
         (
             br#"{"code":10,"opaque":1,"extFields":{"bornTimestamp":"4611686018427387903","defaultTopic":"TBW102","defaultTopicQueueNums":"4","flag":"-1","producerGroup":"P","queueId":"0","sysFlag":"2","topic":"T","properties":"A","reconsumeTimes":"3"}}"#,
             b"hi",
@@ -116,30 +116,30 @@ fn both_codes_of_a_send_are_read(rt: HostRuntime) -> Result<(), Fail> {
             "send",
         ),
     ];
-    for row in ROWS {
-        expect_text(&rt, row.0, row.1, row.2)?;
+    for (header, body, word) in rows {
+        expect_text(&rt, header, body, word)?;
     }
     Ok(())
 }
 
 #[test]
 fn a_pull_with_its_fields_and_defaults_and_a_query_are_read(rt: HostRuntime) -> Result<(), Fail> {
-    const ROWS: &[(&[u8], &str)] = &[
+    let rows: [(&[u8], &str); 2] = [
         (PULL, "pull 2147483647 -5 32 -1 0 *"),
         (
             br#"{"code":12,"opaque":1,"extFields":{"topic":"T","key":"k","maxNum":"32","beginTimestamp":"0","endTimestamp":"9000"}}"#,
             "query",
         ),
     ];
-    for row in ROWS {
-        expect_text(&rt, row.0, b"", row.1)?;
+    for (header, word) in rows {
+        expect_text(&rt, header, b"", word)?;
     }
     Ok(())
 }
 
 #[test]
 fn offsets_topics_and_times_are_read(rt: HostRuntime) -> Result<(), Fail> {
-    const ROWS: &[(&[u8], &str)] = &[
+    let rows: [(&[u8], &str); 4] = [
         (
             br#"{"code":14,"opaque":1,"extFields":{"consumerGroup":"G","topic":"T","queueId":"1"}}"#,
             "offset",
@@ -157,15 +157,15 @@ fn offsets_topics_and_times_are_read(rt: HostRuntime) -> Result<(), Fail> {
             "search",
         ),
     ];
-    for row in ROWS {
-        expect_text(&rt, row.0, b"", row.1)?;
+    for (header, word) in rows {
+        expect_text(&rt, header, b"", word)?;
     }
     Ok(())
 }
 
 #[test]
 fn ends_of_queues_and_places_are_read(rt: HostRuntime) -> Result<(), Fail> {
-    const ROWS: &[(&[u8], &str)] = &[
+    let rows: [(&[u8], &str); 3] = [
         (
             br#"{"code":30,"opaque":1,"extFields":{"topic":"T","queueId":"1"}}"#,
             "max",
@@ -179,15 +179,15 @@ fn ends_of_queues_and_places_are_read(rt: HostRuntime) -> Result<(), Fail> {
             "view",
         ),
     ];
-    for row in ROWS {
-        expect_text(&rt, row.0, b"", row.1)?;
+    for (header, word) in rows {
+        expect_text(&rt, header, b"", word)?;
     }
     Ok(())
 }
 
 #[test]
 fn clients_that_leave_and_verdicts_are_read(rt: HostRuntime) -> Result<(), Fail> {
-    const ROWS: &[(&[u8], &str)] = &[
+    let rows: [(&[u8], &str); 3] = [
         (
             br#"{"code":35,"opaque":1,"extFields":{"clientID":"c","consumerGroup":"G"}}"#,
             "leave",
@@ -201,15 +201,15 @@ fn clients_that_leave_and_verdicts_are_read(rt: HostRuntime) -> Result<(), Fail>
             "end",
         ),
     ];
-    for row in ROWS {
-        expect_text(&rt, row.0, b"", row.1)?;
+    for (header, word) in rows {
+        expect_text(&rt, header, b"", word)?;
     }
     Ok(())
 }
 
 #[test]
 fn heartbeats_and_locks_are_read(rt: HostRuntime) -> Result<(), Fail> {
-    const ROWS: &[(&[u8], &[u8], &str)] = &[
+    let rows: [(&[u8], &[u8], &str); 3] = [
         (
             br#"{"code":34,"opaque":1,"extFields":{}}"#,
             br#"{"clientID":"","clientID":"c","producerDataSet":[{"groupName":"P"}],"consumerDataSet":[{"groupName":"G","subscriptionDataSet":[{"topic":"T","subString":"*"}]},{"groupName":"H"}]}"#,
@@ -226,15 +226,15 @@ fn heartbeats_and_locks_are_read(rt: HostRuntime) -> Result<(), Fail> {
             "unlock",
         ),
     ];
-    for row in ROWS {
-        expect_text(&rt, row.0, row.1, row.2)?;
+    for (header, body, word) in rows {
+        expect_text(&rt, header, body, word)?;
     }
     Ok(())
 }
 
 #[test]
 fn an_unknown_code_and_absent_fields_are_told(rt: HostRuntime) -> Result<(), Fail> {
-    const ROWS: &[(&[u8], &str)] = &[
+    let rows: [(&[u8], &str); 3] = [
         (
             br#"{"code":999,"opaque":1,"extFields":{}}"#,
             "unsupported 999",
@@ -248,15 +248,15 @@ fn an_unknown_code_and_absent_fields_are_told(rt: HostRuntime) -> Result<(), Fai
             "missing flag",
         ),
     ];
-    for row in ROWS {
-        expect_text(&rt, row.0, b"", row.1)?;
+    for (header, fault) in rows {
+        expect_text(&rt, header, b"", fault)?;
     }
     Ok(())
 }
 
 #[test]
 fn numbers_past_their_ranges_are_told(rt: HostRuntime) -> Result<(), Fail> {
-    const ROWS: &[(&[u8], &str)] = &[
+    let rows: [(&[u8], &str); 4] = [
         (
             br#"{"code":30,"opaque":1,"extFields":{"topic":"T","queueId":"x"}}"#,
             "bad queueId",
@@ -274,15 +274,15 @@ fn numbers_past_their_ranges_are_told(rt: HostRuntime) -> Result<(), Fail> {
             "bad readQueueNums",
         ),
     ];
-    for row in ROWS {
-        expect_text(&rt, row.0, b"", row.1)?;
+    for (header, fault) in rows {
+        expect_text(&rt, header, b"", fault)?;
     }
     Ok(())
 }
 
 #[test]
 fn batches_verdicts_and_names_that_are_none_are_told(rt: HostRuntime) -> Result<(), Fail> {
-    const ROWS: &[(&[u8], &str)] = &[
+    let rows: [(&[u8], &str); 4] = [
         (
             br#"{"code":310,"opaque":1,"extFields":{"a":"P","b":"T","e":"0","f":"2","g":"7","h":"5","m":"true"}}"#,
             "bad m",
@@ -300,15 +300,15 @@ fn batches_verdicts_and_names_that_are_none_are_told(rt: HostRuntime) -> Result<
             "bad clientID",
         ),
     ];
-    for row in ROWS {
-        expect_text(&rt, row.0, b"", row.1)?;
+    for (header, fault) in rows {
+        expect_text(&rt, header, b"", fault)?;
     }
     Ok(())
 }
 
 #[test]
 fn bodies_of_other_forms_are_told(rt: HostRuntime) -> Result<(), Fail> {
-    const ROWS: &[(&[u8], &[u8])] = &[
+    let rows: [(&[u8], &[u8]); 6] = [
         (br#"{"code":34,"opaque":1,"extFields":{}}"#, b"{"),
         (
             br#"{"code":34,"opaque":1,"extFields":{}}"#,
@@ -331,8 +331,8 @@ fn bodies_of_other_forms_are_told(rt: HostRuntime) -> Result<(), Fail> {
             br#"{"consumerGroup":"G","clientId":"c","mqSet":[{"topic":"T","brokerName":"b","queueId":1.0}]}"#,
         ),
     ];
-    for row in ROWS {
-        expect_text(&rt, row.0, row.1, "bad body")?;
+    for (header, body) in rows {
+        expect_text(&rt, header, body, "bad body")?;
     }
     Ok(())
 }

@@ -132,7 +132,7 @@ fn the_first_word_of_pipe_that_does_not_fit_is_told(rt: HostRuntime) -> Result<(
         read_words(&["pipe", "--segment", "4096", "--segment", "4096"]),
         Err(3)
     );
-    const ROWS: &[(&str, &str)] = &[
+    let rows = [
         ("--flush", "often"),
         ("--segment", ""),
         ("--segment", "4095"),
@@ -146,8 +146,7 @@ fn the_first_word_of_pipe_that_does_not_fit_is_told(rt: HostRuntime) -> Result<(
         ("--entries", "20000001"),
         ("--host", "1.2.3.4:0"),
     ];
-    for row in ROWS {
-        let (option, value) = *row;
+    for (option, value) in rows {
         assert_eq!(rt;
             read_words(&["pipe", option, value]),
             Err(2),
@@ -214,7 +213,7 @@ fn the_first_word_of_serve_that_does_not_fit_is_told(rt: HostRuntime) -> Result<
         read_serve_words(&["serve", "--links", "1", "--host"]),
         Err(4)
     );
-    const ROWS: &[(&str, &str)] = &[
+    let rows = [
         ("--host", "1.2.3.4"),
         ("--host", "1.2.3:80"),
         ("--host", "1.2.3.4.5:80"),
@@ -228,8 +227,7 @@ fn the_first_word_of_serve_that_does_not_fit_is_told(rt: HostRuntime) -> Result<
         ("--connections", "0"),
         ("--connections", "4097"),
     ];
-    for row in ROWS {
-        let (option, value) = *row;
+    for (option, value) in rows {
         assert_eq!(rt;
             read_serve_words(&["serve", option, value]),
             Err(2),
