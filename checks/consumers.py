@@ -6,6 +6,7 @@ with texts that are made here.
 """
 import os
 import random
+import resource
 import signal
 import subprocess
 import time
@@ -14,6 +15,7 @@ from wire import PROGRAM, all_replies, check, commit, frame, pull, pulled, recor
 
 OFFSETS = "store/config/consumerOffset.json"
 TOPICS = "store/config/topics.json"
+LOG = "store/commitlog/00000000000000000000"
 
 
 def answers(data, folder, words=("pipe",)):
@@ -77,6 +79,48 @@ def _(folder):
         with open(os.path.join(folder, name), "wb") as file:
             file.write(good)
     assert answers(stored(0), folder)[0]["extFields"]["offset"] == "1"
+
+
+@check("an offset past the end of a log that lost its last record is cut to it when it is loaded")
+def _(folder):
+    answers(send(0, b"a") + send(1, b"b") + commit(2, 2) + commit(3, 1, group="H"), folder)
+    path = os.path.join(folder, LOG)
+    os.truncate(path, os.path.getsize(path) - 1)
+    told = answers(stored(0) + stored(1, group="H"), folder)
+    assert [r["extFields"]["offset"] for r in told] == ["1", "1"]
+    assert text_of(folder, OFFSETS) == b'{"offsetTable":{"T@G":{"0":1},"T@H":{"0":1}}}'
+
+
+@check("groups and topics of every legal name are loaded again")
+def _(folder):
+    groups = ("a@b", "@", "\"\\/", "\u00e4\u4f60\U0001f600", "x" * 120, "%7F \x7f\t")
+    topics = ("T", "A-b_c|%9", "t" * 127)
+    pairs = [(group, topic) for group in groups for topic in topics]
+    answers(b"".join(send(k, b"a", topic=topic) for k, topic in enumerate(topics))
+            + b"".join(commit(k, 1, group=group, topic=topic) for k, (group, topic) in enumerate(pairs)), folder)
+    told = answers(b"".join(stored(k, group=group, topic=topic) for k, (group, topic) in enumerate(pairs)), folder)
+    assert [(r["code"], r["extFields"].get("offset")) for r in told] == [(0, "1")] * len(pairs), told
+
+
+@check("a run whose stream breaks off inside a frame leaves its offsets too")
+def _(folder):
+    assert run(send(0, b"a") + commit(1, 1) + b"\0\0\0", folder)[0] == 2
+    assert answers(stored(0), folder)[0]["extFields"]["offset"] == "1"
+
+
+def small_files():
+    signal.signal(signal.SIGXFSZ, signal.SIG_IGN)
+    resource.setrlimit(resource.RLIMIT_FSIZE, (4096, resource.RLIM_INFINITY))
+
+
+@check("a kept file that can't be replaced is status 10 once all is flushed, and stays as it was")
+def _(folder):
+    answers(send(0, b"a") + commit(1, 1), folder)
+    kept = text_of(folder, OFFSETS)
+    data = b"".join(commit(k, 1, group="%0100d" % k) for k in range(40))
+    done = subprocess.run([PROGRAM, "pipe"], input=data, cwd=folder, stdout=subprocess.PIPE, preexec_fn=small_files, timeout=60)
+    assert done.returncode == 10 and [r["code"] for r in all_replies(done.stdout)] == [0] * 40, done.returncode
+    assert text_of(folder, OFFSETS) == kept and answers(stored(0), folder)[0]["extFields"]["offset"] == "1"
 
 
 @check("fifty killed runs leave the offset of the last run that ended, and one that ends keeps its own")
