@@ -34,5 +34,6 @@ pub trait Calls {
     ghost key_stays: { (x : Self) (event : AnEvent) (said : Option ASaid) (y : Self) → makes x event said y → has_key x → has_key y };
 
     // Who has the key sees what is shown change by its own steps alone.
-    ghost shown_moves: { (x : Self) (event : AnEvent) (said : Option ASaid) (y : Self) → makes x event said y → has_key x → shown y ≡ moved (shown x) event said };
+    ghost shown_moves: { (x : Self) (event : AnEvent) (said : Option ASaid) (y : Self) → makes x event said y → has_key x
+        → shown y ≡ moved (shown x) event said };
 }

@@ -3,7 +3,8 @@ use Rattle.std.specs.Prelude.{◌≡◌, ◌⊎◌, ℕ, ◌+◌, ◌<◌, ◌�
 use Rattle.record_codec.specs.Entry.{Entry}
 use Rattle.log_model.specs.Numbered.{count_of}
 use Rattle.request_fields.specs.declared.request.Request.{Request}
-use Rattle.request_fields.specs.declared.request.Request.TheVariants.{Send, Pull, Query, OffsetOf, SetOffset, MakeTopic, Search, MaxOffset, MinOffset, ViewById, Beat, Unregister, EndTransaction, Lock, Unlock}
+use Rattle.request_fields.specs.declared.request.Request.TheVariants.{Send, Pull, Query, OffsetOf, SetOffset, MakeTopic, Search, MaxOffset}
+use Rattle.request_fields.specs.declared.request.Request.TheVariants.{MinOffset, ViewById, Beat, Unregister, EndTransaction, Lock, Unlock}
 use Rattle.broker_model.specs.State.{State}
 use Rattle.broker_model.specs.Events
 use Rattle.broker_model.specs.Refusals.{verdict_origin}

@@ -1,5 +1,6 @@
 -- What the broker answers to an event.
-use Rattle.std.specs.Prelude.{ℕ, ◌+◌, ◌-◌, ◌==◌, ◌&&◌, nat_lt, nat_le, min, max, List, [], ◌∷◌, length, take_while, filter, find, codes, ℤ, pos, int_lt, bit_and, Bool, true, Option, Some, None, option_map, if◌then◌else◌}
+use Rattle.std.specs.Prelude.{ℕ, ◌+◌, ◌-◌, ◌==◌, ◌&&◌, nat_lt, nat_le, min, max, List, [], ◌∷◌, length, take_while, filter, find}
+use Rattle.std.specs.Prelude.{codes, ℤ, pos, int_lt, bit_and, Bool, true, Option, Some, None, option_map, if◌then◌else◌}
 use Rattle.std.specs.Int.{w32, cast_unsigned}
 use Rattle.mq_bytes.specs.Decimal.{digits_of}
 use Rattle.mq_bytes.specs.Ids.{message_id_of}
@@ -13,7 +14,8 @@ use Rattle.log_model.specs.Pulls.{Pulled, pull_reply}
 use Rattle.log_model.specs.Drafts.{text_in}
 use Rattle.request_fields.specs.Requests.{SendSaid, PullSaid, EndSaid}
 use Rattle.request_fields.specs.declared.request.Request.{Request}
-use Rattle.request_fields.specs.declared.request.Request.TheVariants.{Send, Pull, Query, OffsetOf, SetOffset, MakeTopic, Search, MaxOffset, MinOffset, ViewById, Beat, Unregister, EndTransaction, Lock, Unlock}
+use Rattle.request_fields.specs.declared.request.Request.TheVariants.{Send, Pull, Query, OffsetOf, SetOffset, MakeTopic, Search, MaxOffset}
+use Rattle.request_fields.specs.declared.request.Request.TheVariants.{MinOffset, ViewById, Beat, Unregister, EndTransaction, Lock, Unlock}
 use Rattle.broker_model.specs.Tables.{offset_in, granted}
 use Rattle.broker_model.specs.Clients.{heard_words, producer_link}
 use Rattle.broker_model.specs.State.{State, Out, FailedTurn, seen, next_batch}

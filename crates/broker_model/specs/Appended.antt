@@ -1,15 +1,18 @@
 -- Which records an event appends to the log. All that can be said of the log's growth is said here once, for every event.
-use Rattle.std.specs.Prelude.{ℕ, ◌+◌, ◌^◌, ◌==◌, ◌&&◌, ◌||◌, not, nat_lt, nat_le, max, List, [], ◌∷◌, length, sum_by, find, Bool, false, is_some, Option, Some, None, if◌then◌else◌}
+use Rattle.std.specs.Prelude.{ℕ, ◌+◌, ◌^◌, ◌==◌, ◌&&◌, ◌||◌, not, nat_lt, nat_le, max, List, [], ◌∷◌, length}
+use Rattle.std.specs.Prelude.{sum_by, find, Bool, false, is_some, Option, Some, None, if◌then◌else◌}
 use Rattle.std.specs.List.{list_any}
 use Rattle.record_codec.specs.Entry.{Entry}
 use Rattle.record_codec.specs.Layout.{size}
 use Rattle.record_codec.specs.declared.draft.Draft.{Draft}
 use Rattle.log_model.specs.Numbered.{next_records}
-use Rattle.log_model.specs.Transactions.{TransactionState, Open, Committed, RolledBack, Discarded, transaction_state, origins, renewals, last_of, is_settled}
+use Rattle.log_model.specs.Transactions.{TransactionState, Open, Committed, RolledBack, Discarded}
+use Rattle.log_model.specs.Transactions.{transaction_state, origins, renewals, last_of, is_settled}
 use Rattle.log_model.specs.Delays.{due_delayed, progress}
 use Rattle.log_model.specs.Drafts.{copy_draft, op_draft, renewal_draft, discard_draft, delivery_draft}
 use Rattle.request_fields.specs.declared.request.Request.{Request}
-use Rattle.request_fields.specs.declared.request.Request.TheVariants.{Send, Pull, Query, OffsetOf, SetOffset, MakeTopic, Search, MaxOffset, MinOffset, ViewById, Beat, Unregister, EndTransaction, Lock, Unlock}
+use Rattle.request_fields.specs.declared.request.Request.TheVariants.{Send, Pull, Query, OffsetOf, SetOffset, MakeTopic, Search, MaxOffset}
+use Rattle.request_fields.specs.declared.request.Request.TheVariants.{MinOffset, ViewById, Beat, Unregister, EndTransaction, Lock, Unlock}
 use Rattle.broker_model.specs.State.{State, pending_bytes}
 use Rattle.broker_model.specs.Sends.{send_draft}
 use Rattle.broker_model.specs.Events.{Event, Asks, Take, Flushed, FlushFailed, Look, Dispatch, Deliver, Check, Leave, Trim}

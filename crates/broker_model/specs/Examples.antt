@@ -1,6 +1,7 @@
 -- Worked sizes, places, replies and states: what the definitions compute. Unless said otherwise `hi` is sent to queue 0 of the
 -- topic `T` by the group `P`, from host 127.0.0.1 and to it.
-use Rattle.std.specs.Prelude.{◌≡◌, ℕ, ◌++◌, List, [], ◌∷◌, length, map, take, option_map, codes, ℤ, pos, negsuc, true, Option, Some, None, refl}
+use Rattle.std.specs.Prelude.{◌≡◌, ℕ, ◌++◌, List, [], ◌∷◌, length, map, take, option_map}
+use Rattle.std.specs.Prelude.{codes, ℤ, pos, negsuc, true, Option, Some, None, refl}
 use Rattle.std.specs.Fmt.{digits}
 use Rattle.std.specs.Str.{chars}
 use Rattle.mq_bytes.specs.Decimal.{decimal_value}

@@ -1,5 +1,6 @@
 -- Why a request that could be read is refused: of the rows, in their order, the first that holds.
-use Rattle.std.specs.Prelude.{ℕ, ◌+◌, ◌==◌, ◌&&◌, ◌||◌, not, nat_lt, min, max, List, [], ◌∷◌, length, codes, ℤ, pos, negsuc, Bool, false, is_none, Option, Some, None, unwrap_or, if◌then◌else◌}
+use Rattle.std.specs.Prelude.{ℕ, ◌+◌, ◌==◌, ◌&&◌, ◌||◌, not, nat_lt, min, max, List, [], ◌∷◌, length, codes, ℤ}
+use Rattle.std.specs.Prelude.{pos, negsuc, Bool, false, is_none, Option, Some, None, unwrap_or, if◌then◌else◌}
 use Rattle.std.specs.Str.{bytes_eq}
 use Rattle.record_codec.specs.Entry.{Entry}
 use Rattle.record_codec.specs.Layout.{is_legal, are_hosts_short}
@@ -10,7 +11,8 @@ use Rattle.log_model.specs.Kinds.{is_text}
 use Rattle.log_model.specs.Transactions.{TransactionState, Open, Committed, RolledBack, Discarded, transaction_state, origin_of, half_at}
 use Rattle.request_fields.specs.Requests.{SendSaid, PullSaid, EndSaid, TopicSaid}
 use Rattle.request_fields.specs.declared.request.Request.{Request}
-use Rattle.request_fields.specs.declared.request.Request.TheVariants.{Send, Pull, Query, OffsetOf, SetOffset, MakeTopic, Search, MaxOffset, MinOffset, ViewById, Beat, Unregister, EndTransaction, Lock, Unlock}
+use Rattle.request_fields.specs.declared.request.Request.TheVariants.{Send, Pull, Query, OffsetOf, SetOffset, MakeTopic, Search, MaxOffset}
+use Rattle.request_fields.specs.declared.request.Request.TheVariants.{MinOffset, ViewById, Beat, Unregister, EndTransaction, Lock, Unlock}
 use Rattle.broker_model.specs.Tables.{queues_in}
 use Rattle.broker_model.specs.State.{State}
 use Rattle.broker_model.specs.Events.{Reply}

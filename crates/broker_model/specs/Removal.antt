@@ -1,5 +1,6 @@
 -- Which records may be removed from the front of the log: those of whole segments that nobody needs any more.
-use Rattle.std.specs.Prelude.{◌≡◌, ℕ, ◌+◌, ◌*◌, ◌/◌, ◌<◌, ◌≤◌, ◌==◌, ◌&&◌, ◌||◌, not, List, take, take_while, length, count_by, slice_get, codes, is_none, Bool, true, Option, Some, None}
+use Rattle.std.specs.Prelude.{◌≡◌, ℕ, ◌+◌, ◌*◌, ◌/◌, ◌<◌, ◌≤◌, ◌==◌, ◌&&◌, ◌||◌, not, List, take, take_while}
+use Rattle.std.specs.Prelude.{length, count_by, slice_get, codes, is_none, Bool, true, Option, Some, None}
 use Rattle.std.specs.List.{list_any}
 use Rattle.std.specs.Str.{bytes_eq}
 use Rattle.record_codec.specs.Entry.{Entry}

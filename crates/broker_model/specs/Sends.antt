@@ -1,5 +1,6 @@
 -- The record of a send: a plain message, a half message, or a delayed one.
-use Rattle.std.specs.Prelude.{ℕ, ◌-◌, ◌||◌, ◌==◌, nat_lt, not, min, List, codes, ℤ, pos, negsuc, bit_and, Bool, false, Option, Some, None, if◌then◌else◌}
+use Rattle.std.specs.Prelude.{ℕ, ◌-◌, ◌||◌, ◌==◌, nat_lt, not, min, List, codes, ℤ, pos, negsuc}
+use Rattle.std.specs.Prelude.{bit_and, Bool, false, Option, Some, None, if◌then◌else◌}
 use Rattle.std.specs.Str.{str_eq_ignore_ascii_case}
 use Rattle.std.specs.Int.{w32, cast_unsigned}
 use Rattle.mq_bytes.specs.Decimal.{digits_of, decimal_value}

@@ -1,11 +1,13 @@
 -- One step of the broker: the state that an event leaves, and the step with its answer.
-use Rattle.std.specs.Prelude.{◌≡◌, ℕ, ◌+◌, ◌-◌, ◌^◌, ◌≤◌, ◌==◌, min, max, List, [], ◌∷◌, ◌++◌, length, ℤ, pos, negsuc, bit_and, Option, Some, None, if◌then◌else◌}
+use Rattle.std.specs.Prelude.{◌≡◌, ℕ, ◌+◌, ◌-◌, ◌^◌, ◌≤◌, ◌==◌, min, max, List, [], ◌∷◌, ◌++◌}
+use Rattle.std.specs.Prelude.{length, ℤ, pos, negsuc, bit_and, Option, Some, None, if◌then◌else◌}
 use Rattle.std.specs.Int.{w32, cast_unsigned}
 use Rattle.record_codec.specs.Entry.{Entry}
 use Rattle.log_model.specs.Numbered.{count_of, queue_max, with_appended, above}
 use Rattle.request_fields.specs.Requests.{PullSaid}
 use Rattle.request_fields.specs.declared.request.Request.{Request}
-use Rattle.request_fields.specs.declared.request.Request.TheVariants.{Send, Pull, Query, OffsetOf, SetOffset, MakeTopic, Search, MaxOffset, MinOffset, ViewById, Beat, Unregister, EndTransaction, Lock, Unlock}
+use Rattle.request_fields.specs.declared.request.Request.TheVariants.{Send, Pull, Query, OffsetOf, SetOffset, MakeTopic, Search, MaxOffset}
+use Rattle.request_fields.specs.declared.request.Request.TheVariants.{MinOffset, ViewById, Beat, Unregister, EndTransaction, Lock, Unlock}
 use Rattle.broker_model.specs.Tables.{OffsetRow, with_topic, with_offset, granted, with_locks, without_locks}
 use Rattle.broker_model.specs.Clients.{after_beat, after_unregister, after_leave}
 use Rattle.broker_model.specs.State.{State, Out, FailedTurn, seen}

@@ -1,5 +1,6 @@
 -- The tables of topics, stored offsets and locks, which are not in the log. Each is the plain list of its rows.
-use Rattle.std.specs.Prelude.{ℕ, ◌+◌, ◌==◌, ◌&&◌, not, nat_le, max, List, [], ◌∷◌, ◌++◌, map, filter, find, Bool, Option, option_map, if◌then◌else◌}
+use Rattle.std.specs.Prelude.{ℕ, ◌+◌, ◌==◌, ◌&&◌, not, nat_le, max, List, [], ◌∷◌, ◌++◌, map}
+use Rattle.std.specs.Prelude.{filter, find, Bool, Option, option_map, if◌then◌else◌}
 use Rattle.std.specs.List.{list_any}
 use Rattle.std.specs.Str.{bytes_eq}
 use Rattle.mq_bytes.specs.declared.clients.QueueName.{QueueName}

@@ -31,7 +31,8 @@ FlushesPlaced (Err Misplaced) = ⊥
 FlushesPlaced (Err Memory) = Unit {0}
 
 -- The requests of the source were served, then flush turns were made, and the reader was given back.
-pub record ServesToEnd {C D : Type 0} (sides : Sides C D) (ended : Ended) (source : SourceSeen) (x : C) (old : Point D) (y : C) (disk : D) (taken readings : List ℕ) : Type 0 where
+pub record ServesToEnd {C D : Type 0} (sides : Sides C D) (ended : Ended) (source : SourceSeen) (x : C) (old : Point D) (y : C) (disk : D)
+    (taken readings : List ℕ) : Type 0 where
   pub served : C
   pub mid : Place D
   pub final : Place D

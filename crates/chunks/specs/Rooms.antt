@@ -24,7 +24,8 @@ roomy_of full last next skipped = record { items = drop skipped (joined full.ite
 
 -- Each full chunk has 1,024 items, and the last no more. The next one is empty and has room for as many, and there is room
 -- for the last one among the full ones. No more is skipped than the first chunk has.
-pub record AreChunks {T : Type 0} (full : Vec (Vec T Global) Global) (last : Vec T Global) (next : Option (Vec T Global)) (skipped : ℕ) : Type 0 where
+pub record AreChunks {T : Type 0} (full : Vec (Vec T Global) Global) (last : Vec T Global) (next : Option (Vec T Global))
+    (skipped : ℕ) : Type 0 where
   pub whole : All (λ (c : Vec T Global). length c.items ≡ 1024) full.items
   pub short : vec_len last ≤ 1024
   pub empty : IfSome next (λ c. (c.items ≡ []) × (vec_len c ≡ 0) × (1024 ≤ vec_capacity c))

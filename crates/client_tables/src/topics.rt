@@ -53,7 +53,8 @@ impl Topics {
     pub fn make(&mut self, topic: String, queues: u32)
         requires { 0 < room_in self.old }
         ensures { (other : List ℕ) → queues_of self.new other
-            ≡ (if bytes_eq (string_bytes topic) other then Some (max (unwrap_or (queues_of self.old (string_bytes topic)) 0) queues) else queues_of self.old other) }
+            ≡ (if bytes_eq (string_bytes topic) other then Some (max (unwrap_or (queues_of self.old (string_bytes topic)) 0) queues)
+            else queues_of self.old other) }
     {
         let had = self.find(topic.as_str()).unwrap_or(0);
         match self.counts.insert(topic, had.max(queues)) {

@@ -30,7 +30,8 @@ pub record AreKeyRows (name : List ℕ) (d : Data) (rows : List OffsetRow) : Typ
 -- these rows are those of the table of offsets
 abbrev pub AreTableRows : Members → List OffsetRow → Type 0
 AreTableRows no_members rows = rows ≡ []
-AreTableRows (member name d ms) rows = (first : List OffsetRow) × (rest : List OffsetRow) × AreKeyRows name d first × (rows ≡ first ++ rest) × AreTableRows ms rest
+AreTableRows (member name d ms) rows = (first : List OffsetRow) × (rest : List OffsetRow) × AreKeyRows name d first × (rows ≡ first ++ rest)
+    × AreTableRows ms rest
 
 -- these rows are those of the table of topics
 abbrev pub AreTopicRows : Members → List TopicRow → Type 0

@@ -219,7 +219,8 @@ fn value_of(alloc: Global, text: &[u8]) -> Result<Value, TextFault>
 
 // The table that stands at this name.
 fn table_in<'a>(value: &'a Value, name: &str) -> Result<&'a Map<String, Value>, TextFault>
-    ensures read { IfOk result (λ table. option_and_then as_object (get name.now (view value.now)) ≡ Some (members_view table.now.entries)) }
+    ensures read { IfOk result (λ table. option_and_then as_object (get name.now (view value.now))
+        ≡ Some (members_view table.now.entries)) }
     ensures bad { result ≡ Err Bad → option_and_then as_object (get name.now (view value.now)) ≡ None }
 {
     match value.get(name).and_then(Value::as_object) {

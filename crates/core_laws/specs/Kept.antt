@@ -1,5 +1,6 @@
 -- What every log of a run has, as far as halves and their copies need it.
-use Rattle.std.specs.Prelude.{◌≡◌, ℕ, ◌+◌, ◌<◌, ◌≤◌, ◌^◌, ◌||◌, List, take, length, slice_get, codes, bit_and, true, false, Option, Some, None}
+use Rattle.std.specs.Prelude.{◌≡◌, ℕ, ◌+◌, ◌<◌, ◌≤◌, ◌^◌, ◌||◌, List, take, length}
+use Rattle.std.specs.Prelude.{slice_get, codes, bit_and, true, false, Option, Some, None}
 use Rattle.mq_bytes.specs.Decimal.{digits_of}
 use Rattle.record_codec.specs.Entry.{Entry}
 use Rattle.record_codec.specs.Layout.{size}

@@ -1,6 +1,7 @@
 //! What holds of every run of steps, savings and crashes from an opening. No call is made: the clauses speak of the definitions.
 
-ghost use Rattle.std.specs.Prelude.{◌≡◌, ◌≢◌, ◌⊎◌, ◌+◌, ◌-◌, ◌^◌, ◌<◌, ◌≤◌, ℕ, max, List, [], ◌∷◌, take, drop, map, slice_get, Bool, true, codes, Option, Some, None};
+ghost use Rattle.std.specs.Prelude.{◌≡◌, ◌≢◌, ◌⊎◌, ◌+◌, ◌-◌, ◌^◌, ◌<◌, ◌≤◌, ℕ, max, List, [], ◌∷◌, take};
+ghost use Rattle.std.specs.Prelude.{drop, map, slice_get, Bool, true, codes, Option, Some, None};
 ghost use Rattle.record_codec.specs.Entry.{Entry};
 ghost use Rattle.record_codec.specs.Props.{value_of};
 ghost use Rattle.log_model.specs.Drafts.{delivery_text};

@@ -1,5 +1,6 @@
 -- What contracts see of the delay levels, and which is due.
-use Rattle.std.specs.Prelude.{ℕ, Bool, false, ◌+◌, ◌-◌, nat_lt, nat_le, List, [], ◌∷◌, ◌++◌, take, drop, slice_get, Option, Some, None, if◌then◌else◌}
+use Rattle.std.specs.Prelude.{ℕ, Bool, false, ◌+◌, ◌-◌, nat_lt, nat_le, List, [], ◌∷◌, ◌++◌}
+use Rattle.std.specs.Prelude.{take, drop, slice_get, Option, Some, None, if◌then◌else◌}
 
 -- A delay level: how many of its messages were removed, the delivery times of those that stand, how many of these were
 -- dispatched, how many messages were ever delivered, and for how many more there is room.

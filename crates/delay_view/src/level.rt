@@ -2,7 +2,8 @@
 //! added when its message is appended, and seen when the message is dispatched.
 
 ghost use Rattle.std.specs.Prelude.{◌≡◌, ◌<◌, ◌≤◌, ◌+◌, ◌^◌, length, OnOk};
-ghost use Rattle.delay_view.specs.Levels.{empty_level, started, with_room, with_time, with_next_seen, with_next_copied, cut_at, next_time, has_come};
+ghost use Rattle.delay_view.specs.Levels.{empty_level, started, with_room, with_time, with_next_seen};
+ghost use Rattle.delay_view.specs.Levels.{with_next_copied, cut_at, next_time, has_come};
 ghost use Rattle.delay_view.specs.Rooms.{is_idle};
 
 use chunks::Chunks;

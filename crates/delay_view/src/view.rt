@@ -6,7 +6,8 @@ ghost use Rattle.log_model.specs.Admissible.{level_topic};
 ghost use Rattle.log_model.specs.Bases.{Base, no_base};
 ghost use Rattle.log_model.specs.Numbered.{Log, above, below, count_of, queue_min, record_at, records_of, with_appended};
 ghost use Rattle.log_model.specs.Delays.{progress as progress_of, due_delayed};
-ghost use Rattle.delay_view.specs.Levels.{Level, empty_level, started, with_room, with_time, with_next_seen, with_next_copied, cut_at, due_of};
+ghost use Rattle.delay_view.specs.Levels.{Level, empty_level, started, with_room, with_time};
+ghost use Rattle.delay_view.specs.Levels.{with_next_seen, with_next_copied, cut_at, due_of};
 ghost use Rattle.delay_view.specs.OfLog.{AreLevelsOf, CutsLevels, IsLevelOf, IsMessageOf, IsCopyOf, delivery_time, empty_log};
 
 use crate::level::LevelTable;

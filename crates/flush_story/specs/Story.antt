@@ -60,12 +60,14 @@ pub data Happening : Type 0 where
 
 -- what the turn of a batch did to each log that was open on the disk
 abbrev pub TurnsEach : {P : Type 0} → (P → Growing) → Batch → Result Receipt ℕ → P → P → Type 0
-TurnsEach at batch result old new = (it : Stored) (behind : ℕ) → CanTurn it behind batch (at old) → HasTurned it behind batch result (at old) (at new)
+TurnsEach at batch result old new = (it : Stored) (behind : ℕ) → CanTurn it behind batch (at old)
+    → HasTurned it behind batch result (at old) (at new)
 
 -- and where the next bytes of each log go, whatever the disk tells
 abbrev pub PlacesEach : Batch → Result Receipt ℕ → LastFile → LastFile → Type 0
 PlacesEach batch result old new =
-    (it : Stored) → IsWellFormed it.geometry it.log → IsBatchOf it.geometry it.log it.flushed batch → IsPlaced it old → PlacesOn it batch result new
+    (it : Stored) → IsWellFormed it.geometry it.log → IsBatchOf it.geometry it.log it.flushed batch → IsPlaced it old
+    → PlacesOn it batch result new
 
 -- the step was made, and the disk is as it was
 pub record HasStepped {P : Type 0} (e : Event) (what : Option Said) (s : State) (old : P) (t : State) (new : P) : Type 0 where
@@ -74,7 +76,8 @@ pub record HasStepped {P : Type 0} (e : Event) (what : Option Said) (s : State) 
   pub still : new ≡ old
 
 -- The batch was taken; others made their steps; the batch was written and synced; and then it was flushed.
-pub record HasEnded {P : Type 0} (tells : Type 0) (at : P → Growing) (turn : OutTurn) (receipt : Receipt) (moment : ℕ) (s : State) (old : P) (t : State) (new : P) : Type 0 where
+pub record HasEnded {P : Type 0} (tells : Type 0) (at : P → Growing) (turn : OutTurn) (receipt : Receipt) (moment : ℕ) (s : State) (old : P)
+    (t : State) (new : P) : Type 0 where
   pub out : State
   pub full : State
   pub taken : StepsAs s Take (Some (said.Batch (Some turn.batch))) out
@@ -87,7 +90,8 @@ pub record HasEnded {P : Type 0} (tells : Type 0) (at : P → Growing) (turn : O
   pub flushed : StepsAs full (Flushed receipt) (Some said.Done) t
 
 -- The batch was taken; others made their steps; the batch was not written, or not synced; and it is pending again.
-pub record HasBroken {P : Type 0} (tells : Type 0) (at : P → Growing) (turn : OutTurn) (count : ℕ) (s : State) (old : P) (t : State) (new : P) : Type 0 where
+pub record HasBroken {P : Type 0} (tells : Type 0) (at : P → Growing) (turn : OutTurn) (count : ℕ) (s : State) (old : P) (t : State)
+    (new : P) : Type 0 where
   pub out : State
   pub full : State
   pub taken : StepsAs s Take (Some (said.Batch (Some turn.batch))) out
@@ -106,7 +110,8 @@ Happens tells at (Broke turn count) s old t new = HasBroken tells at turn count 
 -- all of this happened, one after another
 abbrev pub Story : {P : Type 0} → Type 0 → (P → Growing) → List Happening → State → P → State → P → Type 0
 Story tells at [] s old t new = (t ≡ s) × (new ≡ old)
-Story {P} tells at (it ∷ story) s old t new = (mid : State) × (place : P) × Happens tells at it s old mid place × Story tells at story mid place t new
+Story {P} tells at (it ∷ story) s old t new = (mid : State) × (place : P) × Happens tells at it s old mid place
+    × Story tells at story mid place t new
 
 -- ---- what a story is for the broker and for the log
 

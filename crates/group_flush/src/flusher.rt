@@ -8,7 +8,8 @@ ghost use Rattle.mq_outside.specs.Counts.{Counted, CountsFailure};
 ghost use Rattle.log_model.specs.Batches.{IsBatchOf};
 ghost use Rattle.log_model.specs.Log.{IsWellFormed};
 ghost use Rattle.log_model.specs.Stored.{Stored, StaysOutside};
-ghost use Rattle.segment_files.specs.Turn.{IsInside, CanTurn, HasTurned, IsPlaced, GoesToPlace, PlacesOn, MovesOn, growing, opens_segment, syncs_of};
+ghost use Rattle.segment_files.specs.Turn.{IsInside, CanTurn, HasTurned, IsPlaced, GoesToPlace};
+ghost use Rattle.segment_files.specs.Turn.{PlacesOn, MovesOn, growing, opens_segment, syncs_of};
 
 use log_model::{Batch, Receipt};
 use mq_outside::{Disk, Failed};
@@ -55,7 +56,8 @@ impl Flusher {
         ensures outside { D.tells → StaysOutside (D.state disk.old) (D.state disk.new) }
 
         // Where the next bytes go: at Ok to the end of the batch, whatever the disk tells.
-        ensures places { (it : Stored) → IsWellFormed it.geometry it.log → IsBatchOf it.geometry it.log it.flushed batch → IsPlaced it self.old.file
+        ensures places { (it : Stored) → IsWellFormed it.geometry it.log → IsBatchOf it.geometry it.log it.flushed batch
+            → IsPlaced it self.old.file
             → PlacesOn it batch result self.new.file }
         ensures moves { MovesOn D.tells batch result self.old.file self.new.file }
         ensures inside { D.tells → IsInside self.new.file.base self.new.file.offset (D.state disk.new) }

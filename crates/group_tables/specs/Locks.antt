@@ -1,5 +1,6 @@
 -- Which client of a group has which queue for itself, and the rows that this equals.
-use Rattle.std.specs.Prelude.{◌≡◌, ℕ, ◌+◌, ◌==◌, ◌&&◌, Bool, false, not, nat_le, List, filter, String, Option, Some, None, option_map, option_to_list, if◌then◌else◌}
+use Rattle.std.specs.Prelude.{◌≡◌, ℕ, ◌+◌, ◌==◌, ◌&&◌, Bool, false, not, nat_le, List, filter, String}
+use Rattle.std.specs.Prelude.{Option, Some, None, option_map, option_to_list, if◌then◌else◌}
 use Rattle.std.specs.Option.{option_flatten}
 use Rattle.std.specs.HashMap.{HashMap}
 use Rattle.std.specs.Str.{bytes_eq}
@@ -9,7 +10,8 @@ use Rattle.group_tables.specs.Table.{in_groups}
 use Rattle.group_tables.specs.declared.locks.Lock.{Lock}
 
 -- the lock on this queue of the group
-abbrev pub lock_in : {A S T U : Type 0} → HashMap (String A) (HashMap (String A) (HashMap ℕ (Option Lock) S) T) U → List ℕ → List ℕ → ℕ → Option Lock
+abbrev pub lock_in : {A S T U : Type 0} → HashMap (String A) (HashMap (String A) (HashMap ℕ (Option Lock) S) T) U → List ℕ → List ℕ → ℕ
+    → Option Lock
 lock_in slots group topic queue = option_flatten (in_groups slots group topic queue)
 
 -- the lock is another client's, and was renewed at most 60,000 ms ago

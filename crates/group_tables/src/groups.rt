@@ -4,7 +4,8 @@
 ghost use Rattle.std.specs.Prelude.{◌≡◌, ◌==◌, ◌&&◌, ℕ, List, Some, None, if◌then◌else◌, OnOk, OnErr};
 ghost use Rattle.std.specs.Prelude.{IfOk, All};
 ghost use Rattle.std.specs.Str.{bytes_eq};
-ghost use Rattle.broker_model.specs.Tables.{OffsetRow, LockRow, offset_in, with_offset, distinct_queues, granted, with_locks, without_locks};
+ghost use Rattle.broker_model.specs.Tables.{OffsetRow, LockRow, offset_in, with_offset};
+ghost use Rattle.broker_model.specs.Tables.{distinct_queues, granted, with_locks, without_locks};
 ghost use Rattle.group_tables.specs.Held.{lock_of, HasLocks};
 ghost use Rattle.group_tables.specs.Offsets.{offset_of, offset_row, HasOffsets, IsStored};
 

@@ -1,6 +1,7 @@
 //! Which client of a group has which queue for itself. A lock that was last renewed more than 60,000 ms ago hinders nobody.
 
-ghost use Rattle.std.specs.Prelude.{◌≡◌, ◌==◌, ◌&&◌, ◌<◌, ◌++◌, [], ◌∷◌, ℕ, List, length, take, filter, not, true, is_some, All, IsTrue, Option, Some, None, option_copied, if◌then◌else◌, IfOk, OnOk, OnErr};
+ghost use Rattle.std.specs.Prelude.{◌≡◌, ◌==◌, ◌&&◌, ◌<◌, ◌++◌, [], ◌∷◌, ℕ, List, length, take, filter, not, true, is_some};
+ghost use Rattle.std.specs.Prelude.{All, IsTrue, Option, Some, None, option_copied, if◌then◌else◌, IfOk, OnOk, OnErr};
 ghost use Rattle.std.specs.Option.{option_and};
 ghost use Rattle.std.specs.List.{list_any};
 ghost use Rattle.std.specs.Str.{bytes_eq};
@@ -177,7 +178,8 @@ fn put_lock(slots: &mut Slots, group: &str, queue: &QueueName, lock: Lock)
 // The queue is free, if the client has it.
 fn unlock(slots: &mut Slots, group: &str, client: &str, queue: &QueueName)
     ensures { (g t : List ℕ) (q : ℕ) → lock_in slots.new g t q
-        ≡ (if bytes_eq group.now g && names_queue t q queue.now then without_own client.now (lock_in slots.old g t q) else lock_in slots.old g t q) }
+        ≡ (if bytes_eq group.now g && names_queue t q queue.now then without_own client.now (lock_in slots.old g t q)
+        else lock_in slots.old g t q) }
 {
     let is_own = match lock_on(slots, group, queue) {
         Some(lock) => lock.client.as_str() == client,
@@ -209,7 +211,8 @@ pub(crate) fn lock_all(
     now: u64,
 ) -> Result<(), AllocError>
     ensures locked { OnOk result ((g t : List ℕ) (q : ℕ) → lock_in slots.new g t q
-        ≡ (if bytes_eq group.now g && list_any (names_queue t q) queues.now then Some (lock_from client.now now) else lock_in slots.old g t q)) }
+        ≡ (if bytes_eq group.now g && list_any (names_queue t q) queues.now then Some (lock_from client.now now)
+        else lock_in slots.old g t q)) }
     ensures same { OnErr result ((g t : List ℕ) (q : ℕ) → lock_in slots.new g t q ≡ lock_in slots.old g t q) }
 {
     let locks = locks_for(alloc, client, now, queues.len())?;

@@ -106,7 +106,8 @@ fn change_in_queues<V: Drop>(queues: &mut ByQueue<V>, queue: u32, value: Option<
 // Where the queue of the topic has a value, it has this one then, or none.
 fn change_in_topics<V: Drop>(topics: &mut ByTopic<V>, topic: &str, queue: u32, value: Option<V>)
     ensures { (other : List ℕ) (at : ℕ) → in_topics topics.new other at
-        ≡ (if bytes_eq topic.now other && (queue == at) then option_and (in_topics topics.old other at) value else in_topics topics.old other at) }
+        ≡ (if bytes_eq topic.now other && (queue == at) then option_and (in_topics topics.old other at) value
+        else in_topics topics.old other at) }
 {
     if let Some(queues) = topics.get_mut(topic) {
         change_in_queues(queues, queue, value);

@@ -1,5 +1,6 @@
 -- The table as that of a log.
-use Rattle.std.specs.Prelude.{◌≡◌, ℕ, ◌+◌, ◌-◌, ◌^◌, ◌≤◌, ◌&&◌, not, min, nat_lt, nat_le, List, [], ◌∷◌, map, filter, find, length, take, slice_get, Bool, Option, Some, None, option_map, if◌then◌else◌}
+use Rattle.std.specs.Prelude.{◌≡◌, ℕ, ◌+◌, ◌-◌, ◌^◌, ◌≤◌, ◌&&◌, not, min, nat_lt, nat_le, List, [], ◌∷◌, map, filter}
+use Rattle.std.specs.Prelude.{find, length, take, slice_get, Bool, Option, Some, None, option_map, if◌then◌else◌}
 use Rattle.std.specs.Str.Parse.{digits_value}
 use Rattle.record_codec.specs.Entry.{Entry}
 use Rattle.log_model.specs.declared.origin.OriginState.TheVariants.{Committed, RolledBack, Discarded}
@@ -117,4 +118,5 @@ discarded_by t r = if is_discard r then family_at t r.prepared else None
 -- the table with what this record settles, which has this number
 abbrev pub with_settlement : HalfTable → Entry → ℕ → HalfTable
 with_settlement t r number =
-    with_settled (with_settled (with_settled t (rolled_back_by r) RolledBack number) (committed_by t r) Committed number) (discarded_by t r) Discarded number
+    with_settled (with_settled (with_settled t (rolled_back_by r) RolledBack number) (committed_by t r) Committed number)
+    (discarded_by t r) Discarded number

@@ -2,8 +2,11 @@
 
 ghost use Rattle.std.specs.Prelude.{◌≡◌, ◌==◌, ◌&&◌, not, bit_and};
 ghost use Rattle.std.specs.Str.{bytes_eq};
-ghost use Rattle.log_model.specs.Admissible.{half_topic, discard_topic, is_bare as bare, number_in as number_of_text, number_of as number_of_bytes, number_at};
-ghost use Rattle.log_model.specs.Kinds.{is_half as is_half_entry, is_op as is_op_entry, is_discard as is_discard_entry, is_copy as is_copy_entry, origin_text};
+ghost use Rattle.log_model.specs.Admissible.{half_topic, discard_topic, is_bare as bare, number_in as number_of_text};
+ghost use Rattle.log_model.specs.Admissible.{number_of as number_of_bytes, number_at};
+ghost use Rattle.log_model.specs.Kinds.{is_half as is_half_entry, is_op as is_op_entry};
+ghost use Rattle.log_model.specs.Kinds.{is_discard as is_discard_entry, is_copy as is_copy_entry};
+ghost use Rattle.log_model.specs.Kinds.{origin_text};
 ghost use Rattle.half_view.specs.OfLog.{rolled_back_by};
 
 use mq_bytes::read_decimal;

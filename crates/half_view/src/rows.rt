@@ -1,8 +1,10 @@
 //! Changes of half messages, with the times from which on they are due.
 
-ghost use Rattle.std.specs.Prelude.{◌≡◌, ◌<◌, ◌≤◌, ◌+◌, ◌-◌, ◌++◌, ◌∷◌, [], ◌^◌, ℕ, length, slice_get, slice_set, Some, vec_len, vec_capacity};
+ghost use Rattle.std.specs.Prelude.{◌≡◌, ◌<◌, ◌≤◌, ◌+◌, ◌-◌, ◌++◌, ◌∷◌, [], ◌^◌, ℕ, length};
+ghost use Rattle.std.specs.Prelude.{slice_get, slice_set, Some, vec_len, vec_capacity};
 ghost use Rattle.std.specs.List.Sorted.{IsNonDecreasingBy};
-ghost use Rattle.half_view.specs.Halves.{settled_as as settled_as_state, settled_row, renewed_row, change, is_open as is_open_state, family_in};
+ghost use Rattle.half_view.specs.Halves.{settled_as as settled_as_state, settled_row, renewed_row};
+ghost use Rattle.half_view.specs.Halves.{change, is_open as is_open_state, family_in};
 ghost use Rattle.half_view.specs.Due.{due_time as due_time_of, AreTimed};
 
 use crate::row::HalfRow;

@@ -1,7 +1,8 @@
 //! Times in a tree. Each node has the earliest of the times below it: so one look tells that none has come, and the first that
 //! has come is found by a step for each doubling of the tree.
 
-ghost use Rattle.std.specs.Prelude.{◌≡◌, ◌<◌, ◌≤◌, ◌+◌, ◌*◌, ◌/◌, ◌^◌, ◌-◌, [], ℕ, length, drop, slice_get, slice_set, OnErr, OnOk, IfOk, IfSome, IfNone, Some, vec_len};
+ghost use Rattle.std.specs.Prelude.{◌≡◌, ◌<◌, ◌≤◌, ◌+◌, ◌*◌, ◌/◌, ◌^◌, ◌-◌, [], ℕ, length, drop, slice_get};
+ghost use Rattle.std.specs.Prelude.{slice_set, OnErr, OnOk, IfOk, IfSome, IfNone, Some, vec_len};
 ghost use Rattle.half_view.specs.Times.{AreAllLater, AreLeast, AreLeastBut};
 
 use std::alloc::{AllocError, Global};

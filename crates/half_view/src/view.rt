@@ -12,8 +12,10 @@ ghost use Rattle.log_model.specs.Numbered.{Log, above, count_of, with_appended};
 ghost use Rattle.log_model.specs.Origins.{told_state};
 ghost use Rattle.log_model.specs.Transactions.{half_at, is_origin, transaction_state};
 ghost use Rattle.half_view.specs.declared.row.HalfRow.{HalfRow};
-ghost use Rattle.half_view.specs.Halves.{HalfTable, row_at, index_of, renewed_row, changed, with_half, with_settled, cut_at, family_at, due_of, place_of, if_at, origin_at, origin_named, settling_number};
-ghost use Rattle.half_view.specs.OfLog.{AreHalvesOf, CutsHalves, empty_log, origin_in, due_origin, check_of as check_of_origin, settling_in};
+ghost use Rattle.half_view.specs.Halves.{HalfTable, row_at, index_of, renewed_row, changed, with_half, with_settled, cut_at};
+ghost use Rattle.half_view.specs.Halves.{family_at, due_of, place_of, if_at, origin_at, origin_named, settling_number};
+ghost use Rattle.half_view.specs.OfLog.{AreHalvesOf, CutsHalves, empty_log, origin_in};
+ghost use Rattle.half_view.specs.OfLog.{due_origin, check_of as check_of_origin, settling_in};
 ghost use Rattle.half_view.specs.OfLog.{committed_by, discarded_by, with_settlement};
 
 use crate::check::Check;

@@ -25,7 +25,8 @@ pub record LeadsTo {D : Type 0} (view : DiskView D) (acts : List Act) (s : State
   pub written : IsPlacedFor s old.file → HasUnwritten acts → ⊥
 
 -- Acts of this kind were made, and lead on from each state that the core represented.
-pub record Led {D : Type 0} (view : DiskView D) (IsKind : List Act → Type 0) (x : Alone) (old : Place D) (y : Alone) (new : Place D) : Type 0 where
+pub record Led {D : Type 0} (view : DiskView D) (IsKind : List Act → Type 0) (x : Alone) (old : Place D) (y : Alone)
+    (new : Place D) : Type 0 where
   pub acts : List Act
   pub kind : IsKind acts
   pub happened : Acts alone view acts x old y new

@@ -1,5 +1,6 @@
 -- How the table of the keys is kept.
-use Rattle.std.specs.Prelude.{◌≢◌, ℕ, zero, suc, ◌+◌, ◌-◌, ◌≤◌, ◌^◌, ◌%◌, ◌==◌, min, List, [], ◌∷◌, map, reverse, length, slice_index, if◌then◌else◌}
+use Rattle.std.specs.Prelude.{◌≢◌, ℕ, zero, suc, ◌+◌, ◌-◌, ◌≤◌, ◌^◌, ◌%◌, ◌==◌, min, List}
+use Rattle.std.specs.Prelude.{[], ◌∷◌, map, reverse, length, slice_index, if◌then◌else◌}
 use Rattle.chunks.specs.Lists.{Roomy}
 use Rattle.key_view.specs.declared.row.KeyRow.{KeyRow}
 use Rattle.key_view.specs.Entries.{KeyEntry, KeyTable}

@@ -60,7 +60,8 @@ fn put_place(places: &mut Vec<u64>, place: u64) -> Result<(), AllocError>
 
 // Adds the place of a row that is sought.
 pub(crate) fn put(places: &mut Vec<u64>, row: &KeyRow, sought: &Sought) -> Result<(), AllocError>
-    ensures { OnOk result (places.new.items ≡ with_sought (is_sought_entry sought.now.hash sought.now.from sought.now.to sought.now.end (entry_of row.now))
+    ensures { OnOk result (places.new.items ≡ with_sought (is_sought_entry sought.now.hash sought.now.from sought.now.to sought.now.end
+        (entry_of row.now))
         row.now.place places.old.items) }
 {
     if is_sought(row, sought) {

@@ -1,5 +1,6 @@
 -- Which records a log may have, whatever stands before them, and which half message a record names.
-use Rattle.std.specs.Prelude.{◌≡◌, ℕ, ◌^◌, ◌<◌, ◌≤◌, ◌==◌, ◌&&◌, ◌||◌, not, nat_lt, bit_and, List, length, slice_index, codes, ℤ, pos, negsuc, Bool, true, false, Option, Some, None, IsSome, IfSome, if◌then◌else◌}
+use Rattle.std.specs.Prelude.{◌≡◌, ℕ, ◌^◌, ◌<◌, ◌≤◌, ◌==◌, ◌&&◌, ◌||◌, not, nat_lt, bit_and, List, length, slice_index, codes}
+use Rattle.std.specs.Prelude.{ℤ, pos, negsuc, Bool, true, false, Option, Some, None, IsSome, IfSome, if◌then◌else◌}
 use Rattle.std.specs.Str.{bytes_eq, is_utf8}
 use Rattle.mq_bytes.specs.Decimal.{decimal_value}
 use Rattle.record_codec.specs.Entry.{Entry}

@@ -1,5 +1,6 @@
 -- What a flush turn is given: records of the log that lie in one segment, and the blank before them.
-use Rattle.std.specs.Prelude.{◌≡◌, ℕ, ◌+◌, ◌-◌, ◌/◌, ◌<◌, ◌≤◌, ◌==◌, List, take, drop, length, slice_get, Option, Some, None, IfSome, if◌then◌else◌}
+use Rattle.std.specs.Prelude.{◌≡◌, ℕ, ◌+◌, ◌-◌, ◌/◌, ◌<◌, ◌≤◌, ◌==◌, List, take, drop, length}
+use Rattle.std.specs.Prelude.{slice_get, Option, Some, None, IfSome, if◌then◌else◌}
 use Rattle.record_codec.specs.Entry.{Entry}
 use Rattle.log_model.specs.declared.batch.Batch.{Batch}
 use Rattle.log_model.specs.declared.batch.Receipt.{Receipt}

@@ -63,7 +63,11 @@ item_at log topic queue offset =
 -- the record of a draft after a log: at the next place, with the next queue offset of its queue
 abbrev pub next_record : ℕ → ℕ → Log → Draft → Entry
 next_record segment now log d =
-    entry_of d (record { queue_offset = queue_max log d.topic d.queue; offset = place_after segment (place_end log) (draft_size d); store = now })
+    entry_of d (record {
+      queue_offset = queue_max log d.topic d.queue;
+      offset = place_after segment (place_end log) (draft_size d);
+      store = now;
+    })
 
 -- the records of several drafts, one after the other
 abbrev pub next_records : ℕ → ℕ → Log → List Draft → List Entry

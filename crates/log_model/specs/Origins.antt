@@ -1,6 +1,7 @@
 -- What became of an origin, as programs say it.
 use Rattle.log_model.specs.declared.origin.OriginState.{OriginState}
-use Rattle.log_model.specs.declared.origin.OriginState.TheVariants.{Open as StillOpen, Committed as IsCommitted, RolledBack as IsRolledBack, Discarded as IsDiscarded}
+use Rattle.log_model.specs.declared.origin.OriginState.TheVariants.{Open as StillOpen, Committed as IsCommitted}
+use Rattle.log_model.specs.declared.origin.OriginState.TheVariants.{RolledBack as IsRolledBack, Discarded as IsDiscarded}
 use Rattle.log_model.specs.Transactions.{TransactionState, Open, Committed, RolledBack, Discarded}
 
 -- the word for a state

@@ -1,5 +1,6 @@
 -- What a pull answers.
-use Rattle.std.specs.Prelude.{ℕ, ◌+◌, ◌-◌, ◌==◌, ◌&&◌, ◌||◌, not, nat_lt, nat_le, List, [], ◌∷◌, ◌++◌, map, filter, reverse, drop, length, count_by, sum_by, codes, ℤ, pos, negsuc, Bool, if◌then◌else◌}
+use Rattle.std.specs.Prelude.{ℕ, ◌+◌, ◌-◌, ◌==◌, ◌&&◌, ◌||◌, not, nat_lt, nat_le, List, [], ◌∷◌, ◌++◌, map, filter}
+use Rattle.std.specs.Prelude.{reverse, drop, length, count_by, sum_by, codes, ℤ, pos, negsuc, Bool, if◌then◌else◌}
 use Rattle.std.specs.List.{list_any}
 use Rattle.std.specs.Str.{bytes_eq}
 use Rattle.std.specs.Ordering.{int_eq}
@@ -90,7 +91,8 @@ pulled unit low queue (negsuc from) most test = nothing 21 low low (low + length
 
 -- a pull of a queue of a log
 abbrev pub pull_reply : Log → List ℕ → ℕ → ℤ → ℤ → List ℕ → Pulled Entry
-pull_reply log topic queue from most text = pulled unit_of (queue_min log topic queue) (records_of log topic queue) from (asked_number 32 most) (takes text)
+pull_reply log topic queue from most text = pulled unit_of (queue_min log topic queue) (records_of log topic queue) from
+    (asked_number 32 most) (takes text)
 
 -- what was pulled, seen as something else
 abbrev pub pulled_as : {A B : Type 0} → (A → B) → Pulled A → Pulled B

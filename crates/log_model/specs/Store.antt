@@ -1,5 +1,6 @@
 -- What recovery keeps of any files, which crash images are honest, and when a disk stores a log.
-use Rattle.std.specs.Prelude.{◌≡◌, ◌≢◌, ◌⊎◌, ℕ, zero, suc, ◌+◌, ◌-◌, ◌*◌, ◌/◌, ◌%◌, ◌^◌, ◌<◌, ◌≤◌, List, [], ◌∷◌, ◌++◌, length, take, drop, slice_get, Some, None, IsSome, IsTrue}
+use Rattle.std.specs.Prelude.{◌≡◌, ◌≢◌, ◌⊎◌, ℕ, zero, suc, ◌+◌, ◌-◌, ◌*◌, ◌/◌, ◌%◌, ◌^◌, ◌<◌, ◌≤◌, List}
+use Rattle.std.specs.Prelude.{[], ◌∷◌, ◌++◌, length, take, drop, slice_get, Some, None, IsSome, IsTrue}
 use Rattle.std.specs.Ordering.{nat_cmp, is_lt}
 use Rattle.std.specs.Cmp.Lexicographic.{slice_cmp}
 use Rattle.mq_outside.specs.Files.{Files, bytes_of}
@@ -9,7 +10,8 @@ use Rattle.record_codec.specs.Layout.{layout, IsRecord}
 use Rattle.record_codec.specs.Blanks.{blank_front}
 use Rattle.log_model.specs.Bases.{Geometry, first_segment}
 use Rattle.log_model.specs.Log.{Follows, IsWellFormed}
-use Rattle.log_model.specs.Segments.{Shape, layouts, added, opened, used, next_segment, segment_start, end_in, shape_of, segment_file, last_name, last_bytes, AreClosed, IsLogFile, Counts, NoOther}
+use Rattle.log_model.specs.Segments.{Shape, layouts, added, opened, used, next_segment, segment_start, end_in, shape_of}
+use Rattle.log_model.specs.Segments.{segment_file, last_name, last_bytes, AreClosed, IsLogFile, Counts, NoOther}
 
 -- ---- what stands where
 
@@ -82,7 +84,8 @@ pub record ReadsTo (S : Geometry) (records : List Entry) (shape : Shape) (files 
   pub well_formed : IsWellFormed S records
   pub opens : ℕ
   pub is : shape ≡ opened_times opens (shape_of S records)
-  pub named : (k : ℕ) → first_segment S ≤ k → k < next_segment S shape.older → (k * S.size < 2 ^ 63) × ComesNext S k files (segment_file S k)
+  pub named : (k : ℕ) → first_segment S ≤ k → k < next_segment S shape.older → (k * S.size < 2 ^ 63)
+      × ComesNext S k files (segment_file S k)
   pub older : AreEnded S shape.older files
   pub last : take (used shape) (last_bytes S shape files) ≡ layouts shape.last
 

@@ -1,5 +1,6 @@
 -- Transactions: half messages, and what the log says became of them.
-use Rattle.std.specs.Prelude.{ℕ, ◌==◌, ◌&&◌, ◌||◌, not, List, filter, count_by, find, [], ◌∷◌, Bool, is_none, Option, Some, None, if◌then◌else◌}
+use Rattle.std.specs.Prelude.{ℕ, ◌==◌, ◌&&◌, ◌||◌, not, List, filter, count_by, find, []}
+use Rattle.std.specs.Prelude.{◌∷◌, Bool, is_none, Option, Some, None, if◌then◌else◌}
 use Rattle.std.specs.List.{list_any}
 use Rattle.std.specs.Str.{bytes_eq}
 use Rattle.std.specs.Str.Parse.{digits_value}

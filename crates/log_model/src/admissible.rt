@@ -3,7 +3,11 @@
 ghost use Rattle.std.specs.Prelude.{◌≡◌, ◌<◌, ◌↔◌, IsTrue, IsSome, IfSome, bit_and, codes, true, None};
 ghost use Rattle.std.specs.Str.{bytes_eq};
 ghost use Rattle.record_codec.specs.Props.{value_of};
-ghost use Rattle.log_model.specs.Admissible.{is_system_topic as is_system, most_queues as most_of, is_bare as bare, number_in as number_of_text, number_of as number_of_bytes, names_half, half_topic, level_topic, op_topic, discard_topic, Waits, IsHalfMessage, IsDelayedMessage, IsAdmissible, NamesEarlier, IsPlainTopic, IsDelayFrom, IfHas};
+ghost use Rattle.log_model.specs.Admissible.{is_system_topic as is_system, most_queues as most_of, is_bare as bare};
+ghost use Rattle.log_model.specs.Admissible.{number_in as number_of_text, number_of as number_of_bytes, names_half};
+ghost use Rattle.log_model.specs.Admissible.{half_topic, level_topic, op_topic, discard_topic, Waits, IsHalfMessage};
+ghost use Rattle.log_model.specs.Admissible.{IsDelayedMessage, IsAdmissible, NamesEarlier, IsPlainTopic, IsDelayFrom};
+ghost use Rattle.log_model.specs.Admissible.{IfHas};
 
 use crate::made::{can_be_delivered, can_be_discarded, can_be_renewed};
 use crate::texts::{has_number, is_below, is_delay_from, number_in, number_of};

@@ -1,6 +1,7 @@
 //! What holds of logs, of their segment files and of recovery. No call is made: the clauses speak of the definitions.
 
-ghost use Rattle.std.specs.Prelude.{◌≡◌, ◌⊎◌, ◌<◌, ◌≤◌, ◌+◌, ◌*◌, ◌/◌, ◌%◌, ◌^◌, ◌++◌, List, [], ◌∷◌, ℕ, suc, Some, IsSome, length, take, drop, slice_get, ℤ, Bool, map, None, true};
+ghost use Rattle.std.specs.Prelude.{◌≡◌, ◌⊎◌, ◌<◌, ◌≤◌, ◌+◌, ◌*◌, ◌/◌, ◌%◌, ◌^◌, ◌++◌, List, [], ◌∷◌, ℕ, suc};
+ghost use Rattle.std.specs.Prelude.{Some, IsSome, length, take, drop, slice_get, ℤ, Bool, map, None, true};
 ghost use Rattle.mq_outside.specs.Disk.{EachImage, IsCrashImage, IsDurable};
 ghost use Rattle.mq_outside.specs.Files.{Files, HasNoFile, At, Shortened, bytes_of};
 ghost use Rattle.record_codec.specs.Entry.{Entry};
@@ -16,7 +17,8 @@ ghost use Rattle.log_model.specs.Bases.{Geometry, first_segment};
 ghost use Rattle.log_model.specs.Log.{place_after, end_of, IsGeometry, IsWellFormed};
 ghost use Rattle.log_model.specs.Pulls.{pulled, pulled_as};
 ghost use Rattle.log_model.specs.Segments.{Shape, shape_of, segment_file, last_name, Counts, AreSegmentFiles};
-ghost use Rattle.log_model.specs.Store.{StartsWith, IsDamagedAt, IsHonest, IsLaid, Keeps, KeepsPrefix, KeepsIfHonest, Stands, StoresLog, StandsAtPlace, HasLogFilesOf};
+ghost use Rattle.log_model.specs.Store.{StartsWith, IsDamagedAt, IsHonest, IsLaid, Keeps, KeepsPrefix};
+ghost use Rattle.log_model.specs.Store.{KeepsIfHonest, Stands, StoresLog, StandsAtPlace, HasLogFilesOf};
 ghost use Rattle.log_model.specs.Stored.{FlushTurn, HasFirst, KeepsAtLeast, LogStays, StoresFirst, flush_turn, turned_by, turned_in};
 
 use mq_outside::Disk;
@@ -162,7 +164,8 @@ pub fn cut_files_are_honest()
 
 /// Recovery keeps at least these records of files that have them, where the files are honest for the log.
 pub fn first_records_are_kept()
-    ensures { (S : Geometry) (log : List Entry) (least : ℕ) (files : Files) → IsWellFormed S log → HasFirst S log least files → KeepsIfHonest S log least files }
+    ensures { (S : Geometry) (log : List Entry) (least : ℕ) (files : Files) → IsWellFormed S log → HasFirst S log least files
+        → KeepsIfHonest S log least files }
 {}
 
 /// A disk that holds what a crash left, with the first records of a log at their places, stores the log with these flushed.
@@ -185,7 +188,8 @@ pub fn a_flush_turn_counts_from_its_end<D: Disk>(old: &D, mid: &D, new: &D)
         → KeepsAtLeast S log (λ m. before + turned_by turns m) (D.state old.now) (D.state mid.now)
         → KeepsAtLeast S log (λ m. before + turned_in turns) (D.state mid.now) (D.state new.now)
         → EachImage (HasFirst S log (before + turned_in turns + count)) (D.state new.now)
-        → KeepsAtLeast S log (λ m. before + turned_by (turns ++ flush_turn count (D.state new.now).moment ∷ []) m) (D.state old.now) (D.state new.now) }
+        → KeepsAtLeast S log (λ m. before + turned_by (turns
+        ++ flush_turn count (D.state new.now).moment ∷ []) m) (D.state old.now) (D.state new.now) }
 {}
 
 /// Where the log's files stay, the disk stores the log as before.

@@ -4,7 +4,8 @@
 
 ghost use Rattle.std.specs.Prelude.{◌≡◌, ◌↔◌, IsTrue, IsSome, IfSome, option_map};
 ghost use Rattle.record_codec.specs.Props.{until};
-ghost use Rattle.log_model.specs.Admissible.{is_bare as bare, number_in as number_of_text, number_of as number_of_bytes, IsBelow, IsLevel, IsDelayFrom};
+ghost use Rattle.log_model.specs.Admissible.{is_bare as bare, number_in as number_of_text};
+ghost use Rattle.log_model.specs.Admissible.{number_of as number_of_bytes, IsBelow, IsLevel, IsDelayFrom};
 
 use mq_bytes::read_decimal;
 

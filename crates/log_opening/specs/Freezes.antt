@@ -15,7 +15,9 @@ pub record HasUpTo (segment place : ℕ) (files : Files) : Type 0 where
 -- they hold what is read of the files. Else they may hold nothing.
 pub record ArePieces (tells : Type 0) (segment place : ℕ) (files : Files) (stored : FrozenRanges) : Type 0 where
   pub end : stored.end ≤ place
-  pub range : (k offset n : ℕ) → 0 < n → offset + n ≤ segment → k * segment + offset + n ≤ place → HasRange stored.pieces.items (k * segment + offset) n
+  pub range : (k offset n : ℕ) → 0 < n → offset + n ≤ segment → k * segment + offset + n ≤ place
+      → HasRange stored.pieces.items (k * segment + offset) n
   pub held : tells → (k offset : ℕ) (bytes : List ℕ) → 0 < length bytes → offset + length bytes ≤ segment
-      → take (length bytes) (drop offset (bytes_of files (segment_file (whole segment) k))) ≡ bytes → HoldsRange stored.pieces.items (k * segment + offset) bytes
+      → take (length bytes) (drop offset (bytes_of files (segment_file (whole segment) k))) ≡ bytes
+      → HoldsRange stored.pieces.items (k * segment + offset) bytes
   pub none : ((place : ℕ) (bytes : List ℕ) → HoldsRange stored.pieces.items place bytes) ⊎ tells

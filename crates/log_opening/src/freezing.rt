@@ -52,7 +52,8 @@ fn add_file<D: Disk>(
     requires low { number * segment + len ≤ 2 ^ 62 }
     requires behind { stored.old.end ≤ number * segment }
     requires within { D.tells → len ≤ length (bytes_of (D.state disk.old).reads (segment_file (whole segment) number)) }
-    ensures pieces { (files : Files) → (D.tells → (D.state disk.old).reads ≡ files) → ArePieces D.tells segment (number * segment) files stored.old
+    ensures pieces { (files : Files) → (D.tells → (D.state disk.old).reads ≡ files)
+        → ArePieces D.tells segment (number * segment) files stored.old
         → OnOk result (ArePieces D.tells segment (number * segment + len) files stored.new) }
     ensures end { OnOk result (stored.new.end ≡ number * segment + len) }
     ensures rests { D.tells → Rests (D.state disk.old) (D.state disk.new) }
@@ -78,7 +79,8 @@ fn add_whole<D: Disk>(
     requires size { IsSegmentSize segment }
     requires low { count * segment ≤ 2 ^ 62 }
     requires none { stored.old.end ≡ 0 }
-    requires within { D.tells → (k : ℕ) → k < count → segment ≤ length (bytes_of (D.state disk.old).reads (segment_file (whole segment) k)) }
+    requires within { D.tells → (k : ℕ) → k < count
+        → segment ≤ length (bytes_of (D.state disk.old).reads (segment_file (whole segment) k)) }
     ensures pieces { (files : Files) → (D.tells → (D.state disk.old).reads ≡ files) → ArePieces D.tells segment 0 files stored.old
         → OnOk result (ArePieces D.tells segment (count * segment) files stored.new) }
     ensures end { OnOk result (stored.new.end ≤ count * segment) }

@@ -140,7 +140,8 @@ pub(crate) fn load_log<D: Disk>(
     ensures damaged { D.tells → OnDamage result (IsDamagedAt (whole segment) (D.state disk.old).reads) }
     ensures untouched { D.tells → OnDamage result (λ place name. Rests (D.state disk.old) (D.state disk.new)) }
     ensures ours { D.tells → (log : List Entry) (flushed : ℕ) → StoresLog (whole segment) log flushed (D.state disk.old)
-        → IsHonest (whole segment) log flushed (D.state disk.old).reads → IfOk result (IsOurLog (whole segment) topics.now log flushed (D.state disk.new)) }
+        → IsHonest (whole segment) log flushed (D.state disk.old).reads
+        → IfOk result (IsOurLog (whole segment) topics.now log flushed (D.state disk.new)) }
     ensures flushed { D.tells → StaysFlushed (whole segment) (D.state disk.old) (D.state disk.new) }
     ensures outside { D.tells → StaysOutside (D.state disk.old) (D.state disk.new) }
     ensures cause { CountsRecoverFault result (D.faults disk.old) (D.faults disk.new) }

@@ -76,7 +76,8 @@ pub fn open_log_with<D: Disk>(
 
     // A disk that stores a log, and is read honestly: it opens over a prefix with all that was flushed, which is stored.
     ensures ours { D.tells → (log : List Entry) (flushed : ℕ) → StoresLog (whole setup.segment) log flushed (D.state disk.old)
-        → IsHonest (whole setup.segment) log flushed (D.state disk.old).reads → IfOk result (OpensOursWith setup (saved_as offsets.now topics.now) log flushed (D.state disk.new)) }
+        → IsHonest (whole setup.segment) log flushed (D.state disk.old).reads
+        → IfOk result (OpensOursWith setup (saved_as offsets.now topics.now) log flushed (D.state disk.new)) }
 
     // Whatever the answer, what was flushed stays, at each moment, and so do files outside the log's folder.
     ensures flushed { D.tells → StaysFlushed (whole setup.segment) (D.state disk.old) (D.state disk.new) }
@@ -114,7 +115,8 @@ pub fn open_log<D: Disk>(alloc: Global, disk: &mut D, setup: Setup) -> Result<Op
     ensures damaged { D.tells → OnDamage result (IsDamagedAt (whole setup.segment) (D.state disk.old).reads) }
     ensures untouched { D.tells → OnDamage result (λ place name. Rests (D.state disk.old) (D.state disk.new)) }
     ensures ours { D.tells → (log : List Entry) (flushed : ℕ) → StoresLog (whole setup.segment) log flushed (D.state disk.old)
-        → IsHonest (whole setup.segment) log flushed (D.state disk.old).reads → IfOk result (OpensOurs setup log flushed (D.state disk.new)) }
+        → IsHonest (whole setup.segment) log flushed (D.state disk.old).reads
+        → IfOk result (OpensOurs setup log flushed (D.state disk.new)) }
     ensures flushed { D.tells → StaysFlushed (whole setup.segment) (D.state disk.old) (D.state disk.new) }
     ensures outside { D.tells → StaysOutside (D.state disk.old) (D.state disk.new) }
     ensures cause { CountsRecoverFault result (D.faults disk.old) (D.faults disk.new) }

@@ -67,14 +67,16 @@ IsSettled disk = EachImage (λ files. (name : List ℕ) → IsLogFile name → (
 -- The files are those of these records alone: as they were read before the last, and in the last, which is there where it was
 -- read, nothing behind its records.
 pub record IsCutTo (S : Geometry) (records : List Entry) (read files : Files) : Type 0 where
-  pub older : (k : ℕ) → first_segment S ≤ k → k < next_segment S (shape_of S records).older → files (segment_file S k) ≡ read (segment_file S k)
+  pub older : (k : ℕ) → first_segment S ≤ k → k < next_segment S (shape_of S records).older
+      → files (segment_file S k) ≡ read (segment_file S k)
   pub last : last_bytes S (shape_of S records) files ≡ layouts (shape_of S records).last
   pub there : IsSome (files (last_name S (shape_of S records))) ↔ IsSome (read (last_name S (shape_of S records)))
   pub others : NoOther S (next_segment S (shape_of S records).older) files
 
 -- Recovery of a disk that stores a log: a prefix of it with all that was flushed was handed to the visitor, and is now the
 -- log that the disk stores, all of it flushed and nothing behind it.
-pub record Recovered (S : Geometry) (log : List Entry) (flushed : ℕ) (before after : List Entry → Type 0) (disk : DiskState) (end : ℕ) : Type 0 where
+pub record Recovered (S : Geometry) (log : List Entry) (flushed : ℕ) (before after : List Entry → Type 0) (disk : DiskState)
+    (end : ℕ) : Type 0 where
   pub number : ℕ
   pub low : flushed ≤ number
   pub high : number ≤ length log
@@ -91,4 +93,5 @@ pub record Stays (S : Geometry) (log : List Entry) (flushed : ℕ) (old new : Di
 
 -- and so it is for each log and each flushed number that the disk stored, and was read honestly for
 abbrev pub StaysFlushed : Geometry → DiskState → DiskState → Type 0
-StaysFlushed S old new = (log : List Entry) (flushed : ℕ) → StoresLog S log flushed old → IsHonest S log flushed old.reads → Stays S log flushed old new
+StaysFlushed S old new = (log : List Entry) (flushed : ℕ) → StoresLog S log flushed old → IsHonest S log flushed old.reads
+    → Stays S log flushed old new

@@ -21,7 +21,8 @@ pub record Shows (window : Window) (bytes : List ℕ) : Type 0 where
 
 -- each record of at most so many bytes that stands at this place of the file ends before this place
 abbrev pub EndsBefore : List ℕ → ℕ → ℕ → ℕ → Type 0
-EndsBefore bytes at room end = (r : Entry) (rest : List ℕ) → IsRecord r → drop at bytes ≡ layout r ++ rest → size r ≤ room → at + size r ≤ end
+EndsBefore bytes at room end = (r : Entry) (rest : List ℕ) → IsRecord r → drop at bytes ≡ layout r ++ rest → size r ≤ room
+    → at + size r ≤ end
 
 -- ---- records
 
@@ -43,7 +44,8 @@ abbrev pub NoNext : Geometry → Files → List Entry → Shape → Type 0
 NoNext S files records shape = (r : Entry) → IsNext S records files shape r → ⊥
 
 -- a step read a record of n bytes, which was handed on
-pub record StepsTo (S : Geometry) (files : Files) (records : List Entry) (shape : Shape) (tail : LogTail) (before after : List Entry → Type 0) (n : ℕ) : Type 0 where
+pub record StepsTo (S : Geometry) (files : Files) (records : List Entry) (shape : Shape) (tail : LogTail)
+    (before after : List Entry → Type 0) (n : ℕ) : Type 0 where
   pub r : Entry
   pub next : IsNext S records files shape r
   pub long : n ≡ size r
@@ -51,26 +53,30 @@ pub record StepsTo (S : Geometry) (files : Files) (records : List Entry) (shape 
   pub handed : before records → after (records ++ r ∷ [])
 
 -- a step found no next record
-pub record Stops (S : Geometry) (files : Files) (records : List Entry) (shape : Shape) (tail : LogTail) (before after : List Entry → Type 0) (n : ℕ) : Type 0 where
+pub record Stops (S : Geometry) (files : Files) (records : List Entry) (shape : Shape) (tail : LogTail) (before after : List Entry → Type 0)
+    (n : ℕ) : Type 0 where
   pub none : n ≡ 0
   pub ends : NoNext S files records shape
   pub left : StandsIn S tail records
   pub handed : before records → after records
 
 -- records were read up to here and handed on, behind those that were read before
-pub record Scanned (S : Geometry) (files : Files) (done : List Entry) (tail : LogTail) (file_base : ℕ) (before after : List Entry → Type 0) (at : ℕ) : Type 0 where
+pub record Scanned (S : Geometry) (files : Files) (done : List Entry) (tail : LogTail) (file_base : ℕ) (before after : List Entry → Type 0)
+    (at : ℕ) : Type 0 where
   pub records : List Entry
   pub shape : Shape
   pub stood : Stood S files records shape tail file_base at
   pub handed : before done → after records
 
 -- and none comes next
-pub record ScansTo (S : Geometry) (files : Files) (done : List Entry) (tail : LogTail) (file_base : ℕ) (before after : List Entry → Type 0) (at : ℕ) : Type 0 where
+pub record ScansTo (S : Geometry) (files : Files) (done : List Entry) (tail : LogTail) (file_base : ℕ) (before after : List Entry → Type 0)
+    (at : ℕ) : Type 0 where
   pub scanned : Scanned S files done tail file_base before after at
   pub ends : NoNext S files scanned.records scanned.shape
 
 -- records were read and handed on up to the end of a file, whose blank ends it, and so many files are read
-pub record Opened (S : Geometry) (files : Files) (done : List Entry) (number : ℕ) (tail : LogTail) (before after : List Entry → Type 0) : Type 0 where
+pub record Opened (S : Geometry) (files : Files) (done : List Entry) (number : ℕ) (tail : LogTail)
+    (before after : List Entry → Type 0) : Type 0 where
   pub records : List Entry
   pub shape : Shape
   pub reads : ReadsTo S records shape files

@@ -18,7 +18,8 @@ pub record Turns (change : Files → Files → Type 0) (old new : DiskState) : T
 
 -- each file stays as it was, or it is one of those behind segment m up to segment n, and gone
 abbrev pub IsPruned : ℕ → ℕ → ℕ → Files → Files → Type 0
-IsPruned S m n old new = (name : List ℕ) → (new name ≡ old name) ⊎ ((new name ≡ None) × ((k : ℕ) × (m < k) × (k ≤ n) × (name ≡ segment_file (whole S) k)))
+IsPruned S m n old new = (name : List ℕ) → (new name ≡ old name) ⊎ ((new name ≡ None)
+    × ((k : ℕ) × (m < k) × (k ≤ n) × (name ≡ segment_file (whole S) k)))
 
 -- the files behind segment m up to segment n are gone
 abbrev pub IsGone : ℕ → ℕ → ℕ → Files → Type 0

@@ -25,8 +25,10 @@ fn extend<D: Disk>(
     requires from { window.old.from ≤ at }
     requires low { at ≤ 2 ^ 62 }
     ensures from { OnOk result (window.new.from ≤ at) }
-    ensures shows { D.tells → (bytes : List ℕ) → bytes_of (D.state disk.old).reads name.now ≡ bytes → Shows window.old bytes → OnOk result (Shows window.new bytes) }
-    ensures whole { D.tells → (bytes : List ℕ) → bytes_of (D.state disk.old).reads name.now ≡ bytes → at + size ≤ length bytes → OnOk result (at + size ≤ window.new.from + window.new.held) }
+    ensures shows { D.tells → (bytes : List ℕ) → bytes_of (D.state disk.old).reads name.now ≡ bytes → Shows window.old bytes
+        → OnOk result (Shows window.new bytes) }
+    ensures whole { D.tells → (bytes : List ℕ) → bytes_of (D.state disk.old).reads name.now ≡ bytes → at + size ≤ length bytes
+        → OnOk result (at + size ≤ window.new.from + window.new.held) }
     ensures damage { OnDamage result (λ place name. ⊥) }
     ensures only_reads { OnlyReads D.Disk result disk.old disk.new }
 {
@@ -49,8 +51,10 @@ fn reach<D: Disk>(
     requires from { window.old.from ≤ at }
     requires low { at ≤ 2 ^ 62 }
     ensures from { OnOk result (window.new.from ≤ at) }
-    ensures shows { D.tells → (bytes : List ℕ) → bytes_of (D.state disk.old).reads name.now ≡ bytes → Shows window.old bytes → OnOk result (Shows window.new bytes) }
-    ensures front { D.tells → (bytes : List ℕ) → bytes_of (D.state disk.old).reads name.now ≡ bytes → at + 8 ≤ length bytes → OnOk result (at + 8 ≤ window.new.from + window.new.held) }
+    ensures shows { D.tells → (bytes : List ℕ) → bytes_of (D.state disk.old).reads name.now ≡ bytes → Shows window.old bytes
+        → OnOk result (Shows window.new bytes) }
+    ensures front { D.tells → (bytes : List ℕ) → bytes_of (D.state disk.old).reads name.now ≡ bytes → at + 8 ≤ length bytes
+        → OnOk result (at + 8 ≤ window.new.from + window.new.held) }
     ensures damage { OnDamage result (λ place name. ⊥) }
     ensures only_reads { OnlyReads D.Disk result disk.old disk.new }
 {
@@ -72,8 +76,10 @@ pub(crate) fn load<D: Disk>(
     requires from { window.old.from ≤ at }
     requires low { at ≤ 2 ^ 62 }
     ensures from { OnOk result (window.new.from ≤ at) }
-    ensures shows { D.tells → (bytes : List ℕ) → bytes_of (D.state disk.old).reads name.now ≡ bytes → Shows window.old bytes → OnOk result (Shows window.new bytes) }
-    ensures whole { D.tells → (bytes : List ℕ) → bytes_of (D.state disk.old).reads name.now ≡ bytes → Shows window.old bytes → OnOk result (EndsBefore bytes at room (window.new.from + window.new.held)) }
+    ensures shows { D.tells → (bytes : List ℕ) → bytes_of (D.state disk.old).reads name.now ≡ bytes → Shows window.old bytes
+        → OnOk result (Shows window.new bytes) }
+    ensures whole { D.tells → (bytes : List ℕ) → bytes_of (D.state disk.old).reads name.now ≡ bytes → Shows window.old bytes
+        → OnOk result (EndsBefore bytes at room (window.new.from + window.new.held)) }
     ensures damage { OnDamage result (λ place name. ⊥) }
     ensures only_reads { OnlyReads D.Disk result disk.old disk.new }
 {

@@ -1,6 +1,7 @@
 //! The names of the log's files: those of the segments from the first one on, and nothing else.
 
-ghost use Rattle.std.specs.Prelude.{◌≡◌, ◌↔◌, ◌*◌, ◌/◌, ◌^◌, ◌<◌, ◌≤◌, Some, IsTrue, true, false, List, ℕ, map, string_bytes, IfSome, IfNone};
+ghost use Rattle.std.specs.Prelude.{◌≡◌, ◌↔◌, ◌*◌, ◌/◌, ◌^◌, ◌<◌, ◌≤◌, Some, IsTrue, true};
+ghost use Rattle.std.specs.Prelude.{false, List, ℕ, map, string_bytes, IfSome, IfNone};
 ghost use Rattle.mq_bytes.specs.Names.{log_file};
 ghost use Rattle.mq_outside.specs.Files.{Files, Lists};
 ghost use Rattle.log_model.specs.Bases.{geometry};
@@ -94,9 +95,12 @@ pub(crate) fn order_of<'a>(names: &'a [String], segment: u32, base: &Base) -> Or
     requires { IsGeometry (geometry segment (base_of base.now)) }
     ensures low { (k : ℕ) → k < result.count → k * segment < 2 ^ 63 }
     ensures from { base.now.place / segment ≤ result.count }
-    ensures named { (files : Files) → Lists files (map (λ name. string_bytes name) names.now) → AreNamed (geometry segment (base_of base.now)) result.count files }
-    ensures all { (files : Files) → Lists files (map (λ name. string_bytes name) names.now) → IfNone result.odd (NoFurther (geometry segment (base_of base.now)) result.count files) }
-    ensures odd { (files : Files) → Lists files (map (λ name. string_bytes name) names.now) → IfSome result.odd (λ name. IsOdd (geometry segment (base_of base.now)) result.count files name.now) }
+    ensures named { (files : Files) → Lists files (map (λ name. string_bytes name) names.now)
+        → AreNamed (geometry segment (base_of base.now)) result.count files }
+    ensures all { (files : Files) → Lists files (map (λ name. string_bytes name) names.now)
+        → IfNone result.odd (NoFurther (geometry segment (base_of base.now)) result.count files) }
+    ensures odd { (files : Files) → Lists files (map (λ name. string_bytes name) names.now)
+        → IfSome result.odd (λ name. IsOdd (geometry segment (base_of base.now)) result.count files name.now) }
 {
     let mut count = base.place / u64::from(segment);
     for i in 0..names.len() {

@@ -9,7 +9,8 @@ ghost use Rattle.log_model.specs.Log.{IsGeometry};
 ghost use Rattle.log_model.specs.Store.{Keeps, IsDamagedAt, IsHonest, StoresLog};
 ghost use Rattle.log_model.specs.Stored.{StaysOutside};
 ghost use Rattle.segment_files.specs.Turn.{IsInside};
-ghost use Rattle.log_recovery.specs.Recovered.{Kept, Handed, HasKept, Recovered, IsCutTo, IsSettled, StaysFlushed, OnDamage, OnMemory, CountsRecoverFault};
+ghost use Rattle.log_recovery.specs.Recovered.{Kept, Handed, HasKept, Recovered, IsCutTo, IsSettled};
+ghost use Rattle.log_recovery.specs.Recovered.{StaysFlushed, OnDamage, OnMemory, CountsRecoverFault};
 
 use crate::fault::RecoverFault;
 use crate::scan::read_log;
@@ -35,12 +36,15 @@ pub fn recover<D: Disk, V: Visit>(
     requires size { IsGeometry (geometry segment (base_of base.now)) }
 
     // Whatever the disk tells, what was handed on is a log.
-    ensures handed { V.stands (base_of base.now) each.old [] → IfOk result (Handed (geometry segment (base_of base.now)) (V.stands (base_of base.now) each.new)) }
+    ensures handed { V.stands (base_of base.now) each.old []
+        → IfOk result (Handed (geometry segment (base_of base.now)) (V.stands (base_of base.now) each.new)) }
 
     // What is kept of any files, and when they are damaged.
-    ensures kept { D.tells → IfOk result (Kept (geometry segment (base_of base.now)) (D.state disk.old).reads (V.stands (base_of base.now) each.old) (V.stands (base_of base.now) each.new)) }
+    ensures kept { D.tells → IfOk result (Kept (geometry segment (base_of base.now)) (D.state disk.old).reads
+        (V.stands (base_of base.now) each.old) (V.stands (base_of base.now) each.new)) }
     ensures low { IfOk result (λ end. end ≤ 2 ^ 62) }
-    ensures reads { D.tells → IfOk result (λ end. (records : List Entry) → Keeps (geometry segment (base_of base.now)) records (D.state disk.old).reads
+    ensures reads { D.tells → IfOk result (λ end. (records : List Entry)
+        → Keeps (geometry segment (base_of base.now)) records (D.state disk.old).reads
         → HasKept (geometry segment (base_of base.now)) records (D.state disk.new).reads) }
     ensures inside { D.tells → IfOk result (λ end. IsInside (end / segment * segment) (end % segment) (D.state disk.new)) }
     ensures damaged { D.tells → OnDamage result (IsDamagedAt (geometry segment (base_of base.now)) (D.state disk.old).reads) }
@@ -48,12 +52,16 @@ pub fn recover<D: Disk, V: Visit>(
     ensures untouched_memory { D.tells → OnMemory result (Rests (D.state disk.old) (D.state disk.new)) }
 
     // A crash afterwards leaves the kept records and nothing behind them.
-    ensures exact { D.tells → IsSettled (D.state disk.old) → IfOk result (λ end. (records : List Entry) → Keeps (geometry segment (base_of base.now)) records (D.state disk.old).reads
+    ensures exact { D.tells → IsSettled (D.state disk.old) → IfOk result (λ end. (records : List Entry)
+        → Keeps (geometry segment (base_of base.now)) records (D.state disk.old).reads
         → EachImage (IsCutTo (geometry segment (base_of base.now)) records (D.state disk.old).reads) (D.state disk.new)) }
 
     // A disk that stores a log, and is read honestly: a prefix is kept, and is stored.
-    ensures ours { D.tells → (log : List Entry) (flushed : ℕ) → StoresLog (geometry segment (base_of base.now)) log flushed (D.state disk.old) → IsHonest (geometry segment (base_of base.now)) log flushed (D.state disk.old).reads
-        → IfOk result (Recovered (geometry segment (base_of base.now)) log flushed (V.stands (base_of base.now) each.old) (V.stands (base_of base.now) each.new) (D.state disk.new)) }
+    ensures ours { D.tells → (log : List Entry) (flushed : ℕ)
+        → StoresLog (geometry segment (base_of base.now)) log flushed (D.state disk.old)
+        → IsHonest (geometry segment (base_of base.now)) log flushed (D.state disk.old).reads
+        → IfOk result (Recovered (geometry segment (base_of base.now)) log flushed (V.stands (base_of base.now) each.old)
+        (V.stands (base_of base.now) each.new) (D.state disk.new)) }
 
     // Whatever the answer, what was flushed stays, at each moment, and so do files outside the log's folder.
     ensures flushed { D.tells → StaysFlushed (geometry segment (base_of base.now)) (D.state disk.old) (D.state disk.new) }

@@ -51,10 +51,14 @@ fn step<D: Disk, V: Visit>(
     requires low { at ≤ 2 ^ 62 }
     ensures small { IfOk result (λ n. n < 2 ^ 32) }
     ensures from { OnOk result (scan.new.window.from ≤ at) }
-    ensures shows { D.tells → (bytes : List ℕ) → bytes_of (D.state disk.old).reads (log_file base) ≡ bytes → Shows scan.old.window bytes → OnOk result (Shows scan.new.window bytes) }
-    ensures next { D.tells → (begun : Begun) (files : Files) (records : List Entry) (shape : Shape) → (D.state disk.old).reads ≡ files → Shows scan.old.window (bytes_of files (log_file base))
+    ensures shows { D.tells → (bytes : List ℕ) → bytes_of (D.state disk.old).reads (log_file base) ≡ bytes → Shows scan.old.window bytes
+        → OnOk result (Shows scan.new.window bytes) }
+    ensures next { D.tells → (begun : Begun) (files : Files) (records : List Entry) (shape : Shape) → (D.state disk.old).reads ≡ files
+        → Shows scan.old.window (bytes_of files (log_file base))
         → Stood (geometry segment begun) files records shape scan.old.tail base at
-        → IfOk result (λ n. StepsTo (geometry segment begun) files records shape scan.new.tail (V.stands begun each.old) (V.stands begun each.new) n ⊎ Stops (geometry segment begun) files records shape scan.new.tail (V.stands begun each.old) (V.stands begun each.new) n) }
+        → IfOk result (λ n. StepsTo (geometry segment begun) files records shape scan.new.tail (V.stands begun each.old)
+        (V.stands begun each.new) n ⊎ Stops (geometry segment begun) files records shape scan.new.tail (V.stands begun each.old)
+        (V.stands begun each.new) n) }
     ensures damage { OnDamage result (λ place name. ⊥) }
     ensures handed { (begun : Begun) → HandsOn (geometry segment begun) scan.old.tail (V.stands begun each.old)
         → OnOk result (HandsOn (geometry segment begun) scan.new.tail (V.stands begun each.new)) }
@@ -88,7 +92,8 @@ fn scan_file<D: Disk, V: Visit>(
     ensures low { IfOk result (λ at. at ≤ 2 ^ 62) }
     ensures scanned { D.tells → (begun : Begun) (files : Files) (records : List Entry) (shape : Shape) → (D.state disk.old).reads ≡ files
         → Stood (geometry segment begun) files records shape scan.old.tail base 0
-        → IfOk result (ScansTo (geometry segment begun) files records scan.new.tail base (V.stands begun each.old) (V.stands begun each.new)) }
+        → IfOk result (ScansTo (geometry segment begun) files records scan.new.tail base (V.stands begun each.old)
+        (V.stands begun each.new)) }
     ensures damage { OnDamage result (λ place name. ⊥) }
     ensures handed { (begun : Begun) → HandsOn (geometry segment begun) scan.old.tail (V.stands begun each.old)
         → OnOk result (HandsOn (geometry segment begun) scan.new.tail (V.stands begun each.new)) }
@@ -127,8 +132,10 @@ fn ends_in_blank<D: Disk>(
     base: u64,
     at: u64,
 ) -> Result<bool, RecoverFault>
-    ensures ended { D.tells → (begun : Begun) (bytes : List ℕ) (records : List Entry) → bytes_of (D.state disk.old).reads (log_file base) ≡ bytes → at ≡ length (layouts records) → at + 8 ≤ segment
-        → take at bytes ≡ layouts records → IfOk result (λ is. (is ≡ true → EndsInBlank (geometry segment begun) records bytes) × (is ≡ false → EndsInBlank (geometry segment begun) records bytes → ⊥)) }
+    ensures ended { D.tells → (begun : Begun) (bytes : List ℕ) (records : List Entry)
+        → bytes_of (D.state disk.old).reads (log_file base) ≡ bytes → at ≡ length (layouts records) → at + 8 ≤ segment
+        → take at bytes ≡ layouts records → IfOk result (λ is. (is ≡ true → EndsInBlank (geometry segment begun) records bytes)
+        × (is ≡ false → EndsInBlank (geometry segment begun) records bytes → ⊥)) }
     ensures damage { OnDamage result (λ place name. ⊥) }
     ensures only_reads { OnlyReads D.Disk result disk.old disk.new }
 {
@@ -162,10 +169,15 @@ fn read_ended<D: Disk, V: Visit>(
     requires size { IsSegmentSize segment }
     requires base { base ≤ 2 ^ 63 }
     ensures opened { D.tells → (begun : Begun) (files : Files) (records : List Entry) (shape : Shape) → (D.state disk.old).reads ≡ files
-        → Stood (geometry segment begun) files records shape scan.old.tail base 0 → base < 2 ^ 63 → ComesNext (geometry segment begun) (next_segment (geometry segment begun) shape.older) files (log_file base)
-        → OnOk result (Opened (geometry segment begun) files records (next_segment (geometry segment begun) shape.older + 1) scan.new.tail (V.stands begun each.old) (V.stands begun each.new)) }
-    ensures damaged { D.tells → (begun : Begun) (files : Files) (records : List Entry) (shape : Shape) (behind : List ℕ) → (D.state disk.old).reads ≡ files
-        → Stood (geometry segment begun) files records shape scan.old.tail base 0 → base < 2 ^ 63 → ComesNext (geometry segment begun) (next_segment (geometry segment begun) shape.older) files (log_file base) → ComesNext (geometry segment begun) (next_segment (geometry segment begun) shape.older + 1) files behind
+        → Stood (geometry segment begun) files records shape scan.old.tail base 0 → base < 2 ^ 63
+        → ComesNext (geometry segment begun) (next_segment (geometry segment begun) shape.older) files (log_file base)
+        → OnOk result (Opened (geometry segment begun) files records (next_segment (geometry segment begun) shape.older + 1) scan.new.tail
+        (V.stands begun each.old) (V.stands begun each.new)) }
+    ensures damaged { D.tells → (begun : Begun) (files : Files) (records : List Entry) (shape : Shape) (behind : List ℕ)
+        → (D.state disk.old).reads ≡ files
+        → Stood (geometry segment begun) files records shape scan.old.tail base 0 → base < 2 ^ 63
+        → ComesNext (geometry segment begun) (next_segment (geometry segment begun) shape.older) files (log_file base)
+        → ComesNext (geometry segment begun) (next_segment (geometry segment begun) shape.older + 1) files behind
         → OnDamage result (IsDamagedAt (geometry segment begun) files) }
     ensures handed { (begun : Begun) → HandsOn (geometry segment begun) scan.old.tail (V.stands begun each.old)
         → OnOk result (HandsOn (geometry segment begun) scan.new.tail (V.stands begun each.new)) }
@@ -200,9 +212,13 @@ fn read_front<D: Disk, V: Visit>(
     requires size { IsGeometry (geometry segment (base_of base.now)) }
     requires from { base.now.place / segment ≤ count }
     requires low { (k : ℕ) → k < count → k * segment < 2 ^ 63 }
-    ensures opened { D.tells → (files : Files) → (D.state disk.old).reads ≡ files → StandsIn (geometry segment (base_of base.now)) scan.old.tail [] → AreNamed (geometry segment (base_of base.now)) count files
-        → OnOk result (Opened (geometry segment (base_of base.now)) files [] count scan.new.tail (V.stands (base_of base.now) each.old) (V.stands (base_of base.now) each.new)) }
-    ensures damaged { D.tells → (files : Files) (behind : List ℕ) → (D.state disk.old).reads ≡ files → StandsIn (geometry segment (base_of base.now)) scan.old.tail [] → AreNamed (geometry segment (base_of base.now)) count files → ComesNext (geometry segment (base_of base.now)) count files behind
+    ensures opened { D.tells → (files : Files) → (D.state disk.old).reads ≡ files
+        → StandsIn (geometry segment (base_of base.now)) scan.old.tail [] → AreNamed (geometry segment (base_of base.now)) count files
+        → OnOk result (Opened (geometry segment (base_of base.now)) files [] count scan.new.tail (V.stands (base_of base.now) each.old)
+        (V.stands (base_of base.now) each.new)) }
+    ensures damaged { D.tells → (files : Files) (behind : List ℕ) → (D.state disk.old).reads ≡ files
+        → StandsIn (geometry segment (base_of base.now)) scan.old.tail [] → AreNamed (geometry segment (base_of base.now)) count files
+        → ComesNext (geometry segment (base_of base.now)) count files behind
         → OnDamage result (IsDamagedAt (geometry segment (base_of base.now)) files) }
     ensures handed { HandsOn (geometry segment (base_of base.now)) scan.old.tail (V.stands (base_of base.now) each.old)
         → OnOk result (HandsOn (geometry segment (base_of base.now)) scan.new.tail (V.stands (base_of base.now) each.new)) }
@@ -236,9 +252,14 @@ fn read_all<D: Disk, V: Visit>(
     requires from { base.now.place / segment ≤ count }
     requires low { (k : ℕ) → k < count → k * segment < 2 ^ 63 }
     ensures low { IfOk result (λ end. end ≤ 2 ^ 62) }
-    ensures read { D.tells → (files : Files) → (D.state disk.old).reads ≡ files → StandsIn (geometry segment (base_of base.now)) scan.old.tail [] → AreNamed (geometry segment (base_of base.now)) count files → NoFurther (geometry segment (base_of base.now)) count files
-        → IfOk result (ReadLog (geometry segment (base_of base.now)) files (V.stands (base_of base.now) each.old) (V.stands (base_of base.now) each.new) count) }
-    ensures damaged { D.tells → (files : Files) → (D.state disk.old).reads ≡ files → StandsIn (geometry segment (base_of base.now)) scan.old.tail [] → AreNamed (geometry segment (base_of base.now)) count files → NoFurther (geometry segment (base_of base.now)) count files
+    ensures read { D.tells → (files : Files) → (D.state disk.old).reads ≡ files
+        → StandsIn (geometry segment (base_of base.now)) scan.old.tail [] → AreNamed (geometry segment (base_of base.now)) count files
+        → NoFurther (geometry segment (base_of base.now)) count files
+        → IfOk result (ReadLog (geometry segment (base_of base.now)) files (V.stands (base_of base.now) each.old)
+        (V.stands (base_of base.now) each.new) count) }
+    ensures damaged { D.tells → (files : Files) → (D.state disk.old).reads ≡ files
+        → StandsIn (geometry segment (base_of base.now)) scan.old.tail [] → AreNamed (geometry segment (base_of base.now)) count files
+        → NoFurther (geometry segment (base_of base.now)) count files
         → OnDamage result (IsDamagedAt (geometry segment (base_of base.now)) files) }
     ensures handed { HandsOn (geometry segment (base_of base.now)) scan.old.tail (V.stands (base_of base.now) each.old)
         → IfOk result (Handed (geometry segment (base_of base.now)) (V.stands (base_of base.now) each.new)) }
@@ -265,9 +286,11 @@ pub(crate) fn read_log<D: Disk, V: Visit>(
     requires { IsGeometry (geometry segment (base_of base.now)) }
     ensures low { IfOk result (λ log. log.end ≤ 2 ^ 62) }
     ensures count { IfOk result (λ log. (k : ℕ) → k < log.count → k * segment < 2 ^ 63) }
-    ensures read { D.tells → IfOk result (λ log. ReadLog (geometry segment (base_of base.now)) (D.state disk.old).reads (V.stands (base_of base.now) each.old) (V.stands (base_of base.now) each.new) log.count log.end) }
+    ensures read { D.tells → IfOk result (λ log. ReadLog (geometry segment (base_of base.now)) (D.state disk.old).reads
+        (V.stands (base_of base.now) each.old) (V.stands (base_of base.now) each.new) log.count log.end) }
     ensures damaged { D.tells → OnDamage result (IsDamagedAt (geometry segment (base_of base.now)) (D.state disk.old).reads) }
-    ensures handed { V.stands (base_of base.now) each.old [] → IfOk result (λ log. Handed (geometry segment (base_of base.now)) (V.stands (base_of base.now) each.new) log.end) }
+    ensures handed { V.stands (base_of base.now) each.old []
+        → IfOk result (λ log. Handed (geometry segment (base_of base.now)) (V.stands (base_of base.now) each.new) log.end) }
     ensures only_reads { OnlyReads D.Disk result disk.old disk.new }
 {
     let names = disk.list(alloc)?;

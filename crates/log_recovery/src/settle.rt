@@ -37,7 +37,8 @@ fn remove_behind<D: Disk>(disk: &mut D, segment: u32, kept: u64, top: u64) -> Re
 fn shorten<D: Disk>(disk: &mut D, name: &str, len: u64) -> Result<(), Failed>
     requires within { D.tells → len ≤ length (bytes_of (D.state disk.old).reads name.now) }
     ensures turns { D.tells → Turns (IsCut name.now len) (D.state disk.old) (D.state disk.new) }
-    ensures cut { D.tells → OnOk result (bytes_of (D.state disk.new).reads name.now ≡ take len (bytes_of (D.state disk.old).reads name.now)) }
+    ensures cut { D.tells → OnOk result (bytes_of (D.state disk.new).reads name.now
+        ≡ take len (bytes_of (D.state disk.old).reads name.now)) }
     ensures cause { CountsFailure result (D.faults disk.old) (D.faults disk.new) }
     ensures syncs { D.syncs disk.new ≡ D.syncs disk.old }
 {
@@ -98,8 +99,10 @@ pub(crate) fn settle<D: Disk>(
     requires low { end ≤ 2 ^ 62 }
     requires count { (k : ℕ) → k < count → k * segment < 2 ^ 63 }
     requires within { D.tells → end % segment ≤ length (bytes_of (D.state disk.old).reads (segment_file (whole segment) (end / segment))) }
-    ensures settles { D.tells → Settles segment (end / segment) (max (end / segment + 1) (count - 1)) (end % segment) (D.state disk.old) (D.state disk.new) }
-    ensures settled { D.tells → OnOk result (EachImage (IsSettledAt segment (end / segment) (max (end / segment + 1) (count - 1)) (end % segment) (D.state disk.old)) (D.state disk.new)) }
+    ensures settles { D.tells → Settles segment (end / segment) (max (end / segment + 1) (count - 1)) (end % segment) (D.state disk.old)
+        (D.state disk.new) }
+    ensures settled { D.tells → OnOk result (EachImage (IsSettledAt segment (end / segment) (max (end / segment + 1) (count - 1))
+        (end % segment) (D.state disk.old)) (D.state disk.new)) }
     ensures cause { CountsFailure result (D.faults disk.old) (D.faults disk.new) }
     ensures syncs { D.syncs disk.new ≤ D.syncs disk.old + 1 }
 {

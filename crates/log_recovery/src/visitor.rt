@@ -17,7 +17,8 @@ pub trait Visit {
 
     /// Takes the record behind those that it was handed. `Err` ends the recovery, which answers `Memory`.
     fn record(&mut self, view: &View<'_>) -> Result<(), AllocError>
-        ensures { (S : Geometry) (records : List Entry) → Follows S records view.now → stands S.base self.old records → OnOk result (stands S.base self.new (records ++ view.now ∷ [])) };
+        ensures { (S : Geometry) (records : List Entry) → Follows S records view.now → stands S.base self.old records
+            → OnOk result (stands S.base self.new (records ++ view.now ∷ [])) };
 }
 
 // The end of a log takes the records that recovery keeps, one after another.

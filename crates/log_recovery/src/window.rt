@@ -71,8 +71,10 @@ impl Window {
     pub(crate) fn read<D: Disk>(&mut self, disk: &mut D, name: &str, at: u64) -> Result<(), Failed>
         requires { at ≤ 2 ^ 62 }
         ensures from { OnOk result (self.new.from ≡ at) }
-        ensures held { D.tells → OnOk result (self.new.held ≡ min (vec_len self.old.buffer) (length (bytes_of (D.state disk.old).reads name.now) - at)) }
-        ensures bytes { D.tells → OnOk result (take self.new.held self.new.buffer.items ≡ take self.new.held (drop at (bytes_of (D.state disk.old).reads name.now))) }
+        ensures held { D.tells → OnOk result (self.new.held
+            ≡ min (vec_len self.old.buffer) (length (bytes_of (D.state disk.old).reads name.now) - at)) }
+        ensures bytes { D.tells → OnOk result (take self.new.held self.new.buffer.items
+            ≡ take self.new.held (drop at (bytes_of (D.state disk.old).reads name.now))) }
         ensures rests { D.tells → Rests (D.state disk.old) (D.state disk.new) }
         ensures cause { CountsFailure result (D.faults disk.old) (D.faults disk.new) }
         ensures syncs { D.syncs disk.new ≡ D.syncs disk.old }

@@ -2,7 +2,8 @@
 
 ghost use Rattle.std.specs.Prelude.{◌≡◌, ◌&&◌, is_none, option_map};
 ghost use Rattle.log_model.specs.Queues.{said_by};
-ghost use Rattle.log_model.specs.Kinds.{is_half as is_half_entry, is_op as is_op_entry, is_discard as is_discard_entry, is_copy as is_copy_entry, origin_text as origin_text_of};
+ghost use Rattle.log_model.specs.Kinds.{is_half as is_half_entry, is_op as is_op_entry, is_discard as is_discard_entry};
+ghost use Rattle.log_model.specs.Kinds.{is_copy as is_copy_entry, origin_text as origin_text_of};
 ghost use Rattle.log_replay.specs.Told.{is_of_origin};
 
 use record_codec::{COMMITTED, Record, TRANSACTION_BITS};

@@ -1,6 +1,7 @@
 //! What one record more does to a log. No call is made: the clauses speak of the definitions.
 
-ghost use Rattle.std.specs.Prelude.{◌≡◌, ℕ, ◌+◌, ◌++◌, ◌∷◌, [], ◌||◌, ◌&&◌, ◌<◌, ◌≤◌, List, ℤ, Some, None, true, false, length, filter, if◌then◌else◌};
+ghost use Rattle.std.specs.Prelude.{◌≡◌, ℕ, ◌+◌, ◌++◌, ◌∷◌, [], ◌||◌, ◌&&◌, ◌<◌, ◌≤◌, List, ℤ};
+ghost use Rattle.std.specs.Prelude.{Some, None, true, false, length, filter, if◌then◌else◌};
 ghost use Rattle.record_codec.specs.Entry.{Entry};
 ghost use Rattle.log_model.specs.Bases.{Geometry};
 ghost use Rattle.log_model.specs.Delays.{progress, next_delayed, is_due, due_delayed};
@@ -9,7 +10,8 @@ ghost use Rattle.log_model.specs.Kinds.{is_delivery};
 ghost use Rattle.log_model.specs.Log.{Follows, IsWellFormed};
 ghost use Rattle.log_model.specs.Numbered.{Log, with_appended, queue_min, queue_max};
 ghost use Rattle.log_model.specs.Queues.{queue_of, units_of};
-ghost use Rattle.log_model.specs.Transactions.{family, origins, names_it, copies_it, discards_it, settles, is_settled, copies, transaction_state};
+ghost use Rattle.log_model.specs.Transactions.{family, origins, names_it, copies_it, discards_it};
+ghost use Rattle.log_model.specs.Transactions.{settles, is_settled, copies, transaction_state};
 ghost use Rattle.log_replay.specs.Replays.{entries_in, key_entries};
 ghost use Rattle.log_replay.specs.Settling.{state_after};
 

@@ -45,7 +45,8 @@ impl QueueCounts {
 
     /// Gives this queue so many records.
     pub(crate) fn set(&mut self, queue: u32, count: u64) -> Result<(), AllocError>
-        ensures set { OnOk result ((other : ℕ) → slice_index self.new other ≡ (if queue == other then count else slice_index self.old other)) }
+        ensures set { OnOk result ((other : ℕ) → slice_index self.new other
+            ≡ (if queue == other then count else slice_index self.old other)) }
         ensures same { OnErr result ((other : ℕ) → slice_index self.new other ≡ slice_index self.old other) }
     {
         set_at(&mut self.of_queues, queue as usize, count)
@@ -55,7 +56,8 @@ impl QueueCounts {
 // Writes the count at this place, behind zeros where the list is shorter.
 fn set_at(counts: &mut Vec<u64>, at: usize, count: u64) -> Result<(), AllocError>
     requires { at < 2 ^ 32 }
-    ensures set { OnOk result ((other : ℕ) → slice_index counts.new.items other ≡ (if at == other then count else slice_index counts.old.items other)) }
+    ensures set { OnOk result ((other : ℕ) → slice_index counts.new.items other
+        ≡ (if at == other then count else slice_index counts.old.items other)) }
     ensures same { OnErr result ((other : ℕ) → slice_index counts.new.items other ≡ slice_index counts.old.items other) }
 {
     if at < counts.len() {
@@ -87,7 +89,8 @@ pub(crate) fn set_count(
     queue: u32,
     count: u64,
 ) -> Result<(), AllocError>
-    ensures counted { OnOk result ((other : List ℕ) (number : ℕ) → count_in counts.new other number ≡ (if bytes_eq topic.now other && (queue == number) then count else count_in counts.old other number)) }
+    ensures counted { OnOk result ((other : List ℕ) (number : ℕ) → count_in counts.new other number
+        ≡ (if bytes_eq topic.now other && (queue == number) then count else count_in counts.old other number)) }
     ensures same { OnErr result ((other : List ℕ) (number : ℕ) → count_in counts.new other number ≡ count_in counts.old other number) }
 {
     if let Some(of_topic) = counts.get_mut(topic) {

@@ -133,7 +133,8 @@ impl LogTail {
     /// The place of the next record, of `size` bytes. None where it would end past the greatest place that a log has.
     pub fn place(&self, topic: &str, queue: u32, size: u32, reading: u64) -> Option<Place>
         ensures place { (base : Removed) (log : List Entry) → StandsFor base self.now log
-            → SomeIff result (HasRoom (geometry self.now.segment base) log size) (place_behind (geometry self.now.segment base) log topic.now queue size reading) }
+            → SomeIff result (HasRoom (geometry self.now.segment base) log size)
+            (place_behind (geometry self.now.segment base) log topic.now queue size reading) }
         ensures behind { IfSome result (λ place. (self.now.end ≤ place.offset) × (place.offset ≤ self.now.end + self.now.segment)) }
         ensures low { IfSome result (λ place. place.offset + size ≤ 2 ^ 62) }
         ensures counted { IfSome result (λ place. place.queue_offset ≤ self.now.records) }
@@ -167,7 +168,8 @@ impl LogTail {
         ensures segment { self.new.segment ≡ self.old.segment }
         ensures end { OnOk result (self.new.end ≡ place.now.offset + size) }
         ensures stays { OnErr result (self.new.end ≡ self.old.end) }
-        ensures moved { (base : Removed) (log : List Entry) (r : Entry) → StandsFor base self.old log → ComesBehind base log topic.now queue place.now size r → OnOk result (StandsFor base self.new (log ++ r ∷ [])) }
+        ensures moved { (base : Removed) (log : List Entry) (r : Entry) → StandsFor base self.old log
+            → ComesBehind base log topic.now queue place.now size r → OnOk result (StandsFor base self.new (log ++ r ∷ [])) }
         ensures still { (base : Removed) (log : List Entry) → StandsFor base self.old log → OnErr result (StandsFor base self.new log) }
     {
         set_count(
@@ -186,7 +188,8 @@ impl LogTail {
     /// Whether this record may stand behind the log.
     pub fn is_next(&self, view: &View<'_>) -> bool
         requires { IsRecord view.now }
-        ensures { (base : Removed) (log : List Entry) → StandsFor base self.now log → (IsTrue result ↔ Follows (geometry self.now.segment base) log view.now) }
+        ensures { (base : Removed) (log : List Entry) → StandsFor base self.now log
+            → (IsTrue result ↔ Follows (geometry self.now.segment base) log view.now) }
     {
         let count = count_of(&self.counts, view.topic(), view.queue());
         let halves = count_of(&self.counts, "RMQ_SYS_TRANS_HALF_TOPIC", 0);
@@ -196,7 +199,8 @@ impl LogTail {
     /// Takes a record that follows the log, in segments of any size. At `Err` the tail stands for what it stood for.
     pub fn add(&mut self, view: &View<'_>) -> Result<(), AllocError>
         ensures segment { self.new.segment ≡ self.old.segment }
-        ensures taken { (S : Geometry) (log : List Entry) → StandsFor S.base self.old log → Follows S log view.now → OnOk result (StandsFor S.base self.new (log ++ view.now ∷ [])) }
+        ensures taken { (S : Geometry) (log : List Entry) → StandsFor S.base self.old log → Follows S log view.now
+            → OnOk result (StandsFor S.base self.new (log ++ view.now ∷ [])) }
         ensures still { (base : Removed) (log : List Entry) → StandsFor base self.old log → OnErr result (StandsFor base self.new log) }
     {
         let place = Place {

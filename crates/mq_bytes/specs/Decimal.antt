@@ -15,7 +15,8 @@ decimal z = signed_decimal z
 
 -- the number that the text writes, where it is one digit or more and nothing else, and the number at most `most`
 abbrev pub number_up_to : ℕ → List ℕ → Option ℕ
-number_up_to most ds = if nat_lt 0 (length ds) && all_ascii_digits ds && nat_le (digits_value 10 ds) most then Some (digits_value 10 ds) else None
+number_up_to most ds = if nat_lt 0 (length ds) && all_ascii_digits ds && nat_le (digits_value 10 ds) most then Some (digits_value 10 ds)
+    else None
 
 -- the number that the text writes, where it is digits, perhaps behind a `-`, and the number within 64 signed bits:
 -- leading zeros and `-0` are numbers, `+1` is none

@@ -7,7 +7,8 @@ digit_at n p = 48 + n / p % 10
 
 -- n in 20 decimal digits
 unfoldable pub twenty_digits : ℕ → List ℕ
-twenty_digits n = digit_at n 10000000000000000000 ∷ digit_at n 1000000000000000000 ∷ digit_at n 100000000000000000 ∷ digit_at n 10000000000000000
+twenty_digits n = digit_at n 10000000000000000000 ∷ digit_at n 1000000000000000000 ∷ digit_at n 100000000000000000
+    ∷ digit_at n 10000000000000000
     ∷ digit_at n 1000000000000000 ∷ digit_at n 100000000000000 ∷ digit_at n 10000000000000 ∷ digit_at n 1000000000000
     ∷ digit_at n 100000000000 ∷ digit_at n 10000000000 ∷ digit_at n 1000000000 ∷ digit_at n 100000000
     ∷ digit_at n 10000000 ∷ digit_at n 1000000 ∷ digit_at n 100000 ∷ digit_at n 10000

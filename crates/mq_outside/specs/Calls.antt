@@ -21,8 +21,10 @@ put_file name bytes files other = if bytes_eq name other then bytes else files o
 -- what a read gives after the calls, the newest of which comes first
 abbrev pub reads_after : Files → List Event → Files
 reads_after base [] = base
-reads_after base (Wrote name at piece ∷ earlier) = put_file name (Some (overwritten at piece (bytes_of (reads_after base earlier) name))) (reads_after base earlier)
-reads_after base (Cut name len ∷ earlier) = put_file name (option_map (λ bytes. take len bytes) (reads_after base earlier name)) (reads_after base earlier)
+reads_after base (Wrote name at piece ∷ earlier) = put_file name (Some (overwritten at piece (bytes_of (reads_after base earlier) name)))
+    (reads_after base earlier)
+reads_after base (Cut name len ∷ earlier) = put_file name (option_map (λ bytes. take len bytes) (reads_after base earlier name))
+    (reads_after base earlier)
 reads_after base (Synced name ∷ earlier) = reads_after base earlier
 reads_after base (Removed name ∷ earlier) = put_file name None (reads_after base earlier)
 
@@ -37,7 +39,8 @@ Does (Removed name) read old new = At name (λ _ bytes. bytes ≡ None) old new
 abbrev pub image_after : Files → List Event → Files → Type 0
 image_after base [] files = files ≡ base
 image_after base (event ∷ earlier) files =
-    (files ≡ reads_after base (event ∷ earlier)) ⊎ ((before : Files) × image_after base earlier before × Does event (reads_after base earlier) before files)
+    (files ≡ reads_after base (event ∷ earlier)) ⊎ ((before : Files) × image_after base earlier before
+    × Does event (reads_after base earlier) before files)
 
 -- a disk that had these files, all synced, and has done these calls since, the newest of which comes last
 abbrev pub state_after : Files → List Event → DiskState
@@ -54,4 +57,5 @@ reads_image base (event ∷ earlier) = inl refl
 -- what is read is an image
 pub state_reads_image : (base : Files) (events : List Event) → IsCrashImage (state_after base events) (state_after base events).reads
 state_reads_image base events =
-    subst (λ (l : List Event). image_after base (reverse l) (reads_after base (reverse events))) (sym (take_all (length events) events (omega arith))) (reads_image base (reverse events))
+    subst (λ (l : List Event). image_after base (reverse l) (reads_after base (reverse events)))
+    (sym (take_all (length events) events (omega arith))) (reads_image base (reverse events))

@@ -28,7 +28,8 @@ back_of (Some h) at n bytes within given =
 pub parts_law : GivesParts gives_held
 parts_law piece at n bytes within given = (front_of piece.held at n bytes within given, back_of piece.held at n bytes within given)
 
-alike_in : (first next : Option (List ℕ)) (at : ℕ) (bytes : List ℕ) → HasSame first next at (length bytes) → HasAt first at bytes → HasAt next at bytes
+alike_in : (first next : Option (List ℕ)) (at : ℕ) (bytes : List ℕ) → HasSame first next at (length bytes) → HasAt first at bytes
+    → HasAt next at bytes
 alike_in None None at bytes same given = tt
 alike_in None (Some h) at bytes same given = absurd same
 alike_in (Some h) None at bytes same given = absurd same

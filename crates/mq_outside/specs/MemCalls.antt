@@ -21,4 +21,5 @@ total (call ∷ calls) = call.name + call.size + total calls
 abbrev pub events_in : List Call → List ℕ → List Event
 events_in [] buffer = []
 events_in (call ∷ calls) buffer =
-    event_of call.kind (take call.name buffer) (take call.size (drop call.name buffer)) ∷ events_in calls (drop (call.name + call.size) buffer)
+    event_of call.kind (take call.name buffer) (take call.size (drop call.name buffer))
+    ∷ events_in calls (drop (call.name + call.size) buffer)

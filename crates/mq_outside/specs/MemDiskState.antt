@@ -26,7 +26,12 @@ pub record Amount : Type 0 where
 
 -- how much a disk may have
 abbrev pub most_of : MemDisk → Amount
-most_of disk = record { files = disk.files.most_files; bytes = disk.files.most_bytes; calls = disk.calls.most_calls; call_bytes = disk.calls.most_bytes }
+most_of disk = record {
+  files = disk.files.most_files;
+  bytes = disk.files.most_bytes;
+  calls = disk.calls.most_calls;
+  call_bytes = disk.calls.most_bytes;
+}
 
 -- how much it has
 abbrev pub taken_of : MemDisk → Amount

@@ -30,8 +30,10 @@ GivesHeld gives = (piece : Frozen) (at : ℕ) (bytes : List ℕ) → gives piece
 
 -- of what is given each of two parts is given
 abbrev pub GivesParts : Giving → Type 0
-GivesParts gives = (piece : Frozen) (at n : ℕ) (bytes : List ℕ) → n ≤ length bytes → gives piece at bytes → gives piece at (take n bytes) × gives piece (at + n) (drop n bytes)
+GivesParts gives = (piece : Frozen) (at n : ℕ) (bytes : List ℕ) → n ≤ length bytes → gives piece at bytes → gives piece at (take n bytes)
+    × gives piece (at + n) (drop n bytes)
 
 -- pieces that are alike give the same
 abbrev pub GivesAlike : Giving → Type 0
-GivesAlike gives = (first next : Frozen) (at : ℕ) (bytes : List ℕ) → IsSamePart first next at (length bytes) → gives first at bytes → gives next at bytes
+GivesAlike gives = (first next : Frozen) (at : ℕ) (bytes : List ℕ) → IsSamePart first next at (length bytes) → gives first at bytes
+    → gives next at bytes

@@ -5,7 +5,8 @@
 //! a sync that answered Ok a crash leaves what a read gives. A removal that answered Ok stays done. `DiskState` says this
 //! as one relation.
 
-ghost use Rattle.std.specs.Prelude.{◌≡◌, ◌+◌, ◌-◌, ◌≤◌, ℕ, length, take, drop, map, min, Some, None, IfOk, IfSome, OnOk, MatchResult, string_bytes};
+ghost use Rattle.std.specs.Prelude.{◌≡◌, ◌+◌, ◌-◌, ◌≤◌, ℕ, length, take, drop, map, min, Some};
+ghost use Rattle.std.specs.Prelude.{None, IfOk, IfSome, OnOk, MatchResult, string_bytes};
 ghost use Rattle.mq_outside.specs.Counts.{Counted, CountsFailure, CountsDiskFault};
 ghost use Rattle.mq_outside.specs.Files.{Same, At, Torn, Shortened, Vanished, Lists, bytes_of, overwritten};
 ghost use Rattle.mq_outside.specs.Disk.{DiskState, EachImage, Moves, IsDurable, IsCrashImage};
@@ -76,7 +77,8 @@ pub trait Disk {
     /// Writes over what is there and past the end, and makes the file where it is absent.
     fn write_at(&mut self, file: &str, at: u64, piece: &[u8]) -> Result<(), Failed>
         requires { tells → at ≤ length (bytes_of (state self.old).reads file.now) }
-        ensures written { tells → OnOk result ((state self.new).reads file.now ≡ Some (overwritten at piece.now (bytes_of (state self.old).reads file.now))) }
+        ensures written { tells → OnOk result ((state self.new).reads file.now
+            ≡ Some (overwritten at piece.now (bytes_of (state self.old).reads file.now))) }
         ensures moves { tells → Moves (At file.now (Torn at (length piece.now))) (state self.old) (state self.new) }
         ensures cause { CountsFailure result (faults self.old) (faults self.new) }
         ensures syncs { syncs self.new ≡ syncs self.old }

@@ -2,9 +2,11 @@
 //! apart. No answer shows which it was: a range is found in some piece, and that piece holds what each one with this
 //! range holds.
 
-ghost use Rattle.std.specs.Prelude.{◌≡◌, ◌+◌, ◌-◌, ◌≤◌, ◌<◌, ◌^◌, ℕ, List, [], ◌∷◌, ◌++◌, length, vec_len, vec_capacity, IfOk, OnOk, IsTrue, None};
+ghost use Rattle.std.specs.Prelude.{◌≡◌, ◌+◌, ◌-◌, ◌≤◌, ◌<◌, ◌^◌, ℕ, List, [], ◌∷◌, ◌++◌};
+ghost use Rattle.std.specs.Prelude.{length, vec_len, vec_capacity, IfOk, OnOk, IsTrue, None};
 ghost use Rattle.mq_outside.specs.Readings.{HasAt};
-ghost use Rattle.mq_outside.specs.Covers.{piece_start, piece_end, Covers, AreOrdered, AreOrdered-prop, HasRange, HoldsRange, PieceHolds, IsAdded};
+ghost use Rattle.mq_outside.specs.Covers.{piece_start, piece_end, Covers, AreOrdered, AreOrdered-prop};
+ghost use Rattle.mq_outside.specs.Covers.{HasRange, HoldsRange, PieceHolds, IsAdded};
 
 use crate::frozen::Frozen;
 use std::alloc::{AllocError, Global};
@@ -119,10 +121,12 @@ impl FrozenRanges {
         ensures kept { (place n : ℕ) → HasRange self.old.pieces.items place n → HasRange self.new.pieces.items place n }
 
         // What the old pieces and this one hold in a range the new ones hold there.
-        ensures holds { (place : ℕ) (bytes : List ℕ) → HoldsRange self.old.pieces.items place bytes → PieceHolds piece place bytes → HoldsRange self.new.pieces.items place bytes }
+        ensures holds { (place : ℕ) (bytes : List ℕ) → HoldsRange self.old.pieces.items place bytes → PieceHolds piece place bytes
+            → HoldsRange self.new.pieces.items place bytes }
 
         // No old piece has a range past the old end, so what this one holds there is held.
-        ensures fresh { (place : ℕ) (bytes : List ℕ) → self.old.end ≤ place → 0 < length bytes → PieceHolds piece place bytes → HoldsRange self.new.pieces.items place bytes }
+        ensures fresh { (place : ℕ) (bytes : List ℕ) → self.old.end ≤ place → 0 < length bytes → PieceHolds piece place bytes
+            → HoldsRange self.new.pieces.items place bytes }
         ensures end { self.new.end ≡ piece_end piece }
     {
         let end = piece.base + piece.from + piece.len;
@@ -134,7 +138,8 @@ impl FrozenRanges {
     pub fn find(&self, place: u64, size: u32) -> &Frozen
         requires { HasRange self.now.pieces.items place size }
         ensures covers { Covers result.now place size }
-        ensures holds { (bytes : List ℕ) → length bytes ≡ size → HoldsRange self.now.pieces.items place bytes → HasAt result.now.held (place - piece_start result.now) bytes }
+        ensures holds { (bytes : List ℕ) → length bytes ≡ size → HoldsRange self.now.pieces.items place bytes
+            → HasAt result.now.held (place - piece_start result.now) bytes }
     {
         let _end = self.end;
         find_in(self.pieces.as_slice(), place, size)

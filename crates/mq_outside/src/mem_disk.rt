@@ -1,7 +1,8 @@
 //! A disk in memory. It keeps a list of the calls that it has done, so it tells what a crash at each moment may leave.
 //! All its memory is taken at the start: a call for which there is no room fails like one that is listed to fail.
 
-ghost use Rattle.std.specs.Prelude.{◌≡◌, ◌≢◌, ◌↔◌, ◌⊎◌, ◌+◌, ◌-◌, ◌≤◌, [], ℕ, List, length, take, drop, map, min, reverse, Some, None, IfOk, IsErr, OnOk, OnErr, MatchResult, string_bytes};
+ghost use Rattle.std.specs.Prelude.{◌≡◌, ◌≢◌, ◌↔◌, ◌⊎◌, ◌+◌, ◌-◌, ◌≤◌, [], ℕ, List, length, take, drop, map, min};
+ghost use Rattle.std.specs.Prelude.{reverse, Some, None, IfOk, IsErr, OnOk, OnErr, MatchResult, string_bytes};
 ghost use Rattle.std.specs.List.{AllPairs};
 ghost use Rattle.std.specs.Option.{option_copied};
 ghost use Rattle.std.proofs.Props.{props};
@@ -47,7 +48,8 @@ pub struct MemDisk {
     syncs: u64,
     given: u64,
     reader_faults: u64,
-    ghost replayed: { (name : List ℕ) → content (files_of files) name ≡ reads_after (content (given_files base.items)) (reverse (events_of calls)) name } by { Prim.hlevel props },
+    ghost replayed: { (name : List ℕ) → content (files_of files) name
+        ≡ reads_after (content (given_files base.items)) (reverse (events_of calls)) name } by { Prim.hlevel props },
 }
 
 // Counts a failure.
@@ -222,7 +224,8 @@ impl Disk for MemDisk {
 
     fn write_at(&mut self, file: &str, at: u64, piece: &[u8]) -> Result<(), Failed>
         requires { at ≤ length (bytes_of (state_of self.old).reads file.now) }
-        ensures written { OnOk result ((state_of self.new).reads file.now ≡ Some (overwritten at piece.now (bytes_of (state_of self.old).reads file.now))) }
+        ensures written { OnOk result ((state_of self.new).reads file.now
+            ≡ Some (overwritten at piece.now (bytes_of (state_of self.old).reads file.now))) }
         ensures moves { Moves (At file.now (Torn at (length piece.now))) (state_of self.old) (state_of self.new) }
         ensures cause { CountsFailure result (self.old.faults) (self.new.faults) }
         ensures syncs { self.new.syncs ≡ self.old.syncs }

@@ -1,7 +1,8 @@
 //! The files of the disk in memory: one buffer with name and bytes of each file, one behind the other, in byte order of
 //! the names. Its memory is taken at the start.
 
-ghost use Rattle.std.specs.Prelude.{◌≡◌, ◌+◌, ◌-◌, ◌≤◌, ◌<◌, ◌⊎◌, ◌∷◌, ◌++◌, [], ℕ, List, length, true, false, IsTrue, ◌↔◌, take, map, Some, None, OnOk, OnErr, IfOk, MatchOption, IsOk, IsErr, vec_capacity, string_bytes};
+ghost use Rattle.std.specs.Prelude.{◌≡◌, ◌+◌, ◌-◌, ◌≤◌, ◌<◌, ◌⊎◌, ◌∷◌, ◌++◌, [], ℕ, List, length, true, false, IsTrue, ◌↔◌, take};
+ghost use Rattle.std.specs.Prelude.{map, Some, None, OnOk, OnErr, IfOk, MatchOption, IsOk, IsErr, vec_capacity, string_bytes};
 ghost use Rattle.std.specs.Option.{option_map, option_copied};
 ghost use Rattle.std.specs.Str.{is_utf8};
 ghost use Rattle.mq_outside.specs.Files.{Lists, bytes_of, overwritten};
@@ -162,11 +163,15 @@ impl MemFiles {
         requires found { place.found ≡ true }
         requires within { at ≤ length (bytes_of (content (files_of self.old)) name.now) }
         ensures written { OnOk result ((other : List ℕ) → content (files_of self.new) other
-            ≡ put_file name.now (Some (overwritten at piece.now (bytes_of (content (files_of self.old)) name.now))) (content (files_of self.old)) other) }
+            ≡ put_file name.now (Some (overwritten at piece.now (bytes_of (content (files_of self.old)) name.now)))
+            (content (files_of self.old)) other) }
         ensures full { OnErr result (self.new ≡ self.old) }
-        ensures fits { OnOk result (HasRoomToAdd self.old (more_files (content (files_of self.old) name.now)) (more_bytes name.now at piece.now (content (files_of self.old) name.now))) }
-        ensures refused { OnErr result (¬ HasRoomToAdd self.old (more_files (content (files_of self.old) name.now)) (more_bytes name.now at piece.now (content (files_of self.old) name.now))) }
-        ensures grows { Grows self.old self.new (more_files (content (files_of self.old) name.now)) (more_bytes name.now at piece.now (content (files_of self.old) name.now)) }
+        ensures fits { OnOk result (HasRoomToAdd self.old (more_files (content (files_of self.old) name.now))
+            (more_bytes name.now at piece.now (content (files_of self.old) name.now))) }
+        ensures refused { OnErr result (¬ HasRoomToAdd self.old (more_files (content (files_of self.old) name.now))
+            (more_bytes name.now at piece.now (content (files_of self.old) name.now))) }
+        ensures grows { Grows self.old self.new (more_files (content (files_of self.old) name.now))
+            (more_bytes name.now at piece.now (content (files_of self.old) name.now)) }
     {
         let extent = self.extents[place.index];
         let count = piece.len().min(extent.size - at);
@@ -218,11 +223,15 @@ impl MemFiles {
     pub fn write(&mut self, name: &str, at: usize, piece: &[u8]) -> Result<(), Full>
         requires { at ≤ length (bytes_of (content (files_of self.old)) name.now) }
         ensures written { OnOk result ((other : List ℕ) → content (files_of self.new) other
-            ≡ put_file name.now (Some (overwritten at piece.now (bytes_of (content (files_of self.old)) name.now))) (content (files_of self.old)) other) }
+            ≡ put_file name.now (Some (overwritten at piece.now (bytes_of (content (files_of self.old)) name.now)))
+            (content (files_of self.old)) other) }
         ensures full { OnErr result (self.new ≡ self.old) }
-        ensures fits { OnOk result (HasRoomToAdd self.old (more_files (content (files_of self.old) name.now)) (more_bytes name.now at piece.now (content (files_of self.old) name.now))) }
-        ensures refused { OnErr result (¬ HasRoomToAdd self.old (more_files (content (files_of self.old) name.now)) (more_bytes name.now at piece.now (content (files_of self.old) name.now))) }
-        ensures grows { Grows self.old self.new (more_files (content (files_of self.old) name.now)) (more_bytes name.now at piece.now (content (files_of self.old) name.now)) }
+        ensures fits { OnOk result (HasRoomToAdd self.old (more_files (content (files_of self.old) name.now))
+            (more_bytes name.now at piece.now (content (files_of self.old) name.now))) }
+        ensures refused { OnErr result (¬ HasRoomToAdd self.old (more_files (content (files_of self.old) name.now))
+            (more_bytes name.now at piece.now (content (files_of self.old) name.now))) }
+        ensures grows { Grows self.old self.new (more_files (content (files_of self.old) name.now))
+            (more_bytes name.now at piece.now (content (files_of self.old) name.now)) }
     {
         let place = self.place_of(name.as_bytes());
         if place.found {
@@ -235,7 +244,8 @@ impl MemFiles {
     /// Cuts a file to a length. An absent file stays absent.
     pub fn cut(&mut self, name: &[u8], len: usize)
         ensures cut { (other : List ℕ) → content (files_of self.new) other
-            ≡ put_file name.now (option_map (λ bytes. take len bytes) (content (files_of self.old) name.now)) (content (files_of self.old)) other }
+            ≡ put_file name.now (option_map (λ bytes. take len bytes) (content (files_of self.old) name.now)) (content (files_of self.old))
+            other }
         ensures grows { Grows self.old self.new 0 0 }
     {
         let place = self.place_of(name);
@@ -249,7 +259,8 @@ impl MemFiles {
         requires place { IsPlace self.old.extents.items self.old.buffer.items name.now place }
         requires found { place.found ≡ true }
         ensures cut { (other : List ℕ) → content (files_of self.new) other
-            ≡ put_file name.now (option_map (λ bytes. take len bytes) (content (files_of self.old) name.now)) (content (files_of self.old)) other }
+            ≡ put_file name.now (option_map (λ bytes. take len bytes) (content (files_of self.old) name.now)) (content (files_of self.old))
+            other }
         ensures grows { Grows self.old self.new 0 0 }
     {
         let extent = self.extents[place.index];

@@ -61,7 +61,8 @@ impl Source for MemSource {
 
     fn read(&mut self, out: &mut [u8]) -> Result<usize, Failed>
         ensures within { IfOk result (λ n. n ≤ length out.old) }
-        ensures given { IfOk result (λ n. ⟦<MemSource as Source>⟧.given self.new ≡ ⟦<MemSource as Source>⟧.given self.old ++ take n out.new) }
+        ensures given { IfOk result (λ n. ⟦<MemSource as Source>⟧.given self.new ≡ ⟦<MemSource as Source>⟧.given self.old
+            ++ take n out.new) }
         ensures left { IfOk result (λ n. ⟦<MemSource as Source>⟧.left self.old ≡ take n out.new ++ ⟦<MemSource as Source>⟧.left self.new) }
         ensures end { IfOk result (λ n. n ≡ 0 → 0 < length out.old → ⟦<MemSource as Source>⟧.left self.old ≡ []) }
         ensures given_still { OnErr result (⟦<MemSource as Source>⟧.given self.new ≡ ⟦<MemSource as Source>⟧.given self.old) }

@@ -1,5 +1,6 @@
 -- A draft: what a record says before it has a place, and what keeps it from being written.
-use Rattle.std.specs.Prelude.{◌≡◌, ℕ, ◌+◌, ◌^◌, ◌<◌, List, [], ◌∷◌, length, codes, Bool, false, not, nat_lt, FitsSigned, Option, Some, None, if◌then◌else◌}
+use Rattle.std.specs.Prelude.{◌≡◌, ℕ, ◌+◌, ◌^◌, ◌<◌, List, [], ◌∷◌, length, codes, Bool, false}
+use Rattle.std.specs.Prelude.{not, nat_lt, FitsSigned, Option, Some, None, if◌then◌else◌}
 use Rattle.std.specs.Int.{w32}
 use Rattle.mq_bytes.specs.Bytes.{AreBytes}
 use Rattle.record_codec.specs.declared.draft.Draft.{Draft}
@@ -63,7 +64,8 @@ pub record IsInRanges (d : Draft) : Type 0 where
   pub store_host : IsHost d.store_host
   pub body : AreBytes d.body
 
--- a draft that can be written at this place: into the greatest segment it has no fault, its numbers are in range, and the seal's name is free
+-- a draft that can be written at this place: into the greatest segment it has no fault, its numbers are in range, and the seal's name is
+-- free
 pub record IsEncodable (d : Draft) (p : Place) : Type 0 where
   pub passes : draft_fault (2 ^ 30) d ≡ None
   pub born : d.born < 2 ^ 62

@@ -1,5 +1,6 @@
 -- The one layout of a record, and which records have one.
-use Rattle.std.specs.Prelude.{◌≡◌, ℕ, ◌+◌, ◌/◌, ◌%◌, ◌^◌, ◌<◌, ◌==◌, ◌++◌, List, [], ◌∷◌, length, codes, FitsSigned, Bool, true, not, ◌&&◌, ◌||◌, nat_lt, nat_le, bit_and}
+use Rattle.std.specs.Prelude.{◌≡◌, ℕ, ◌+◌, ◌/◌, ◌%◌, ◌^◌, ◌<◌, ◌==◌, ◌++◌, List, [], ◌∷◌, length, codes}
+use Rattle.std.specs.Prelude.{FitsSigned, Bool, true, not, ◌&&◌, ◌||◌, nat_lt, nat_le, bit_and}
 use Rattle.std.specs.Int.{Width, w16, w32, w64, cast_unsigned, to_be_bytes, from_be_bytes}
 use Rattle.std.specs.Str.{is_utf8}
 use Rattle.mq_bytes.specs.Bytes.{AreBytes}
@@ -33,11 +34,13 @@ fixed = w32 ∷ w32 ∷ w32 ∷ w32 ∷ w32 ∷ w64 ∷ w64 ∷ w32 ∷ w64 ∷ 
 abbrev pub numbers : Entry → List ℕ
 numbers r =
     size r ∷ magic ∷ body_crc r.body ∷ r.queue ∷ cast_unsigned w32 r.flag ∷ r.queue_offset ∷ r.offset ∷ r.sysflag
-    ∷ r.born ∷ from_be_bytes w64 r.born_host ∷ r.store ∷ from_be_bytes w64 r.store_host ∷ cast_unsigned w32 r.reconsume ∷ r.prepared ∷ length r.body ∷ []
+    ∷ r.born ∷ from_be_bytes w64 r.born_host ∷ r.store ∷ from_be_bytes w64 r.store_host ∷ cast_unsigned w32 r.reconsume ∷ r.prepared
+    ∷ length r.body ∷ []
 
 -- eight upper-case hexadecimal digits
 unfoldable pub digits : ℕ → List ℕ
-digits n = hex_digit (n / 2 ^ 28 % 16) ∷ hex_digit (n / 2 ^ 24 % 16) ∷ hex_digit (n / 2 ^ 20 % 16) ∷ hex_digit (n / 2 ^ 16 % 16) ∷ hex_digit (n / 2 ^ 12 % 16) ∷ hex_digit (n / 2 ^ 8 % 16) ∷ hex_digit (n / 2 ^ 4 % 16) ∷ hex_digit (n % 16) ∷ []
+digits n = hex_digit (n / 2 ^ 28 % 16) ∷ hex_digit (n / 2 ^ 24 % 16) ∷ hex_digit (n / 2 ^ 20 % 16) ∷ hex_digit (n / 2 ^ 16 % 16)
+    ∷ hex_digit (n / 2 ^ 12 % 16) ∷ hex_digit (n / 2 ^ 8 % 16) ∷ hex_digit (n / 2 ^ 4 % 16) ∷ hex_digit (n % 16) ∷ []
 
 -- the seal's name and its byte 1
 abbrev pub seal_name : List ℕ
@@ -49,7 +52,8 @@ unsealed = 48 ∷ 48 ∷ 48 ∷ 48 ∷ 48 ∷ 48 ∷ 48 ∷ 48 ∷ 2 ∷ []
 
 -- all before the digits of the seal
 unfoldable pub front : Entry → List ℕ
-front r = numbers_text fixed (numbers r) ++ (r.body ++ (length r.topic ∷ (r.topic ++ (to_be_bytes w16 (length (written r.props) + 14) ++ (written r.props ++ seal_name)))))
+front r = numbers_text fixed (numbers r) ++ (r.body
+    ++ (length r.topic ∷ (r.topic ++ (to_be_bytes w16 (length (written r.props) + 14) ++ (written r.props ++ seal_name)))))
 
 -- with the digits of the sum of the whole record, in which these digits are 0
 unfoldable pub sealed : List ℕ → List ℕ
@@ -63,7 +67,8 @@ layout r = sealed (front r)
 
 -- `%`, `|`, `_`, `-`, digits and letters
 abbrev pub is_topic_char : ℕ → Bool
-is_topic_char b = (b == 37) || (b == 124) || (b == 95) || (b == 45) || (nat_le 48 b && nat_le b 57) || (nat_le 65 b && nat_le b 90) || (nat_le 97 b && nat_le b 122)
+is_topic_char b = (b == 37) || (b == 124) || (b == 95) || (b == 45) || (nat_le 48 b && nat_le b 57) || (nat_le 65 b && nat_le b 90)
+    || (nat_le 97 b && nat_le b 122)
 
 -- each byte is one of these characters
 abbrev pub all_topic_chars : List ℕ → Bool

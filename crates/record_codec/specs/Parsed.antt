@@ -1,5 +1,6 @@
 -- Reading a record, in the order of the code.
-use Rattle.std.specs.Prelude.{ℕ, ◌+◌, ◌-◌, ◌==◌, ◌++◌, List, [], ◌∷◌, length, take, drop, slice_index, Bool, ◌&&◌, ◌||◌, nat_lt, Option, Some, None, option_and_then, if◌then◌else◌}
+use Rattle.std.specs.Prelude.{ℕ, ◌+◌, ◌-◌, ◌==◌, ◌++◌, List, [], ◌∷◌, length, take, drop, slice_index, Bool}
+use Rattle.std.specs.Prelude.{◌&&◌, ◌||◌, nat_lt, Option, Some, None, option_and_then, if◌then◌else◌}
 use Rattle.std.specs.Int.{w16, w32, w64, from_be_bytes, cast_signed}
 use Rattle.std.specs.Str.{bytes_eq}
 use Rattle.mq_bytes.specs.Crc.{crc_of}
@@ -31,7 +32,8 @@ end_of l = 105 + l.body + l.topic + l.props
 
 unfoldable pub lengths_past_topic : List ℕ → ℕ → ℕ → ℕ → Option Lengths
 lengths_past_topic b size body topic =
-    if 91 + body + topic + n16 b (89 + body + topic) == size then Some (record { body = body; topic = topic; props = size - (105 + body + topic) }) else None
+    if 91 + body + topic + n16 b (89 + body + topic) == size
+    then Some (record { body = body; topic = topic; props = size - (105 + body + topic) }) else None
 
 unfoldable pub lengths_past_body : List ℕ → ℕ → ℕ → Option Lengths
 lengths_past_body b size body =
@@ -66,8 +68,10 @@ entry_in b l ps = record {
 -- the magic, both sums, and the seal's own spelling
 unfoldable pub is_spelled : List ℕ → Lengths → Bool
 is_spelled b l =
-    (n32 b 4 == magic) && (n32 b 8 == body_crc (take l.body (drop 88 b))) && bytes_eq (take 5 (drop (91 + l.body + l.topic + l.props) b)) seal_name
-    && bytes_eq (take 9 (drop (96 + l.body + l.topic + l.props) b)) (digits (crc_of (take (96 + l.body + l.topic + l.props) b ++ unsealed)) ++ 2 ∷ [])
+    (n32 b 4 == magic) && (n32 b 8 == body_crc (take l.body (drop 88 b)))
+    && bytes_eq (take 5 (drop (91 + l.body + l.topic + l.props) b)) seal_name
+    && bytes_eq (take 9 (drop (96 + l.body + l.topic + l.props) b)) (digits (crc_of (take (96 + l.body + l.topic + l.props) b ++ unsealed))
+    ++ 2 ∷ [])
 
 unfoldable pub entry_at : List ℕ → Lengths → List (List ℕ × List ℕ) → Option Entry
 entry_at b l ps = if is_entry (entry_in b l ps) && is_spelled b l then Some (entry_in b l ps) else None

@@ -1,5 +1,6 @@
 -- Properties: names and values, and the form in which they are written, name, byte 1, value, byte 2 for each.
-use Rattle.std.specs.Prelude.{◌≡◌, ℕ, zero, suc, ◌+◌, ◌==◌, ◌++◌, List, [], ◌∷◌, length, filter, Bool, true, false, ◌&&◌, ◌||◌, not, nat_lt, Option, Some, None, option_map, option_and_then, if◌then◌else◌}
+use Rattle.std.specs.Prelude.{◌≡◌, ℕ, zero, suc, ◌+◌, ◌==◌, ◌++◌, List, [], ◌∷◌, length, filter, Bool, true, false, ◌&&◌}
+use Rattle.std.specs.Prelude.{◌||◌, not, nat_lt, Option, Some, None, option_map, option_and_then, if◌then◌else◌}
 use Rattle.std.specs.Str.{is_utf8, bytes_eq}
 
 -- name, byte 1, value, byte 2
@@ -74,7 +75,8 @@ pair_in piece = option_and_then (λ p. if is_pair p then Some p else None) (unti
 unfoldable pub pairs_in : ℕ → List ℕ → Option (List (List ℕ × List ℕ))
 pairs_in n [] = Some []
 pairs_in zero (b ∷ bytes) = None
-pairs_in (suc n) (b ∷ bytes) = option_and_then (λ piece. option_and_then (λ p. option_map (λ ps. p ∷ ps) (pairs_in n piece.1)) (pair_in piece.0)) (until 2 (b ∷ bytes))
+pairs_in (suc n) (b ∷ bytes) = option_and_then (λ piece. option_and_then (λ p. option_map (λ ps. p
+    ∷ ps) (pairs_in n piece.1)) (pair_in piece.0)) (until 2 (b ∷ bytes))
 
 -- the pair in front, and the rest
 unfoldable pub next_pair : List ℕ → Option (List ℕ × List ℕ × List ℕ)

@@ -18,7 +18,8 @@ hash_of (Some (b ∷ tags)) = java_hash (b ∷ tags)
 abbrev pub delay_of : ℕ → ℕ
 delay_of queue = if nat_lt queue 18 then level_delay (queue + 1) else 0
 
--- the tag code of a topic, the property TAGS, a queue and a store time: the hash of the tags, and for a delayed record the time at which it is due
+-- the tag code of a topic, the property TAGS, a queue and a store time: the hash of the tags, and for a delayed record the time at which
+-- it is due
 unfoldable pub tag_code : List ℕ → Option (List ℕ) → ℕ → ℕ → ℤ
 tag_code topic tags queue store = if bytes_eq topic (codes "SCHEDULE_TOPIC_XXXX") then pos (store + delay_of queue) else hash_of tags
 

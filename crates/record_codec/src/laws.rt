@@ -1,4 +1,5 @@
-//! What holds of layouts and of properties. No call is made: the clauses speak of the definitions that `encode` and `test` are proved to meet.
+//! What holds of layouts and of properties. No call is made: the clauses speak of the definitions that `encode` and `test` are proved to
+//! meet.
 
 ghost use Rattle.std.specs.Prelude.{◌≡◌, ◌≢◌, ◌++◌, List, ℕ, [], true, None, Some, drop, reverse};
 ghost use Rattle.mq_bytes.specs.Bytes.{AreBytes};
@@ -20,7 +21,8 @@ pub fn layouts_read_back()
 
 /// What is read is written as it stood.
 pub fn records_write_back()
-    ensures { (bytes : List ℕ) (r : Entry) → AreBytes bytes → parsed bytes ≡ Some r → IsRecord r × (bytes ≡ layout r ++ drop (size r) bytes) }
+    ensures { (bytes : List ℕ) (r : Entry) → AreBytes bytes → parsed bytes ≡ Some r → IsRecord r
+        × (bytes ≡ layout r ++ drop (size r) bytes) }
 {}
 
 /// Of properties that are put one after another, the last value of a name counts, and no name stands twice. A name that is dropped
@@ -32,5 +34,6 @@ pub fn last_properties_count()
     ensures others { (name value other : List ℕ) (ps : List (List ℕ × List ℕ)) → other ≢ name
         → value_of other (with_prop name value ps) ≡ value_of other ps }
     ensures dropped { (name : List ℕ) (ps : List (List ℕ × List ℕ)) → value_of name (without name ps) ≡ None }
-    ensures kept { (name other : List ℕ) (ps : List (List ℕ × List ℕ)) → other ≢ name → value_of other (without name ps) ≡ value_of other ps }
+    ensures kept { (name other : List ℕ) (ps : List (List ℕ × List ℕ)) → other ≢ name
+        → value_of other (without name ps) ≡ value_of other ps }
 {}

@@ -3,7 +3,8 @@
 ghost use Rattle.std.specs.Prelude.{◌≡◌, ◌+◌, ◌<◌, ◌≤◌, ◌^◌, length, drop, take, option_map, Some};
 ghost use Rattle.std.specs.Int.{w16, w32, from_be_bytes};
 ghost use Rattle.record_codec.specs.LengthsViews.{lengths_view};
-ghost use Rattle.record_codec.specs.Parsed.{n16, n32, n64, lengths_in, lengths_past_body as lengths_past_body_of, lengths_past_topic as lengths_past_topic_of};
+ghost use Rattle.record_codec.specs.Parsed.{n16, n32, n64, lengths_in, lengths_past_body as lengths_past_body_of};
+ghost use Rattle.record_codec.specs.Parsed.{lengths_past_topic as lengths_past_topic_of};
 
 /// The lengths of the body, the topic, and the properties without the seal.
 #[derive(Drop)]

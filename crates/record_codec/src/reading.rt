@@ -125,7 +125,8 @@ fn size_at_front(bytes: &[u8]) -> Option<u32>
 /// the rest of it stands there, `test` tells.
 pub fn size_in_front(bytes: &[u8]) -> Option<u32>
     ensures exact { result ≡ front_size bytes.now }
-    ensures enough { (r : Entry) (rest : List ℕ) (n : ℕ) → IsRecord r → 8 ≤ n → bytes.now ≡ take n (layout r ++ rest) → result ≡ Some (size r) }
+    ensures enough { (r : Entry) (rest : List ℕ) (n : ℕ) → IsRecord r → 8 ≤ n → bytes.now ≡ take n (layout r ++ rest)
+        → result ≡ Some (size r) }
 {
     size_at_front(bytes)
 }

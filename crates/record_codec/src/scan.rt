@@ -3,7 +3,8 @@
 ghost use Rattle.std.specs.Prelude.{◌≡◌, List, ℕ, Some, option_map, option_and_then, is_some, length, IsTrue};
 ghost use Rattle.mq_bytes.specs.Crc.{crc_of};
 ghost use Rattle.record_codec.specs.Marks.{are_marked, marked};
-ghost use Rattle.record_codec.specs.Props.{has_name as has_name_of, are_distinct as are_distinct_of, value_of, lacks as lacks_of, until, pair_in, next_pair as next_pair_of, next_written as next_written_of, pairs_in};
+ghost use Rattle.record_codec.specs.Props.{has_name as has_name_of, are_distinct as are_distinct_of, value_of, lacks as lacks_of};
+ghost use Rattle.record_codec.specs.Props.{until, pair_in, next_pair as next_pair_of, next_written as next_written_of, pairs_in};
 
 use crate::marks::{WORDS, mark};
 use mq_bytes::crc32;
@@ -159,7 +160,8 @@ fn is_repeated(words: &mut [u64; WORDS], name: &[u8], text: &[u8]) -> bool
 
 // The value of the pair of this name.
 pub(crate) fn value_in<'a>(name: &[u8], text: &'a [u8]) -> Option<&'a [u8]>
-    ensures { (ps : List (List ℕ × List ℕ)) → pairs_in (length text.now) text.now ≡ Some ps → option_map (λ value. value.now) result ≡ value_of name.now ps }
+    ensures { (ps : List (List ℕ × List ℕ)) → pairs_in (length text.now) text.now ≡ Some ps
+        → option_map (λ value. value.now) result ≡ value_of name.now ps }
 {
     let mut rest = text;
     while rest.len() > 0 {

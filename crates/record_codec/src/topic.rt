@@ -1,7 +1,8 @@
 //! Which topics are legal: 1 to 127 characters, each of them `%`, `|`, `_`, `-`, a digit or an ASCII letter.
 
 ghost use Rattle.std.specs.Prelude.{◌≡◌};
-ghost use Rattle.record_codec.specs.Layout.{all_topic_chars, is_legal as is_legal_of, is_named as is_named_of, is_topic_char as is_topic_char_of};
+ghost use Rattle.record_codec.specs.Layout.{all_topic_chars, is_legal as is_legal_of};
+ghost use Rattle.record_codec.specs.Layout.{is_named as is_named_of, is_topic_char as is_topic_char_of};
 
 /// The most bytes that a topic has.
 pub(crate) const TOPIC_MAX: usize = 127;

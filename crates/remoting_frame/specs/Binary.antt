@@ -1,5 +1,6 @@
 -- The header that bytes are in binary form, read from the left by places.
-use Rattle.std.specs.Prelude.{ℕ, zero, suc, ◌+◌, ◌^◌, ◌==◌, not, ◌||◌, List, [], ◌∷◌, nat_lt, length, take, drop, Option, Some, None, if◌then◌else◌, option_map}
+use Rattle.std.specs.Prelude.{ℕ, zero, suc, ◌+◌, ◌^◌, ◌==◌, not, ◌||◌, List, [], ◌∷◌, nat_lt}
+use Rattle.std.specs.Prelude.{length, take, drop, Option, Some, None, if◌then◌else◌, option_map}
 use Rattle.std.specs.Int.{Width, w16, w32, byte_len, from_be_bytes, cast_signed}
 use Rattle.std.specs.Str.{is_utf8}
 use Rattle.std.specs.Ordering.{nat_cmp}
@@ -69,7 +70,8 @@ unfoldable pub ext_len_of : List ℕ → ℕ → ℕ → Option ℕ
 ext_len_of bytes remark ext = if nat_lt ext (2 ^ 31) then (if length bytes == 21 + remark + ext then Some remark else None) else None
 
 unfoldable pub remark_fits : List ℕ → ℕ → Option ℕ
-remark_fits bytes remark = if not (nat_lt remark (2 ^ 31)) || nat_lt (length bytes) (21 + remark) then None else ext_len_of bytes remark (number_at w32 (17 + remark) bytes)
+remark_fits bytes remark = if not (nat_lt remark (2 ^ 31)) || nat_lt (length bytes) (21 + remark) then None
+    else ext_len_of bytes remark (number_at w32 (17 + remark) bytes)
 
 -- how long the remark is, where it fits and the pairs end with the bytes
 unfoldable pub remark_len_of : List ℕ → Option ℕ
@@ -80,4 +82,11 @@ binary_header bytes = do
   len ← remark_len_of bytes
   remark ← text_of (take len (drop 17 bytes))
   ext ← option_map by_name (binary_pairs (drop (21 + len) bytes))
-  Some (record { code = cast_signed w16 (number_at w16 0 bytes); version = cast_signed w16 (number_at w16 3 bytes); opaque = cast_signed w32 (number_at w32 5 bytes); flag = cast_signed w32 (number_at w32 9 bytes); remark = remark; ext = ext })
+  Some (record {
+    code = cast_signed w16 (number_at w16 0 bytes);
+    version = cast_signed w16 (number_at w16 3 bytes);
+    opaque = cast_signed w32 (number_at w32 5 bytes);
+    flag = cast_signed w32 (number_at w32 9 bytes);
+    remark = remark;
+    ext = ext;
+  })

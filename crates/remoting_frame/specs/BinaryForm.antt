@@ -37,4 +37,5 @@ value_of name (p ∷ pairs) = if has_name name p then Some p.1 else value_of nam
 -- the value of the name's last pair
 abbrev pub last_value : List ℕ → List (List ℕ × List ℕ) → Option (List ℕ)
 last_value name [] = None
-last_value name (p ∷ pairs) = if is_some (last_value name pairs) then last_value name pairs else (if has_name name p then Some p.1 else None)
+last_value name (p ∷ pairs) = if is_some (last_value name pairs) then last_value name pairs
+    else (if has_name name p then Some p.1 else None)

@@ -23,7 +23,8 @@ sized_pairs pairs = to_be_bytes w32 (pairs_size pairs) ++ pairs_text pairs
 
 -- the code, a byte for the language, the version, opaque and flag
 unfoldable pub numbers_text : ℤ → ℕ → ℤ → ℤ → ℤ → List ℕ
-numbers_text code language version opaque flag = to_be_bytes w16 (cast_unsigned w16 code) ++ language ∷ [] ++ to_be_bytes w16 (cast_unsigned w16 version) ++ to_be_bytes w32 (cast_unsigned w32 opaque) ++ to_be_bytes w32 (cast_unsigned w32 flag)
+numbers_text code language version opaque flag = to_be_bytes w16 (cast_unsigned w16 code) ++ language ∷ []
+    ++ to_be_bytes w16 (cast_unsigned w16 version) ++ to_be_bytes w32 (cast_unsigned w32 opaque) ++ to_be_bytes w32 (cast_unsigned w32 flag)
 
 -- a header with some language, and with these pairs for those of its own
 unfoldable pub header_bytes : Head → ℕ → List (List ℕ × List ℕ) → List ℕ

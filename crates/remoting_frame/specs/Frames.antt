@@ -1,5 +1,6 @@
 -- The next frame of a stream.
-use Rattle.std.specs.Prelude.{◌≡◌, ℕ, ◌+◌, ◌-◌, ◌/◌, ◌%◌, ◌^◌, ◌==◌, ◌||◌, List, nat_lt, length, take, drop, Option, Some, None, Result, Ok, Err, if◌then◌else◌, option_map}
+use Rattle.std.specs.Prelude.{◌≡◌, ℕ, ◌+◌, ◌-◌, ◌/◌, ◌%◌, ◌^◌, ◌==◌, ◌||◌, List, nat_lt, length, take}
+use Rattle.std.specs.Prelude.{drop, Option, Some, None, Result, Ok, Err, if◌then◌else◌, option_map}
 use Rattle.std.specs.Int.{w32, from_be_bytes}
 use Rattle.remoting_frame.specs.Head.{Head}
 use Rattle.remoting_frame.specs.Headers.{header_in}
@@ -41,7 +42,12 @@ pub record Front : Type 0 where
 
 unfoldable pub with_header : ℕ → Form → ℕ → ℕ → Option Head → Result (Option Front) FrameFault
 with_header at form header_len len None = Err (faults.BadHeader at)
-with_header at form header_len len (Some header) = Ok (Some (record { form = form; header = header; header_len = header_len; len = len + 4 }))
+with_header at form header_len len (Some header) = Ok (Some (record {
+  form = form;
+  header = header;
+  header_len = header_len;
+  len = len + 4;
+}))
 
 abbrev pub with_form : ℕ → List ℕ → ℕ → Option Form → ℕ → Result (Option Front) FrameFault
 with_form at bytes len None header_len = Err (faults.BadForm at)
@@ -69,7 +75,15 @@ first_of at bytes = if nat_lt (length bytes) 4 then Ok None else with_length at 
 unfoldable pub whole : ℕ → List ℕ → Front → Option (Frame × List ℕ)
 whole at bytes f =
     if nat_lt (length bytes) f.len then None
-    else Some (record { at = at; form = f.form; header = f.header; body = take (f.len - (8 + f.header_len)) (drop (8 + f.header_len) bytes) }, drop f.len bytes)
+    else Some (
+      record {
+        at = at;
+        form = f.form;
+        header = f.header;
+        body = take (f.len - (8 + f.header_len)) (drop (8 + f.header_len) bytes);
+      },
+      drop f.len bytes,
+    )
 
 abbrev pub then_whole : ℕ → List ℕ → Result (Option Front) FrameFault → Result (Option (Frame × List ℕ)) FrameFault
 then_whole at bytes (Err e) = Err e

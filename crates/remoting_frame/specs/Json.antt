@@ -1,5 +1,7 @@
--- The header that a JSON text is. The definition is over the value that `serde_json` reads, in which a repeated name has its last value only.
-use Rattle.std.specs.Prelude.{ℕ, ◌^◌, ◌++◌, ◌∷◌, [], List, ℤ, pos, negsuc, Bool, nat_lt, codes, Option, Some, None, if◌then◌else◌, option_and_then}
+-- The header that a JSON text is. The definition is over the value that `serde_json` reads, in which a repeated name has its last value
+-- only.
+use Rattle.std.specs.Prelude.{ℕ, ◌^◌, ◌++◌, ◌∷◌, [], List, ℤ, pos, negsuc, Bool, nat_lt}
+use Rattle.std.specs.Prelude.{codes, Option, Some, None, if◌then◌else◌, option_and_then}
 use Rattle.std.specs.Str.{is_utf8}
 use Rattle.serde_json.specs.Data.{Data, null, boolean, number, string, array, object, Members, no_members, member}
 use Rattle.serde_json.specs.Read.{read}

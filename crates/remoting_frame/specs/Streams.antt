@@ -7,7 +7,8 @@ use Rattle.remoting_frame.specs.declared.fault.FrameFault.{FrameFault}
 -- From the place `at` on the bytes begin with these frames, and then the rest is at the place `end`.
 abbrev pub BeginsWith : ℕ → List ℕ → List Frame → ℕ → List ℕ → Type 0
 BeginsWith at bytes [] end rest = (at ≡ end) × (bytes ≡ rest)
-BeginsWith at bytes (f ∷ fs) end rest = (after : List ℕ) × (next_of at bytes ≡ Ok (Some (f, after))) × BeginsWith (at + (length bytes - length after)) after fs end rest
+BeginsWith at bytes (f ∷ fs) end rest = (after : List ℕ) × (next_of at bytes ≡ Ok (Some (f, after)))
+    × BeginsWith (at + (length bytes - length after)) after fs end rest
 
 -- What stands behind the frames of a stream: nothing, a part of a frame that starts at the place, or a fault.
 pub data End : Type 0 where

@@ -66,7 +66,10 @@ fn put_first<'a>(
     bytes: &'a [u8],
 ) -> Result<&'a [u8], HeaderFault>
     ensures shorter { IfOk result (λ rest. length rest.now < length bytes.now) }
-    ensures pair { Gives {Y = List (List ℕ × List ℕ) × List ℕ} (λ rest. (pairs_view map.new.entries, rest.now)) result (put_first_of (pairs_view map.old.entries) bytes.now) }
+    ensures pair { Gives {Y = List (List ℕ × List ℕ) × List ℕ} (λ rest. (
+      pairs_view map.new.entries,
+      rest.now,
+    )) result (put_first_of (pairs_view map.old.entries) bytes.now) }
 {
     let Some((name_len, value_len)) = pair_lens(bytes) else {
         return Err(HeaderFault::Bad);

@@ -7,7 +7,8 @@ ghost use Rattle.std.specs.List.{AllByRecursion};
 ghost use Rattle.remoting_frame.specs.Head.{pairs_size};
 ghost use Rattle.remoting_frame.specs.Binary.{binary_header};
 ghost use Rattle.remoting_frame.specs.Appends.{KeepsFront};
-ghost use Rattle.remoting_frame.specs.BinaryText.{Has16Bits, FitsLengths, IsPairOfTexts, AreTexts, sized, pair_text, pairs_text, sized_pairs, numbers_text, binary_text};
+ghost use Rattle.remoting_frame.specs.BinaryText.{Has16Bits, FitsLengths, IsPairOfTexts, AreTexts, sized, pair_text};
+ghost use Rattle.remoting_frame.specs.BinaryText.{pairs_text, sized_pairs, numbers_text, binary_text};
 
 use crate::header::Header;
 use mq_bytes::Text;

@@ -16,7 +16,8 @@ ghost use Rattle.std.specs.Prelude.{◌≡◌, ◌<◌, length, IfOk, OnOk, IfEr
 ghost use Rattle.serde_json.specs.View.{view, members_view};
 ghost use Rattle.remoting_frame.specs.Gives.{Gives};
 ghost use Rattle.remoting_frame.specs.Head.{IsInOrder};
-ghost use Rattle.remoting_frame.specs.Json.{data_of, whole, whole_or_zero, text_or_empty, pair_of, pairs_of, pairs_or_none, header_of, json_header};
+ghost use Rattle.remoting_frame.specs.Json.{data_of, whole, whole_or_zero, text_or_empty, pair_of};
+ghost use Rattle.remoting_frame.specs.Json.{pairs_of, pairs_or_none, header_of, json_header};
 ghost use Rattle.remoting_frame.specs.declared.fault.HeaderFault.TheVariants.{Memory};
 
 use crate::fault::HeaderFault;
@@ -78,7 +79,8 @@ fn text_or_none(alloc: Global, value: Option<&Value>) -> Result<Text, HeaderFaul
 }
 
 fn push_pair(pairs: &mut Vec<(Text, Text)>, name: &String, value: &Value) -> Result<(), HeaderFault>
-    ensures { Gives (λ _. pairs.new.items) result (option_map (λ p. pairs.old.items ++ p) (pair_of (string_bytes name.now) (view value.now))) }
+    ensures { Gives (λ _. pairs.new.items) result (option_map (λ p. pairs.old.items
+        ++ p) (pair_of (string_bytes name.now) (view value.now))) }
 {
     match value {
         Value::Null => Ok(()),

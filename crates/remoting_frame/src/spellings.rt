@@ -15,8 +15,10 @@ ghost use Rattle.remoting_frame.specs.declared.fault.FrameFault.{FrameFault};
 
 /// The next frame of a stream is the one with which its bytes begin.
 pub fn frames_are_spelled()
-    ensures read { (bytes : List ℕ) (frame : Frame) (rest : List ℕ) → IsFrame bytes frame rest → next_of frame.at bytes ≡ Ok (Some (frame, rest)) }
-    ensures only { (at : ℕ) (bytes : List ℕ) (frame : Frame) (rest : List ℕ) → AreBytes bytes → next_of at bytes ≡ Ok (Some (frame, rest)) → IsFrame bytes frame rest × (frame.at ≡ at) }
+    ensures read { (bytes : List ℕ) (frame : Frame) (rest : List ℕ) → IsFrame bytes frame rest
+        → next_of frame.at bytes ≡ Ok (Some (frame, rest)) }
+    ensures only { (at : ℕ) (bytes : List ℕ) (frame : Frame) (rest : List ℕ) → AreBytes bytes → next_of at bytes ≡ Ok (Some (frame, rest))
+        → IsFrame bytes frame rest × (frame.at ≡ at) }
 {}
 
 /// The next frame of a stream has a fault exactly where its bytes show one: each needs the bytes that show it, and no
@@ -29,7 +31,9 @@ pub fn faults_are_shown()
 /// A frame that is written is the next one, whatever follows it: where its header reads as it was written, which
 /// `Header::write` ensures, and the frame has no more than 16,777,216 bytes behind its length.
 pub fn written_frames_are_read()
-    ensures { (at : ℕ) (form : Form) (head : Head) (body rest : List ℕ) → header_in form (header_text form head) ≡ Some head → 4 + length (header_text form head) + length body ≤ 16777216 → next_of at (frame_bytes form head body ++ rest) ≡ Ok (Some (record { at = at; form = form; header = head; body = body }, rest)) }
+    ensures { (at : ℕ) (form : Form) (head : Head) (body rest : List ℕ) → header_in form (header_text form head) ≡ Some head
+        → 4 + length (header_text form head) + length body ≤ 16777216 → next_of at (frame_bytes form head body ++ rest)
+        ≡ Ok (Some (record { at = at; form = form; header = head; body = body }, rest)) }
 {}
 
 /// Bytes are a header in binary form exactly where its fields stand in their places and its pairs behind them.

@@ -17,7 +17,14 @@ pub record IsReply (reply : ReplyParts) : Type 0 where
 
 -- the header of a reply to the request with this opaque
 abbrev pub reply_head : ReplyParts → ℤ → Head
-reply_head reply opaque = record { code = reply.code; version = pos 0; opaque = opaque; flag = pos 1; remark = reply.remark; ext = reply.ext }
+reply_head reply opaque = record {
+  code = reply.code;
+  version = pos 0;
+  opaque = opaque;
+  flag = pos 1;
+  remark = reply.remark;
+  ext = reply.ext;
+}
 
 -- the frame of a reply whose slices give this body
 abbrev pub reply_bytes : Form → ℤ → ReplyParts → List ℕ → List ℕ

@@ -30,7 +30,8 @@ IsSlice gives (Kept range) bytes = (length bytes ≡ range.len) × gives range.p
 -- the bytes are those of the slices, one after another
 abbrev pub IsBody : Giving → List Slice → List ℕ → Type 0
 IsBody gives [] bytes = bytes ≡ []
-IsBody gives (slice ∷ slices) bytes = IsSlice gives slice (take (slice_len slice) bytes) × IsBody gives slices (drop (slice_len slice) bytes)
+IsBody gives (slice ∷ slices) bytes = IsSlice gives slice (take (slice_len slice) bytes)
+    × IsBody gives slices (drop (slice_len slice) bytes)
 
 -- behind the old bytes stand bytes that the slices give
 pub record AppendsBody (gives : Giving) (slices : List Slice) (old new : List ℕ) : Type 0 where

@@ -20,7 +20,8 @@ ghost use Rattle.record_codec.specs.Props.{value_of};
 ghost use Rattle.remoting_frame.specs.Head.{IsInOrder, IsShort};
 ghost use Rattle.remoting_frame.specs.Headers.{header_in, header_text};
 ghost use Rattle.remoting_frame.specs.declared.frame.Form.TheVariants.{Json};
-ghost use Rattle.reply_fields.specs.Asks.{text_or, real_topic as real_topic_of, real_queue as real_queue_of, real_draft, offset_id as offset_id_of, ask_fields, ask_head, ask_bytes, IsAsked};
+ghost use Rattle.reply_fields.specs.Asks.{text_or, real_topic as real_topic_of, real_queue as real_queue_of, real_draft};
+ghost use Rattle.reply_fields.specs.Asks.{offset_id as offset_id_of, ask_fields, ask_head, ask_bytes, IsAsked};
 
 use mq_bytes::{Rows, Text, message_id, read_decimal};
 use record_codec::{Draft, Props, Record, SEGMENT_MAX, encode};
@@ -212,7 +213,8 @@ impl Ask {
     /// Appends the frame of this check-back. After want of memory `out` is as before.
     pub fn write(&self, alloc: Global, opaque: i32, out: &mut Vec<u8>) -> Result<(), AllocError>
         ensures written { OnOk result (out.new.items ≡ out.old.items ++ ask_bytes opaque self.now.view) }
-        ensures again { OnOk result (header_in Json (header_text Json (ask_head self.now.view opaque)) ≡ Some (ask_head self.now.view opaque)) }
+        ensures again { OnOk result (header_in Json (header_text Json (ask_head self.now.view opaque))
+            ≡ Some (ask_head self.now.view opaque)) }
         ensures err { OnErr result (out.new.items ≡ out.old.items) }
     {
         let header = header_of(alloc, &self.view, opaque)?;

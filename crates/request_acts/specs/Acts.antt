@@ -74,24 +74,29 @@ pub record TakesBatch (e : Event) (what : Option Said) : Type 0 where
 
 -- One step was made, and the disk is as it was. A batch is taken so, without being written, only where one that can be taken doesn't
 -- begin where the flusher writes.
-pub record HasMade {C D : Type 0} (makes : Steps C) (e : Event) (what : Option Said) (x : C) (old : Place D) (y : C) (new : Place D) : Type 0 where
+pub record HasMade {C D : Type 0} (makes : Steps C) (e : Event) (what : Option Said) (x : C) (old : Place D) (y : C)
+    (new : Place D) : Type 0 where
   pub made : makes x e what y
   pub between : IsBetween e
   pub apart : TakesBatch e what → TakesFrom makes x old.file → ⊥
   pub still : new ≡ old
 
 -- a flush turn wrote its batch and synced it, and the batch is flushed
-pub record HasWritten {C D : Type 0} (makes : Steps C) (view : DiskView D) (turn : Turn) (x : C) (old : Place D) (y : C) (new : Place D) : Type 0 where
+pub record HasWritten {C D : Type 0} (makes : Steps C) (view : DiskView D) (turn : Turn) (x : C) (old : Place D) (y : C)
+    (new : Place D) : Type 0 where
   pub steps : Makes makes x ((Take, Some (said.Batch (Some turn.batch))) ∷ (Flushed turn.receipt, Some said.Done) ∷ []) y
   pub is : IsReceiptFor turn.batch turn.receipt
-  pub wrote : Writes view.tells (growing_at view old) (growing_at view new) (view.syncs old.disk) (view.syncs new.disk) turn.batch (Ok turn.receipt)
+  pub wrote : Writes view.tells (growing_at view old) (growing_at view new) (view.syncs old.disk) (view.syncs new.disk) turn.batch
+      (Ok turn.receipt)
   pub ended : turn.moment ≡ (view.state new.disk).moment
   pub still : view.faults new.disk ≡ view.faults old.disk
 
 -- a flush turn failed, and its batch is pending again
-pub record HasMissed {C D : Type 0} (makes : Steps C) (view : DiskView D) (batch : Batch) (count : ℕ) (x : C) (old : Place D) (y : C) (new : Place D) : Type 0 where
+pub record HasMissed {C D : Type 0} (makes : Steps C) (view : DiskView D) (batch : Batch) (count : ℕ) (x : C) (old : Place D) (y : C)
+    (new : Place D) : Type 0 where
   pub steps : Makes makes x ((Take, Some (said.Batch (Some batch))) ∷ (FlushFailed count, Some said.Done) ∷ []) y
-  pub wrote : Writes view.tells (growing_at view old) (growing_at view new) (view.syncs old.disk) (view.syncs new.disk) batch (Err (record { count = count }))
+  pub wrote : Writes view.tells (growing_at view old) (growing_at view new) (view.syncs old.disk) (view.syncs new.disk) batch
+      (Err (record { count = count }))
   pub rises : Rises (view.faults old.disk) (view.faults new.disk)
   pub count_is : count ≡ view.faults new.disk
 
@@ -109,10 +114,12 @@ pub record IsStill {C D : Type 0} (x : C) (old : Place D) (y : C) (new : Place D
 -- these acts, one after another, lead from the first broker and its disk to the second
 abbrev pub Acts : {C D : Type 0} → Steps C → DiskView D → List Act → C → Place D → C → Place D → Type 0
 Acts makes view [] x old y new = IsStill x old y new
-Acts {C} {D} makes view (act ∷ acts) x old y new = (z : C) × (mid : Place D) × Happens makes view act x old z mid × Acts makes view acts z mid y new
+Acts {C} {D} makes view (act ∷ acts) x old y new = (z : C) × (mid : Place D) × Happens makes view act x old z mid
+    × Acts makes view acts z mid y new
 
 -- acts of this kind do
-pub record Acted {C D : Type 0} (makes : Steps C) (view : DiskView D) (IsKind : List Act → Type 0) (x : C) (old : Place D) (y : C) (new : Place D) : Type 0 where
+pub record Acted {C D : Type 0} (makes : Steps C) (view : DiskView D) (IsKind : List Act → Type 0) (x : C) (old : Place D) (y : C)
+    (new : Place D) : Type 0 where
   pub acts : List Act
   pub kind : IsKind acts
   pub happened : Acts makes view acts x old y new

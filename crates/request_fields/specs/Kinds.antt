@@ -1,5 +1,6 @@
 -- The kinds of text that the fields of a request have.
-use Rattle.std.specs.Prelude.{ℕ, ◌^◌, ◌&&◌, ◌||◌, ◌==◌, List, length, codes, ℤ, pos, negsuc, nat_lt, nat_le, nat_eq, not, Bool, true, false, is_some, Option, Some, None, option_and_then, if◌then◌else◌}
+use Rattle.std.specs.Prelude.{ℕ, ◌^◌, ◌&&◌, ◌||◌, ◌==◌, List, length, codes, ℤ, pos, negsuc, nat_lt, nat_le, nat_eq}
+use Rattle.std.specs.Prelude.{not, Bool, true, false, is_some, Option, Some, None, option_and_then, if◌then◌else◌}
 use Rattle.std.specs.Str.{bytes_eq}
 use Rattle.std.specs.List.{list_any}
 use Rattle.mq_bytes.specs.Decimal.{decimal_value}

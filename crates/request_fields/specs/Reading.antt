@@ -4,13 +4,16 @@ use Rattle.std.specs.Ordering.{int_eq}
 use Rattle.remoting_frame.specs.Head.{Head}
 use Rattle.request_fields.specs.Values.{text_at, i32_or, i64_or, u31_at, time_at, count_at, verdict_at}
 use Rattle.request_fields.specs.Faults.{first_fault}
-use Rattle.request_fields.specs.Rows.{SendNames, long_names, short_names, send_row, pull_row, query_row, offset_row, set_offset_row, topic_row, search_row, queue_row, view_row, unregister_row, end_row}
+use Rattle.request_fields.specs.Rows.{SendNames, long_names, short_names, send_row, pull_row, query_row, offset_row}
+use Rattle.request_fields.specs.Rows.{set_offset_row, topic_row, search_row, queue_row, view_row, unregister_row, end_row}
 use Rattle.request_fields.specs.Bodies.{beat_in, lock_in}
-use Rattle.request_fields.specs.Requests.{SendSaid, PullSaid, QuerySaid, OffsetSaid, SetOffsetSaid, TopicSaid, SearchSaid, QueueSaid, ViewSaid, UnregisterSaid, EndSaid}
+use Rattle.request_fields.specs.Requests.{SendSaid, PullSaid, QuerySaid, OffsetSaid, SetOffsetSaid, TopicSaid}
+use Rattle.request_fields.specs.Requests.{SearchSaid, QueueSaid, ViewSaid, UnregisterSaid, EndSaid}
 use Rattle.request_fields.specs.declared.fault.RequestFault.{RequestFault}
 use Rattle.request_fields.specs.declared.fault.RequestFault.TheVariants.{Unsupported, Missing, BadNumber, BadBody, Memory}
 use Rattle.request_fields.specs.declared.request.Request.{Request}
-use Rattle.request_fields.specs.declared.request.Request.TheVariants.{Send, Pull, Query, OffsetOf, SetOffset, MakeTopic, Search, MaxOffset, MinOffset, ViewById, Beat, Unregister, EndTransaction, Lock, Unlock}
+use Rattle.request_fields.specs.declared.request.Request.TheVariants.{Send, Pull, Query, OffsetOf, SetOffset, MakeTopic, Search, MaxOffset}
+use Rattle.request_fields.specs.declared.request.Request.TheVariants.{MinOffset, ViewById, Beat, Unregister, EndTransaction, Lock, Unlock}
 use Rattle.request_fields.specs.declared.rows.PullNumbers.{PullNumbers}
 use Rattle.request_fields.specs.declared.send.SendNumbers.{SendNumbers}
 
@@ -36,7 +39,14 @@ send_said n ext body = record {
 unfoldable pub send_numbers : SendNames → List (List ℕ × List ℕ) → SendNumbers
 send_numbers n ext =
     let said = send_said n ext [] in
-    record { queue = said.queue; sysflag = said.sysflag; born = said.born; flag = said.flag; default_queues = said.default_queues; reconsume = said.reconsume }
+    record {
+      queue = said.queue;
+      sysflag = said.sysflag;
+      born = said.born;
+      flag = said.flag;
+      default_queues = said.default_queues;
+      reconsume = said.reconsume;
+    }
 
 -- a pull, with -1 for an absent offset to store and 0 for an absent time to wait
 unfoldable pub pull_said : List (List ℕ × List ℕ) → PullSaid

@@ -59,20 +59,24 @@ short_names = record {
 unfoldable pub send_row : SendNames → Row
 send_row n = record {
   required = (n.group, name) ∷ (n.topic, text) ∷ (n.queue, i32) ∷ (n.sysflag, i32) ∷ (n.born, time) ∷ (n.flag, i32) ∷ [];
-  optional = (n.default_topic, text) ∷ (n.default_queues, i32) ∷ (n.props, text) ∷ (n.reconsume, i32) ∷ (n.max_reconsume, i32) ∷ (n.unit_mode, text) ∷ (n.batch, untrue) ∷ [];
+  optional = (n.default_topic, text) ∷ (n.default_queues, i32) ∷ (n.props, text) ∷ (n.reconsume, i32) ∷ (n.max_reconsume, i32)
+      ∷ (n.unit_mode, text) ∷ (n.batch, untrue) ∷ [];
 }
 
 -- PULL_MESSAGE, code 11
 unfoldable pub pull_row : Row
 pull_row = record {
-  required = (codes "consumerGroup", name) ∷ (codes "topic", text) ∷ (codes "queueId", u31) ∷ (codes "queueOffset", i64) ∷ (codes "maxMsgNums", i32) ∷ (codes "sysFlag", i32) ∷ [];
-  optional = (codes "commitOffset", i64) ∷ (codes "suspendTimeoutMillis", i64) ∷ (codes "subscription", text) ∷ (codes "subVersion", i64) ∷ (codes "expressionType", text) ∷ [];
+  required = (codes "consumerGroup", name) ∷ (codes "topic", text) ∷ (codes "queueId", u31) ∷ (codes "queueOffset", i64)
+      ∷ (codes "maxMsgNums", i32) ∷ (codes "sysFlag", i32) ∷ [];
+  optional = (codes "commitOffset", i64) ∷ (codes "suspendTimeoutMillis", i64) ∷ (codes "subscription", text) ∷ (codes "subVersion", i64)
+      ∷ (codes "expressionType", text) ∷ [];
 }
 
 -- QUERY_MESSAGE, code 12
 unfoldable pub query_row : Row
 query_row = record {
-  required = (codes "topic", text) ∷ (codes "key", text) ∷ (codes "maxNum", i32) ∷ (codes "beginTimestamp", i64) ∷ (codes "endTimestamp", i64) ∷ [];
+  required = (codes "topic", text) ∷ (codes "key", text) ∷ (codes "maxNum", i32) ∷ (codes "beginTimestamp", i64)
+      ∷ (codes "endTimestamp", i64) ∷ [];
   optional = [];
 }
 
@@ -94,7 +98,8 @@ set_offset_row = record {
 unfoldable pub topic_row : Row
 topic_row = record {
   required = (codes "topic", text) ∷ (codes "readQueueNums", count) ∷ (codes "writeQueueNums", count) ∷ [];
-  optional = (codes "defaultTopic", text) ∷ (codes "perm", text) ∷ (codes "topicFilterType", text) ∷ (codes "topicSysFlag", text) ∷ (codes "order", text) ∷ [];
+  optional = (codes "defaultTopic", text) ∷ (codes "perm", text) ∷ (codes "topicFilterType", text) ∷ (codes "topicSysFlag", text)
+      ∷ (codes "order", text) ∷ [];
 }
 
 -- SEARCH_OFFSET_BY_TIMESTAMP, code 29
@@ -128,6 +133,7 @@ unregister_row = record {
 -- END_TRANSACTION, code 37
 unfoldable pub end_row : Row
 end_row = record {
-  required = (codes "producerGroup", name) ∷ (codes "tranStateTableOffset", time) ∷ (codes "commitLogOffset", time) ∷ (codes "commitOrRollback", verdict) ∷ [];
+  required = (codes "producerGroup", name) ∷ (codes "tranStateTableOffset", time) ∷ (codes "commitLogOffset", time)
+      ∷ (codes "commitOrRollback", verdict) ∷ [];
   optional = (codes "fromTransactionCheck", text) ∷ (codes "msgId", text) ∷ (codes "transactionId", text) ∷ [];
 }

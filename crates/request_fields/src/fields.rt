@@ -26,9 +26,31 @@ impl Model for PullFields {
 
     ghost Value = { PullSaid };
 
-    ghost view = { λ x. record { group = x.group; topic = x.topic; queue = x.queue; from = x.from; most = x.most; sysflag = x.sysflag; commit = x.commit; suspend = x.suspend; subscription = x.subscription; expression = x.expression } };
+    ghost view = { λ x. record {
+      group = x.group;
+      topic = x.topic;
+      queue = x.queue;
+      from = x.from;
+      most = x.most;
+      sysflag = x.sysflag;
+      commit = x.commit;
+      suspend = x.suspend;
+      subscription = x.subscription;
+      expression = x.expression;
+    } };
 
-    ghost invariant = { λ x. KeepsPull (record { group = x.group; topic = x.topic; queue = x.queue; from = x.from; most = x.most; sysflag = x.sysflag; commit = x.commit; suspend = x.suspend; subscription = x.subscription; expression = x.expression }) };
+    ghost invariant = { λ x. KeepsPull (record {
+      group = x.group;
+      topic = x.topic;
+      queue = x.queue;
+      from = x.from;
+      most = x.most;
+      sysflag = x.sysflag;
+      commit = x.commit;
+      suspend = x.suspend;
+      subscription = x.subscription;
+      expression = x.expression;
+    }) };
 }
 
 /// A query by key: at most `most` messages, stored from the time `from` to the time `to`, both in milliseconds.
@@ -189,9 +211,21 @@ impl Model for EndFields {
 
     ghost Value = { EndSaid };
 
-    ghost view = { λ x. record { group = x.group; queue_offset = x.queue_offset; place = x.place; verdict = x.verdict; msg_id = x.msg_id } };
+    ghost view = { λ x. record {
+      group = x.group;
+      queue_offset = x.queue_offset;
+      place = x.place;
+      verdict = x.verdict;
+      msg_id = x.msg_id;
+    } };
 
-    ghost invariant = { λ x. KeepsEnd (record { group = x.group; queue_offset = x.queue_offset; place = x.place; verdict = x.verdict; msg_id = x.msg_id }) };
+    ghost invariant = { λ x. KeepsEnd (record {
+      group = x.group;
+      queue_offset = x.queue_offset;
+      place = x.place;
+      verdict = x.verdict;
+      msg_id = x.msg_id;
+    }) };
 }
 
 /// The queues that a client of a group wants, or no longer wants, for itself: at most 4,096.

@@ -15,7 +15,8 @@
 //! What a decimal is, `read_decimal` says.
 
 ghost use Rattle.std.specs.Prelude.{◌≡◌, ◌<◌, ◌≤◌, ◌^◌, ◌⊎◌, IfSome};
-ghost use Rattle.request_fields.specs.Kinds.{is_name as is_name_of, i32_in as i32_in_of, u31_in as u31_in_of, time_in as time_in_of, count_in as count_in_of, verdict_in as verdict_in_of};
+ghost use Rattle.request_fields.specs.Kinds.{is_name as is_name_of, i32_in as i32_in_of, u31_in as u31_in_of};
+ghost use Rattle.request_fields.specs.Kinds.{time_in as time_in_of, count_in as count_in_of, verdict_in as verdict_in_of};
 
 use mq_bytes::read_decimal;
 

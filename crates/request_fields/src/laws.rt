@@ -17,7 +17,8 @@ pub fn the_first_absent_field_is_missing()
 
 /// So is a required field that is not of its kind.
 pub fn the_first_required_field_of_another_kind_is_bad()
-    ensures { (row : Row) (before after : List (List ℕ × Kind)) (name : List ℕ) (kind : Kind) (ext : List (List ℕ × List ℕ)) (value : List ℕ)
+    ensures { (row : Row) (before after : List (List ℕ × Kind)) (name : List ℕ) (kind : Kind) (ext : List (List ℕ
+        × List ℕ)) (value : List ℕ)
         → row.required ≡ before ++ (name, kind) ∷ after → All (IsThere ext) before
         → value_of name ext ≡ Some value → is_of kind value ≡ false
         → first_fault row ext ≡ Some (BadNumber (record { name = name })) }
@@ -26,7 +27,8 @@ pub fn the_first_required_field_of_another_kind_is_bad()
 /// An optional field that is not of its kind is the first fault where each required one is there and of its kind, and
 /// each optional one before it is absent or of its kind.
 pub fn the_first_optional_field_of_another_kind_is_bad()
-    ensures { (row : Row) (before after : List (List ℕ × Kind)) (name : List ℕ) (kind : Kind) (ext : List (List ℕ × List ℕ)) (value : List ℕ)
+    ensures { (row : Row) (before after : List (List ℕ × Kind)) (name : List ℕ) (kind : Kind) (ext : List (List ℕ
+        × List ℕ)) (value : List ℕ)
         → row.optional ≡ before ++ (name, kind) ∷ after → All (IsThere ext) row.required → All (IsOfKind ext) before
         → value_of name ext ≡ Some value → is_of kind value ≡ false
         → first_fault row ext ≡ Some (BadNumber (record { name = name })) }

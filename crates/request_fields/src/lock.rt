@@ -47,7 +47,8 @@ fn broker_in(alloc: Global, value: Option<&Value>) -> Result<Text, BodyFault>
 }
 
 fn queue_in(value: Option<&Value>) -> Result<u32, BodyFault>
-    ensures queue { Finds (λ n. n) result (option_and_then if_queue (option_and_then as_u64 (option_and_then as_number (option_map (λ v. view v.now) value.entry)))) }
+    ensures queue { Finds (λ n. n) result (option_and_then if_queue
+        (option_and_then as_u64 (option_and_then as_number (option_map (λ v. view v.now) value.entry)))) }
     ensures small { IfOk result (λ n. n < 2 ^ 31) }
 {
     let Some(value) = value else {

@@ -2,7 +2,8 @@
 
 ghost use Rattle.std.specs.Prelude.{◌≡◌, ◌<◌, ◌≤◌, ◌^◌, ◌⊎◌, Some, None, option_map, IfOk, IfErr, pos};
 ghost use Rattle.record_codec.specs.Props.{value_of};
-ghost use Rattle.request_fields.specs.Kinds.{text as text_kind, name as name_kind, i32 as i32_kind, i64 as i64_kind, u31 as u31_kind, time as time_kind, count as count_kind, verdict as verdict_kind};
+ghost use Rattle.request_fields.specs.Kinds.{text as text_kind, name as name_kind, i32 as i32_kind, i64 as i64_kind};
+ghost use Rattle.request_fields.specs.Kinds.{u31 as u31_kind, time as time_kind, count as count_kind, verdict as verdict_kind};
 ghost use Rattle.request_fields.specs.Values.{text_at, i32_or, i64_or, u31_at, time_at, count_at, verdict_at};
 ghost use Rattle.request_fields.specs.Faults.{needed_fault};
 ghost use Rattle.request_fields.specs.Gives.{Tells, Gives};
@@ -48,7 +49,8 @@ pub(crate) fn bad_number(alloc: Global, name: &str) -> RequestFault
 /// The text of a field that has to be there.
 fn needed<'a>(alloc: Global, header: &'a Header, name: &str) -> Result<&'a str, RequestFault>
     ensures there { IfOk result (λ text. value_of name.now header.now.ext ≡ Some text.now) }
-    ensures absent { IfErr result (λ fault. (value_of name.now header.now.ext ≡ None) × Tells fault (Some (Missing (record { name = name.now })))) }
+    ensures absent { IfErr result (λ fault. (value_of name.now header.now.ext ≡ None)
+        × Tells fault (Some (Missing (record { name = name.now })))) }
 {
     match field(header, name) {
         Some(text) => Ok(text),
@@ -89,7 +91,8 @@ pub(crate) fn needed_name(alloc: Global, header: &Header, name: &str) -> Result<
 
 #[tactic(auto, unfolding(crate::specs::Faults::needed_fault, crate::specs::Faults::kind_fault, crate::specs::Values::i32_or))]
 pub(crate) fn needed_i32(alloc: Global, header: &Header, name: &str) -> Result<i32, RequestFault>
-    ensures value { Gives result (needed_fault i32_kind name.now (value_of name.now header.now.ext)) (i32_or (pos 0) name.now header.now.ext) }
+    ensures value { Gives result (needed_fault i32_kind name.now (value_of name.now header.now.ext))
+        (i32_or (pos 0) name.now header.now.ext) }
 {
     let text = needed(alloc, header, name)?;
     given(alloc, name, i32_in(text))
@@ -97,7 +100,8 @@ pub(crate) fn needed_i32(alloc: Global, header: &Header, name: &str) -> Result<i
 
 #[tactic(auto, unfolding(crate::specs::Faults::needed_fault, crate::specs::Faults::kind_fault, crate::specs::Values::i64_or))]
 pub(crate) fn needed_i64(alloc: Global, header: &Header, name: &str) -> Result<i64, RequestFault>
-    ensures value { Gives result (needed_fault i64_kind name.now (value_of name.now header.now.ext)) (i64_or (pos 0) name.now header.now.ext) }
+    ensures value { Gives result (needed_fault i64_kind name.now (value_of name.now header.now.ext))
+        (i64_or (pos 0) name.now header.now.ext) }
 {
     let text = needed(alloc, header, name)?;
     given(alloc, name, read_decimal(text))
@@ -132,7 +136,8 @@ pub(crate) fn needed_count(alloc: Global, header: &Header, name: &str) -> Result
 
 #[tactic(auto, unfolding(crate::specs::Faults::needed_fault, crate::specs::Faults::kind_fault, crate::specs::Values::verdict_at))]
 pub(crate) fn needed_verdict(alloc: Global, header: &Header, name: &str) -> Result<u8, RequestFault>
-    ensures value { Gives result (needed_fault verdict_kind name.now (value_of name.now header.now.ext)) (verdict_at name.now header.now.ext) }
+    ensures value { Gives result (needed_fault verdict_kind name.now (value_of name.now header.now.ext))
+        (verdict_at name.now header.now.ext) }
     ensures kept { IfOk result (λ n. (n ≡ 0) ⊎ (n ≡ 8) ⊎ (n ≡ 12)) }
 {
     let text = needed(alloc, header, name)?;

@@ -56,7 +56,8 @@ pub(crate) fn optional_i32(
     name: &str,
     default: i32,
 ) -> Result<i32, RequestFault>
-    ensures value { Gives result (optional_fault i32_kind name.now (value_of name.now header.now.ext)) (i32_or default name.now header.now.ext) }
+    ensures value { Gives result (optional_fault i32_kind name.now (value_of name.now header.now.ext))
+        (i32_or default name.now header.now.ext) }
 {
     let Some(text) = field(header, name) else {
         return Ok(default);
@@ -71,7 +72,8 @@ pub(crate) fn optional_i64(
     name: &str,
     default: i64,
 ) -> Result<i64, RequestFault>
-    ensures value { Gives result (optional_fault i64_kind name.now (value_of name.now header.now.ext)) (i64_or default name.now header.now.ext) }
+    ensures value { Gives result (optional_fault i64_kind name.now (value_of name.now header.now.ext))
+        (i64_or default name.now header.now.ext) }
 {
     let Some(text) = field(header, name) else {
         return Ok(default);

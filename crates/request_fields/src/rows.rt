@@ -4,9 +4,12 @@
 ghost use Rattle.std.specs.Prelude.{◌<◌, ◌^◌, drop, IfOk};
 ghost use Rattle.request_fields.specs.Faults.{first_fault, required_faults, optional_faults};
 ghost use Rattle.request_fields.specs.Gives.{Gives};
-ghost use Rattle.request_fields.specs.Rows.{pull_row, query_row, offset_row, set_offset_row, topic_row, search_row, queue_row, view_row, unregister_row, end_row};
-ghost use Rattle.request_fields.specs.declared.request.Request.TheVariants.{Pull, Query, OffsetOf, SetOffset, MakeTopic, Search, MaxOffset, MinOffset, ViewById, Unregister, EndTransaction};
-ghost use Rattle.request_fields.specs.Reading.{pull_said, pull_numbers as pull_numbers_said, query_said, offset_said, set_offset_said, topic_said, search_said, queue_said, view_said, unregister_said, end_said};
+ghost use Rattle.request_fields.specs.Rows.{pull_row, query_row, offset_row, set_offset_row, topic_row};
+ghost use Rattle.request_fields.specs.Rows.{search_row, queue_row, view_row, unregister_row, end_row};
+ghost use Rattle.request_fields.specs.declared.request.Request.TheVariants.{Pull, Query, OffsetOf, SetOffset, MakeTopic, Search, MaxOffset};
+ghost use Rattle.request_fields.specs.declared.request.Request.TheVariants.{MinOffset, ViewById, Unregister, EndTransaction};
+ghost use Rattle.request_fields.specs.Reading.{pull_said, pull_numbers as pull_numbers_said, query_said, offset_said, set_offset_said};
+ghost use Rattle.request_fields.specs.Reading.{topic_said, search_said, queue_said, view_said, unregister_said, end_said};
 
 use crate::fault::RequestFault;
 use crate::fields::{
@@ -36,7 +39,8 @@ struct PullNumbers {
 // The numbers, or the first fault behind the group and the topic. An optional text has none.
 #[tactic(auto, unfolding(crate::specs::Rows::pull_row, crate::specs::Reading::pull_numbers, crate::specs::Reading::pull_said))]
 fn pull_numbers(alloc: Global, header: &Header) -> Result<PullNumbers, RequestFault>
-    ensures value { Gives result (required_faults (drop 2 pull_row.required) header.now.ext (optional_faults pull_row.optional header.now.ext)) (pull_numbers_said header.now.ext) }
+    ensures value { Gives result (required_faults (drop 2 pull_row.required) header.now.ext
+        (optional_faults pull_row.optional header.now.ext)) (pull_numbers_said header.now.ext) }
     ensures kept { IfOk result (λ numbers. numbers.queue < 2 ^ 31) }
 {
     let queue = needed_u31(alloc, header, "queueId")?;

@@ -52,7 +52,8 @@ fn numbers_of(
     header: &Header,
     names: &SendNames<'_>,
 ) -> Result<SendNumbers, RequestFault>
-    ensures value { Gives result (required_faults (drop 2 (send_row (names_view names.now)).required) header.now.ext (optional_faults (send_row (names_view names.now)).optional header.now.ext)) (send_numbers (names_view names.now) header.now.ext) }
+    ensures value { Gives result (required_faults (drop 2 (send_row (names_view names.now)).required) header.now.ext
+        (optional_faults (send_row (names_view names.now)).optional header.now.ext)) (send_numbers (names_view names.now) header.now.ext) }
     ensures kept { IfOk result (λ numbers. numbers.born < 2 ^ 62) }
 {
     let queue = needed_i32(alloc, header, names.queue)?;
@@ -79,7 +80,8 @@ pub(crate) fn send(
     frame: &Frame,
     names: &SendNames<'_>,
 ) -> Result<Request, RequestFault>
-    ensures { Gives result (first_fault (send_row (names_view names.now)) frame.now.header.ext) (Send (send_said (names_view names.now) frame.now.header.ext frame.now.body)) }
+    ensures { Gives result (first_fault (send_row (names_view names.now)) frame.now.header.ext)
+        (Send (send_said (names_view names.now) frame.now.header.ext frame.now.body)) }
 {
     let header = &frame.header;
     let group = needed_name(alloc, header, names.group)?;

@@ -28,7 +28,31 @@ impl Model for SendFields {
 
     ghost Value = { SendSaid };
 
-    ghost view = { λ x. record { group = x.group; topic = x.topic; queue = x.queue; sysflag = x.sysflag; born = x.born; flag = x.flag; default_topic = x.default_topic; default_queues = x.default_queues; props = x.props; reconsume = x.reconsume; body = x.body } };
+    ghost view = { λ x. record {
+      group = x.group;
+      topic = x.topic;
+      queue = x.queue;
+      sysflag = x.sysflag;
+      born = x.born;
+      flag = x.flag;
+      default_topic = x.default_topic;
+      default_queues = x.default_queues;
+      props = x.props;
+      reconsume = x.reconsume;
+      body = x.body;
+    } };
 
-    ghost invariant = { λ x. KeepsSend (record { group = x.group; topic = x.topic; queue = x.queue; sysflag = x.sysflag; born = x.born; flag = x.flag; default_topic = x.default_topic; default_queues = x.default_queues; props = x.props; reconsume = x.reconsume; body = x.body }) };
+    ghost invariant = { λ x. KeepsSend (record {
+      group = x.group;
+      topic = x.topic;
+      queue = x.queue;
+      sysflag = x.sysflag;
+      born = x.born;
+      flag = x.flag;
+      default_topic = x.default_topic;
+      default_queues = x.default_queues;
+      props = x.props;
+      reconsume = x.reconsume;
+      body = x.body;
+    }) };
 }

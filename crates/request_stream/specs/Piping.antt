@@ -38,7 +38,8 @@ abbrev pub CountsPipe : {A : Type 0} → Result A Halt → ℕ → ℕ → ℕ �
 CountsPipe (Ok done) source source_then sink sink_then clock clock_then = Unit {0}
 CountsPipe (Err (BadFrame place)) source source_then sink sink_then clock clock_then = Unit {0}
 CountsPipe (Err Read) source source_then sink sink_then clock clock_then = Rises source source_then
-CountsPipe (Err (Stopped stop)) source source_then sink sink_then clock clock_then = CountsStop {A = Unit {0}} (Err stop) sink sink_then clock clock_then
+CountsPipe (Err (Stopped stop)) source source_then sink sink_then clock clock_then = CountsStop {A = Unit {0}} (Err stop) sink sink_then
+    clock clock_then
 
 -- ---- frames that are held
 
@@ -85,14 +86,16 @@ HaltsAt (Err Read) held = ⊥
 HaltsAt (Err (Stopped stop)) held = Unit {0}
 
 -- the frames at the front of what was held were served
-pub record ServesHeld {C D A : Type 0} (sides : Sides C D) (result : Result A Halt) (held held_then : Held) (x : C) (old : Point D) (y : C) (new : Point D) : Type 0 where
+pub record ServesHeld {C D A : Type 0} (sides : Sides C D) (result : Result A Halt) (held held_then : Held) (x : C) (old : Point D) (y : C)
+    (new : Point D) : Type 0 where
   pub frames : List Frame
   pub cut : BeginsWith held.at held.bytes frames held_then.at held_then.bytes
   pub ran : RanBy sides result frames x old y new
   pub halts : HaltsAt result held_then
 
 -- the same while more may be held
-pub record ServedHeld {C D : Type 0} (sides : Sides C D) (held held_then : Held) (x : C) (old : Point D) (y : C) (new : Point D) : Type 0 where
+pub record ServedHeld {C D : Type 0} (sides : Sides C D) (held held_then : Held) (x : C) (old : Point D) (y : C)
+    (new : Point D) : Type 0 where
   pub frames : List Frame
   pub cut : BeginsWith held.at held.bytes frames held_then.at held_then.bytes
   pub ran : Ran sides frames x old y new
@@ -123,7 +126,8 @@ pub record EndsInside (place at : ℕ) (rest : List ℕ) (source : Type 0) (left
 -- There is no frame at the place: a fault is there, or the bytes end inside a frame, or as many were read as a stream may have.
 abbrev pub IsBadAt : ℕ → ℕ → List ℕ → List ℕ → Type 0 → List ℕ → Type 0
 IsBadAt place at rest bytes source left =
-    FaultAt place (record { at = at; bytes = rest }) ⊎ (EndsInside place at rest source left ⊎ ((place ≡ stream_limit) × (length bytes ≡ stream_limit)))
+    FaultAt place (record { at = at; bytes = rest }) ⊎ (EndsInside place at rest source left
+    ⊎ ((place ≡ stream_limit) × (length bytes ≡ stream_limit)))
 
 -- how the bytes behind the last frame end the reading
 abbrev pub EndsBy : {A : Type 0} → Result A Halt → ℕ → List ℕ → List ℕ → Type 0 → List ℕ → Type 0
@@ -134,7 +138,8 @@ EndsBy (Err (Stopped stop)) at rest bytes source left = Unit {0}
 
 -- The bytes that were read are these frames and what stands behind them, and the requests among the frames were served in order,
 -- or those before the one at which this ended it.
-pub record Piped {C D A : Type 0} (sides : Sides C D) (result : Result A Halt) (source : SourceSeen) (x : C) (old : Point D) (y : C) (new : Point D) : Type 0 where
+pub record Piped {C D A : Type 0} (sides : Sides C D) (result : Result A Halt) (source : SourceSeen) (x : C) (old : Point D) (y : C)
+    (new : Point D) : Type 0 where
   pub bytes : List ℕ
   pub frames : List Frame
   pub at : ℕ
@@ -145,7 +150,8 @@ pub record Piped {C D A : Type 0} (sides : Sides C D) (result : Result A Halt) (
   pub ran : RanBy sides result frames x old y new
 
 -- so many bytes were read, all of their frames were served, and the rest is held
-pub record SoFar {C D : Type 0} (sides : Sides C D) (total : ℕ) (held : Held) (source : Type 0) (given given_then : List ℕ) (x : C) (old : Point D) (y : C) (new : Point D) : Type 0 where
+pub record SoFar {C D : Type 0} (sides : Sides C D) (total : ℕ) (held : Held) (source : Type 0) (given given_then : List ℕ) (x : C)
+    (old : Point D) (y : C) (new : Point D) : Type 0 where
   pub bytes : List ℕ
   pub frames : List Frame
   pub total_is : length bytes ≡ total
@@ -161,7 +167,8 @@ EndsHere held (Err Read) = ⊥
 EndsHere held (Err (Stopped stop)) = ⊥
 
 -- what happened for the requests
-abbrev pub acts_in : {C D A : Type 0} (sides : Sides C D) (result : Result A Halt) (frames : List Frame) (x : C) (old : Point D) (y : C) (new : Point D)
+abbrev pub acts_in : {C D A : Type 0} (sides : Sides C D) (result : Result A Halt) (frames : List Frame) (x : C) (old : Point D) (y : C)
+    (new : Point D)
     → RanBy sides result frames x old y new → List Act
 acts_in sides (Ok done) frames x old y new ran = acts_of ran.served
 acts_in sides (Err (BadFrame place)) frames x old y new ran = acts_of ran.served

@@ -59,7 +59,8 @@ IsFollowed (Some awaits) acts = acts ≡ []
 
 -- The frame was read, what it asks was given to the broker at the reading of the clock, its record was waited for if the answer
 -- says so, and these are the bytes that answer it.
-pub record IsAnswered (gives : Giving) (frame : Frame) (reading : ℕ) (answer : Answer) (acts : List Act) (bytes : List ℕ) (faults faults_then : ℕ) : Type 0 where
+pub record IsAnswered (gives : Giving) (frame : Frame) (reading : ℕ) (answer : Answer) (acts : List Act) (bytes : List ℕ)
+    (faults faults_then : ℕ) : Type 0 where
   pub request : Result Request RequestFault
   pub given : List Act
   pub settled : List Act
@@ -177,7 +178,8 @@ Breaks gives Misplaced Nothing faults faults_then = ⊥
 Breaks gives Misplaced (Asked it) faults faults_then = HasUnwritten it.acts × ((it.bytes ≡ []) ⊎ IsPartly gives it faults faults_then)
 
 -- The same where this ended it. What was written of the request that was begun is a front of its answer.
-pub record Broke {C D : Type 0} (sides : Sides C D) (stop : Stop) (frames : List Frame) (x : C) (old : Point D) (y : C) (new : Point D) : Type 0 where
+pub record Broke {C D : Type 0} (sides : Sides C D) (stop : Stop) (frames : List Frame) (x : C) (old : Point D) (y : C)
+    (new : Point D) : Type 0 where
   pub served : List Served
   pub begun : Begun
   pub left : List Frame
@@ -198,7 +200,8 @@ Serves sides (Err stop) frames x old y new = Broke sides stop frames x old y new
 -- ---- one request, step by step
 
 -- the answer was told, and this happened for it
-pub record HasAnswered {C D : Type 0} (sides : Sides C D) (caller : Caller) (answer : Answer) (x : C) (old : Point D) (y : C) (new : Point D) : Type 0 where
+pub record HasAnswered {C D : Type 0} (sides : Sides C D) (caller : Caller) (answer : Answer) (x : C) (old : Point D) (y : C)
+    (new : Point D) : Type 0 where
   pub settled : List Act
   pub followed : List Act
   pub reply : ReplyParts
@@ -210,7 +213,8 @@ pub record HasAnswered {C D : Type 0} (sides : Sides C D) (caller : Caller) (ans
   pub taken_is : sides.sink → new.taken ≡ old.taken ++ bytes
 
 -- it was made, and then its serving broke off
-pub record HasPartly {C D : Type 0} (sides : Sides C D) (stop : Stop) (caller : Caller) (answer : Answer) (x : C) (old : Point D) (y : C) (new : Point D) : Type 0 where
+pub record HasPartly {C D : Type 0} (sides : Sides C D) (stop : Stop) (caller : Caller) (answer : Answer) (x : C) (old : Point D) (y : C)
+    (new : Point D) : Type 0 where
   pub settled : List Act
   pub followed : List Act
   pub reply : ReplyParts
@@ -234,10 +238,12 @@ Answers sides caller answer (Ok done) x old y new = HasAnswered sides caller ans
 Answers sides caller answer (Err Clock) x old y new = ⊥
 Answers sides caller answer (Err Sink) x old y new = HasPartly sides Sink caller answer x old y new
 Answers sides caller answer (Err Memory) x old y new = HasPartly sides Memory caller answer x old y new ⊎ HasBroken sides Memory x old y new
-Answers sides caller answer (Err Misplaced) x old y new = HasPartly sides Misplaced caller answer x old y new ⊎ HasBroken sides Misplaced x old y new
+Answers sides caller answer (Err Misplaced) x old y new = HasPartly sides Misplaced caller answer x old y new
+    ⊎ HasBroken sides Misplaced x old y new
 
 -- the frame's request was served
-pub record HasServed {C D : Type 0} (sides : Sides C D) (frame : Frame) (reading : ℕ) (x : C) (old : Point D) (y : C) (new : Point D) : Type 0 where
+pub record HasServed {C D : Type 0} (sides : Sides C D) (frame : Frame) (reading : ℕ) (x : C) (old : Point D) (y : C)
+    (new : Point D) : Type 0 where
   pub acts : List Act
   pub bytes : List ℕ
   pub served : IsServed sides.gives (served_as frame reading acts bytes) old.reads new.reads
@@ -245,7 +251,8 @@ pub record HasServed {C D : Type 0} (sides : Sides C D) (frame : Frame) (reading
   pub taken_is : sides.sink → new.taken ≡ old.taken ++ bytes
 
 -- its answer was made, and then its serving broke off
-pub record HasPartlyServed {C D : Type 0} (sides : Sides C D) (stop : Stop) (frame : Frame) (reading : ℕ) (x : C) (old : Point D) (y : C) (new : Point D) : Type 0 where
+pub record HasPartlyServed {C D : Type 0} (sides : Sides C D) (stop : Stop) (frame : Frame) (reading : ℕ) (x : C) (old : Point D) (y : C)
+    (new : Point D) : Type 0 where
   pub acts : List Act
   pub bytes : List ℕ
   pub served : IsPartly sides.gives (served_as frame reading acts bytes) old.reads new.reads
@@ -257,5 +264,7 @@ abbrev pub ServesAt : {C D A : Type 0} → Sides C D → Frame → ℕ → Resul
 ServesAt sides frame reading (Ok done) x old y new = HasServed sides frame reading x old y new
 ServesAt sides frame reading (Err Clock) x old y new = ⊥
 ServesAt sides frame reading (Err Sink) x old y new = HasPartlyServed sides Sink frame reading x old y new
-ServesAt sides frame reading (Err Memory) x old y new = HasPartlyServed sides Memory frame reading x old y new ⊎ HasBroken sides Memory x old y new
-ServesAt sides frame reading (Err Misplaced) x old y new = HasPartlyServed sides Misplaced frame reading x old y new ⊎ HasBroken sides Misplaced x old y new
+ServesAt sides frame reading (Err Memory) x old y new = HasPartlyServed sides Memory frame reading x old y new
+    ⊎ HasBroken sides Memory x old y new
+ServesAt sides frame reading (Err Misplaced) x old y new = HasPartlyServed sides Misplaced frame reading x old y new
+    ⊎ HasBroken sides Misplaced x old y new

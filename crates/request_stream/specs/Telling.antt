@@ -28,10 +28,12 @@ Appends gives caller reply faults faults_then old new = AppendsReply gives calle
 
 -- the bytes of the answer: none where nobody waits for one
 abbrev pub IsTold : Giving → Caller → ReplyParts → ℕ → ℕ → List ℕ → Type 0
-IsTold gives caller reply faults faults_then bytes = Chooses caller.one_way (bytes ≡ []) (Appends gives caller reply faults faults_then [] bytes)
+IsTold gives caller reply faults faults_then bytes = Chooses caller.one_way (bytes
+    ≡ []) (Appends gives caller reply faults faults_then [] bytes)
 
 -- all of the bytes were written, and they are the answer's
-pub record HasTold (gives : Giving) (caller : Caller) (reply : ReplyParts) (faults faults_then : ℕ) (sink : Type 0) (taken taken_then : List ℕ) : Type 0 where
+pub record HasTold (gives : Giving) (caller : Caller) (reply : ReplyParts) (faults faults_then : ℕ) (sink : Type 0)
+    (taken taken_then : List ℕ) : Type 0 where
   pub bytes : List ℕ
   pub told : IsTold gives caller reply faults faults_then bytes
   pub taken_is : sink → taken_then ≡ taken ++ bytes
@@ -44,16 +46,19 @@ pub record TookPart (old new piece : List ℕ) : Type 0 where
   pub taken_is : new ≡ old ++ part
 
 -- of the answer's bytes those at the front were written
-pub record HasToldPart (gives : Giving) (caller : Caller) (reply : ReplyParts) (faults faults_then : ℕ) (sink : Type 0) (taken taken_then : List ℕ) : Type 0 where
+pub record HasToldPart (gives : Giving) (caller : Caller) (reply : ReplyParts) (faults faults_then : ℕ) (sink : Type 0)
+    (taken taken_then : List ℕ) : Type 0 where
   pub bytes : List ℕ
   pub told : IsTold gives caller reply faults faults_then bytes
   pub took : sink → TookPart taken taken_then bytes
 
 -- what was written, by what ended it
 abbrev pub Tells : {A : Type 0} → Giving → Caller → ReplyParts → ℕ → ℕ → Type 0 → List ℕ → List ℕ → Result A Stop → Type 0
-Tells gives caller reply faults faults_then sink taken taken_then (Ok done) = HasTold gives caller reply faults faults_then sink taken taken_then
+Tells gives caller reply faults faults_then sink taken taken_then (Ok done) = HasTold gives caller reply faults faults_then sink taken
+    taken_then
 Tells gives caller reply faults faults_then sink taken taken_then (Err Clock) = ⊥
-Tells gives caller reply faults faults_then sink taken taken_then (Err Sink) = HasToldPart gives caller reply faults faults_then sink taken taken_then
+Tells gives caller reply faults faults_then sink taken taken_then (Err Sink) = HasToldPart gives caller reply faults faults_then sink taken
+    taken_then
 Tells gives caller reply faults faults_then sink taken taken_then (Err Memory) = sink → taken_then ≡ taken
 Tells gives caller reply faults faults_then sink taken taken_then (Err Misplaced) = ⊥
 
@@ -67,24 +72,29 @@ CountsTelling (Err Misplaced) old new = new ≡ old
 
 -- the bytes of `read N` behind these, where the reader has failed N times
 abbrev pub AppendsUnread : Giving → Caller → ℕ → ℕ → List ℕ → List ℕ → Type 0
-AppendsUnread gives caller faults faults_then old new = (faults_then ≡ faults) × AppendsReply gives caller.form caller.opaque (unread faults) old new
+AppendsUnread gives caller faults faults_then old new = (faults_then ≡ faults)
+    × AppendsReply gives caller.form caller.opaque (unread faults) old new
 
 -- all of a reply's bytes were written
-pub record HasWrittenReply (gives : Giving) (caller : Caller) (reply : ReplyParts) (faults faults_then : ℕ) (sink : Type 0) (taken taken_then : List ℕ) : Type 0 where
+pub record HasWrittenReply (gives : Giving) (caller : Caller) (reply : ReplyParts) (faults faults_then : ℕ) (sink : Type 0)
+    (taken taken_then : List ℕ) : Type 0 where
   pub bytes : List ℕ
   pub are : Appends gives caller reply faults faults_then [] bytes
   pub taken_is : sink → taken_then ≡ taken ++ bytes
 
 -- some of them, at the front
-pub record HasWrittenPart (gives : Giving) (caller : Caller) (reply : ReplyParts) (faults faults_then : ℕ) (sink : Type 0) (taken taken_then : List ℕ) : Type 0 where
+pub record HasWrittenPart (gives : Giving) (caller : Caller) (reply : ReplyParts) (faults faults_then : ℕ) (sink : Type 0)
+    (taken taken_then : List ℕ) : Type 0 where
   pub bytes : List ℕ
   pub are : Appends gives caller reply faults faults_then [] bytes
   pub took : sink → TookPart taken taken_then bytes
 
 -- what was written of a reply that somebody waits for
 abbrev pub WritesReply : {A : Type 0} → Giving → Caller → ReplyParts → ℕ → ℕ → Type 0 → List ℕ → List ℕ → Result A Stop → Type 0
-WritesReply gives caller reply faults faults_then sink taken taken_then (Ok done) = HasWrittenReply gives caller reply faults faults_then sink taken taken_then
+WritesReply gives caller reply faults faults_then sink taken taken_then (Ok done) = HasWrittenReply gives caller reply faults faults_then
+    sink taken taken_then
 WritesReply gives caller reply faults faults_then sink taken taken_then (Err Clock) = ⊥
-WritesReply gives caller reply faults faults_then sink taken taken_then (Err Sink) = HasWrittenPart gives caller reply faults faults_then sink taken taken_then
+WritesReply gives caller reply faults faults_then sink taken taken_then (Err Sink) = HasWrittenPart gives caller reply faults faults_then
+    sink taken taken_then
 WritesReply gives caller reply faults faults_then sink taken taken_then (Err Memory) = sink → taken_then ≡ taken
 WritesReply gives caller reply faults faults_then sink taken taken_then (Err Misplaced) = ⊥

@@ -54,7 +54,8 @@ fn serve_heard<C: Calls, D: Disk, R: Reader, K: Sink, T: Clock>(
 ) -> Result<(), Stop>
     requires free { IsFree (C.has_key calls.old) (C.shown calls.old) }
     requires inside { D.tells → IsInside flusher.old.file.base flusher.old.file.offset (D.state disk.old) }
-    ensures served { (frame : Frame) → IsHeard heard frame → is_response frame.header ≡ false → Serves (sides_of C.makes R.gives (view_of D.tells D.state D.faults D.syncs) K.tells T.tells) result (frame ∷ [])
+    ensures served { (frame : Frame) → IsHeard heard frame → is_response frame.header ≡ false
+        → Serves (sides_of C.makes R.gives (view_of D.tells D.state D.faults D.syncs) K.tells T.tells) result (frame ∷ [])
         calls.old (point_of (place_of flusher.old.file disk.old)
         (R.faults reader.old) (K.taken sink.old) (T.readings clock.old))
         calls.new (point_of (place_of flusher.new.file disk.new)
@@ -87,7 +88,8 @@ pub(crate) fn serve_held<C: Calls, D: Disk, R: Reader, K: Sink, T: Clock>(
 ) -> Result<(), Halt>
     requires free { IsFree (C.has_key calls.old) (C.shown calls.old) }
     requires inside { D.tells → IsInside flusher.old.file.base flusher.old.file.offset (D.state disk.old) }
-    ensures served { ServesHeld (sides_of C.makes R.gives (view_of D.tells D.state D.faults D.syncs) K.tells T.tells) result talk.old.cutter talk.new.cutter
+    ensures served { ServesHeld (sides_of C.makes R.gives (view_of D.tells D.state D.faults D.syncs) K.tells T.tells) result
+        talk.old.cutter talk.new.cutter
         calls.old (point_of (place_of flusher.old.file disk.old)
         (R.faults reader.old) (K.taken sink.old) (T.readings clock.old))
         calls.new (point_of (place_of flusher.new.file disk.new)

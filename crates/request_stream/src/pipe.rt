@@ -87,7 +87,8 @@ fn serve_stream<S: Source, C: Calls, D: Disk, R: Reader, K: Sink, T: Clock>(
     requires start { talk.old.cutter ≡ record { at = 0; bytes = [] } }
     requires free { IsFree (C.has_key calls.old) (C.shown calls.old) }
     requires inside { D.tells → IsInside flusher.old.file.base flusher.old.file.offset (D.state disk.old) }
-    ensures served { Piped (sides_of C.makes R.gives (view_of D.tells D.state D.faults D.syncs) K.tells T.tells) result (source_of S.tells (S.given source.old) (S.given source.new) (S.left source.new))
+    ensures served { Piped (sides_of C.makes R.gives (view_of D.tells D.state D.faults D.syncs) K.tells T.tells) result
+        (source_of S.tells (S.given source.old) (S.given source.new) (S.left source.new))
         calls.old (point_of (place_of flusher.old.file disk.old)
         (R.faults reader.old) (K.taken sink.old) (T.readings clock.old))
         calls.new (point_of (place_of flusher.new.file disk.new)
@@ -137,7 +138,8 @@ pub fn serve_source<S: Source, C: Calls, D: Disk, R: Reader, K: Sink, T: Clock>(
 ) -> Result<(), Halt>
     requires free { IsFree (C.has_key calls.old) (C.shown calls.old) }
     requires inside { D.tells → IsInside flusher.old.file.base flusher.old.file.offset (D.state disk.old) }
-    ensures served { Piped (sides_of C.makes R.gives (view_of D.tells D.state D.faults D.syncs) K.tells T.tells) result (source_of S.tells (S.given source.old) (S.given source.new) (S.left source.new))
+    ensures served { Piped (sides_of C.makes R.gives (view_of D.tells D.state D.faults D.syncs) K.tells T.tells) result
+        (source_of S.tells (S.given source.old) (S.given source.new) (S.left source.new))
         calls.old (point_of (place_of flusher.old.file disk.old)
         (R.faults reader.old) (K.taken sink.old) (T.readings clock.old))
         calls.new (point_of (place_of flusher.new.file disk.new)

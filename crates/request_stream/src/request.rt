@@ -35,7 +35,8 @@ fn tell_at_once<C: Calls, D: Disk, R: Reader, K: Sink>(
 ) -> Result<(), Stop>
     requires free { IsFree (C.has_key calls.old) (C.shown calls.old) }
     requires inside { D.tells → IsInside flusher.old.file.base flusher.old.file.offset (D.state disk.old) }
-    ensures answered { (answer : AnAnswer) → answer ≡ record { reply = reply.now; awaits = None } → Answers (sides_of C.makes R.gives (view_of D.tells D.state D.faults D.syncs) K.tells (Unit {0})) caller answer result
+    ensures answered { (answer : AnAnswer) → answer ≡ record { reply = reply.now; awaits = None }
+        → Answers (sides_of C.makes R.gives (view_of D.tells D.state D.faults D.syncs) K.tells (Unit {0})) caller answer result
         calls.old (point_of (place_of flusher.old.file disk.old)
         (R.faults reader.old) (K.taken sink.old) [])
         calls.new (point_of (place_of flusher.new.file disk.new)
@@ -70,7 +71,8 @@ fn tell_behind<C: Calls, D: Disk, R: Reader, K: Sink>(
 ) -> Result<(), Stop>
     requires free { IsFree (C.has_key calls.old) (C.shown calls.old) }
     requires inside { D.tells → IsInside flusher.old.file.base flusher.old.file.offset (D.state disk.old) }
-    ensures answered { (answer : AnAnswer) → answer ≡ record { reply = reply; awaits = Some awaits } → Answers (sides_of C.makes R.gives (view_of D.tells D.state D.faults D.syncs) K.tells (Unit {0})) caller answer result
+    ensures answered { (answer : AnAnswer) → answer ≡ record { reply = reply; awaits = Some awaits }
+        → Answers (sides_of C.makes R.gives (view_of D.tells D.state D.faults D.syncs) K.tells (Unit {0})) caller answer result
         calls.old (point_of (place_of flusher.old.file disk.old)
         (R.faults reader.old) (K.taken sink.old) [])
         calls.new (point_of (place_of flusher.new.file disk.new)
@@ -138,7 +140,8 @@ pub(crate) fn serve_at<C: Calls, D: Disk, R: Reader, K: Sink>(
     requires now { now < 2 ^ 62 }
     requires free { IsFree (C.has_key calls.old) (C.shown calls.old) }
     requires inside { D.tells → IsInside flusher.old.file.base flusher.old.file.offset (D.state disk.old) }
-    ensures served { (frame : Frame) → IsHeard heard frame → ServesAt (sides_of C.makes R.gives (view_of D.tells D.state D.faults D.syncs) K.tells (Unit {0})) frame now result
+    ensures served { (frame : Frame) → IsHeard heard frame
+        → ServesAt (sides_of C.makes R.gives (view_of D.tells D.state D.faults D.syncs) K.tells (Unit {0})) frame now result
         calls.old (point_of (place_of flusher.old.file disk.old)
         (R.faults reader.old) (K.taken sink.old) [])
         calls.new (point_of (place_of flusher.new.file disk.new)

@@ -74,7 +74,8 @@ fn write_reply<R: Reader, K: Sink>(
     buffer: &mut Vec<u8>,
     sink: &mut K,
 ) -> Result<(), Stop>
-    ensures told { WritesReply R.gives caller reply.now (R.faults reader.old) (R.faults reader.new) K.tells (K.taken sink.old) (K.taken sink.new) result }
+    ensures told { WritesReply R.gives caller reply.now (R.faults reader.old) (R.faults reader.new) K.tells (K.taken sink.old)
+        (K.taken sink.new) result }
     ensures cause { CountsTelling result (K.faults sink.old) (K.faults sink.new) }
 {
     buffer.clear();
@@ -96,7 +97,8 @@ pub(crate) fn tell<R: Reader, K: Sink>(
     buffer: &mut Vec<u8>,
     sink: &mut K,
 ) -> Result<(), Stop>
-    ensures told { Tells R.gives caller reply.now (R.faults reader.old) (R.faults reader.new) K.tells (K.taken sink.old) (K.taken sink.new) result }
+    ensures told { Tells R.gives caller reply.now (R.faults reader.old) (R.faults reader.new) K.tells (K.taken sink.old) (K.taken sink.new)
+        result }
     ensures cause { CountsTelling result (K.faults sink.old) (K.faults sink.new) }
 {
     if caller.one_way {

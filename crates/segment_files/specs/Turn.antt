@@ -1,5 +1,6 @@
 -- What a flush turn starts from, what it is given, and what it leaves.
-use Rattle.std.specs.Prelude.{◌≡◌, ◌≢◌, ◌⊎◌, ℕ, ◌+◌, ◌-◌, ◌*◌, ◌/◌, ◌%◌, ◌^◌, ◌<◌, ◌≤◌, ◌++◌, max, replicate, nat_le, List, take, length, slice_get, Option, Some, None, Bool, true, false, Result, IfOk, IfSome, OnOk, OnErr, if◌then◌else◌}
+use Rattle.std.specs.Prelude.{◌≡◌, ◌≢◌, ◌⊎◌, ℕ, ◌+◌, ◌-◌, ◌*◌, ◌/◌, ◌%◌, ◌^◌, ◌<◌, ◌≤◌, ◌++◌, max, replicate, nat_le, List, take, length}
+use Rattle.std.specs.Prelude.{slice_get, Option, Some, None, Bool, true, false, Result, IfOk, IfSome, OnOk, OnErr, if◌then◌else◌}
 use Rattle.mq_bytes.specs.Names.{log_file}
 use Rattle.mq_outside.specs.Files.{bytes_of}
 use Rattle.mq_outside.specs.Disk.{DiskState, EachImage}
@@ -95,7 +96,8 @@ pub record NextOpens (it : Stored) : Type 0 where
 
 -- These are the segments of the flushed records, or a new one is opened behind them, which the next record begins.
 abbrev pub IsLaidFor : Stored → Shape → Type 0
-IsLaidFor it shape = (shape ≡ shape_of it.geometry (flushed_of it)) ⊎ ((shape ≡ opened (shape_of it.geometry (flushed_of it))) × NextOpens it)
+IsLaidFor it shape = (shape ≡ shape_of it.geometry (flushed_of it)) ⊎ ((shape ≡ opened (shape_of it.geometry (flushed_of it)))
+    × NextOpens it)
 
 -- The log is open for batches: the disk stores it, and the next bytes go behind its flushed records, or to a new segment that the
 -- next record opens. At most so many bytes stand behind the place of the next record.
@@ -116,10 +118,12 @@ pub record CanTurn (it : Stored) (behind : ℕ) (batch : Batch) (at : Growing) :
 -- is flushed, and where nothing longer stood behind the records, every crash leaves exactly the log's files.
 pub record HasTurned {E : Type 0} (it : Stored) (behind : ℕ) (batch : Batch) (result : Result Receipt E) (old new : Growing) : Type 0 where
   pub any_moment : KeepsAtLeast it.geometry (flushed_of it) (λ m. it.flushed) old.disk new.disk
-  pub fault : OnErr result ((more : List Entry) (next : Batch) → IsWellFormed it.geometry (it.log ++ more) → IsBatchOf it.geometry (it.log ++ more) it.flushed next
+  pub fault : OnErr result ((more : List Entry) (next : Batch) → IsWellFormed it.geometry (it.log ++ more)
+      → IsBatchOf it.geometry (it.log ++ more) it.flushed next
       → CanTurn (with_more more it) (max behind (length batch.bytes)) next new)
   pub flushed : OnOk result (IsReady (with_flushed batch.count it) (behind - length batch.bytes) new)
-  pub exact : behind ≤ length batch.bytes → OnOk result (EachImage (AreSegmentFiles it.geometry (flushed_of (with_flushed batch.count it))) new.disk)
+  pub exact : behind ≤ length batch.bytes → OnOk result (EachImage (AreSegmentFiles it.geometry (flushed_of (with_flushed batch.count it)))
+      new.disk)
 
 -- ---- where the next bytes go, whatever the disk tells
 

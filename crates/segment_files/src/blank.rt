@@ -31,8 +31,10 @@ pub fn write_blank<D: Disk>(
     requires zeros { zeros.now ≡ replicate (length zeros.now) 0 }
     requires room { at < 2 ^ 63 }
     requires inside { D.tells → at ≤ length (bytes_of (D.state disk.old).reads name.now) }
-    ensures written { D.tells → OnOk result ((D.state disk.new).reads name.now ≡ Some (overwritten at (blank_of size) (bytes_of (D.state disk.old).reads name.now))) }
-    ensures any_moment { D.tells → (S : Geometry) (shape : Shape) (reach : ℕ) → IsBehind S shape name.now at → at + length (blank_of size) ≤ reach
+    ensures written { D.tells → OnOk result ((D.state disk.new).reads name.now
+        ≡ Some (overwritten at (blank_of size) (bytes_of (D.state disk.old).reads name.now))) }
+    ensures any_moment { D.tells → (S : Geometry) (shape : Shape) (reach : ℕ) → IsBehind S shape name.now at
+        → at + length (blank_of size) ≤ reach
         → EachImage (Stands S shape reach) (D.state disk.old) → Throughout (D.state disk.old) (D.state disk.new) (Stands S shape reach) }
     ensures outside { D.tells → IsLogFile name.now → StaysOutside (D.state disk.old) (D.state disk.new) }
     ensures inside { D.tells → at ≤ length (bytes_of (D.state disk.new).reads name.now) }

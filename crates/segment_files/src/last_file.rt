@@ -4,7 +4,8 @@
 //! blank comes first, and it is synced before the new file is made: else a crash could leave a new file behind a segment
 //! that has no end. After a fault the same batch is written again at the same place. A blank that was synced stays.
 
-ghost use Rattle.std.specs.Prelude.{◌≡◌, true, false, ◌+◌, ◌-◌, ◌*◌, ◌/◌, ◌%◌, ◌<◌, ◌≤◌, ◌^◌, max, List, ℕ, length, take, drop, Some, OnOk, OnErr, IfOk, IfSome};
+ghost use Rattle.std.specs.Prelude.{◌≡◌, true, false, ◌+◌, ◌-◌, ◌*◌, ◌/◌, ◌%◌, ◌<◌, ◌≤◌, ◌^◌, max};
+ghost use Rattle.std.specs.Prelude.{List, ℕ, length, take, drop, Some, OnOk, OnErr, IfOk, IfSome};
 ghost use Rattle.mq_outside.specs.Counts.{Counted, CountsFailure};
 ghost use Rattle.mq_outside.specs.Disk.{Throughout};
 ghost use Rattle.record_codec.specs.Entry.{Entry};
@@ -14,7 +15,8 @@ ghost use Rattle.log_model.specs.Log.{IsWellFormed};
 ghost use Rattle.log_model.specs.Segments.{Shape, added, opened, used, segment_start, shape_of};
 ghost use Rattle.log_model.specs.Store.{IsBatch};
 ghost use Rattle.log_model.specs.Stored.{Stored, StaysOutside, HasRecords, stored};
-ghost use Rattle.segment_files.specs.Turn.{IsInside, WritesAt, Opens, CanTurn, HasTurned, IsPlaced, GoesToPlace, PlacesOn, MovesOn, growing, opens_segment, is_due, shape_behind, base_behind, unless_opened, syncs_of};
+ghost use Rattle.segment_files.specs.Turn.{IsInside, WritesAt, Opens, CanTurn, HasTurned, IsPlaced, GoesToPlace, PlacesOn, MovesOn};
+ghost use Rattle.segment_files.specs.Turn.{growing, opens_segment, is_due, shape_behind, base_behind, unless_opened, syncs_of};
 
 use crate::blank::write_blank;
 use bytes::Bytes;
@@ -74,14 +76,18 @@ impl LastFile {
         requires room { self.old.offset < 2 ^ 63 }
         requires inside { D.tells → IsInside self.old.base self.old.offset (D.state disk.old) }
         ensures any_moment { D.tells → (S : Geometry) (log : List Entry) (flushed : ℕ) (shape : Shape) (reach : ℕ)
-            → WritesAt (stored S log flushed) shape reach self.old.base self.old.offset (D.state disk.old) → shape ≡ shape_of S (take flushed log) → size ≡ S.size - used shape
+            → WritesAt (stored S log flushed) shape reach self.old.base self.old.offset (D.state disk.old)
+            → shape ≡ shape_of S (take flushed log) → size ≡ S.size - used shape
             → Throughout (D.state disk.old) (D.state disk.new) (HasRecords S (take flushed log)) }
         ensures still { D.tells → (S : Geometry) (log : List Entry) (flushed : ℕ) (shape : Shape) (reach : ℕ)
-            → WritesAt (stored S log flushed) shape reach self.old.base self.old.offset (D.state disk.old) → shape ≡ shape_of S (take flushed log) → size ≡ S.size - used shape
+            → WritesAt (stored S log flushed) shape reach self.old.base self.old.offset (D.state disk.old)
+            → shape ≡ shape_of S (take flushed log) → size ≡ S.size - used shape
             → WritesAt (stored S log flushed) shape S.size self.old.base self.old.offset (D.state disk.new) }
         ensures opened { D.tells → (S : Geometry) (log : List Entry) (flushed : ℕ) (shape : Shape) (reach : ℕ)
-            → WritesAt (stored S log flushed) shape reach self.old.base self.old.offset (D.state disk.old) → shape ≡ shape_of S (take flushed log) → size ≡ S.size - used shape
-            → next ≡ segment_start S (opened shape) → OnOk result (WritesAt (stored S log flushed) (opened shape) 0 self.new.base self.new.offset (D.state disk.new)) }
+            → WritesAt (stored S log flushed) shape reach self.old.base self.old.offset (D.state disk.old)
+            → shape ≡ shape_of S (take flushed log) → size ≡ S.size - used shape
+            → next ≡ segment_start S (opened shape)
+            → OnOk result (WritesAt (stored S log flushed) (opened shape) 0 self.new.base self.new.offset (D.state disk.new)) }
         ensures outside { D.tells → StaysOutside (D.state disk.old) (D.state disk.new) }
         ensures inside { D.tells → IsInside self.new.base self.new.offset (D.state disk.new) }
         ensures moved { OnOk result ((self.new.base ≡ next) × (self.new.offset ≡ 0)) }
@@ -104,14 +110,19 @@ impl LastFile {
         requires room { self.old.offset + length bytes < 2 ^ 63 }
         requires inside { D.tells → IsInside self.old.base self.old.offset (D.state disk.old) }
         ensures any_moment { D.tells → (S : Geometry) (log : List Entry) (flushed count : ℕ) (shape : Shape) (reach : ℕ)
-            → WritesAt (stored S log flushed) shape reach self.old.base self.old.offset (D.state disk.old) → IsBatch S log flushed count shape bytes
+            → WritesAt (stored S log flushed) shape reach self.old.base self.old.offset (D.state disk.old)
+            → IsBatch S log flushed count shape bytes
             → Throughout (D.state disk.old) (D.state disk.new) (HasRecords S (take flushed log)) }
         ensures still { D.tells → (S : Geometry) (log : List Entry) (flushed count : ℕ) (shape : Shape) (reach : ℕ)
-            → WritesAt (stored S log flushed) shape reach self.old.base self.old.offset (D.state disk.old) → IsBatch S log flushed count shape bytes
-            → WritesAt (stored S log flushed) shape (max reach (self.old.offset + length bytes)) self.old.base self.old.offset (D.state disk.new) }
+            → WritesAt (stored S log flushed) shape reach self.old.base self.old.offset (D.state disk.old)
+            → IsBatch S log flushed count shape bytes
+            → WritesAt (stored S log flushed) shape (max reach (self.old.offset + length bytes)) self.old.base self.old.offset
+            (D.state disk.new) }
         ensures flushed { D.tells → (S : Geometry) (log : List Entry) (flushed count : ℕ) (shape : Shape) (reach : ℕ)
-            → WritesAt (stored S log flushed) shape reach self.old.base self.old.offset (D.state disk.old) → IsBatch S log flushed count shape bytes
-            → OnOk result (WritesAt (stored S log (flushed + count)) (shape_of S (take (flushed + count) log)) (max reach (self.old.offset + length bytes)) self.new.base self.new.offset (D.state disk.new)) }
+            → WritesAt (stored S log flushed) shape reach self.old.base self.old.offset (D.state disk.old)
+            → IsBatch S log flushed count shape bytes
+            → OnOk result (WritesAt (stored S log (flushed + count)) (shape_of S (take (flushed + count) log))
+            (max reach (self.old.offset + length bytes)) self.new.base self.new.offset (D.state disk.new)) }
         ensures outside { D.tells → StaysOutside (D.state disk.old) (D.state disk.new) }
         ensures inside { D.tells → IsInside self.new.base self.new.offset (D.state disk.new) }
         ensures moved { OnOk result (self.new.offset ≡ self.old.offset + length bytes) }
@@ -143,17 +154,22 @@ impl LastFile {
         requires room { self.old.offset < 2 ^ 63 }
         requires inside { D.tells → IsInside self.old.base self.old.offset (D.state disk.old) }
         ensures any_moment { D.tells → (S : Geometry) (log : List Entry) (flushed : ℕ) (shape : Shape) (reach : ℕ)
-            → WritesAt (stored S log flushed) shape reach self.old.base self.old.offset (D.state disk.old) → (is_due self.old.base blank ≡ true → Opens S log flushed shape place blank)
+            → WritesAt (stored S log flushed) shape reach self.old.base self.old.offset (D.state disk.old)
+            → (is_due self.old.base blank ≡ true → Opens S log flushed shape place blank)
             → Throughout (D.state disk.old) (D.state disk.new) (HasRecords S (take flushed log)) }
         ensures still { D.tells → (S : Geometry) (log : List Entry) (flushed : ℕ) (shape : Shape) (reach : ℕ)
-            → WritesAt (stored S log flushed) shape reach self.old.base self.old.offset (D.state disk.old) → (is_due self.old.base blank ≡ true → Opens S log flushed shape place blank)
+            → WritesAt (stored S log flushed) shape reach self.old.base self.old.offset (D.state disk.old)
+            → (is_due self.old.base blank ≡ true → Opens S log flushed shape place blank)
             → WritesAt (stored S log flushed) shape S.size self.old.base self.old.offset (D.state disk.new) }
         ensures opened { D.tells → (S : Geometry) (log : List Entry) (flushed : ℕ) (shape : Shape) (reach : ℕ)
-            → WritesAt (stored S log flushed) shape reach self.old.base self.old.offset (D.state disk.old) → (is_due self.old.base blank ≡ true → Opens S log flushed shape place blank)
-            → OnOk result (WritesAt (stored S log flushed) (shape_behind (is_due self.old.base blank) shape) (unless_opened (is_due self.old.base blank) reach) self.new.base self.new.offset (D.state disk.new)) }
+            → WritesAt (stored S log flushed) shape reach self.old.base self.old.offset (D.state disk.old)
+            → (is_due self.old.base blank ≡ true → Opens S log flushed shape place blank)
+            → OnOk result (WritesAt (stored S log flushed) (shape_behind (is_due self.old.base blank) shape)
+            (unless_opened (is_due self.old.base blank) reach) self.new.base self.new.offset (D.state disk.new)) }
         ensures outside { D.tells → StaysOutside (D.state disk.old) (D.state disk.new) }
         ensures inside { D.tells → IsInside self.new.base self.new.offset (D.state disk.new) }
-        ensures moved { OnOk result ((self.new.base ≡ base_behind (is_due self.old.base blank) place self.old.base) × (self.new.offset ≡ unless_opened (is_due self.old.base blank) self.old.offset)) }
+        ensures moved { OnOk result ((self.new.base ≡ base_behind (is_due self.old.base blank) place self.old.base)
+            × (self.new.offset ≡ unless_opened (is_due self.old.base blank) self.old.offset)) }
         ensures stays { OnErr result ((self.new.base ≡ self.old.base) × (self.new.offset ≡ self.old.offset)) }
         ensures due { OnErr result (is_due self.old.base blank ≡ true) }
         ensures cause { CountsFailure result (D.faults disk.old) (D.faults disk.new) }
@@ -182,7 +198,8 @@ impl LastFile {
         ensures outside { D.tells → StaysOutside (D.state disk.old) (D.state disk.new) }
 
         // Where the next bytes go: at Ok to the end of the batch, whatever the disk tells.
-        ensures places { (it : Stored) → IsWellFormed it.geometry it.log → IsBatchOf it.geometry it.log it.flushed batch → IsPlaced it self.old
+        ensures places { (it : Stored) → IsWellFormed it.geometry it.log → IsBatchOf it.geometry it.log it.flushed batch
+            → IsPlaced it self.old
             → PlacesOn it batch result self.new }
         ensures moves { MovesOn D.tells batch result self.old self.new }
         ensures inside { D.tells → IsInside self.new.base self.new.offset (D.state disk.new) }

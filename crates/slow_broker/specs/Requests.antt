@@ -1,7 +1,8 @@
 -- Which requests are built, and what one does that isn't refused and appends nothing.
 use Rattle.std.specs.Prelude.{◌≡◌, ℕ, ◌^◌, ◌<◌, max, [], Bool, true, false}
 use Rattle.request_fields.specs.declared.request.Request.{Request}
-use Rattle.request_fields.specs.declared.request.Request.TheVariants.{Send, Pull, Query, OffsetOf, SetOffset, MakeTopic, Search, MaxOffset, MinOffset, ViewById, Beat, Unregister, EndTransaction, Lock, Unlock}
+use Rattle.request_fields.specs.declared.request.Request.TheVariants.{Send, Pull, Query, OffsetOf, SetOffset, MakeTopic, Search, MaxOffset}
+use Rattle.request_fields.specs.declared.request.Request.TheVariants.{MinOffset, ViewById, Beat, Unregister, EndTransaction, Lock, Unlock}
 use Rattle.broker_model.specs.Events as model
 use Rattle.broker_model.specs.Answers.{request_answer}
 use Rattle.broker_model.specs.Step.{request_changed}

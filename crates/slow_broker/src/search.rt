@@ -20,7 +20,8 @@ use std::alloc::{AllocError, Global};
 impl SlowBroker {
     fn offset_at(&self, alloc: Global, asked: &SearchFields) -> Result<u64, AllocError>
         requires sound { IsSound self.now }
-        ensures { IfOk result (λ offset. offset ≡ offset_at_of (seen_of (state_of self.entry.now)) asked.now.topic asked.now.queue asked.now.time) }
+        ensures { IfOk result (λ offset. offset ≡ offset_at_of (seen_of (state_of self.entry.now)) asked.now.topic asked.now.queue
+            asked.now.time) }
     {
         let bounds = self.bounds(asked.topic.as_str(), asked.queue);
         offset_of_time(alloc, self.seen(), bounds.0, asked)

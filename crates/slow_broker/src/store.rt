@@ -65,7 +65,11 @@ impl SlowBroker {
         requires kept { IsKept added }
         requires few { length self.old.log.items < 2 ^ 62 }
         requires now { now < 2 ^ 62 }
-        ensures state { state_of self.new ≡ record (state_of self.old) { log = with_appended (state_of self.old).log (entry_of added.draft added.place ∷ []); topics = map topic_of topics.items; now = now } }
+        ensures state { state_of self.new ≡ record (state_of self.old) {
+          log = with_appended (state_of self.old).log (entry_of added.draft added.place ∷ []);
+          topics = map topic_of topics.items;
+          now = now;
+        } }
         ensures sound { IsSound self.new }
     {
         put_record(&mut self.log, added);

@@ -1,6 +1,7 @@
 //! Flush turns: one begins, ends or fails, and what became of a record.
 
-ghost use Rattle.std.specs.Prelude.{◌≡◌, ◌-◌, ◌+◌, ◌<◌, ◌≤◌, [], length, drop, option_map, Some, None, IfSome, IfOk, OnErr, vec_len, vec_capacity};
+ghost use Rattle.std.specs.Prelude.{◌≡◌, ◌-◌, ◌+◌, ◌<◌, ◌≤◌, [], length, drop, option_map};
+ghost use Rattle.std.specs.Prelude.{Some, None, IfSome, IfOk, OnErr, vec_len, vec_capacity};
 ghost use Rattle.log_model.specs.Batches.{blank_between as blank_of};
 ghost use Rattle.broker_model.specs.Events as model;
 ghost use Rattle.broker_model.specs.Answers.{taken as taken_of_state};
@@ -56,7 +57,8 @@ impl SlowBroker {
     fn next_batch(&self, alloc: Global) -> Result<Vec<Record>, AllocError>
         requires sound { IsSound self.now }
         ensures batch { IfOk result (λ batch. entries_of batch.items ≡ next_batch_of (state_of self.entry.now)) }
-        ensures few { IfOk result (λ batch. length batch.items ≤ length self.entry.now.log.items - (self.entry.now.flushed - self.entry.now.base.records)) }
+        ensures few { IfOk result (λ batch. length batch.items ≤ length self.entry.now.log.items -
+            (self.entry.now.flushed - self.entry.now.base.records)) }
     {
         let pending = self.pending();
         match pending {
@@ -78,7 +80,13 @@ impl SlowBroker {
         requires sound { IsSound self.old }
         requires room { vec_len self.old.failed < vec_capacity self.old.failed }
         requires few { self.old.flushed + count ≤ self.old.base.records + length self.old.log.items }
-        ensures state { state_of self.new ≡ record (state_of self.old) { out = Some (record { count = count; held = count_of (state_of self.old).log }); turns = next_turn self.old.turns } }
+        ensures state { state_of self.new ≡ record (state_of self.old) {
+          out = Some (record {
+            count = count;
+            held = count_of (state_of self.old).log;
+          });
+          turns = next_turn self.old.turns;
+        } }
         ensures sound { IsSound self.new }
     {
         let held = self.base.records + self.log.len() as u64;

@@ -5,7 +5,11 @@ ghost use Rattle.std.specs.Prelude.{◌≡◌, ◌≤◌, ◌^◌, ◌∷◌, �
 ghost use Rattle.std.specs.Str.Parse.{digits_value};
 ghost use Rattle.mq_bytes.specs.Decimal.{digits_of};
 ghost use Rattle.record_codec.specs.Props.{value_of, with_prop, without};
-ghost use Rattle.log_model.specs.Drafts.{copy_draft as copy_draft_of, op_draft as op_draft_of, renewal_draft as renewal_draft_of, discard_draft as discard_draft_of, delivery_draft as delivery_draft_of, draft_again as draft_again_of, message_draft as message_draft_of, text_in as text_in_of, without_real as without_real_of, without_transaction as without_transaction_of, delivery_text as delivery_text_of};
+ghost use Rattle.log_model.specs.Drafts.{copy_draft as copy_draft_of, op_draft as op_draft_of, renewal_draft as renewal_draft_of};
+ghost use Rattle.log_model.specs.Drafts.{discard_draft as discard_draft_of, delivery_draft as delivery_draft_of};
+ghost use Rattle.log_model.specs.Drafts.{draft_again as draft_again_of, message_draft as message_draft_of, text_in as text_in_of};
+ghost use Rattle.log_model.specs.Drafts.{without_real as without_real_of, without_transaction as without_transaction_of};
+ghost use Rattle.log_model.specs.Drafts.{delivery_text as delivery_text_of};
 ghost use Rattle.log_model.specs.Queues.{said_by};
 
 use crate::numbers::{digits, number_in};

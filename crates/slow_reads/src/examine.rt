@@ -52,7 +52,8 @@ pub(crate) fn examine(
     ensures count { IfOk result (λ e. e.count ≡ length (examined unit_of_record most (tags_take tags.now) [] (entries_of queue.now))) }
     ensures few { IfOk result (λ e. e.count ≤ length queue.now) }
     ensures taken { IfOk result (λ e. entries_of e.taken.items
-        ≡ filter (λ (r : Entry). tags_take tags.now (unit_of_record r)) (examined unit_of_record most (tags_take tags.now) [] (entries_of queue.now))) }
+        ≡ filter (λ (r : Entry). tags_take tags.now (unit_of_record r))
+        (examined unit_of_record most (tags_take tags.now) [] (entries_of queue.now))) }
 {
     let mut taken = Vec::new(alloc);
     let mut count = 0;

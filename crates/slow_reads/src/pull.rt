@@ -4,7 +4,8 @@ ghost use Rattle.std.specs.Prelude.{◌≡◌, drop, ◌==◌, ◌&&◌, ◌^◌
 ghost use Rattle.std.specs.Int.{w32, cast_unsigned};
 ghost use Rattle.record_codec.specs.Units.{unit_of as unit_of_record};
 ghost use Rattle.log_model.specs.Keys.{asked_number};
-ghost use Rattle.log_model.specs.Pulls.{takes, pulled as pulled_of, pulled_from as pulled_from_of, nothing as nothing_of, after_looking, examined};
+ghost use Rattle.log_model.specs.Pulls.{takes, pulled as pulled_of, pulled_from as pulled_from_of};
+ghost use Rattle.log_model.specs.Pulls.{nothing as nothing_of, after_looking, examined};
 ghost use Rattle.log_model.specs.Queues.{entries_of, queue_of};
 ghost use Rattle.queue_view.specs.Subscriptions.{tags_take};
 ghost use Rattle.broker_model.specs.Answers.{pulled_reply};
@@ -221,7 +222,8 @@ pub fn pull_reply(alloc: Global, found: Pulled) -> Result<Reply, AllocError>
 
 /// The tags of a pull: of its own subscription, or what its group's last heartbeat said.
 pub fn pull_tags(alloc: Global, heard: &[HeardRow], asked: &PullFields) -> Result<Tags, AllocError>
-    ensures { IfOk result (λ tags. tags_take tags ≡ takes (if bit_and (cast_unsigned w32 asked.now.sysflag) 4 == 4 then asked.now.subscription
+    ensures { IfOk result (λ tags. tags_take tags ≡ takes (if bit_and (cast_unsigned w32 asked.now.sysflag) 4 == 4
+        then asked.now.subscription
         else heard_words_of (record { clients = []; heard = map heard_of heard.now }) asked.now.group asked.now.topic)) }
 {
     if has_subscription(asked) {

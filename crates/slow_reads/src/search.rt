@@ -42,7 +42,8 @@ pub fn offset_of_time(
     requires few { length log.now ≤ 2 ^ 62 }
     requires low { low ≤ 2 ^ 62 }
     ensures { IfOk result (λ offset. offset
-        ≡ low + length (take_while (λ r. int_lt (pos r.store) asked.now.time) (queue_of (entries_of log.now) asked.now.topic asked.now.queue))) }
+        ≡ low + length (take_while (λ r. int_lt (pos r.store) asked.now.time)
+        (queue_of (entries_of log.now) asked.now.topic asked.now.queue))) }
 {
     let queue = records_of(alloc, log, asked.topic.as_str(), asked.queue)?;
     Ok(low + count_before(&queue, asked.time))

@@ -4,7 +4,10 @@ ghost use Rattle.std.specs.Prelude.{◌≡◌, ◌<◌, true, codes, IfOk, OnOk,
 ghost use Rattle.record_codec.specs.LaxProps.{read_props};
 ghost use Rattle.record_codec.specs.Layout.{is_legal};
 ghost use Rattle.record_codec.specs.Props.{value_of, is_pair, without};
-ghost use Rattle.broker_model.specs.Sends.{waits as waits_of, kept_props as kept_props_of, plain_draft as plain_draft_of, half_draft as half_draft_of, delayed_draft as delayed_draft_of, send_draft as send_draft_of, is_word, is_half_send, queue_named as queue_named_of, level_named as level_named_of, level_of as level_of_send, with_real, with_group};
+ghost use Rattle.broker_model.specs.Sends.{waits as waits_of, kept_props as kept_props_of, plain_draft as plain_draft_of};
+ghost use Rattle.broker_model.specs.Sends.{half_draft as half_draft_of, delayed_draft as delayed_draft_of, send_draft as send_draft_of};
+ghost use Rattle.broker_model.specs.Sends.{is_word, is_half_send, queue_named as queue_named_of, level_named as level_named_of};
+ghost use Rattle.broker_model.specs.Sends.{level_of as level_of_send, with_real, with_group};
 
 use crate::records::text_of;
 use crate::replies::number;

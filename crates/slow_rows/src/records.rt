@@ -1,6 +1,7 @@
 //! Records, copied and looked at.
 
-ghost use Rattle.std.specs.Prelude.{◌≡◌, ◌+◌, ◌^◌, ◌/◌, ◌==◌, ◌<◌, ◌≤◌, ◌++◌, ◌∷◌, [], IfOk, OnOk, All, length, take_while, sum_by, nat_lt, vec_len, vec_capacity, if◌then◌else◌};
+ghost use Rattle.std.specs.Prelude.{◌≡◌, ◌+◌, ◌^◌, ◌/◌, ◌==◌, ◌<◌, ◌≤◌, ◌++◌, ◌∷◌, [], IfOk, OnOk, All, length};
+ghost use Rattle.std.specs.Prelude.{take_while, sum_by, nat_lt, vec_len, vec_capacity, if◌then◌else◌};
 ghost use Rattle.log_model.specs.Log.{end_from};
 ghost use Rattle.log_model.specs.Queues.{entries_of};
 ghost use Rattle.slow_rows.specs.Records.{IsKept};

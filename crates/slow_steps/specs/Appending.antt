@@ -22,7 +22,8 @@ next_of s now drafts = next_records s.setup.segment now s.log drafts
 
 -- the end of all places, the full buffer, or the event's own answer
 abbrev pub by_room : State → List Entry → (end own : model.Answer) → model.Answer
-by_room s records end own = if list_any is_past records then end else (if is_full_with (pending_bytes s) records then model.Full s.flushed else own)
+by_room s records end own = if list_any is_past records then end else (if is_full_with (pending_bytes s) records then model.Full s.flushed
+    else own)
 
 -- the records were appended at this time
 pub record IsStored (old : SlowBroker) (now : ℕ) (records : List Entry) (new : SlowBroker) : Type 0 where

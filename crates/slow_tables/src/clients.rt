@@ -2,7 +2,11 @@
 
 ghost use Rattle.std.specs.Prelude.{◌≡◌, ◌<◌, ◌++◌, ◌∷◌, [], not, map, filter, IfOk, OnOk, if◌then◌else◌};
 ghost use Rattle.std.specs.Str.{bytes_eq};
-ghost use Rattle.broker_model.specs.Clients.{is_among as is_among_of, joined as joined_of, without_name as without_name_of, consumer_groups as consumer_groups_of, new_client as new_client_of, heard_again as heard_again_of, with_client as with_client_of, heard_rows, is_said_of as is_said_of_row, without_groups as without_groups_of, has_group as has_group_of, clients_after as clients_after_of};
+ghost use Rattle.broker_model.specs.Clients.{is_among as is_among_of, joined as joined_of, without_name as without_name_of};
+ghost use Rattle.broker_model.specs.Clients.{consumer_groups as consumer_groups_of, new_client as new_client_of};
+ghost use Rattle.broker_model.specs.Clients.{heard_again as heard_again_of, with_client as with_client_of, heard_rows};
+ghost use Rattle.broker_model.specs.Clients.{is_said_of as is_said_of_row, without_groups as without_groups_of, has_group as has_group_of};
+ghost use Rattle.broker_model.specs.Clients.{clients_after as clients_after_of};
 ghost use Rattle.slow_tables.specs.Clients.{rows_of};
 ghost use Rattle.slow_rows.specs.Rows.{client_of, heard_of};
 
@@ -160,7 +164,8 @@ fn row_after(
     is_its: bool,
 ) -> Result<ClientRow, AllocError>
     requires { groups.now ≡ consumer_groups_of beat.now }
-    ensures { IfOk result (λ made. client_of made ≡ (if is_its then heard_again_of link beat.now (client_of row.now) else client_of row.now)) }
+    ensures { IfOk result (λ made. client_of made ≡ (if is_its then heard_again_of link beat.now (client_of row.now)
+        else client_of row.now)) }
 {
     if is_its {
         heard_again(alloc, link, beat, groups, row)
@@ -375,7 +380,8 @@ pub fn clients_after(
 
 // Forgets what the client said of the group.
 fn drop_group(rows: &mut Vec<HeardRow>, client: &str, group: &str)
-    ensures { map heard_of rows.new.items ≡ filter (λ row. not (is_said_of_row client.now (group.now ∷ []) row)) (map heard_of rows.old.items) }
+    ensures { map heard_of rows.new.items ≡ filter (λ row. not (is_said_of_row client.now (group.now
+        ∷ []) row)) (map heard_of rows.old.items) }
 {
     rows.retain(|row| !(row.client.as_str() == client && group == row.group.as_str()));
 }

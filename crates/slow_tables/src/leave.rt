@@ -28,7 +28,8 @@ fn is_heard_on(link: u32, clients: &[ClientRow], client: &str) -> bool
 
 /// What clients of this link subscribed to is forgotten.
 pub fn drop_heard(heard: &mut Vec<HeardRow>, link: u32, clients: &[ClientRow])
-    ensures { map heard_of heard.new.items ≡ filter (λ row. not (is_heard_on_of link (map client_of clients.now) row.client)) (map heard_of heard.old.items) }
+    ensures { map heard_of heard.new.items ≡ filter (λ row. not (is_heard_on_of link (map client_of clients.now) row.client))
+        (map heard_of heard.old.items) }
 {
     heard.retain(|row| !is_heard_on(link, clients, row.client.as_str()));
 }

@@ -3,7 +3,9 @@
 ghost use Rattle.std.specs.Prelude.{◌≡◌, ◌<◌, ◌++◌, ◌∷◌, [], ◌&&◌, not, map, filter, IfOk, OnOk, if◌then◌else◌};
 ghost use Rattle.std.specs.List.{list_any};
 ghost use Rattle.std.specs.Str.{bytes_eq};
-ghost use Rattle.broker_model.specs.Tables.{is_lock_of as is_lock_of_queue, is_foreign as is_foreign_row, is_held_by_other as is_held_by_other_of, is_same_queue as is_same_queue_of, granted, lock_at, with_locks as with_locks_of, without_locks};
+ghost use Rattle.broker_model.specs.Tables.{is_lock_of as is_lock_of_queue, is_foreign as is_foreign_row};
+ghost use Rattle.broker_model.specs.Tables.{is_held_by_other as is_held_by_other_of, is_same_queue as is_same_queue_of};
+ghost use Rattle.broker_model.specs.Tables.{granted, lock_at, with_locks as with_locks_of, without_locks};
 ghost use Rattle.slow_rows.specs.Rows.{lock_of};
 
 use mq_bytes::QueueName;
@@ -220,7 +222,8 @@ fn with_locks(
 
 // The lock is the client's, on one of these queues.
 fn is_given_back(row: &LockRow, group: &str, client: &str, queues: &[QueueName]) -> bool
-    ensures { result ≡ (bytes_eq (lock_of row.now).client client.now && list_any (λ q. is_lock_of_queue group.now q (lock_of row.now)) queues.now) }
+    ensures { result ≡ (bytes_eq (lock_of row.now).client client.now
+        && list_any (λ q. is_lock_of_queue group.now q (lock_of row.now)) queues.now) }
 {
     row.client.as_str() == client && is_on_any(row, group, queues)
 }
@@ -259,7 +262,8 @@ pub fn locks_with(
     asked: &LockFields,
     given: &[QueueName],
 ) -> Result<Vec<LockRow>, AllocError>
-    ensures { IfOk result (λ made. map lock_of made.items ≡ with_locks_of now asked.now.group asked.now.client given.now (map lock_of rows.now)) }
+    ensures { IfOk result (λ made. map lock_of made.items
+        ≡ with_locks_of now asked.now.group asked.now.client given.now (map lock_of rows.now)) }
 {
     with_locks(
         alloc,

@@ -28,7 +28,8 @@ pub fn offset_in(rows: &[OffsetRow], group: &str, topic: &str, queue: u32) -> Op
 
 // Drops the row of this one's group and queue.
 fn drop_row(rows: &mut Vec<OffsetRow>, row: &OffsetRow)
-    ensures rows { map offset_of rows.new.items ≡ filter (λ other. not (is_row_of_group row.now.group row.now.topic row.now.queue other)) (map offset_of rows.old.items) }
+    ensures rows { map offset_of rows.new.items ≡ filter (λ other. not (is_row_of_group row.now.group row.now.topic row.now.queue other))
+        (map offset_of rows.old.items) }
     ensures few { vec_len rows.new ≤ vec_len rows.old }
     ensures room { vec_capacity rows.new ≡ vec_capacity rows.old }
 {

@@ -15,7 +15,8 @@ module _ {S E A : Type 0} {chronicle : Ghosts S E A} where
   pub record Splits (old new other : Pass S E A chronicle) : Type 0 where
     pub seen : (seen_by new ≡ seen_by old) × (seen_by other ≡ seen_by old)
     pub mine : (mine_of new ≡ mine_of old) × (mine_of other ≡ [])
-    pub numbers : (numbers_of new ≡ without (greatest (numbers_of old)) (numbers_of old)) × (numbers_of other ≡ greatest (numbers_of old) ∷ [])
+    pub numbers : (numbers_of new ≡ without (greatest (numbers_of old)) (numbers_of old))
+        × (numbers_of other ≡ greatest (numbers_of old) ∷ [])
     pub count : length (numbers_of new) + 1 ≡ length (numbers_of old)
 
   -- the old pass is as it was; the other has seen as much, with no seat number and no entries

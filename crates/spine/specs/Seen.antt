@@ -25,7 +25,8 @@ shown_by None = first_shown None
 shown_by (Some pass) = shown_after (first_shown pass.seat.me.0.opened) (seen_by pass)
 
 -- a history shows what its second part shows after the first
-pub shown_append : (shown : Shown) (xs ys : List (Event × Option Said)) → shown_after shown (xs ++ ys) ≡ shown_after (shown_after shown xs) ys
+pub shown_append : (shown : Shown) (xs ys : List (Event × Option Said)) → shown_after shown (xs ++ ys)
+    ≡ shown_after (shown_after shown xs) ys
 shown_append shown [] ys = refl
 shown_append shown (x ∷ xs) ys = shown_append (moved shown x.0 x.1) xs ys
 
@@ -39,26 +40,34 @@ unmoved_by shown (Look number turn) what un = refl
 unmoved_by shown (Dispatch most) what un = refl
 unmoved_by shown (Leave link) what un = refl
 
-pub unmoved : (keyed : Event → Option Said → Bool) → ((e : Event) (a : Option Said) → keyed e a ≡ is_keyed e) → (shown : Shown) (xs : List (Event × Option Said)) → NoneKeyed keyed xs → shown_after shown xs ≡ shown
+pub unmoved : (keyed : Event → Option Said → Bool) → ((e : Event) (a : Option Said) → keyed e a ≡ is_keyed e)
+    → (shown : Shown) (xs : List (Event × Option Said)) → NoneKeyed keyed xs → shown_after shown xs ≡ shown
 unmoved keyed same shown [] none = refl
-unmoved keyed same shown (x ∷ xs) none = ap (λ (z : Shown). shown_after z xs) (unmoved_by shown x.0 x.1 (sym (same x.0 x.1) ∙ none.0)) ∙ unmoved keyed same shown xs none.1
+unmoved keyed same shown (x ∷ xs) none = ap (λ (z : Shown). shown_after z xs) (unmoved_by shown x.0 x.1 (sym (same x.0 x.1) ∙ none.0))
+    ∙ unmoved keyed same shown xs none.1
 
 -- one more entry, after some that aren't keyed
-pub shown_more : (keyed : Event → Option Said → Bool) → ((e : Event) (a : Option Said) → keyed e a ≡ is_keyed e) → (shown : Shown) (seen between : List (Event × Option Said)) → NoneKeyed keyed between
+pub shown_more : (keyed : Event → Option Said → Bool) → ((e : Event) (a : Option Said) → keyed e a ≡ is_keyed e)
+    → (shown : Shown) (seen between : List (Event × Option Said)) → NoneKeyed keyed between
     → shown_after shown (seen ++ between) ≡ shown_after shown seen
 shown_more keyed same shown seen between none = shown_append shown seen between ∙ unmoved keyed same (shown_after shown seen) between none
 
 module _ {chronicle : Ghosts Shared Event (Option Said)} where
-  pub key_kept : (x y : Option (Pass Shared Event (Option Said) chronicle)) (p q : Pass Shared Event (Option Said) chronicle) → x ≡ Some p → y ≡ Some q → IsSamePass p q → IfSome x (λ r. HasKey r) → IfSome y (λ r. HasKey r)
+  pub key_kept : (x y : Option (Pass Shared Event (Option Said) chronicle)) (p q : Pass Shared Event (Option Said) chronicle) → x ≡ Some p
+      → y ≡ Some q → IsSamePass p q → IfSome x (λ r. HasKey r) → IfSome y (λ r. HasKey r)
   key_kept x y p q at there same key =
-      subst (λ o. IfSome o (λ r. HasKey r)) (sym there) (subst (λ (ns : List ℕ). 0 < times 0 ns) (sym same.2) (subst (λ o. IfSome o (λ r. HasKey r)) at key))
+      subst (λ o. IfSome o (λ r. HasKey r)) (sym there) (subst (λ (ns : List ℕ). 0 < times 0 ns) (sym same.2)
+      (subst (λ o. IfSome o (λ r. HasKey r)) at key))
 
-  pub shown_moved : (x y : Option (Pass Shared Event (Option Said) chronicle)) (p q : Pass Shared Event (Option Said) chronicle) (event : Event) (what : Option Said) → x ≡ Some p → y ≡ Some q → Adds p event what q → IfSome x (λ r. HasKey r)
+  pub shown_moved : (x y : Option (Pass Shared Event (Option Said) chronicle)) (p q : Pass Shared Event (Option Said) chronicle)
+      (event : Event) (what : Option Said) → x ≡ Some p → y ≡ Some q → Adds p event what q → IfSome x (λ r. HasKey r)
       → ((e : Event) (a : Option Said) → chronicle.keyed e a ≡ is_keyed e) → shown_by y ≡ moved (shown_by x) event what
   shown_moved x y p q event what at there adds key keyed =
       let has : HasKey p = subst (λ o. IfSome o (λ r. HasKey r)) at key in
       let first : Shown = first_shown p.seat.me.0.opened in
-      let ends : shown_by (Some q) ≡ shown_after first ((seen_by p ++ adds.between) ++ (event, what) ∷ []) = (λ i. shown_after (first_shown (adds.same.1 i)) (adds.seen i)) in
+      let ends : shown_by (Some q) ≡ shown_after first ((seen_by p ++ adds.between) ++ (event, what)
+      ∷ []) = (λ i. shown_after (first_shown (adds.same.1 i)) (adds.seen i)) in
       let more : shown_after first ((seen_by p ++ adds.between) ++ (event, what) ∷ []) ≡ moved (shown_by (Some p)) event what =
-      shown_append first (seen_by p ++ adds.between) ((event, what) ∷ []) ∙ ap (λ (z : Shown). moved z event what) (shown_more chronicle.keyed keyed first (seen_by p) adds.between (adds.unkeyed has)) in
+      shown_append first (seen_by p ++ adds.between) ((event, what) ∷ [])
+      ∙ ap (λ (z : Shown). moved z event what) (shown_more chronicle.keyed keyed first (seen_by p) adds.between (adds.unkeyed has)) in
       ap (λ o. shown_by o) there ∙ (ends ∙ (more ∙ ap (λ o. moved (shown_by o) event what) (sym at)))

@@ -39,6 +39,7 @@ pub record Stands (start : Parts) (history : List (Event × Option Said)) (now :
   pub shown : shown_of now ≡ shown_after (shown_of start) history
 
 -- what a pass finds when the core is out: the one history, for which the core stands
-abbrev pub StandsFor : {chronicle : Ghosts Shared Event (Option Said)} → Story Shared Event (Option Said) → Pass Shared Event (Option Said) chronicle
+abbrev pub StandsFor : {chronicle : Ghosts Shared Event (Option Said)} → Story Shared Event (Option Said)
+    → Pass Shared Event (Option Said) chronicle
     → List (Event × Option Said) → Parts → Type 0
 StandsFor story pass history core = Finds story pass history (record { core = core })

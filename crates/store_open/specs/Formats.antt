@@ -44,7 +44,11 @@ pub record AreAllowed (asked : AskedSizes) : Type 0 where
 
 -- the sizes of a new store: those that are asked for, and the defaults for the rest
 abbrev pub new_sizes : AskedSizes → Sizes
-new_sizes asked = record { segment = unwrap_or asked.segment 1073741824; slots = unwrap_or asked.slots 65536; entries = unwrap_or asked.entries 262144 }
+new_sizes asked = record {
+  segment = unwrap_or asked.segment 1073741824;
+  slots = unwrap_or asked.slots 65536;
+  entries = unwrap_or asked.entries 262144;
+}
 
 -- each is that of the store
 pub record Agrees (asked : AskedSizes) (sizes : Sizes) : Type 0 where

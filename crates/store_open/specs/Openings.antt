@@ -50,7 +50,8 @@ IsForeign files (Some text) asked name = (name ≡ FORMAT) × ((sizes : Sizes) �
 
 -- A store that was opened with these sizes: it is not foreign, its format stands, and stays through a crash.
 -- What is said of the disk and of the keep is said where these tell what they hold.
-pub record IsOpened (asked : AskedSizes) (sizes : Sizes) (disk : Type 0) (files : Files) (keep : Type 0) (old new : DiskState) : Type 0 where
+pub record IsOpened (asked : AskedSizes) (sizes : Sizes) (disk : Type 0) (files : Files) (keep : Type 0)
+    (old new : DiskState) : Type 0 where
   pub sizes_are : keep → AreSizesOf (old.reads FORMAT) asked sizes
   pub own : disk → keep → (name : List ℕ) → IsForeign files (old.reads FORMAT) asked name → ⊥
   pub stands : keep → new.reads FORMAT ≡ Some (format_after (old.reads FORMAT) sizes)
@@ -59,4 +60,5 @@ pub record IsOpened (asked : AskedSizes) (sizes : Sizes) (disk : Type 0) (files 
 -- the counts of the disk and of the keep
 abbrev pub OpeningCause : Status → ℕ → ℕ → ℕ → ℕ → Type 0
 OpeningCause status disk disk_then keep keep_then =
-    ((status.code ≡ 5) × Rises disk disk_then) ⊎ ((status.code ≡ 6) ⊎ ((status.code ≡ 7) ⊎ ((status.code ≡ 10) × (status.name ≡ codes "keep") × Rises keep keep_then)))
+    ((status.code ≡ 5) × Rises disk disk_then) ⊎ ((status.code ≡ 6) ⊎ ((status.code ≡ 7)
+    ⊎ ((status.code ≡ 10) × (status.name ≡ codes "keep") × Rises keep keep_then)))

@@ -76,7 +76,8 @@ impl AskedSizes {
 // The number in front of the first space, and what stands behind that.
 fn number_before(text: &str, low: u32, high: u32) -> Option<(u32, &str)>
     ensures found { IfSome result (λ r. (text.now ≡ digits_of r.0 ++ 32 ∷ r.1.now) × (low ≤ r.0) × (r.0 ≤ high)) }
-    ensures exact { (n : ℕ) (rest : List ℕ) → text.now ≡ digits_of n ++ 32 ∷ rest → low ≤ n → n ≤ high → MatchOption result ⊥ (λ r. (r.0 ≡ n) × (r.1.now ≡ rest)) }
+    ensures exact { (n : ℕ) (rest : List ℕ) → text.now ≡ digits_of n ++ 32 ∷ rest → low ≤ n → n ≤ high
+        → MatchOption result ⊥ (λ r. (r.0 ≡ n) × (r.1.now ≡ rest)) }
 {
     let (digits, rest) = text.split_once(' ')?;
     match read_number(digits, low, high) {

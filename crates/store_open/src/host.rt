@@ -10,7 +10,8 @@ use crate::number::read_number;
 // The part of an address in front of the first dot, and what stands behind that.
 fn part_before_dot(text: &str) -> Option<(u32, &str)>
     ensures found { IfSome result (λ r. (text.now ≡ digits_of r.0 ++ 46 ∷ r.1.now) × (r.0 ≤ 255)) }
-    ensures exact { (n : ℕ) (rest : List ℕ) → text.now ≡ digits_of n ++ 46 ∷ rest → n ≤ 255 → MatchOption result ⊥ (λ r. (r.0 ≡ n) × (r.1.now ≡ rest)) }
+    ensures exact { (n : ℕ) (rest : List ℕ) → text.now ≡ digits_of n ++ 46 ∷ rest → n ≤ 255
+        → MatchOption result ⊥ (λ r. (r.0 ≡ n) × (r.1.now ≡ rest)) }
 {
     let (digits, rest) = text.split_once('.')?;
     match read_number(digits, 0, 255) {

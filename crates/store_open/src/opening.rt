@@ -20,7 +20,8 @@ use std::alloc::Global;
 // The first file of the disk, if there is one.
 fn foreign_file(alloc: Global, names: &[String]) -> Result<(), Status>
     ensures none { OnOk result (names.now ≡ []) }
-    ensures first { IfErr result (λ status. (status.code ≡ 7) ⊎ ((status.code ≡ 6) × (slice_get (map (λ name. string_bytes name) names.now) 0 ≡ Some status.name))) }
+    ensures first { IfErr result (λ status. (status.code ≡ 7) ⊎ ((status.code ≡ 6)
+        × (slice_get (map (λ name. string_bytes name) names.now) 0 ≡ Some status.name))) }
     ensures table { IfErr result FitsTable }
 {
     match names.first() {
@@ -52,7 +53,8 @@ fn put_format<P: Keep>(alloc: Global, keep: &mut P, text: &[u8]) -> Result<(), S
     ensures done { P.tells → OnOk result ((P.state keep.new).reads FORMAT ≡ Some text.now) }
     ensures durable { P.tells → OnOk result (IsDurable FORMAT (P.state keep.new)) }
     ensures moves { P.tells → Moves (At FORMAT (OldOrNew text.now)) (P.state keep.old) (P.state keep.new) }
-    ensures cause { IfErr result (λ status. (status.code ≡ 7) ⊎ ((status.code ≡ 10) × (status.name ≡ codes "keep") × Rises (P.faults keep.old) (P.faults keep.new))) }
+    ensures cause { IfErr result (λ status. (status.code ≡ 7) ⊎ ((status.code ≡ 10) × (status.name ≡ codes "keep")
+        × Rises (P.faults keep.old) (P.faults keep.new))) }
     ensures still { OnOk result (P.faults keep.new ≡ P.faults keep.old) }
     ensures table { IfErr result FitsTable }
 {
@@ -73,14 +75,16 @@ pub fn open_format<D: Disk, P: Keep>(
     asked: &AskedSizes,
 ) -> Result<Sizes, Status>
     // The sizes, where they come from, and the format that stands behind the call.
-    ensures opened { IfOk result (λ sizes. IsOpened asked.now sizes D.tells (D.state disk.old).reads P.tells (P.state keep.old) (P.state keep.new)) }
+    ensures opened { IfOk result (λ sizes. IsOpened asked.now sizes D.tells (D.state disk.old).reads P.tells (P.state keep.old)
+        (P.state keep.new)) }
     ensures allowed { AreAllowed asked.now → IfOk result AreSizes }
     ensures empty { D.tells → P.tells → (P.state keep.old).reads FORMAT ≡ None → OnOk result (HasNoFile (D.state disk.old).reads) }
 
     // Status 6 tells what makes the store foreign, and no such store is opened.
     ensures foreign { D.tells → P.tells → IfErr result (λ status. status.code ≡ 6
         → IsForeign (D.state disk.old).reads ((P.state keep.old).reads FORMAT) asked.now status.name) }
-    ensures cause { IfErr result (λ status. OpeningCause status (D.faults disk.old) (D.faults disk.new) (P.faults keep.old) (P.faults keep.new)) }
+    ensures cause { IfErr result (λ status. OpeningCause status (D.faults disk.old) (D.faults disk.new) (P.faults keep.old)
+        (P.faults keep.new)) }
 
     ensures table { IfErr result FitsTable }
 
