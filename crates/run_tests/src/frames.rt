@@ -3,10 +3,13 @@
 use std::alloc::AllocError;
 
 const SEND: &[u8] =
-    b"{\"code\":10,\"extFields\":{\"bornTimestamp\":\"1000\",\"defaultTopic\":\"TBW102\",\"defaultTopicQueueNums\":\"4\",\"flag\":\"0\",\"producerGroup\":\"P\",\"queueId\":\"0\",\"sysFlag\":\"0\",\"topic\":\"T\"},\"flag\":0,\"language\":\"JAVA\",\"opaque\":7,\"serializeTypeCurrentRPC\":\"JSON\",\"version\":395}";
+    b"{\"code\":10,\"extFields\":{\"bornTimestamp\":\"1000\",\"defaultTopic\":\"TBW102\",\"defaultTopicQueueNums\":\"4\",\"flag\":\"0\",\
+\"producerGroup\":\"P\",\"queueId\":\"0\",\"sysFlag\":\"0\",\"topic\":\"T\"},\"flag\":0,\"language\":\"JAVA\",\"opaque\":7,\
+\"serializeTypeCurrentRPC\":\"JSON\",\"version\":395}";
 
 const PULL: &[u8] =
-    b"{\"code\":11,\"opaque\":8,\"extFields\":{\"consumerGroup\":\"C\",\"topic\":\"T\",\"queueId\":\"0\",\"queueOffset\":\"0\",\"maxMsgNums\":\"32\",\"sysFlag\":\"0\"}}";
+    b"{\"code\":11,\"opaque\":8,\"extFields\":{\"consumerGroup\":\"C\",\"topic\":\"T\",\"queueId\":\"0\",\"queueOffset\":\"0\",\
+\"maxMsgNums\":\"32\",\"sysFlag\":\"0\"}}";
 
 // Appends a frame of this header and a body of so many bytes.
 fn put_frame(out: &mut Vec<u8>, header: &[u8], body: u32) -> Result<(), AllocError> {

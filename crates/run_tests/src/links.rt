@@ -1,0 +1,108 @@
+//! One call of `serve` over links in memory.
+
+ghost use Rattle.std.specs.Prelude.{◌≡◌, [], IfOk};
+ghost use Rattle.mq_outside.specs.MemSource.{HasNoEmptyPiece};
+
+use crate::frames::put_send;
+use broker_core::Core;
+use broker_serve::{Ended, Store, World, run_serve};
+use mq_outside::{MemClock, MemDisk, MemKeep, MemSink, MemSource, Room};
+use mq_peers::{Calls, Link, MemDoor, MemLink, MemReady};
+use std::alloc::{AllocError, Global};
+use std::sync::Wait;
+use std::thread::Threads;
+
+/// The log's first file.
+const LOG: &str = "commitlog/00000000000000000000";
+
+/// Room for a reply.
+pub(crate) const ROOM: u64 = 4096;
+
+/// How a call ended: its status, with the device that it names, how many records the core that is left has and how many of them are
+/// on the disk, and how many bytes the log's first file has.
+#[derive(Clone, Copy, Debug, PartialEq, Eq)]
+pub(crate) struct Left {
+    pub(crate) code: u8,
+    pub(crate) device: &'static str,
+    pub(crate) records: Option<(u64, u64)>,
+    pub(crate) log: usize,
+}
+
+// A piece for each byte.
+fn pieces_of(alloc: Global, bytes: &[u8]) -> Result<Vec<Vec<u8>>, AllocError>
+    ensures { IfOk result (λ pieces. HasNoEmptyPiece pieces.items) }
+{
+    let mut pieces = Vec::new(alloc);
+    for byte in bytes {
+        pieces.push(vec![in alloc; *byte]?)?;
+    }
+    Ok(pieces)
+}
+
+// A link that says one send, a byte at a time with pauses between, and then ends. It takes so many bytes, with pauses too.
+fn link(alloc: Global, room: u64) -> Result<MemLink, AllocError>
+    ensures given { IfOk result (λ link. ⟦<MemLink as Link>⟧.given link ≡ []) }
+    ensures taken { IfOk result (λ link. ⟦<MemLink as Link>⟧.taken link ≡ []) }
+    ensures faults { IfOk result (λ link. ⟦<MemLink as Link>⟧.faults link ≡ 0) }
+{
+    let mut bytes = Vec::new(alloc);
+    put_send(&mut bytes, 2)?;
+    let source = MemSource::new(alloc, pieces_of(alloc, &bytes)?, Vec::new(alloc))?;
+    let sink = MemSink::new(alloc, room, 64, Vec::new(alloc))?;
+    let link = MemLink::new([127, 0, 0, 1, 0, 0, 0, 9], source, sink);
+    Ok(link.quiet_at(Calls::EveryOther).full_at(Calls::EveryOther))
+}
+
+/// A door with two links that say one send each, the first of which takes so many bytes. Of the door's calls these fail.
+pub(crate) fn door(alloc: Global, fails: Calls, room: u64) -> Result<MemDoor<MemLink>, AllocError> {
+    let mut door = MemDoor::new(alloc, fails);
+    door.put(link(alloc, room)?)?;
+    door.put(link(alloc, ROOM)?)?;
+    Ok(door)
+}
+
+fn store(alloc: Global) -> Result<Store<MemDisk, MemKeep>, AllocError> {
+    let room = Room {
+        bytes: 8192,
+        files: 4,
+        calls: 64,
+    };
+    Ok(Store {
+        disk: MemDisk::new(alloc, Vec::new(alloc), room, Vec::new(alloc))?,
+        keep: MemKeep::new(alloc, Vec::new(alloc), Vec::new(alloc))?,
+    })
+}
+
+fn records_in(core: &Core) -> (u64, u64) {
+    let counts = core.counts();
+    (counts.records, counts.flushed)
+}
+
+fn left_of(ended: &Ended<MemDisk, MemKeep>) -> Left {
+    Left {
+        code: ended.status.code,
+        device: if ended.status.name.as_str() == "door" {
+            "door"
+        } else {
+            ""
+        },
+        records: ended.core.as_ref().map(|core| records_in(core)),
+        log: ended.store.disk.bytes(LOG).unwrap_or(&[]).len(),
+    }
+}
+
+/// Serves the links of this door over an empty store.
+pub(crate) fn serve<W: Wait + Threads + Sync>(
+    rt: &W,
+    alloc: Global,
+    words: &[&str],
+    door: MemDoor<MemLink>,
+) -> Result<Left, AllocError> {
+    let world = World {
+        ready: MemReady::new(alloc, u64::MAX),
+        door,
+        clock: MemClock::new(alloc, vec![in alloc; 2000]?, Vec::new(alloc))?,
+    };
+    let ended = run_serve(rt, alloc, words, world, store(alloc)?);
+    Ok(left_of(&ended))
+}
