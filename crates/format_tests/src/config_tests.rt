@@ -39,7 +39,7 @@ fn rows_in_any_order_are_written_in_byte_order(rt: HostRuntime) -> Result<(), Fa
     let alloc = rt.alloc();
     let none: &[GroupOffset] = &[];
     let text: &[u8] = b"{\"offsetTable\":{}}";
-    assert_eq!(rt; offsets_text(alloc, none)?.as_slice(), text);
+    assert!(rt; offsets_text(alloc, none)?.as_slice() == text);
     let rows = [
         offset(alloc, "T", "G", 2, 20)?,
         offset(alloc, "T", "g\"@", 0, 7)?,
@@ -49,10 +49,10 @@ fn rows_in_any_order_are_written_in_byte_order(rt: HostRuntime) -> Result<(), Fa
     ];
     let text: &[u8] =
         b"{\"offsetTable\":{\"A@G\":{\"0\":0},\"T@G\":{\"10\":4611686018427387903,\"2\":20},\"T@g\\\"@\":{\"0\":7}}}";
-    assert_eq!(rt; offsets_text(alloc, &rows)?.as_slice(), text);
+    assert!(rt; offsets_text(alloc, &rows)?.as_slice() == text);
     let topics = [topic(alloc, "b", 1024)?, topic(alloc, "T", 4)?];
     let text: &[u8] = b"{\"topicConfigTable\":{\"T\":{\"queues\":4},\"b\":{\"queues\":1024}}}";
-    assert_eq!(rt; topics_text(alloc, &topics)?.as_slice(), text);
+    assert!(rt; topics_text(alloc, &topics)?.as_slice() == text);
     Ok(())
 }
 
@@ -77,12 +77,12 @@ fn what_was_stored_is_loaded(rt: HostRuntime) -> Result<(), Fail> {
         Ok(config) => config.offsets.len() + config.topics.len(),
         Err(_) => 1,
     };
-    assert_eq!(rt; rows, 0);
+    assert!(rt; rows == 0);
     let offsets: &[u8] = b"{\"offsetTable\":{\"T@G@H\":{\"0\":1}}}";
     let topics: &[u8] = b"{\"topicConfigTable\":{\"T\":{\"queues\":4}}}";
-    assert_eq!(rt; store_config(alloc, &mut keep, offsets, topics), Ok(()));
-    assert_eq!(rt; keep.bytes(OFFSETS), Some(offsets));
-    assert_eq!(rt; keep.bytes(TOPICS), Some(topics));
+    assert!(rt; store_config(alloc, &mut keep, offsets, topics) == Ok(()));
+    assert!(rt; keep.bytes(OFFSETS) == Some(offsets));
+    assert!(rt; keep.bytes(TOPICS) == Some(topics));
     let is_loaded = match load_config(alloc, &mut keep) {
         Ok(config) => is_worked(&config),
         Err(_) => false,

@@ -11,23 +11,30 @@ use std::test::Fail;
 
 // A SEND of the body "hi" by a Java client, as a frame in JSON form.
 const SEND: &[u8] =
-    b"\0\0\x01\x06\0\0\x01\0{\"code\":10,\"extFields\":{\"bornTimestamp\":\"1000\",\"defaultTopic\":\"TBW102\",\"defaultTopicQueueNums\":\"4\",\"flag\":\"0\",\"producerGroup\":\"P\",\"queueId\":\"0\",\"sysFlag\":\"0\",\"topic\":\"T\"},\"flag\":0,\"language\":\"JAVA\",\"opaque\":7,\"serializeTypeCurrentRPC\":\"JSON\",\"version\":395}hi";
+    b"\0\0\x01\x06\0\0\x01\0{\"code\":10,\"extFields\":{\"bornTimestamp\":\"1000\",\"defaultTopic\":\"TBW102\",\
+\"defaultTopicQueueNums\":\"4\",\"flag\":\"0\",\"producerGroup\":\"P\",\"queueId\":\"0\",\"sysFlag\":\"0\",\"topic\":\"T\"},\"flag\":0,\
+\"language\":\"JAVA\",\"opaque\":7,\"serializeTypeCurrentRPC\":\"JSON\",\"version\":395}hi";
 
 // What its header says, and its body.
 const SEND_SAYS: &[u8] =
-    b"{\"code\":10,\"extFields\":{\"bornTimestamp\":\"1000\",\"defaultTopic\":\"TBW102\",\"defaultTopicQueueNums\":\"4\",\"flag\":\"0\",\"producerGroup\":\"P\",\"queueId\":\"0\",\"sysFlag\":\"0\",\"topic\":\"T\"},\"flag\":0,\"language\":\"OTHER\",\"opaque\":7,\"serializeTypeCurrentRPC\":\"JSON\",\"version\":395}hi";
+    b"{\"code\":10,\"extFields\":{\"bornTimestamp\":\"1000\",\"defaultTopic\":\"TBW102\",\"defaultTopicQueueNums\":\"4\",\"flag\":\"0\",\
+\"producerGroup\":\"P\",\"queueId\":\"0\",\"sysFlag\":\"0\",\"topic\":\"T\"},\"flag\":0,\"language\":\"OTHER\",\"opaque\":7,\
+\"serializeTypeCurrentRPC\":\"JSON\",\"version\":395}hi";
 
 // The header of its reply.
 const REPLY: &[u8] =
-    b"{\"code\":0,\"extFields\":{\"msgId\":\"7F00000100002A9F0000000000000000\",\"queueId\":\"0\",\"queueOffset\":\"0\"},\"flag\":1,\"language\":\"OTHER\",\"opaque\":7,\"serializeTypeCurrentRPC\":\"JSON\",\"version\":0}";
+    b"{\"code\":0,\"extFields\":{\"msgId\":\"7F00000100002A9F0000000000000000\",\"queueId\":\"0\",\"queueOffset\":\"0\"},\"flag\":1,\
+\"language\":\"OTHER\",\"opaque\":7,\"serializeTypeCurrentRPC\":\"JSON\",\"version\":0}";
 
 // A GET_MAX_OFFSET of queue 0 of topic `T`, as a frame in binary form.
 const ASKING: &[u8] =
-    b"\x00\x00\x00\x33\x01\x00\x00\x2F\x00\x1E\x00\x01\x8B\x00\x00\x00\x05\x00\x00\x00\x00\x00\x00\x00\x00\x00\x00\x00\x1A\x00\x05topic\x00\x00\x00\x01T\x00\x07queueId\x00\x00\x00\x010";
+    b"\x00\x00\x00\x33\x01\x00\x00\x2F\x00\x1E\x00\x01\x8B\x00\x00\x00\x05\x00\x00\x00\x00\x00\x00\x00\x00\x00\x00\x00\x1A\x00\x05topic\
+\x00\x00\x00\x01T\x00\x07queueId\x00\x00\x00\x010";
 
 // What its header says; it has no body.
 const ASKING_SAYS: &[u8] =
-    b"{\"code\":30,\"extFields\":{\"queueId\":\"0\",\"topic\":\"T\"},\"flag\":0,\"language\":\"OTHER\",\"opaque\":5,\"serializeTypeCurrentRPC\":\"JSON\",\"version\":395}";
+    b"{\"code\":30,\"extFields\":{\"queueId\":\"0\",\"topic\":\"T\"},\"flag\":0,\"language\":\"OTHER\",\"opaque\":5,\
+\"serializeTypeCurrentRPC\":\"JSON\",\"version\":395}";
 
 // Its reply's header, in binary form.
 const ASKING_REPLY: &[u8] =
@@ -52,7 +59,8 @@ fn json_headers_say_what_their_texts_do_and_others_are_refused(
         (REPLY, REPLY),
         (
             b"{\"code\":null,\"opaque\":7,\"code\":-2147483648}",
-            b"{\"code\":-2147483648,\"extFields\":{},\"flag\":0,\"language\":\"OTHER\",\"opaque\":7,\"serializeTypeCurrentRPC\":\"JSON\",\"version\":0}",
+            b"{\"code\":-2147483648,\"extFields\":{},\"flag\":0,\"language\":\"OTHER\",\"opaque\":7,\
+\"serializeTypeCurrentRPC\":\"JSON\",\"version\":0}",
         ),
         (b"{\"code\":1.0,\"opaque\":7}", b""),
         (b"{\"code\":-0,\"opaque\":7}", b""),
@@ -76,7 +84,8 @@ fn binary_pairs_are_read_whole_or_refused(rt: HostRuntime) -> Result<(), Fail> {
     let rows: [(&[u8], &[u8]); 7] = [
         (
             b"\0\0\0\x10\0\x01a\0\0\0\x011\0\x01a\0\0\0\x012",
-            b"{\"code\":0,\"extFields\":{\"a\":\"2\"},\"flag\":0,\"language\":\"OTHER\",\"opaque\":0,\"serializeTypeCurrentRPC\":\"JSON\",\"version\":0}",
+            b"{\"code\":0,\"extFields\":{\"a\":\"2\"},\"flag\":0,\"language\":\"OTHER\",\"opaque\":0,\
+\"serializeTypeCurrentRPC\":\"JSON\",\"version\":0}",
         ),
         (b"\0\0\0\x08\0\x01a\0\0\0\x02b", b""),
         (b"\0\0\0\x08\0\x01a\0\0\0\x01\xff", b""),
@@ -119,11 +128,13 @@ fn the_front_of_a_frame_counts_what_follows(rt: HostRuntime) -> Result<(), Fail>
     let rows: [(Form, &[u8]); 2] = [
         (
             Form::Json,
-            b"before\0\0\0\x87\0\0\0\x81{\"code\":3,\"extFields\":{},\"flag\":1,\"language\":\"OTHER\",\"opaque\":7,\"remark\":\"code 999\",\"serializeTypeCurrentRPC\":\"JSON\",\"version\":0}",
+            b"before\0\0\0\x87\0\0\0\x81{\"code\":3,\"extFields\":{},\"flag\":1,\"language\":\"OTHER\",\"opaque\":7,\
+\"remark\":\"code 999\",\"serializeTypeCurrentRPC\":\"JSON\",\"version\":0}",
         ),
         (
             Form::Binary,
-            b"before\x00\x00\x00\x23\x01\x00\x00\x1D\x00\x03\x07\x00\x00\x00\x00\x00\x07\x00\x00\x00\x01\x00\x00\x00\x08code 999\x00\x00\x00\x00",
+            b"before\x00\x00\x00\x23\x01\x00\x00\x1D\x00\x03\x07\x00\x00\x00\x00\x00\x07\x00\x00\x00\x01\x00\x00\x00\x08code 999\x00\x00\
+\x00\x00",
         ),
     ];
     for (form, written) in rows {

@@ -37,10 +37,10 @@ const SERVE_DEFAULTS: ServeCommand = ServeCommand {
 
 #[test]
 fn each_option_of_pipe_is_read(rt: HostRuntime) -> Result<(), Fail> {
-    assert_eq!(rt; read_words(&["pipe"]), Ok(DEFAULTS));
+    assert!(rt; read_words(&["pipe"]) == Ok(DEFAULTS));
     for (value, sync) in [("sync", true), ("async", false)] {
         let read = read_words(&["pipe", "--flush", value]);
-        assert_eq!(rt; read, Ok(Command { sync, ..DEFAULTS }), "{value}");
+        assert!(rt; read == Ok(Command { sync, ..DEFAULTS }), "{value}");
     }
     let sizes = [
         (
@@ -94,7 +94,10 @@ fn each_option_of_pipe_is_read(rt: HostRuntime) -> Result<(), Fail> {
     ];
     for (option, value, sizes) in sizes {
         let read = read_words(&["pipe", option, value]);
-        assert_eq!(rt; read, Ok(Command { sizes, ..DEFAULTS }), "{option} {value}");
+        assert!(rt;
+            read == Ok(Command { sizes, ..DEFAULTS }),
+            "{option} {value}"
+        );
     }
     let all = [
         "pipe",
@@ -118,20 +121,17 @@ fn each_option_of_pipe_is_read(rt: HostRuntime) -> Result<(), Fail> {
         },
         host: [10, 2, 30, 255, 0, 0, 255, 255],
     };
-    assert_eq!(rt; read_words(&all), Ok(said));
+    assert!(rt; read_words(&all) == Ok(said));
     Ok(())
 }
 
 #[test]
 fn the_first_word_of_pipe_that_does_not_fit_is_told(rt: HostRuntime) -> Result<(), Fail> {
-    assert_eq!(rt; read_words(&[]), Err(0));
-    assert_eq!(rt; read_words(&["dump"]), Err(0));
-    assert_eq!(rt; read_words(&["pipe", "--links", "1"]), Err(1));
-    assert_eq!(rt; read_words(&["pipe", "--flush"]), Err(2));
-    assert_eq!(rt;
-        read_words(&["pipe", "--segment", "4096", "--segment", "4096"]),
-        Err(3)
-    );
+    assert!(rt; read_words(&[]) == Err(0));
+    assert!(rt; read_words(&["dump"]) == Err(0));
+    assert!(rt; read_words(&["pipe", "--links", "1"]) == Err(1));
+    assert!(rt; read_words(&["pipe", "--flush"]) == Err(2));
+    assert!(rt; read_words(&["pipe", "--segment", "4096", "--segment", "4096"]) == Err(3));
     let rows = [
         ("--flush", "often"),
         ("--segment", ""),
@@ -147,9 +147,8 @@ fn the_first_word_of_pipe_that_does_not_fit_is_told(rt: HostRuntime) -> Result<(
         ("--host", "1.2.3.4:0"),
     ];
     for (option, value) in rows {
-        assert_eq!(rt;
-            read_words(&["pipe", option, value]),
-            Err(2),
+        assert!(rt;
+            read_words(&["pipe", option, value]) == Err(2),
             "{option} {value}"
         );
     }
@@ -158,20 +157,20 @@ fn the_first_word_of_pipe_that_does_not_fit_is_told(rt: HostRuntime) -> Result<(
 
 #[test]
 fn the_options_of_links_are_read(rt: HostRuntime) -> Result<(), Fail> {
-    assert_eq!(rt; read_serve_words(&["serve"]), Ok(SERVE_DEFAULTS));
+    assert!(rt; read_serve_words(&["serve"]) == Ok(SERVE_DEFAULTS));
     for (value, n) in [("1", 1), ("4096", 4096)] {
         let read = read_serve_words(&["serve", "--links", value]);
         let said = ServeCommand {
             links: n,
             ..SERVE_DEFAULTS
         };
-        assert_eq!(rt; read, Ok(said), "{value}");
+        assert!(rt; read == Ok(said), "{value}");
         let read = read_serve_words(&["serve", "--connections", value]);
         let said = ServeCommand {
             connections: Some(n),
             ..SERVE_DEFAULTS
         };
-        assert_eq!(rt; read, Ok(said), "{value}");
+        assert!(rt; read == Ok(said), "{value}");
     }
     let all = [
         "serve",
@@ -196,23 +195,17 @@ fn the_options_of_links_are_read(rt: HostRuntime) -> Result<(), Fail> {
         links: 3,
         connections: Some(2),
     };
-    assert_eq!(rt; read_serve_words(&all), Ok(said));
+    assert!(rt; read_serve_words(&all) == Ok(said));
     Ok(())
 }
 
 #[test]
 fn the_first_word_of_serve_that_does_not_fit_is_told(rt: HostRuntime) -> Result<(), Fail> {
-    assert_eq!(rt; read_serve_words(&["pipe"]), Err(0));
-    assert_eq!(rt; read_serve_words(&["serve", "serve"]), Err(1));
-    assert_eq!(rt; read_serve_words(&["serve", "--port", "1"]), Err(1));
-    assert_eq!(rt;
-        read_serve_words(&["serve", "--links", "1", "--links", "1"]),
-        Err(3)
-    );
-    assert_eq!(rt;
-        read_serve_words(&["serve", "--links", "1", "--host"]),
-        Err(4)
-    );
+    assert!(rt; read_serve_words(&["pipe"]) == Err(0));
+    assert!(rt; read_serve_words(&["serve", "serve"]) == Err(1));
+    assert!(rt; read_serve_words(&["serve", "--port", "1"]) == Err(1));
+    assert!(rt; read_serve_words(&["serve", "--links", "1", "--links", "1"]) == Err(3));
+    assert!(rt; read_serve_words(&["serve", "--links", "1", "--host"]) == Err(4));
     let rows = [
         ("--host", "1.2.3.4"),
         ("--host", "1.2.3:80"),
@@ -228,9 +221,8 @@ fn the_first_word_of_serve_that_does_not_fit_is_told(rt: HostRuntime) -> Result<
         ("--connections", "4097"),
     ];
     for (option, value) in rows {
-        assert_eq!(rt;
-            read_serve_words(&["serve", option, value]),
-            Err(2),
+        assert!(rt;
+            read_serve_words(&["serve", option, value]) == Err(2),
             "{option} {value}"
         );
     }
@@ -305,8 +297,8 @@ fn a_store_is_opened_with_the_sizes_that_its_format_says(rt: HostRuntime) -> Res
             slots,
             entries,
         };
-        assert_eq!(rt; opened.ok(), Some(sizes));
-        assert_eq!(rt; keep.bytes("format"), Some(text));
+        assert!(rt; opened.ok() == Some(sizes));
+        assert!(rt; keep.bytes("format") == Some(text));
     }
     Ok(())
 }
@@ -340,9 +332,9 @@ fn another_store_is_refused_by_name(rt: HostRuntime) -> Result<(), Fail> {
         let (mut disk, mut keep) = store(alloc, format, has_log)?;
         let opened = open_format(alloc, &mut disk, &mut keep, &asked);
         let status = opened.err().unwrap_or(Status::plain(alloc, 0));
-        assert_eq!(rt; status.code, 6);
-        assert_eq!(rt; status.name.as_str(), name);
-        assert_eq!(rt; keep.bytes("format"), format);
+        assert!(rt; status.code == 6);
+        assert!(rt; status.name.as_str() == name);
+        assert!(rt; keep.bytes("format") == format);
     }
     Ok(())
 }

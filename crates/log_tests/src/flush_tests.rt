@@ -41,19 +41,18 @@ fn a_failed_turn_tells_the_count_of_faults_and_the_next_one_writes_at_the_same_p
     let Err(FlushFault { count }) = flusher.turn(&mut disk, first) else {
         return Err(Fail::from("the other answer"));
     };
-    assert_eq!(rt; count, 1);
+    assert!(rt; count == 1);
     let again = hello(rt.alloc())?;
     let Ok(receipt) = flusher.turn(&mut disk, again) else {
         return Err(Fail::from("the other answer"));
     };
-    assert_eq!(rt; (receipt.from, receipt.count), (0, 1));
-    assert_eq!(rt;
+    assert!(rt; (receipt.from, receipt.count) == (0, 1));
+    assert!(rt;
         (
             receipt.piece.base(),
             receipt.piece.from(),
             receipt.piece.len()
-        ),
-        (0, 0, 5)
+        ) == (0, 0, 5)
     );
     Ok(())
 }

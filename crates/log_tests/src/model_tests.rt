@@ -68,12 +68,12 @@ fn names_one_of(bytes: &[u8], halves: u64) -> Option<bool> {
 #[test]
 fn records_stand_at_the_worked_places(rt: HostRuntime) {
     // Bodies of 3,072, 804 and 2 bytes: the second fills the segment but for the eight bytes of a blank.
-    assert_eq!(rt; next_place(4096, 0, 3178), 0);
-    assert_eq!(rt; next_place(4096, 3178, 910), 3178);
-    assert_eq!(rt; next_place(4096, 4088, 108), 4096);
+    assert!(rt; next_place(4096, 0, 3178) == 0);
+    assert!(rt; next_place(4096, 3178, 910) == 3178);
+    assert!(rt; next_place(4096, 4088, 108) == 4096);
 
     // A body of 805 doesn't fit, and leaves a blank of 918 bytes.
-    assert_eq!(rt; next_place(4096, 3178, 911), 3178 + 918);
+    assert!(rt; next_place(4096, 3178, 911) == 3178 + 918);
 }
 
 #[test]
@@ -88,7 +88,7 @@ fn a_log_has_records_of_each_kind(rt: HostRuntime) {
         (COPY, false, "a copy of itself"),
     ];
     for (bytes, admitted, kind) in rows {
-        assert_eq!(rt; admits(bytes), Some(admitted), "{kind}");
+        assert!(rt; admits(bytes) == Some(admitted), "{kind}");
     }
     assert!(rt; is_system_topic("SCHEDULE_TOPIC_XXXX"));
     assert!(rt; !is_system_topic("SCHEDULE_TOPIC_XXX"));
@@ -97,8 +97,8 @@ fn a_log_has_records_of_each_kind(rt: HostRuntime) {
 #[test]
 fn a_renewal_and_an_op_record_name_a_half_message(rt: HostRuntime) {
     for (bytes, with_none) in [(RENEWAL.as_slice(), false), (OP, false), (HALF, true)] {
-        assert_eq!(rt; names_one_of(bytes, 0), Some(with_none));
-        assert_eq!(rt; names_one_of(bytes, 1), Some(true));
+        assert!(rt; names_one_of(bytes, 0) == Some(with_none));
+        assert!(rt; names_one_of(bytes, 1) == Some(true));
     }
 }
 
@@ -121,6 +121,6 @@ fn the_units_of_a_queue_are_those_of_its_records(rt: HostRuntime) -> Result<(), 
             tag: 0,
         },
     ];
-    assert_eq!(rt; units.as_slice(), expected.as_slice());
+    assert!(rt; units.as_slice() == expected.as_slice());
     Ok(())
 }

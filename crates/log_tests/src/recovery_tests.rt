@@ -134,7 +134,7 @@ fn a_torn_or_changed_second_record_is_cut_off(rt: HostRuntime) -> Result<(), Fai
         let mut changed = two;
         changed[108 + i] ^= 0x20;
         let stays = keeps_the_first(rt.alloc(), &changed)?;
-        assert_eq!(rt; (is_cut, stays), (true, true), "torn and changed at {i}");
+        assert!(rt; (is_cut, stays) == (true, true), "torn and changed at {i}");
     }
     Ok(())
 }
@@ -181,7 +181,7 @@ fn tells_in_two_files(alloc: Global) -> Result<[bool; 4], Fail> {
 #[test]
 fn damage_is_told_with_its_place_and_file(rt: HostRuntime) -> Result<(), Fail> {
     assert!(rt; tells_a_changed_record(rt.alloc())?);
-    assert_eq!(rt; tells_in_two_files(rt.alloc())?, [true; 4]);
+    assert!(rt; tells_in_two_files(rt.alloc())? == [true; 4]);
     Ok(())
 }
 
@@ -229,7 +229,7 @@ fn a_log_behind_two_segments_is_recovered_whether_these_are_there_or_not(
         let (answer, count) = recovered_behind(rt.alloc(), &mut disk)?;
         assert!(rt; matches!(answer, Ok(8408)) && count == 2);
         assert!(rt; holds(&disk, 8192, BEHIND_THE_BASE));
-        assert_eq!(rt; disk.bytes(LogFile::of(4096).as_str()).is_some(), removed);
+        assert!(rt; disk.bytes(LogFile::of(4096).as_str()).is_some() == removed);
     }
     Ok(())
 }

@@ -91,9 +91,9 @@ fn a_queue_has_the_units_of_its_records(rt: HostRuntime) -> Result<(), Fail> {
     ];
     match replay.queues.as_slice() {
         [(topic, queue, found)] => {
-            assert_eq!(rt; topic.as_str(), "T");
-            assert_eq!(rt; *queue, 0);
-            assert_eq!(rt; found.as_slice(), units.as_slice());
+            assert!(rt; topic.as_str() == "T");
+            assert!(rt; *queue == 0);
+            assert!(rt; found.as_slice() == units.as_slice());
         }
         _ => return Err(Fail::from("not one queue")),
     }
@@ -110,33 +110,26 @@ fn states_in(alloc: Global, records: &[&[u8]]) -> Result<Vec<(u64, OriginState)>
 #[test]
 fn an_origin_is_what_settles_it(rt: HostRuntime) -> Result<(), Fail> {
     let alloc = rt.alloc();
-    assert_eq!(rt;
-        states_in(alloc, &[HALF])?.as_slice(),
-        [(0, OriginState::Open)].as_slice()
-    );
-    assert_eq!(rt;
-        states_in(alloc, &[HALF, COPY, OP])?.as_slice(),
-        [(0, OriginState::Committed)].as_slice()
+    assert!(rt; states_in(alloc, &[HALF])?.as_slice() == [(0, OriginState::Open)].as_slice());
+    assert!(rt;
+        states_in(alloc, &[HALF, COPY, OP])?.as_slice() == [(0, OriginState::Committed)].as_slice()
     );
 
     // Cut between copy and op record.
-    assert_eq!(rt;
-        states_in(alloc, &[HALF, COPY])?.as_slice(),
-        [(0, OriginState::Committed)].as_slice()
+    assert!(rt;
+        states_in(alloc, &[HALF, COPY])?.as_slice() == [(0, OriginState::Committed)].as_slice()
     );
-    assert_eq!(rt;
-        states_in(alloc, &[HALF, OP])?.as_slice(),
-        [(0, OriginState::RolledBack)].as_slice()
+    assert!(rt;
+        states_in(alloc, &[HALF, OP])?.as_slice() == [(0, OriginState::RolledBack)].as_slice()
     );
 
     // A check leaves it open, and the copy among the discarded ones settles it.
-    assert_eq!(rt;
-        states_in(alloc, &[HALF, RENEWAL])?.as_slice(),
-        [(0, OriginState::Open)].as_slice()
+    assert!(rt;
+        states_in(alloc, &[HALF, RENEWAL])?.as_slice() == [(0, OriginState::Open)].as_slice()
     );
-    assert_eq!(rt;
-        states_in(alloc, &[HALF, RENEWAL, DISCARD])?.as_slice(),
-        [(0, OriginState::Discarded)].as_slice()
+    assert!(rt;
+        states_in(alloc, &[HALF, RENEWAL, DISCARD])?.as_slice()
+            == [(0, OriginState::Discarded)].as_slice()
     );
     Ok(())
 }
@@ -145,11 +138,11 @@ fn an_origin_is_what_settles_it(rt: HostRuntime) -> Result<(), Fail> {
 fn a_delivery_counts_for_its_level(rt: HostRuntime) -> Result<(), Fail> {
     let base = no_base(rt.alloc());
     let waiting = log_with(rt.alloc(), &[DELAYED])?;
-    assert_eq!(rt; delays_of(rt.alloc(), &waiting, &base)?[0], 0);
+    assert!(rt; delays_of(rt.alloc(), &waiting, &base)?[0] == 0);
     let delivered = log_with(rt.alloc(), &[DELAYED, DELIVERY])?;
     let delays = delays_of(rt.alloc(), &delivered, &base)?;
-    assert_eq!(rt; delays[0], 1);
-    assert_eq!(rt; delays[1], 0);
+    assert!(rt; delays[0] == 1);
+    assert!(rt; delays[1] == 0);
     Ok(())
 }
 
@@ -157,25 +150,15 @@ fn a_delivery_counts_for_its_level(rt: HostRuntime) -> Result<(), Fail> {
 fn keys_of_one_hash_are_found_together(rt: HostRuntime) -> Result<(), Fail> {
     let alloc = rt.alloc();
     let log = log_with(alloc, &[FIRST, SECOND])?;
-    assert_eq!(rt;
-        query_of(alloc, &log, "T", "Aa", 0, 9000, 32)?.as_slice(),
-        [116, 0].as_slice()
-    );
-    assert_eq!(rt;
-        query_of(alloc, &log, "T", "Aa", 0, 9000, 1)?.as_slice(),
-        [116].as_slice()
-    );
-    assert_eq!(rt;
-        query_reply(alloc, &log, "T", "Aa", 0, 9000, 32)?.as_slice(),
-        [0, 116].as_slice()
+    assert!(rt; query_of(alloc, &log, "T", "Aa", 0, 9000, 32)?.as_slice() == [116, 0].as_slice());
+    assert!(rt; query_of(alloc, &log, "T", "Aa", 0, 9000, 1)?.as_slice() == [116].as_slice());
+    assert!(rt;
+        query_reply(alloc, &log, "T", "Aa", 0, 9000, 32)?.as_slice() == [0, 116].as_slice()
     );
     assert!(rt; query_of(alloc, &log, "T", "C", 0, 9000, 32)?.is_empty());
     assert!(rt; query_of(alloc, &log, "T", "Aa", 0, 1999, 32)?.is_empty());
     match log.as_slice() {
-        [first, ..] => assert_eq!(rt;
-            index_keys_of(alloc, first)?.as_slice(),
-            [2538191].as_slice()
-        ),
+        [first, ..] => assert!(rt; index_keys_of(alloc, first)?.as_slice() == [2538191].as_slice()),
         [] => return Err(Fail::from("no record")),
     }
     Ok(())
@@ -185,12 +168,9 @@ fn keys_of_one_hash_are_found_together(rt: HostRuntime) -> Result<(), Fail> {
 fn a_family_is_an_origin_and_its_checks(rt: HostRuntime) -> Result<(), Fail> {
     let alloc = rt.alloc();
     let log = log_with(alloc, &[HALF, RENEWAL, DISCARD])?;
-    assert_eq!(rt; family_of(alloc, &log, 0)?.as_slice(), [0, 178].as_slice());
-    assert_eq!(rt; copies_of(alloc, &log, 0)?, 0);
-    assert_eq!(rt;
-        bounds_of(&log, &no_base(alloc), "RMQ_SYS_TRANS_HALF_TOPIC", 0),
-        (0, 2)
-    );
+    assert!(rt; family_of(alloc, &log, 0)?.as_slice() == [0, 178].as_slice());
+    assert!(rt; copies_of(alloc, &log, 0)? == 0);
+    assert!(rt; bounds_of(&log, &no_base(alloc), "RMQ_SYS_TRANS_HALF_TOPIC", 0) == (0, 2));
     let item = item_at(&log, &no_base(alloc), "RMQ_SYS_TRANS_HALF_TOPIC", 0, 1);
     assert!(rt; matches!(item, Some(r) if r.place.offset == 178));
     Ok(())

@@ -78,7 +78,7 @@ fn a_record_is_read_where_it_stands_and_nowhere_else(rt: HostRuntime) -> Result<
     let Ok(record) = read_record(&mut disk, rt.alloc(), 4096, 4104, 108) else {
         return Err(Fail::from("the other answer"));
     };
-    assert_eq!(rt; (record.draft.queue, record.size), (1023, 108));
+    assert!(rt; (record.draft.queue, record.size) == (1023, 108));
     assert!(rt;
         is_damaged(rt.alloc(), &mut disk, 4104, 107, 4096),
         "another size"
@@ -114,19 +114,12 @@ fn a_batch_that_opens_a_segment_stands_whole_whichever_call_failed_first(
         let mut file = LastFile::at(4096, 0);
         write_again(rt.alloc(), &mut file, &mut disk, false)?;
         write_again(rt.alloc(), &mut file, &mut disk, true)?;
-        assert_eq!(rt;
-            disk.fault_count(),
-            u64::from(fail > 0),
+        assert!(rt;
+            disk.fault_count() == u64::from(fail > 0),
             "each listed call is made"
         );
-        assert_eq!(rt;
-            disk.bytes(LogFile::of(0).as_str()),
-            Some(expected.as_slice())
-        );
-        assert_eq!(rt;
-            disk.bytes(LogFile::of(4096).as_str()),
-            Some(b"next".as_slice())
-        );
+        assert!(rt; disk.bytes(LogFile::of(0).as_str()) == Some(expected.as_slice()));
+        assert!(rt; disk.bytes(LogFile::of(4096).as_str()) == Some(b"next".as_slice()));
     }
     Ok(())
 }

@@ -25,10 +25,7 @@ fn a_record_follows_once_the_one_before_it_is_taken(rt: HostRuntime) -> Result<(
     tail.add(&first)?;
     assert!(rt; tail.is_next(&second) && !tail.is_next(&first));
     tail.add(&second)?;
-    assert_eq!(rt;
-        (tail.end(), tail.records(), tail.segment()),
-        (216, 2, 4096)
-    );
+    assert!(rt; (tail.end(), tail.records(), tail.segment()) == (216, 2, 4096));
     Ok(())
 }
 
@@ -46,10 +43,7 @@ fn a_place_is_behind_the_records_that_were_taken(rt: HostRuntime) -> Result<(), 
         let Some(next) = tail.place("T", 0, size, 1500) else {
             return Err(Fail::from("no place"));
         };
-        assert_eq!(rt;
-            (next.queue_offset, next.offset, next.store),
-            (1, offset, 2000)
-        );
+        assert!(rt; (next.queue_offset, next.offset, next.store) == (1, offset, 2000));
     }
     Ok(())
 }

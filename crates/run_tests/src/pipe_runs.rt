@@ -49,8 +49,8 @@ fn what_was_sent_is_pulled_by_the_same_call(rt: HostRuntime) -> Result<(), Fail>
     let mut written = Vec::new(rt.alloc());
     let bytes = two_sends_and_a_pull(rt.alloc())?;
     let ended = serve(rt.alloc(), bytes, &NOTHING, &mut written)?;
-    assert_eq!(rt; (ended.code, ended.log), (0, 2 * RECORD_LEN));
-    assert_eq!(rt; written.len(), 2 * SENT_LEN + PULLED_LEN + 2 * RECORD_LEN);
+    assert!(rt; (ended.code, ended.log) == (0, 2 * RECORD_LEN));
+    assert!(rt; written.len() == 2 * SENT_LEN + PULLED_LEN + 2 * RECORD_LEN);
     Ok(())
 }
 
@@ -66,7 +66,7 @@ fn a_flush_that_fails_is_made_again_before_the_next_request(rt: HostRuntime) -> 
     let first = end_of(&written, 0, b"\"remark\":\"flush 1\"");
     let second = end_of(&written, first, b"\"code\":0,");
     let both = end_of(&written, second, b"\"nextBeginOffset\":\"2\"");
-    assert_eq!(rt; (ended.code, ended.log), (0, 2 * RECORD_LEN));
+    assert!(rt; (ended.code, ended.log) == (0, 2 * RECORD_LEN));
     assert!(rt; first > 0 && second > 0 && both > 0);
     Ok(())
 }
@@ -85,11 +85,13 @@ fn each_call_of_the_disk_that_fails_alone_ends_the_opening_or_is_told(
         let ended = serve(rt.alloc(), bytes, &failing, &mut written)?;
         let is_told = end_of(&written, 0, b"\"remark\":\"flush 1\"") > 0;
         if call <= OPENING {
-            assert_eq!(rt; (ended.code, written.len(), ended.log), (5, 0, 0), "{call}");
+            assert!(rt;
+                (ended.code, written.len(), ended.log) == (5, 0, 0),
+                "{call}"
+            );
         } else {
-            assert_eq!(rt;
-                (ended.code, is_told, ended.log),
-                (0, call <= OPENING + 6, 3 * RECORD_LEN),
+            assert!(rt;
+                (ended.code, is_told, ended.log) == (0, call <= OPENING + 6, 3 * RECORD_LEN),
                 "{call}"
             );
         }
@@ -187,7 +189,7 @@ fn each_other_device_that_fails_ends_the_call_by_the_table(rt: HostRuntime) -> R
         let bytes = three_sends(rt.alloc())?;
         let ended = serve(rt.alloc(), bytes, &failing, &mut written)?;
         let log = records * RECORD_LEN;
-        assert_eq!(rt; (ended, written.len()), (Ended { code, device, log }, len));
+        assert!(rt; (ended, written.len()) == (Ended { code, device, log }, len));
     }
     Ok(())
 }
@@ -208,6 +210,6 @@ fn where_each_write_fails_each_send_is_told_the_count_and_the_last_flush_the_sta
     let second = end_of(&written, first, b"\"remark\":\"flush 3\"");
     let third = end_of(&written, second, b"\"remark\":\"flush 5\"");
     assert!(rt; first > 0 && second > 0 && third > 0);
-    assert_eq!(rt; (ended.code, ended.log), (5, 0));
+    assert!(rt; (ended.code, ended.log) == (5, 0));
     Ok(())
 }

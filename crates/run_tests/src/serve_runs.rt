@@ -26,27 +26,27 @@ fn two_links_that_say_a_byte_at_a_time_are_served_to_their_ends(
     rt: HostRuntime,
 ) -> Result<(), Fail> {
     let door = door(rt.alloc(), Calls::Never, ROOM)?;
-    assert_eq!(rt; serve(&rt, rt.alloc(), &TWO, door)?, SERVED);
+    assert!(rt; serve(&rt, rt.alloc(), &TWO, door)? == SERVED);
     Ok(())
 }
 
 #[test]
 fn a_link_that_breaks_off_inside_its_reply_disturbs_no_other(rt: HostRuntime) -> Result<(), Fail> {
     let door = door(rt.alloc(), Calls::Never, 50)?;
-    assert_eq!(rt; serve(&rt, rt.alloc(), &TWO, door)?, SERVED);
+    assert!(rt; serve(&rt, rt.alloc(), &TWO, door)? == SERVED);
     Ok(())
 }
 
 #[test]
 fn a_door_that_does_not_open_and_wrong_words_serve_nobody(rt: HostRuntime) -> Result<(), Fail> {
     let closed = door(rt.alloc(), Calls::From(1), ROOM)?;
-    assert_eq!(rt; serve(&rt, rt.alloc(), &["serve"], closed)?, UNSERVED);
+    assert!(rt; serve(&rt, rt.alloc(), &["serve"], closed)? == UNSERVED);
     let door = door(rt.alloc(), Calls::Never, ROOM)?;
     let left = Left {
         code: 1,
         device: "",
         ..UNSERVED
     };
-    assert_eq!(rt; serve(&rt, rt.alloc(), &["serve", "now"], door)?, left);
+    assert!(rt; serve(&rt, rt.alloc(), &["serve", "now"], door)? == left);
     Ok(())
 }

@@ -18,12 +18,12 @@ fn the_request_behind_a_response_is_heard_and_a_fault_stays(rt: HostRuntime) -> 
     let Ok(None) = talk.next(rt.alloc()) else {
         return Err(Fail::from("an answer before the request was whole"));
     };
-    assert_eq!(rt; talk.rest(), (38, 12));
+    assert!(rt; talk.rest() == (38, 12));
     talk.feed(&stream[50..])?;
     let Ok(Some(heard)) = talk.next(rt.alloc()) else {
         return Err(Fail::from("no request"));
     };
-    assert_eq!(rt; (heard.opaque, heard.one_way), (7, true));
+    assert!(rt; (heard.opaque, heard.one_way) == (7, true));
     let Ok(Request::MinOffset(_)) = heard.request else {
         return Err(Fail::from("another request"));
     };
@@ -31,11 +31,8 @@ fn the_request_behind_a_response_is_heard_and_a_fault_stays(rt: HostRuntime) -> 
         let Err(fault) = talk.next(rt.alloc()) else {
             return Err(Fail::from("no fault"));
         };
-        assert_eq!(rt; fault, FrameFault::BadLength(117));
+        assert!(rt; fault == FrameFault::BadLength(117));
     }
-    assert_eq!(rt;
-        (talk.link(), talk.host()[0], talk.rest()),
-        (5, 127, (117, 4))
-    );
+    assert!(rt; (talk.link(), talk.host()[0], talk.rest()) == (5, 127, (117, 4)));
     Ok(())
 }

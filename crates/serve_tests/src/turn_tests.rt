@@ -105,8 +105,8 @@ fn turns(alloc: Global, flushed: bool, failing: u64) -> Result<(FlushEnd, u64), 
 fn a_turn_ends_as_the_disk_does_and_only_flushed_records_are_seen(
     rt: HostRuntime,
 ) -> Result<(), Fail> {
-    assert_eq!(rt; turns(rt.alloc(), false, 9)?, (FlushEnd::Done, 1));
-    assert_eq!(rt; turns(rt.alloc(), false, 2)?, (FlushEnd::Failed(1), 0));
-    assert_eq!(rt; turns(rt.alloc(), true, 9)?, (FlushEnd::Idle, 1));
+    assert!(rt; turns(rt.alloc(), false, 9)? == (FlushEnd::Done, 1));
+    assert!(rt; turns(rt.alloc(), false, 2)? == (FlushEnd::Failed(1), 0));
+    assert!(rt; turns(rt.alloc(), true, 9)? == (FlushEnd::Idle, 1));
     Ok(())
 }

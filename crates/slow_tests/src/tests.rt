@@ -25,7 +25,7 @@ fn follow_on(
 {
     for row in rows {
         let answer = play(alloc, broker, row.0, row.1)?;
-        assert_eq!(rt; answer.as_str(), row.2);
+        assert!(rt; answer.as_str() == row.2);
     }
     Ok(())
 }
@@ -39,9 +39,9 @@ fn follow(rt: &impl Abort, alloc: Global, rows: &[Row]) -> Result<(), Fail> {
 // Looks at what a crash would leave.
 fn look(rt: &impl Abort, alloc: Global, broker: &SlowBroker, row: &CrashRow) -> Result<(), Fail> {
     let all = said_after(alloc, broker, broker.log.len())?;
-    assert_eq!(rt; all.as_str(), row.3);
+    assert!(rt; all.as_str() == row.3);
     let flushed = said_after(alloc, broker, broker.flushed as usize)?;
-    assert_eq!(rt; flushed.as_str(), row.4);
+    assert!(rt; flushed.as_str() == row.4);
     Ok(())
 }
 
@@ -56,7 +56,7 @@ fn crash_on(
 {
     for row in rows {
         let answer = play(alloc, broker, row.0, row.1)?;
-        assert_eq!(rt; answer.as_str(), row.2);
+        assert!(rt; answer.as_str() == row.2);
         look(rt, alloc, broker, row)?;
     }
     Ok(())

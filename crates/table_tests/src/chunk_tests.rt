@@ -32,15 +32,15 @@ fn items_are_found_over_three_chunks_and_after_cuts(rt: HostRuntime) -> Result<(
     ] {
         assert!(rt; count <= list.len());
         list.cut(count);
-        assert_eq!(rt; first.wrapping_add(list.len() as u64), 3000);
+        assert!(rt; first.wrapping_add(list.len() as u64) == 3000);
         for index in 0..list.len() {
             let number = list.at(index).wrapping_sub(first);
-            assert_eq!(rt; number, index as u64, "without {first}");
+            assert!(rt; number == index as u64, "without {first}");
         }
     }
     list.reserve(rt.alloc(), CHUNK)?;
     list.push(3000);
-    assert_eq!(rt; (list.len(), list.at(0)), (1, 3000));
+    assert!(rt; (list.len(), list.at(0)) == (1, 3000));
     Ok(())
 }
 
@@ -51,7 +51,7 @@ fn the_first_at_or_past_a_bound_is_found(rt: HostRuntime) -> Result<(), Fail> {
     list.push(Stamp(5));
     list.push(Stamp(7));
     for (bound, index) in [(0, 0), (5, 0), (6, 1), (7, 1), (8, 2)] {
-        assert_eq!(rt; list.search(2, bound), index, "at {bound}");
+        assert!(rt; list.search(2, bound) == index, "at {bound}");
     }
     Ok(())
 }

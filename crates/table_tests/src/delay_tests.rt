@@ -44,17 +44,17 @@ fn a_level_is_due_once_its_message_is_seen_and_its_time_has_come(
 ) -> Result<(), Fail> {
     let alloc = rt.alloc();
     let mut view = DelayView::new(alloc)?;
-    assert_eq!(rt; view.due(u64::MAX), None);
+    assert!(rt; view.due(u64::MAX) == None);
     view.reserve(alloc, 2)?;
     view.add(2, 5_010);
-    assert_eq!(rt; view.due(5_010), None);
+    assert!(rt; view.due(5_010) == None);
     view.see(2);
-    assert_eq!(rt; view.due(5_009), None);
-    assert_eq!(rt; view.due(5_010), Some((2, 0)));
+    assert!(rt; view.due(5_009) == None);
+    assert!(rt; view.due(5_010) == Some((2, 0)));
     put(&mut view, alloc, 1, 5_010)?;
-    assert_eq!(rt; view.due(5_010), Some((1, 0)));
+    assert!(rt; view.due(5_010) == Some((1, 0)));
     deliver(&mut view, 1);
-    assert_eq!(rt; view.due(5_010), Some((2, 0)));
+    assert!(rt; view.due(5_010) == Some((2, 0)));
     Ok(())
 }
 
@@ -65,8 +65,8 @@ fn a_level_that_was_started_counts_on(rt: HostRuntime) -> Result<(), Fail> {
     view.start(1, 5, 4);
     deliver(&mut view, 1);
     put(&mut view, alloc, 1, 1_000)?;
-    assert_eq!(rt; view.due(999), None);
-    assert_eq!(rt; view.due(1_000), Some((1, 5)));
+    assert!(rt; view.due(999) == None);
+    assert!(rt; view.due(1_000) == Some((1, 5)));
     Ok(())
 }
 
@@ -78,10 +78,10 @@ fn messages_below_an_offset_are_cut_off(rt: HostRuntime) -> Result<(), Fail> {
         put(&mut view, alloc, 3, time)?;
     }
     deliver(&mut view, 3);
-    assert_eq!(rt; cut(&mut view, 3, 1), (1, 3));
-    assert_eq!(rt; view.due(20), Some((3, 1)));
-    assert_eq!(rt; cut(&mut view, 3, 3), (3, 3));
-    assert_eq!(rt; view.due(u64::MAX), None);
-    assert_eq!(rt; view.progress(3), 1);
+    assert!(rt; cut(&mut view, 3, 1) == (1, 3));
+    assert!(rt; view.due(20) == Some((3, 1)));
+    assert!(rt; cut(&mut view, 3, 3) == (3, 3));
+    assert!(rt; view.due(u64::MAX) == None);
+    assert!(rt; view.progress(3) == 1);
     Ok(())
 }

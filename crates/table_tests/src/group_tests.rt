@@ -20,11 +20,11 @@ fn an_offset_is_kept_for_its_group_and_queue(rt: HostRuntime) -> Result<(), Fail
     groups.set_offset("G", "T", 1, 5)?;
     groups.set_offset("H", "T", 0, 7)?;
     groups.set_offset("G", "T", 0, 2)?;
-    assert_eq!(rt; groups.offset("G", "T", 0), Some(2));
-    assert_eq!(rt; groups.offset("G", "T", 1), Some(5));
-    assert_eq!(rt; groups.offset("H", "T", 0), Some(7));
-    assert_eq!(rt; groups.offset("H", "T", 1), None);
-    assert_eq!(rt; groups.offset("G", "U", 0), None);
+    assert!(rt; groups.offset("G", "T", 0) == Some(2));
+    assert!(rt; groups.offset("G", "T", 1) == Some(5));
+    assert!(rt; groups.offset("H", "T", 0) == Some(7));
+    assert!(rt; groups.offset("H", "T", 1) == None);
+    assert!(rt; groups.offset("G", "U", 0) == None);
     Ok(())
 }
 
@@ -33,13 +33,13 @@ fn a_lock_is_granted_again_after_60000_milliseconds(rt: HostRuntime) -> Result<(
     let alloc = rt.alloc();
     let mut groups = Groups::new(alloc);
     let wanted = [queue(alloc, "T", "b", 0)?];
-    assert_eq!(rt; groups.lock_batch("G", "A", &wanted, 0)?.len(), 1);
-    assert_eq!(rt; groups.lock_batch("G", "B", &wanted, 60_000)?.len(), 0);
+    assert!(rt; groups.lock_batch("G", "A", &wanted, 0)?.len() == 1);
+    assert!(rt; groups.lock_batch("G", "B", &wanted, 60_000)?.len() == 0);
     groups.unlock_batch("G", "B", &wanted);
-    assert_eq!(rt; groups.lock_batch("G", "B", &wanted, 60_000)?.len(), 0);
-    assert_eq!(rt; groups.lock_batch("G", "B", &wanted, 60_001)?.len(), 1);
+    assert!(rt; groups.lock_batch("G", "B", &wanted, 60_000)?.len() == 0);
+    assert!(rt; groups.lock_batch("G", "B", &wanted, 60_001)?.len() == 1);
     groups.unlock_batch("G", "B", &wanted);
-    assert_eq!(rt; groups.lock_batch("G", "A", &wanted, 60_001)?.len(), 1);
+    assert!(rt; groups.lock_batch("G", "A", &wanted, 60_001)?.len() == 1);
     Ok(())
 }
 
@@ -53,22 +53,20 @@ fn each_queue_is_granted_once_under_its_first_name(rt: HostRuntime) -> Result<()
         queue(alloc, "T", "c", 1)?,
     ];
     let given = groups.lock_batch("G", "A", &wanted, 0)?;
-    assert_eq!(rt; given.len(), 2);
-    assert_eq!(rt;
+    assert!(rt; given.len() == 2);
+    assert!(rt;
         (
             given[0].topic.as_str(),
             given[0].broker.as_str(),
             given[0].queue
-        ),
-        ("T", "b", 1)
+        ) == ("T", "b", 1)
     );
-    assert_eq!(rt;
+    assert!(rt;
         (
             given[1].topic.as_str(),
             given[1].broker.as_str(),
             given[1].queue
-        ),
-        ("U", "b", 0)
+        ) == ("U", "b", 0)
     );
     Ok(())
 }

@@ -82,18 +82,18 @@ fn a_copy_settles_its_half_and_the_op_record_settles_it_again(rt: HostRuntime) -
     let alloc = rt.alloc();
     let mut view = HalfView::new(alloc);
     add(&mut view, alloc, HALF, 0)?;
-    assert_eq!(rt; view.origin_of(0, 0), Some(0));
-    assert_eq!(rt; view.origin_of(0, 178), None);
-    assert_eq!(rt; view.state_of(0), Some(OriginState::Open));
-    assert_eq!(rt; view.due(7_999), None);
-    assert_eq!(rt; view.due(8_000), check(0, None));
+    assert!(rt; view.origin_of(0, 0) == Some(0));
+    assert!(rt; view.origin_of(0, 178) == None);
+    assert!(rt; view.state_of(0) == Some(OriginState::Open));
+    assert!(rt; view.due(7_999) == None);
+    assert!(rt; view.due(8_000) == check(0, None));
     add(&mut view, alloc, COPY, 1)?;
-    assert_eq!(rt; view.state_of(0), Some(OriginState::Committed));
-    assert_eq!(rt; view.settled_by(0), Some(1));
-    assert_eq!(rt; view.due(8_000), None);
+    assert!(rt; view.state_of(0) == Some(OriginState::Committed));
+    assert!(rt; view.settled_by(0) == Some(1));
+    assert!(rt; view.due(8_000) == None);
     add(&mut view, alloc, OP, 2)?;
-    assert_eq!(rt; view.state_of(0), Some(OriginState::Committed));
-    assert_eq!(rt; view.settled_by(0), Some(2));
+    assert!(rt; view.state_of(0) == Some(OriginState::Committed));
+    assert!(rt; view.settled_by(0) == Some(2));
     Ok(())
 }
 
@@ -105,14 +105,14 @@ fn a_renewal_puts_the_check_off_and_its_discarded_copy_settles_the_origin(
     let mut view = HalfView::new(alloc);
     add(&mut view, alloc, HALF, 0)?;
     add(&mut view, alloc, RENEWAL, 1)?;
-    assert_eq!(rt; view.origin_of(1, 178), Some(0));
-    assert_eq!(rt; view.named_at(178), Some(0));
-    assert_eq!(rt; view.state_of(1), None);
-    assert_eq!(rt; view.due(61_999), None);
-    assert_eq!(rt; view.due(62_000), check(1, None));
+    assert!(rt; view.origin_of(1, 178) == Some(0));
+    assert!(rt; view.named_at(178) == Some(0));
+    assert!(rt; view.state_of(1) == None);
+    assert!(rt; view.due(61_999) == None);
+    assert!(rt; view.due(62_000) == check(1, None));
     add(&mut view, alloc, DISCARD, 2)?;
-    assert_eq!(rt; view.state_of(0), Some(OriginState::Discarded));
-    assert_eq!(rt; view.due(62_000), None);
+    assert!(rt; view.state_of(0) == Some(OriginState::Discarded));
+    assert!(rt; view.due(62_000) == None);
     Ok(())
 }
 
@@ -121,14 +121,14 @@ fn heads_answer_as_their_records(rt: HostRuntime) -> Result<(), Fail> {
     let alloc = rt.alloc();
     let mut view = HalfView::new(alloc);
     add_head(&mut view, alloc, HALF, 0)?;
-    assert_eq!(rt; view.origin_of(0, 0), Some(0));
-    assert_eq!(rt; view.due(8_000), check(0, None));
+    assert!(rt; view.origin_of(0, 0) == Some(0));
+    assert!(rt; view.due(8_000) == check(0, None));
     add_head(&mut view, alloc, COPY, 1)?;
-    assert_eq!(rt; view.state_of(0), Some(OriginState::Committed));
-    assert_eq!(rt; view.due(8_000), None);
+    assert!(rt; view.state_of(0) == Some(OriginState::Committed));
+    assert!(rt; view.due(8_000) == None);
     add_head(&mut view, alloc, OP, 2)?;
-    assert_eq!(rt; view.state_of(0), Some(OriginState::Committed));
-    assert_eq!(rt; view.settled_by(0), Some(2));
+    assert!(rt; view.state_of(0) == Some(OriginState::Committed));
+    assert!(rt; view.settled_by(0) == Some(2));
     Ok(())
 }
 
@@ -139,14 +139,14 @@ fn after_fifteen_renewals_an_origin_is_given_up(rt: HostRuntime) -> Result<(), F
     view.reserve(alloc)?;
     view.add_half(None, 0, 1_000);
     for asked in 0..15u64 {
-        assert_eq!(rt; view.due(6_999 + 60_000 * asked), None);
+        assert!(rt; view.due(6_999 + 60_000 * asked) == None);
         view.reserve(alloc)?;
         view.add_half(Some(0), 178 + 233 * asked, 7_000 + 60_000 * asked);
     }
-    assert_eq!(rt; view.due(906_999), None);
-    assert_eq!(rt; view.due(907_000), check(15, Some(15)));
+    assert!(rt; view.due(906_999) == None);
+    assert!(rt; view.due(907_000) == check(15, Some(15)));
     view.settle(Some(0), OriginState::RolledBack, 16);
-    assert_eq!(rt; view.state_of(0), Some(OriginState::RolledBack));
+    assert!(rt; view.state_of(0) == Some(OriginState::RolledBack));
     Ok(())
 }
 
@@ -160,10 +160,10 @@ fn half_messages_below_a_place_are_cut_off(rt: HostRuntime) -> Result<(), Fail> 
         view.add_half(None, at, 1_000);
     }
     view.cut(4_274);
-    assert_eq!(rt; view.origin_of(5, 4_096), None);
-    assert_eq!(rt; view.origin_of(6, 4_274), Some(6));
-    assert_eq!(rt; view.half(6).map(|row| row.place), Some(4_274));
+    assert!(rt; view.origin_of(5, 4_096) == None);
+    assert!(rt; view.origin_of(6, 4_274) == Some(6));
+    assert!(rt; view.half(6).map(|row| row.place) == Some(4_274));
     let due = view.due(7_000).map(|check| check.origin);
-    assert_eq!(rt; due, Some(6));
+    assert!(rt; due == Some(6));
     Ok(())
 }

@@ -67,17 +67,16 @@ fn a_pull_is_answered_by_where_it_begins_and_by_its_tags(rt: HostRuntime) -> Res
         (-1, "*", 21, 0, 0),
     ] {
         let pulled = pull(&view, alloc, "T", 3, from, text)?;
-        assert_eq!(rt;
-            (pulled.code, pulled.next, pulled.units.len()),
-            (code, next, found),
+        assert!(rt;
+            (pulled.code, pulled.next, pulled.units.len()) == (code, next, found),
             "{text} from {from}"
         );
-        assert_eq!(rt; (pulled.min, pulled.max), (0, 3));
+        assert!(rt; (pulled.min, pulled.max) == (0, 3));
     }
     let other = pull(&view, alloc, "T", 1, 0, "*")?;
-    assert_eq!(rt; (other.code, other.next, other.max), (19, 0, 0));
+    assert!(rt; (other.code, other.next, other.max) == (19, 0, 0));
     let past = pull(&view, alloc, "T", 1, 7, "*")?;
-    assert_eq!(rt; (past.code, past.next), (21, 0));
+    assert!(rt; (past.code, past.next) == (21, 0));
     Ok(())
 }
 
@@ -95,7 +94,7 @@ fn a_body_has_262144_bytes_at_most_or_one_record(rt: HostRuntime) -> Result<(), 
     }
     for (from, next) in [(0, 1), (1, 3), (2, 4), (3, 4)] {
         let pulled = pull(&view, alloc, "T", 0, from, "*")?;
-        assert_eq!(rt; (pulled.code, pulled.next), (0, next), "from {from}");
+        assert!(rt; (pulled.code, pulled.next) == (0, next), "from {from}");
     }
     Ok(())
 }
@@ -105,20 +104,17 @@ fn removed_units_move_the_minimum_and_leave_the_maximum(rt: HostRuntime) -> Resu
     let alloc = rt.alloc();
     let mut view = QueueView::new(alloc);
     let table = view.start(alloc, "T", 0, 5)?;
-    assert_eq!(rt;
-        (view.topic(table), view.queue(table), view.len()),
-        ("T", 0, 1)
-    );
+    assert!(rt; (view.topic(table), view.queue(table), view.len()) == ("T", 0, 1));
     put(&mut view, alloc, "T", 0, unit(0, 108, 0))?;
     let Some(table) = view.find("T", 0) else {
         return Err(Fail::from("no table"));
     };
-    assert_eq!(rt; (view.min(table), view.max(table)), (5, 6));
+    assert!(rt; (view.min(table), view.max(table)) == (5, 6));
     if view.min(table) <= 6 && 6 <= view.max(table) {
         view.cut(table, 6);
     }
     let pulled = pull(&view, alloc, "T", 0, 5, "*")?;
-    assert_eq!(rt; (pulled.code, pulled.next), (21, 6));
-    assert_eq!(rt; (pulled.min, pulled.max), (6, 6));
+    assert!(rt; (pulled.code, pulled.next) == (21, 6));
+    assert!(rt; (pulled.min, pulled.max) == (6, 6));
     Ok(())
 }
