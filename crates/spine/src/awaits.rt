@@ -26,7 +26,10 @@ pub trait Awaits: Calls {
 fn look_once<C: Calls>(alloc: Global, calls: &mut C, number: u64, turn: u64) -> Awaited
     ensures { C.makes calls.old (Look number turn) (Some (said.Awaited result)) calls.new }
 {
-    match calls.call(alloc, &Event::Look { number, turn }) {
+    let event = Event::Look { number, turn };
+    let answer = calls.call(alloc, &event);
+    drop(event);
+    match answer {
         Ok(Said::Awaited(awaited)) => awaited,
         Ok(_) | Err(_) => unreachable!(),
     }

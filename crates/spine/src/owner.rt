@@ -23,6 +23,8 @@ impl<'a, R: Wait> Owner for SpinePass<'a, R> {
         let event = Event::Look { number: 0, turn: 0 };
         let (said, answer) = turn.state().step_and_read(alloc, &event, f);
         self.pass = Some(turn.end(&event, &said));
+        drop(event);
+        drop(said);
         answer
     }
 
