@@ -1,7 +1,7 @@
 //! The event of a row.
 
 use crate::does::Do;
-use crate::header::{body_of, header_of};
+use crate::header::{body_of, header, header_of};
 use mq_bytes::Rows;
 use remoting_frame::{Form, Frame, Header};
 use request_fields::Request;
@@ -9,7 +9,7 @@ use slow_steps::Event;
 use std::alloc::{AllocError, Global};
 
 // The frame of a request, if the header is one.
-fn frame(alloc: Global, header: &str, body: &str) -> Result<Option<Frame>, AllocError> {
+fn frame(alloc: Global, header: &str, body: &[u8]) -> Result<Option<Frame>, AllocError> {
     let Ok(header) = Header::read(alloc, Form::Json, header.as_bytes()) else {
         return Ok(None);
     };
@@ -17,15 +17,27 @@ fn frame(alloc: Global, header: &str, body: &str) -> Result<Option<Frame>, Alloc
         at: 0,
         form: Form::Json,
         header,
-        body: Rows::of(Vec::from_slice(alloc, body.as_bytes())?),
+        body: Rows::of(Vec::from_slice(alloc, body)?),
     }))
+}
+
+/// The frame of a request with this code, these fields and this body. The fields stand in its header of JSON as they are given; no
+/// frame where it can't be read.
+pub fn request_frame(
+    alloc: Global,
+    code: u32,
+    fields: &[(&str, &str)],
+    body: &[u8],
+) -> Result<Option<Frame>, AllocError> {
+    let header = header(alloc, code, fields)?;
+    frame(alloc, header.as_str(), body)
 }
 
 // The frame of the request that the row makes.
 fn frame_of(alloc: Global, does: Do) -> Result<Option<Frame>, AllocError> {
     let header = header_of(alloc, does)?;
     let body = body_of(alloc, does)?;
-    frame(alloc, header.as_str(), body.as_str())
+    frame(alloc, header.as_str(), body.as_bytes())
 }
 
 // The request of a frame comes on link 1, if it is one.

@@ -3,8 +3,12 @@
 use crate::does::{Do, Verdict};
 use std::alloc::{AllocError, Global};
 
-// A header of JSON with this code and these fields.
-fn header(alloc: Global, code: u32, fields: &[(&str, &str)]) -> Result<String, AllocError> {
+/// A header in JSON with this code and these fields.
+pub(crate) fn header(
+    alloc: Global,
+    code: u32,
+    fields: &[(&str, &str)],
+) -> Result<String, AllocError> {
     let mut out = String::new(alloc);
     write!(out, "{{\"code\":{code},\"opaque\":1,\"extFields\":{{")?;
     let mut between = "";

@@ -9,6 +9,8 @@ mod kept;
 mod sequence;
 mod shown;
 
+pub use asked::request_frame;
 pub use crashes::said_after;
 pub use does::{Do, Verdict};
-pub use sequence::{begin, play};
+pub use sequence::{begin, play, step};
+pub use shown::{put_awaited, put_front};

@@ -18,8 +18,8 @@ pub fn begin(alloc: Global) -> SlowBroker
     open(alloc, SETUP)
 }
 
-// The answer to an event, in words.
-fn step(alloc: Global, broker: &mut SlowBroker, event: &Event) -> Result<String, AllocError>
+/// The answer to an event, in words.
+pub fn step(alloc: Global, broker: &mut SlowBroker, event: &Event) -> Result<String, AllocError>
     requires { IsBounded broker.old }
     ensures { IsBounded broker.new }
 {

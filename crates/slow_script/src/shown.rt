@@ -1,6 +1,7 @@
 //! Answers, in words.
 
 use broker_events::Awaited;
+use mq_bytes::Text;
 use record_codec::Record;
 use slow_broker::Taken;
 use slow_rows::Reply;
@@ -15,12 +16,28 @@ fn put_records(out: &mut String, records: &[Record]) -> Result<(), AllocError> {
     Ok(())
 }
 
-// The code and the remark, the fields, and the places and sizes of the records.
-fn put_reply(out: &mut String, reply: &Reply) -> Result<(), AllocError> {
-    write!(out, "{} {}", reply.code, reply.remark.as_str())?;
-    for (name, value) in reply.ext.as_slice() {
+/// Appends a reply without its body: the code and the remark, and the fields.
+pub fn put_front(
+    out: &mut String,
+    code: i64,
+    remark: &Text,
+    fields: &[(Text, Text)],
+) -> Result<(), AllocError> {
+    write!(out, "{code} {}", remark.as_str())?;
+    for (name, value) in fields {
         write!(out, " {}={}", name.as_str(), value.as_str())?;
     }
+    Ok(())
+}
+
+// The same, and the places and sizes of the records.
+fn put_reply(out: &mut String, reply: &Reply) -> Result<(), AllocError> {
+    put_front(
+        out,
+        i64::from(reply.code),
+        &reply.remark,
+        reply.ext.as_slice(),
+    )?;
     put_records(out, reply.body.as_slice())
 }
 
@@ -29,7 +46,8 @@ fn put_batch(out: &mut String, taken: &Taken) -> Result<(), AllocError> {
     put_records(out, taken.records.as_slice())
 }
 
-fn put_awaited(out: &mut String, awaited: &Awaited) -> Result<(), AllocError> {
+/// Appends what became of a record.
+pub fn put_awaited(out: &mut String, awaited: &Awaited) -> Result<(), AllocError> {
     match awaited {
         Awaited::Flushed => out.push_str("flushed"),
         Awaited::Failed { count } => write!(out, "failed {count}"),
