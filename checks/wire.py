@@ -85,32 +85,41 @@ def binary_header(text):
     return {**header, "remark": remark} if remark else header
 
 
+def frames_of(data):
+    """The whole frames of a stream, one behind another, and then what is left of it."""
+    found, at = [], 0
+    while len(data) >= at + 4 and len(data) >= at + 4 + int.from_bytes(data[at:at + 4], "big"):
+        end = at + 4 + int.from_bytes(data[at:at + 4], "big")
+        found.append(data[at:end])
+        at = end
+    return found, data[at:]
+
+
+def header_of(frame):
+    """The header of the reply that this one frame is, with the form that it came in."""
+    form, head = frame[4], int.from_bytes(frame[5:8], "big")
+    text = bytes(frame[8:8 + head])
+    return {"binary": form == 1, **(binary_header(text) if form == 1 else json.loads(text))}
+
+
 def replies(data):
     """The headers of the replies, each with the form that it came in."""
-    found = []
-    while data:
-        size, form, head = int.from_bytes(data[:4], "big"), data[4], int.from_bytes(data[5:8], "big")
-        text = data[8:8 + head]
-        found.append({"binary": form == 1, **(binary_header(text) if form == 1 else json.loads(text))})
-        data = data[4 + size:]
-    return found
+    found, rest = frames_of(memoryview(data))
+    assert not rest
+    return [header_of(one) for one in found]
 
 
 def all_replies(data, whole=True):
     """The replies, each with its body; of a stream that isn't `whole` those that have come."""
-    found = []
-    while len(data) >= 4 and len(data) >= 4 + int.from_bytes(data[:4], "big"):
-        size = 4 + int.from_bytes(data[:4], "big")
-        found.append(reply_of(data[:size]))
-        data = data[size:]
-    assert not data or not whole
-    return found
+    found, rest = frames_of(data)
+    assert not rest or not whole
+    return [reply_of(one) for one in found]
 
 
-def reply_of(data):
+def reply_of(frame):
     """The reply that this one frame is, with its body."""
-    head = int.from_bytes(data[5:8], "big")
-    return {**replies(data)[0], "body": data[8 + head:]}
+    head = int.from_bytes(frame[5:8], "big")
+    return {**header_of(frame), "body": frame[8 + head:]}
 
 
 def pulled(body):
