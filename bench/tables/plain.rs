@@ -70,12 +70,14 @@ fn keys(asks: u32) -> bool {
             .or_default()
             .push((u64::from(at) * 108, u64::from(at)));
     }
+    let (from, to, end) = std::hint::black_box((0, u64::MAX, u64::MAX));
     let mut number = 1u64;
     for _ in 0..asks {
         number = after(number);
         let at = ((number >> 20) % u64::from(UNITS)) as u32;
         let hash = at.wrapping_mul(2_654_435_761);
-        let places: Vec<u64> = table[&hash].iter().rev().take(32).map(|entry| entry.0).collect();
+        let is_sought = |entry: &&(u64, u64)| (from..=to).contains(&entry.1) && entry.0 < end;
+        let places: Vec<u64> = table[&hash].iter().rev().filter(is_sought).take(32).map(|entry| entry.0).collect();
         if places.len() != 1 || places[0] != u64::from(at) * 108 {
             return false;
         }
@@ -83,12 +85,12 @@ fn keys(asks: u32) -> bool {
     true
 }
 
-// Origins by queue offset, and those that are open by their time.
+// Origins by queue offset, each with its time and whether it is settled, and those that are open by their time.
 fn halves(asks: u32) -> bool {
-    let mut rows: BTreeMap<u64, (u64, u64)> = BTreeMap::new();
+    let mut rows: BTreeMap<u64, (u64, u64, bool)> = BTreeMap::new();
     let mut due: BTreeSet<(u64, u64)> = BTreeSet::new();
     for at in 0..u64::from(HALVES) {
-        rows.insert(at, (at * 178, at + 6_000));
+        rows.insert(at, (at * 178, at + 6_000, false));
         due.insert((at + 6_000, at));
     }
     for at in 0..u64::from(HALVES / 8) {
@@ -101,6 +103,7 @@ fn halves(asks: u32) -> bool {
         match due.first().copied() {
             Some(first) if first.0 <= u64::from(HALVES) + 6_000 => {
                 due.remove(&first);
+                rows.get_mut(&first.1).unwrap().2 = true;
             }
             _ => return false,
         }

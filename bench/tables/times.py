@@ -1,8 +1,7 @@
 """times.py ROUNDS PROVED PLAIN: runs both programs in turn on each work, and tells the middle of the rounds.
 
-Times are those of the processor, user and system, so that a busy machine shows less; a ratio is the middle of the ratios of
-the rounds. What asking costs is a run with questions less one without. Bytes are what the filled process held at most, less
-what it holds without work.
+Times are those of the processor, user and system, so that a busy machine shows less. What asking costs is the middle of the runs
+with questions less the middle of those without. Bytes are what the filled process held at most, less what it holds without work.
 """
 import os
 import statistics
@@ -33,19 +32,19 @@ def kilobytes(program, work):
 
 
 def line(what, unit, ours, theirs):
-    ratio = statistics.median(a / b for a, b in zip(ours, theirs))
-    print(f"  {what}: {statistics.median(ours):.0f} {unit} beside {statistics.median(theirs):.0f}, {ratio:.2f} times")
+    print(f"  {what}: {ours:.0f} {unit} beside {theirs:.0f}, {ours / theirs:.2f} times")
+
+
+def middle(work, asks):
+    """The middle seconds of both programs."""
+    took = [[seconds(program, work, asks) for program in (proved, plain)] for _ in range(rounds)]
+    return [statistics.median(times) for times in zip(*took)]
 
 
 for work, count, asks in WORKS:
-    fill, ask = ([], []), ([], [])
-    for _ in range(rounds):
-        for k, program in enumerate((proved, plain)):
-            empty = seconds(program, work, 0)
-            fill[k].append(empty * 1e9 / count)
-            ask[k].append(max(seconds(program, work, asks) - empty, 1e-6) * 1e9 / asks)
+    empty, asked = middle(work, 0), middle(work, asks)
     held = [(kilobytes(program, work) - kilobytes(program, "none")) * 1024 / count for program in (proved, plain)]
     print(work)
-    line("filling", "ns each", *fill)
-    line("asking", "ns each", *ask)
-    line("held", "bytes each", [held[0]], [held[1]])
+    line("filling", "ns each", *(one * 1e9 / count for one in empty))
+    line("asking", "ns each", *((one - other) * 1e9 / asks for one, other in zip(asked, empty)))
+    line("held", "bytes each", *held)
