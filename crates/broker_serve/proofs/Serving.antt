@@ -1,82 +1,84 @@
 -- What a run leaves, put together from its parts.
-use Rattle.std.proofs.Common.{◌≡◌, ◌≢◌, ◌⊎◌, inl, inr, refl, sym, ap, subst, ◌∙◌, arith, ℕ, List, [], Option, Some, None, IfSome, Result, Ok, Err, OnOk}
+use Rattle.std.proofs.Common.{◌≡◌, ◌≢◌, ◌⊎◌, inl, refl, sym, ap, subst, ◌∙◌, arith, ℕ, List, Option, Some, None, IfSome, Result, Ok, OnOk}
 use Rattle.std.specs.Prelude.{IfNone}
-use Rattle.mq_outside.specs.Files.{Files, OldOrNew, At}
-use Rattle.mq_outside.specs.Disk.{DiskState, IsCrashImage, IsDurable, Rests}
+use Rattle.mq_outside.specs.Files.{Files, OldOrNew, At, Same}
+use Rattle.mq_outside.specs.Disk.{DiskState, Moves, Rests}
 use Rattle.mq_outside.specs.declared.faults.DiskFault.{DiskFault}
 use Rattle.mq_outside.proofs.Moments.{at_start, at_end, weaker, chained, throughout_rests, rests_then}
-use Rattle.broker_model.specs.State.{State}
 use Rattle.broker_model.specs.Tables.{OffsetRow, TopicRow}
-use Rattle.broker_events.specs.declared.event.Event.{Event}
-use Rattle.broker_events.specs.declared.said.Said.{Said}
 use Rattle.broker_core.specs.declared.parts.Parts.{Parts}
 use Rattle.config_store.specs.Configs.{OFFSETS, TOPICS, HasConfig, HasOffsets, HasTopics}
 use Rattle.config_store.specs.Texts.{offsets_text_of, topics_text_of}
 use Rattle.keeper_turns.specs.Puts.{HasSuch, ReplacesBy, PutsBy, KeepsBy}
 use Rattle.keeper_turns.specs.Turns.{IsOffsetsOf, IsTopicsOf}
 use Rattle.keeper_turns.proofs.PutLemmas.{puts_rested}
+use Rattle.segment_files.specs.declared.last_file.LastFile.{LastFile}
+use Rattle.request_acts.specs.Acts.{place_of}
 use Rattle.log_opening.specs.Opens.{OpensLogWith, OpensKeptWith, saved_as}
 use Rattle.log_opening.specs.declared.opening.Opened.{Opened}
-use Rattle.serve_threads.specs.Kept.{IsTextAlong, PutsAlong}
-use Rattle.serve_threads.specs.Served.{IsLeft}
-use Rattle.store_open.specs.Openings.{FORMAT, IsImageWith, IsOpened, PutsOnly, format_after, own_format}
+use Rattle.serve_story.specs.Kept.{IsTextAlong}
+use Rattle.serve_story.specs.Served.{IsLeft}
+use Rattle.store_open.specs.Openings.{FORMAT, IsImageWith, IsOpened, PutsOnly, own_format}
 use Rattle.store_open.specs.ServeWords.{IsServeCommand}
 use Rattle.store_open.specs.declared.format.AskedSizes.{AskedSizes}
 use Rattle.store_open.specs.declared.format.Sizes.{Sizes}
 use Rattle.store_open.specs.declared.serve_words.ServeCommand.{ServeCommand}
 use Rattle.store_open.specs.declared.status.Status.{Status}
-use Rattle.broker_serve.specs.Serves.{EndsOver, HasServed, LeavesCore, PutsAllAlong, PutsAllBy, ReplacesAllBy, ServesLog, ServesStore, setup_by}
+use Rattle.broker_serve.specs.Serves.{EndsOver, HasServed, PutsAllAlong, PutsAllBy, ReplacesAllBy, ServesLog, ServesStore, StoresOurs, Views, setup_by}
+use Rattle.broker_serve.proofs.Storing.{ours_same}
 
 -- ---- links that were served, or not
 
-pub ends_unserved : (start : Parts) (left : Option Parts) (status : Status) (told : Type 0) (old new : DiskState) → left ≡ None → Rests old new → EndsOver start left status told old new
-ends_unserved start left status told old new none rests = subst (λ o. EndsOver start o status told old new) (sym none) (λ tells. rests)
+module _ {D : Type 0} (views : Views D) where
+  pub ends_unserved : (start : Parts) (file : LastFile) (left : Option Parts) (status : Status) (told : Type 0) (old new : DiskState) → left ≡ None → Rests old new
+      → EndsOver views start file left status told old new
+  ends_unserved start file left status told old new none rests = subst (λ o. EndsOver views start file o status told old new) (sym none) (λ tells. rests)
 
-pub ends_served : (start : Parts) (left : Option Parts) (status : Status) (told : Type 0) (old new : DiskState) (core : Parts) (kept : Result (Unit {0}) DiskFault) → left ≡ Some core → (status.code ≡ 0 → kept ≡ Ok tt)
-    → IsLeft start told kept old new core → EndsOver start left status told old new
-ends_served start left status told old new core kept some zero is = subst (λ o. EndsOver start o status told old new) (sym some) (record { kept = kept; zero = zero; left = is })
+  pub ends_served : (start : Parts) (file : LastFile) (left : Option Parts) (status : Status) (told : Type 0) (old new : DiskState) (core : Parts) (kept : Result (Unit {0}) DiskFault) (began ended : D)
+      → left ≡ Some core → (status.code ≡ 0 → kept ≡ Ok tt) → IsLeft views.links views.gives views.disk start (place_of file began) ended told kept old new core
+      → EndsOver views start file left status told old new
+  ends_served start file left status told old new core kept began ended some zero is =
+      subst (λ o. EndsOver views start file o status told old new) (sym some) (record { kept = kept; zero = zero; began = began; ended = ended; left = is })
 
-module _ (command : ServeCommand) (segment : ℕ) (status : Status) (tells : Type 0) (files : Files) (told : Type 0) where
-  pub log_unserved : (offsets : List OffsetRow) (topics : List TopicRow) (left : Option Parts) (old new : DiskState) → left ≡ None → (told → Rests old new)
-      → ServesLog command segment offsets topics left status tells files told old new
-  log_unserved offsets topics left old new none rests = record {
-    still = λ is. rests;
-    served = subst (λ o. IfSome o (λ core. (opened : Opened) × OpensLogWith (setup_by command segment) (saved_as offsets topics) opened
-        × (tells → OpensKeptWith (setup_by command segment) (saved_as offsets topics) files opened)
-        × LeavesCore opened.core core status told old new)) (sym none) tt;
-  }
+module _ {D : Type 0} (views : Views D) (command : ServeCommand) (segment : ℕ) (status : Status) (disk : DiskState) (told : Type 0) where
+  pub log_unserved : (offsets : List OffsetRow) (topics : List TopicRow) (left : Option Parts) (disk_then old new : DiskState) → left ≡ None → (told → Rests old new)
+      → ServesLog views command segment offsets topics left status disk disk_then told old new
+  log_unserved offsets topics left disk_then old new none rests =
+      subst (λ o. ServesLog views command segment offsets topics o status disk disk_then told old new) (sym none) (record { still = λ is. rests; served = tt })
 
-  log_served : (offsets : List OffsetRow) (topics : List TopicRow) (left : Option Parts) (old new : DiskState) (opened : Opened) → OpensLogWith (setup_by command segment) (saved_as offsets topics) opened
-      → (tells → OpensKeptWith (setup_by command segment) (saved_as offsets topics) files opened) → EndsOver opened.core left status told old new
-      → ServesLog command segment offsets topics left status tells files told old new
-  log_served offsets topics None old new opened over kept ends = record { still = λ is. ends; served = tt }
-  log_served offsets topics (Some core) old new opened over kept ends = record { still = λ is. absurd (cc is); served = (opened, over, kept, ends) }
+  log_served : (offsets : List OffsetRow) (topics : List TopicRow) (left : Option Parts) (disk_then old new : DiskState) (opened : Opened)
+      → OpensLogWith (setup_by command segment) (saved_as offsets topics) opened
+      → (views.disk.tells → OpensKeptWith (setup_by command segment) (saved_as offsets topics) disk.reads opened)
+      → (views.disk.tells → IfSome left (λ core. StoresOurs segment disk core disk_then)) → EndsOver views opened.core opened.flusher.file left status told old new
+      → ServesLog views command segment offsets topics left status disk disk_then told old new
+  log_served offsets topics None disk_then old new opened over kept stores ends = record { still = λ is. ends; served = tt }
+  log_served offsets topics (Some core) disk_then old new opened over kept stores ends = record { still = λ is. absurd (cc is); served = (opened, over, kept, stores, ends) }
 
   -- the same with the rows as they were given
-  pub log_served_with : (offsets given_offsets : List OffsetRow) (topics given_topics : List TopicRow) (left : Option Parts) (old new : DiskState) (opened : Opened)
+  pub log_served_with : (offsets given_offsets : List OffsetRow) (topics given_topics : List TopicRow) (left : Option Parts) (disk_then old new : DiskState) (opened : Opened)
       → given_offsets ≡ offsets → given_topics ≡ topics → OpensLogWith (setup_by command segment) (saved_as given_offsets given_topics) opened
-      → (tells → OpensKeptWith (setup_by command segment) (saved_as given_offsets given_topics) files opened) → EndsOver opened.core left status told old new
-      → ServesLog command segment offsets topics left status tells files told old new
-  log_served_with offsets given_offsets topics given_topics left old new opened offsets_are topics_are over kept ends =
-      subst (λ (o : List OffsetRow). ServesLog command segment o topics left status tells files told old new) offsets_are
-      (subst (λ (t : List TopicRow). ServesLog command segment given_offsets t left status tells files told old new) topics_are
-      (log_served given_offsets given_topics left old new opened over kept ends))
+      → (views.disk.tells → OpensKeptWith (setup_by command segment) (saved_as given_offsets given_topics) disk.reads opened)
+      → (views.disk.tells → IfSome left (λ core. StoresOurs segment disk core disk_then)) → EndsOver views opened.core opened.flusher.file left status told old new
+      → ServesLog views command segment offsets topics left status disk disk_then told old new
+  log_served_with offsets given_offsets topics given_topics left disk_then old new opened offsets_are topics_are over kept stores ends =
+      subst (λ (o : List OffsetRow). ServesLog views command segment o topics left status disk disk_then told old new) offsets_are
+      (subst (λ (t : List TopicRow). ServesLog views command segment given_offsets t left status disk disk_then told old new) topics_are
+      (log_served given_offsets given_topics left disk_then old new opened over kept stores ends))
 
-  pub store_unserved : (left : Option Parts) (old new : DiskState) → left ≡ None → (told → Rests old new) → ServesStore command segment left status tells files told old new
-  store_unserved left old new none rests = record {
-    still = λ is. rests;
-    served = subst (λ o. IfSome o (HasServed command segment status tells files told old.reads (λ start history. PutsAlong start history old new) new)) (sym none) tt;
-  }
+  pub store_unserved : (left : Option Parts) (disk_then old new : DiskState) → left ≡ None → (told → Rests old new) → ServesStore views command segment left status disk disk_then told old new
+  store_unserved left disk_then old new none rests =
+      subst (λ o. ServesStore views command segment o status disk disk_then told old new) (sym none) (record { still = λ is. rests; served = tt })
 
   -- with what was loaded, which changed nothing
-  pub store_served : (left : Option Parts) (offsets : List OffsetRow) (topics : List TopicRow) (old loaded new : DiskState) → (told → Rests old loaded) → (told → HasConfig old.reads offsets topics)
-      → ServesLog command segment offsets topics left status tells files told loaded new → ServesStore command segment left status tells files told old new
-  store_served None offsets topics old loaded new rests config it = record { still = λ is t. rests_then (rests t) (it.still refl t); served = tt }
-  store_served (Some core) offsets topics old loaded new rests config it =
+  pub store_served : (left : Option Parts) (offsets : List OffsetRow) (topics : List TopicRow) (disk_then old loaded new : DiskState) → (told → Rests old loaded) → (told → HasConfig old.reads offsets topics)
+      → ServesLog views command segment offsets topics left status disk disk_then told loaded new → ServesStore views command segment left status disk disk_then told old new
+  store_served None offsets topics disk_then old loaded new rests config it = record { still = λ is t. rests_then (rests t) (it.still refl t); served = tt }
+  store_served (Some core) offsets topics disk_then old loaded new rests config it =
       let opened = it.served.0 in
       let over = it.served.1 in
       let kept = it.served.2 in
-      let ends = it.served.3 in
+      let stores = it.served.3 in
+      let ends = it.served.4 in
       let left = ends.left in
       record {
         still = λ is. absurd (cc is);
@@ -89,6 +91,10 @@ module _ (command : ServeCommand) (segment : ℕ) (status : Status) (tells : Typ
           kept = kept;
           history = left.history;
           stands = left.stands;
+          began = ends.began;
+          ended = ends.ended;
+          made = left.made;
+          stores = stores;
           put = λ t. puts_rested (IsTextAlong (λ s. offsets_text_of s.offsets) opened.core left.history) (IsTextAlong (λ s. topics_text_of s.topics) opened.core left.history)
               old loaded new (rests t) (left.puts t);
           ends = λ t zero. subst (λ (r : Result (Unit {0}) DiskFault). OnOk r (KeepsBy (IsOffsetsOf core) (IsTopicsOf core) new)) (ends.zero zero) (left.done t);
@@ -96,10 +102,10 @@ module _ (command : ServeCommand) (segment : ℕ) (status : Status) (tells : Typ
       }
 
   -- no other text of the keep changed
-  pub store_others : (left : Option Parts) (old new : DiskState) → ServesStore command segment left status tells files told old new → told
+  pub store_others : (left : Option Parts) (disk_then old new : DiskState) → ServesStore views command segment left status disk disk_then told old new → told
       → (name : List ℕ) → name ≢ OFFSETS → name ≢ TOPICS → new.reads name ≡ old.reads name
-  store_others None old new it tells_it name not_offsets not_topics = ap (λ (f : Files). f name) (it.still refl tells_it).same
-  store_others (Some core) old new it tells_it name not_offsets not_topics = (it.served.put tells_it).reads.others name not_offsets not_topics
+  store_others None disk_then old new it tells_it name not_offsets not_topics = ap (λ (f : Files). f name) (it.still refl tells_it).same
+  store_others (Some core) disk_then old new it tells_it name not_offsets not_topics = (it.served.put tells_it).reads.others name not_offsets not_topics
 
 -- ---- from before the opening on
 
@@ -168,36 +174,40 @@ config_before format old opened offsets topics puts has = record {
 }
 
 -- a run over a store that was opened so
-pub run_served : (left : Option Parts) (words : List (List ℕ)) (command : ServeCommand) (sizes : Sizes) (status : Status) (tells : Type 0) (files before : Files) (told : Type 0) (old opened new : DiskState)
-    → (tells → files ≡ before) → IsServeCommand words command → IsOpened command.sizes sizes tells before told old opened
-    → (told → PutsOnly (own_format (old.reads FORMAT) command.sizes) old opened) → ServesStore command sizes.segment left status tells files told opened new
-    → IfSome left (λ core. (c : ServeCommand) × (s : Sizes) × (IsServeCommand words c × IsOpened c.sizes s tells before told old new)
-    × HasServed c s.segment status tells before told old.reads (λ start history. PutsAllAlong (own_format (old.reads FORMAT) c.sizes) start history old new) new core)
-run_served None words command sizes status tells files before told old opened new same asked is puts it = tt
-run_served (Some core) words command sizes status tells files before told old opened new same asked is puts it =
+pub run_served : {D : Type 0} (views : Views D) (left : Option Parts) (words : List (List ℕ)) (command : ServeCommand) (sizes : Sizes) (status : Status) (disk before disk_then : DiskState) (told : Type 0)
+    (old opened new : DiskState) → (views.disk.tells → Moves Same before disk) → IsServeCommand words command → IsOpened command.sizes sizes views.disk.tells before.reads told old opened
+    → (told → PutsOnly (own_format (old.reads FORMAT) command.sizes) old opened) → ServesStore views command sizes.segment left status disk disk_then told opened new
+    → IfSome left (λ core. (c : ServeCommand) × (s : Sizes) × (IsServeCommand words c × IsOpened c.sizes s views.disk.tells before.reads told old new)
+    × HasServed views c s.segment status before disk_then told old.reads (λ start history. PutsAllAlong (own_format (old.reads FORMAT) c.sizes) start history old new) new core)
+run_served views None words command sizes status disk before disk_then told old opened new same asked is puts it = tt
+run_served views (Some core) words command sizes status disk before disk_then told old opened new same asked is puts it =
     let run = it.served in
     let P = IsTextAlong (λ s. offsets_text_of s.offsets) run.opened.core run.history in
     let Q = IsTextAlong (λ s. topics_text_of s.topics) run.opened.core run.history in
     let format = own_format (old.reads FORMAT) command.sizes in (
       command,
       sizes,
-      (asked, opened_kept P Q command.sizes sizes tells before told old opened new run.put is),
+      (asked, opened_kept P Q command.sizes sizes views.disk.tells before.reads told old opened new run.put is),
       record {
         offsets = run.offsets;
         topics = run.topics;
         config = λ t. config_before format old opened run.offsets run.topics (puts t) (run.config t);
         opened = run.opened;
         over = run.over;
-        kept = λ t. subst (λ (f : Files). OpensKeptWith (setup_by command sizes.segment) (saved_as run.offsets run.topics) f run.opened) (same t) (run.kept t);
+        kept = λ t. subst (λ (f : Files). OpensKeptWith (setup_by command sizes.segment) (saved_as run.offsets run.topics) f run.opened) (same t).reads (run.kept t);
         history = run.history;
         stands = run.stands;
+        began = run.began;
+        ended = run.ended;
+        made = run.made;
+        stores = λ t. ours_same sizes.segment before disk core disk_then (same t) (run.stores t);
         put = λ t. puts_all format P Q old opened new (puts t) (run.put t);
         ends = run.ends;
       },
     )
 
 -- where no links were served
-pub run_unserved : (left : Option Parts) (command : ServeCommand) (segment : ℕ) (status : Status) (tells : Type 0) (files : Files) (told : Type 0) (format : List ℕ) (old opened new : DiskState)
-    → (told → PutsOnly format old opened) → ServesStore command segment left status tells files told opened new → told → IfNone left ((text : List ℕ) × PutsOnly text old new)
-run_unserved None command segment status tells files told format old opened new puts it t = (format, puts_still format old opened new (puts t) (it.still refl t))
-run_unserved (Some core) command segment status tells files told format old opened new puts it t = tt
+pub run_unserved : {D : Type 0} (views : Views D) (left : Option Parts) (command : ServeCommand) (segment : ℕ) (status : Status) (disk disk_then : DiskState) (told : Type 0) (format : List ℕ) (old opened new : DiskState)
+    → (told → PutsOnly format old opened) → ServesStore views command segment left status disk disk_then told opened new → told → IfNone left ((text : List ℕ) × PutsOnly text old new)
+run_unserved views None command segment status disk disk_then told format old opened new puts it t = (format, puts_still format old opened new (puts t) (it.still refl t))
+run_unserved views (Some core) command segment status disk disk_then told format old opened new puts it t = tt

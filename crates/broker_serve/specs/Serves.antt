@@ -1,22 +1,35 @@
 -- What a run of `serve` leaves.
-use Rattle.std.specs.Prelude.{◌≡◌, ◌≢◌, ◌⊎◌, ℕ, List, Option, Some, None, IfSome, Result, Ok}
+use Rattle.std.specs.Prelude.{◌≡◌, ◌≢◌, ◌⊎◌, ℕ, ◌≤◌, ◌++◌, List, length, take, Option, Some, None, IfSome, Result, Ok}
 use Rattle.mq_outside.specs.Files.{Files, OldOrNew}
+use Rattle.mq_outside.specs.Readings.{Giving}
 use Rattle.mq_outside.specs.Disk.{DiskState, IsCrashImage, Rests, Throughout}
 use Rattle.mq_outside.specs.declared.faults.DiskFault.{DiskFault}
+use Rattle.record_codec.specs.Entry.{Entry}
+use Rattle.log_model.specs.Bases.{whole}
+use Rattle.log_model.specs.Store.{IsHonest, StoresLog}
+use Rattle.log_model.specs.Stored.{stored}
+use Rattle.segment_files.specs.Turn.{IsReady, growing}
+use Rattle.segment_files.specs.declared.last_file.LastFile.{LastFile}
+use Rattle.broker_model.specs.Run.{opened}
+use Rattle.broker_model.specs.State.{State, Saved}
 use Rattle.broker_model.specs.Tables.{OffsetRow, TopicRow}
 use Rattle.broker_events.specs.declared.event.Event.{Event}
 use Rattle.broker_events.specs.declared.event.Setup.{Setup}
 use Rattle.broker_events.specs.declared.said.Said.{Said}
+use Rattle.broker_core.specs.Loads.{whole_log}
+use Rattle.broker_core.specs.Represents.{Represents, setup_of}
 use Rattle.broker_core.specs.declared.parts.Parts.{Parts}
+use Rattle.flush_story.specs.Keeping.{flushed_in}
 use Rattle.config_store.specs.Configs.{OFFSETS, TOPICS, HasConfig}
 use Rattle.config_store.specs.Texts.{offsets_text_of, topics_text_of}
 use Rattle.keeper_turns.specs.Puts.{HasSuch, KeepsBy}
 use Rattle.keeper_turns.specs.Turns.{IsOffsetsOf, IsTopicsOf}
 use Rattle.log_opening.specs.Opens.{OpensLogWith, OpensKeptWith, saved_as}
 use Rattle.log_opening.specs.declared.opening.Opened.{Opened}
+use Rattle.request_acts.specs.Acts.{DiskView, place_of}
 use Rattle.spine.specs.Stands.{Stands}
-use Rattle.serve_threads.specs.Kept.{IsTextAlong, PutsAlong}
-use Rattle.serve_threads.specs.Served.{IsLeft}
+use Rattle.serve_story.specs.Kept.{IsTextAlong, PutsAlong}
+use Rattle.serve_story.specs.Served.{IsLeft, IsMadeBy}
 use Rattle.store_open.specs.Openings.{FORMAT}
 use Rattle.store_open.specs.declared.serve_words.ServeCommand.{ServeCommand}
 use Rattle.store_open.specs.declared.status.Status.{Status}
@@ -47,47 +60,97 @@ PutsAllAlong format start history old new =
     PutsAllBy format (IsTextAlong (λ s. offsets_text_of s.offsets) start history)
     (IsTextAlong (λ s. topics_text_of s.topics) start history) old new
 
+-- ---- the disk
+
+-- The core represents a state whose log begins with these records, all of them flushed, and the disk stores that log, with its flushed
+-- number.
+pub record StoresAfter (segment : ℕ) (records : List Entry) (core : Parts) (disk : DiskState) : Type 0 where
+  pub reached : State
+  pub represents : Represents core reached
+  pub more : List Entry
+  pub begins : reached.log.records ≡ records ++ more
+  pub flushed : length records ≤ flushed_in reached
+  pub stores : StoresLog (whole segment) reached.log.records (flushed_in reached) disk
+
+-- The same of first records of this log, at least so many.
+pub record StoresOn (segment : ℕ) (log : List Entry) (flushed : ℕ) (core : Parts) (disk : DiskState) : Type 0 where
+  pub number : ℕ
+  pub low : flushed ≤ number
+  pub high : number ≤ length log
+  pub after : StoresAfter segment (take number log) core disk
+
+-- of each log that the old disk stored and was read of honestly, once it was opened and served up to this core
+abbrev pub StoresOurs : ℕ → DiskState → Parts → DiskState → Type 0
+StoresOurs segment old core new = (log : List Entry) (flushed : ℕ) → StoresLog (whole segment) log flushed old
+    → IsHonest (whole segment) log flushed old.reads → StoresOn segment log flushed core new
+
+-- Where the first core represents the opening of a log, all of which is flushed and stored on the old disk, the new disk stores what
+-- came of it.
+abbrev pub StoresOpened : Parts → LastFile → DiskState → Parts → DiskState → Type 0
+StoresOpened start file old core new = (setup : Setup) (saved : Saved) (records : List Entry)
+    → Represents start (opened (setup_of setup) (whole_log records) saved)
+    → IsReady (stored (whole setup.segment) records (length records)) 0 (growing file old) → StoresAfter setup.segment records core new
+
 -- ---- a run
+
+-- how a run sees its links, what its readers give, and its disk
+pub record Views (D : Type 0) : Type 1 where
+  pub links : Type 0
+  pub gives : Giving
+  pub disk : DiskView D
+
+abbrev pub views_of : {D : Type 0} → Type 0 → Giving → DiskView D → Views D
+views_of links gives disk = record { links = links; gives = gives; disk = disk }
 
 -- Links were served from the first core on, and this is left. Status 0 comes only where the last replacement of the kept files
 -- ended Ok.
-pub record LeavesCore (start core : Parts) (status : Status) (told : Type 0) (old new : DiskState) : Type 0 where
+pub record LeavesCore {D : Type 0} (views : Views D) (start : Parts) (file : LastFile) (core : Parts) (status : Status) (told : Type 0)
+    (old new : DiskState) : Type 0 where
   pub kept : Result (Unit {0}) DiskFault
   pub zero : status.code ≡ 0 → kept ≡ Ok tt
-  pub left : IsLeft start told kept old new core
+  pub began : D
+  pub ended : D
+  pub left : IsLeft views.links views.gives views.disk start (place_of file began) ended told kept old new core
 
 -- the same where links were served; else the keep stays
-abbrev pub EndsOver : Parts → Option Parts → Status → Type 0 → DiskState → DiskState → Type 0
-EndsOver start None status told old new = told → Rests old new
-EndsOver start (Some core) status told old new = LeavesCore start core status told old new
+abbrev pub EndsOver : {D : Type 0} → Views D → Parts → LastFile → Option Parts → Status → Type 0 → DiskState → DiskState → Type 0
+EndsOver views start file None status told old new = told → Rests old new
+EndsOver views start file (Some core) status told old new = LeavesCore views start file core status told old new
 
 -- A log was opened as these words and the store's format say, with what the kept files had, and the core stands for one history
--- since. Where the disk tells its files, it is the log that recovery keeps of them. What was put into the kept files is told along
--- this history. Where the status is 0 both have the texts of the core, and keep them through a crash.
-pub record HasServed (command : ServeCommand) (segment : ℕ) (status : Status) (tells : Type 0) (files : Files)
+-- since, of which each entry is the flusher's, one of the loops' or the keeper's. Where the disk tells its files, it is the log that
+-- recovery keeps of them; and a log that it stored and was read of honestly it stores still, with what was flushed since. What was put
+-- into the kept files is told along this history. Where the status is 0 both have the texts of the core, and keep them through a crash.
+pub record HasServed {D : Type 0} (views : Views D) (command : ServeCommand) (segment : ℕ) (status : Status) (disk disk_then : DiskState)
     (told : Type 0) (texts : Files) (puts : Parts → List (Event × Option Said) → Type 0) (left : DiskState) (core : Parts) : Type 0 where
   pub offsets : List OffsetRow
   pub topics : List TopicRow
   pub config : told → HasConfig texts offsets topics
   pub opened : Opened
   pub over : OpensLogWith (setup_by command segment) (saved_as offsets topics) opened
-  pub kept : tells → OpensKeptWith (setup_by command segment) (saved_as offsets topics) files opened
+  pub kept : views.disk.tells → OpensKeptWith (setup_by command segment) (saved_as offsets topics) disk.reads opened
   pub history : List (Event × Option Said)
   pub stands : Stands opened.core history core
+  pub began : D
+  pub ended : D
+  pub made : IsMadeBy views.links views.gives views.disk opened.core (place_of opened.flusher.file began) history core ended
+  pub stores : views.disk.tells → StoresOurs segment disk core disk_then
   pub put : told → puts opened.core history
   pub ends : told → status.code ≡ 0 → KeepsBy (IsOffsetsOf core) (IsTopicsOf core) left
 
 -- the same with these rows, which were loaded
-pub record ServesLog (command : ServeCommand) (segment : ℕ) (offsets : List OffsetRow) (topics : List TopicRow)
-    (core : Option Parts) (status : Status) (tells : Type 0) (files : Files) (told : Type 0) (old new : DiskState) : Type 0 where
+pub record ServesLog {D : Type 0} (views : Views D) (command : ServeCommand) (segment : ℕ) (offsets : List OffsetRow)
+    (topics : List TopicRow) (core : Option Parts) (status : Status) (disk disk_then : DiskState) (told : Type 0) (old new : DiskState)
+    : Type 0 where
   pub still : core ≡ None → told → Rests old new
   pub served : IfSome core (λ left. (opened : Opened) × OpensLogWith (setup_by command segment) (saved_as offsets topics) opened
-      × (tells → OpensKeptWith (setup_by command segment) (saved_as offsets topics) files opened)
-      × LeavesCore opened.core left status told old new)
+      × (views.disk.tells → OpensKeptWith (setup_by command segment) (saved_as offsets topics) disk.reads opened)
+      × (views.disk.tells → StoresOurs segment disk left disk_then)
+      × LeavesCore views opened.core opened.flusher.file left status told old new)
 
 -- the same from a keep whose format stands
-pub record ServesStore (command : ServeCommand) (segment : ℕ) (core : Option Parts) (status : Status)
-    (tells : Type 0) (files : Files) (told : Type 0) (old new : DiskState) : Type 0 where
+pub record ServesStore {D : Type 0} (views : Views D) (command : ServeCommand) (segment : ℕ) (core : Option Parts) (status : Status)
+    (disk disk_then : DiskState) (told : Type 0) (old new : DiskState) : Type 0 where
   pub still : core ≡ None → told → Rests old new
-  pub served : IfSome core (HasServed command segment status tells files told old.reads
+  pub served : IfSome core (HasServed views command segment status disk disk_then told old.reads
       (λ start history. PutsAlong start history old new) new)

@@ -3,9 +3,13 @@
 ghost use Rattle.std.specs.Prelude.{◌≡◌, ◌≢◌, ℕ, List, All, Some, None, Ok, IfSome, IfNone};
 ghost use Rattle.mq_outside.specs.Disk.{Moves};
 ghost use Rattle.mq_outside.specs.Files.{Same};
+ghost use Rattle.record_codec.specs.Entry.{Entry};
+ghost use Rattle.log_model.specs.Bases.{Geometry};
 ghost use Rattle.log_model.specs.Log.{IsSegmentSize};
-ghost use Rattle.log_model.specs.Stored.{StaysOutside};
-ghost use Rattle.segment_files.specs.Turn.{IsInside};
+ghost use Rattle.log_model.specs.Store.{StoresLog};
+ghost use Rattle.log_model.specs.Stored.{Stored, StaysOutside};
+ghost use Rattle.segment_files.specs.Turn.{IsInside, IsReady, growing};
+ghost use Rattle.segment_files.specs.declared.last_file.LastFile.{LastFile};
 ghost use Rattle.broker_core.specs.Makes.{shown_of};
 ghost use Rattle.store_open.specs.Openings.{FORMAT, IsForeign, IsOpened, PutsOnly, own_format};
 ghost use Rattle.store_open.specs.Words.{texts_of};
@@ -16,7 +20,9 @@ ghost use Rattle.store_open.specs.declared.serve_words.ServeCommand.{ServeComman
 ghost use Rattle.config_store.specs.Configs.{OFFSETS, TOPICS};
 ghost use Rattle.config_store.specs.Texts.{IsKeptTopic};
 ghost use Rattle.group_tables.specs.Offsets.{IsOffset};
-ghost use Rattle.broker_serve.specs.Serves.{EndsOver, HasServed, PutsAllAlong, ServesLog, ServesStore};
+ghost use Rattle.request_acts.specs.Acts.{view_of};
+ghost use Rattle.serve_story.specs.Served.{AreLoops};
+ghost use Rattle.broker_serve.specs.Serves.{EndsOver, HasServed, PutsAllAlong, ServesLog, ServesStore, StoresOpened, views_of};
 
 use crate::statuses::{
     last_status, status_kept, status_of_config, status_of_fault, status_of_loops, status_of_reader,
@@ -87,9 +93,12 @@ fn bounds_of(command: &ServeCommand) -> Bounds {
 }
 
 // A reader for each loop.
+#[tactic(auto, using(crate::proofs::Storing::ready_same))]
 fn readers_of<D: Disk>(alloc: Global, disk: &mut D) -> Result<(D::Reader, D::Reader), DiskFault>
     ensures reads { D.tells → (D.state disk.new).reads ≡ (D.state disk.old).reads }
     ensures outside { D.tells → StaysOutside (D.state disk.old) (D.state disk.new) }
+    ensures ready { D.tells → (it : Stored) (file : LastFile) → IsReady it 0 (growing file (D.state disk.old))
+        → IsReady it 0 (growing file (D.state disk.new)) }
 {
     let one = disk.reader(alloc)?;
     match disk.reader(alloc) {
@@ -102,8 +111,11 @@ fn readers_of<D: Disk>(alloc: Global, disk: &mut D) -> Result<(D::Reader, D::Rea
 }
 
 // Gives the readers back to the disk.
+#[tactic(auto, using(crate::proofs::Storing::stores_same))]
 fn give_back<D: Disk>(disk: D, readers: (D::Reader, D::Reader)) -> D
     ensures outside { D.tells → StaysOutside (D.state disk) (D.state result) }
+    ensures stores { D.tells → (S : Geometry) (log : List Entry) (flushed : ℕ) → StoresLog S log flushed (D.state disk)
+        → StoresLog S log flushed (D.state result) }
 {
     let mut disk = disk;
     let (one, two) = readers;
@@ -122,6 +134,8 @@ fn ended_of<D: Disk + Drop, E: Keep + Drop>(
     ensures core { result.core ≡ Some served.core }
     ensures keep { result.store.keep ≡ served.keep }
     ensures outside { D.tells → StaysOutside (D.state served.disk) (D.state result.store.disk) }
+    ensures stores { D.tells → (S : Geometry) (log : List Entry) (flushed : ℕ) → StoresLog S log flushed (D.state served.disk)
+        → StoresLog S log flushed (D.state result.store.disk) }
 {
     let Served {
         core,
@@ -159,10 +173,14 @@ fn serve_open<
 ) -> Ended<D, E>
 where
     D::Reader: Send,
+    requires loops { AreLoops loops.first loops.second }
     requires none_out { (shown_of core).out ≡ None }
     requires inside { D.tells → IsInside devices.flusher.file.base devices.flusher.file.offset (D.state devices.disk) }
     ensures status { (result.status.code ≢ 1) × (result.status.code ≢ 6) × FitsTable result.status }
-    ensures ends { EndsOver core result.core result.status E.tells (E.state devices.keep) (E.state result.store.keep) }
+    ensures ends { EndsOver (views_of P.Link.tells D.Reader.gives (view_of D.tells D.state D.faults D.syncs)) core devices.flusher.file
+        result.core result.status E.tells (E.state devices.keep) (E.state result.store.keep) }
+    ensures stores { D.tells → IfSome result.core (λ left.
+        StoresOpened core devices.flusher.file (D.state devices.disk) left (D.state result.store.disk)) }
     ensures outside { D.tells → StaysOutside (D.state devices.disk) (D.state result.store.disk) }
 {
     match serve(rt, alloc, core, loops, clock, devices) {
@@ -200,15 +218,25 @@ fn serve_loops<
 ) -> Ended<D, E>
 where
     D::Reader: Send,
+    requires loops { AreLoops loops.first loops.second }
     requires none_out { (shown_of opened.core).out ≡ None }
     requires inside { D.tells → IsInside opened.flusher.file.base opened.flusher.file.offset (D.state store.disk) }
     ensures status { (result.status.code ≢ 1) × (result.status.code ≢ 6) × FitsTable result.status }
-    ensures ends { EndsOver opened.core result.core result.status E.tells (E.state store.keep) (E.state result.store.keep) }
+    ensures ends { EndsOver (views_of P.Link.tells D.Reader.gives (view_of D.tells D.state D.faults D.syncs)) opened.core
+        opened.flusher.file result.core result.status E.tells (E.state store.keep) (E.state result.store.keep) }
+    ensures stores { D.tells → IfSome result.core (λ left.
+        StoresOpened opened.core opened.flusher.file (D.state store.disk) left (D.state result.store.disk)) }
     ensures outside { D.tells → StaysOutside (D.state store.disk) (D.state result.store.disk) }
 {
     let Store { mut disk, keep } = store;
     match readers_of(alloc, &mut disk) {
-        Err(fault) => unserved(Store { disk, keep }, status_of_reader(alloc, fault)),
+        Err(fault) => {
+            // Let go by name, which is proved once a type, and not anew at each end of a scope.
+            drop(opened);
+            drop(loops);
+            drop(clock);
+            unserved(Store { disk, keep }, status_of_reader(alloc, fault))
+        }
         Ok(readers) => {
             let Opened { core, flusher } = opened;
             let devices = Devices {
@@ -242,7 +270,10 @@ where
     requires none_out { (shown_of opened.core).out ≡ None }
     requires inside { D.tells → IsInside opened.flusher.file.base opened.flusher.file.offset (D.state store.disk) }
     ensures status { (result.status.code ≢ 1) × (result.status.code ≢ 6) × FitsTable result.status }
-    ensures ends { EndsOver opened.core result.core result.status E.tells (E.state store.keep) (E.state result.store.keep) }
+    ensures ends { EndsOver (views_of P.Link.tells D.Reader.gives (view_of D.tells D.state D.faults D.syncs)) opened.core
+        opened.flusher.file result.core result.status E.tells (E.state store.keep) (E.state result.store.keep) }
+    ensures stores { D.tells → IfSome result.core (λ left.
+        StoresOpened opened.core opened.flusher.file (D.state store.disk) left (D.state result.store.disk)) }
     ensures outside { D.tells → StaysOutside (D.state store.disk) (D.state result.store.disk) }
 {
     let World {
@@ -251,10 +282,19 @@ where
         clock,
     } = world;
     if door.open(port_of(command)).is_err() {
+        // Let go by name, as above.
+        drop(opened);
+        drop(ready);
+        drop(door);
+        drop(clock);
         return unserved(store, Status::named(alloc, 10, "door"));
     }
     match Loops::new(alloc, ready, door, bounds_of(command)) {
-        Err(end) => unserved(store, status_of_loops(alloc, end)),
+        Err(end) => {
+            drop(opened);
+            drop(clock);
+            unserved(store, status_of_loops(alloc, end))
+        }
         Ok(loops) => serve_loops(rt, alloc, opened, loops, clock, store),
     }
 }
@@ -281,8 +321,9 @@ where
     requires offsets { All IsOffset config.offsets.items }
     requires topics { All IsKeptTopic config.topics.items }
     ensures status { (result.status.code ≢ 1) × (result.status.code ≢ 6) × FitsTable result.status }
-    ensures served { ServesLog command.now segment config.offsets.items config.topics.items result.core result.status
-        D.tells (D.state store.disk).reads E.tells (E.state store.keep) (E.state result.store.keep) }
+    ensures served { ServesLog (views_of P.Link.tells D.Reader.gives (view_of D.tells D.state D.faults D.syncs)) command.now segment
+        config.offsets.items config.topics.items result.core result.status (D.state store.disk) (D.state result.store.disk)
+        E.tells (E.state store.keep) (E.state result.store.keep) }
     ensures outside { D.tells → StaysOutside (D.state store.disk) (D.state result.store.disk) }
 {
     let setup = Setup {
@@ -318,8 +359,9 @@ where
     D::Reader: Send,
     requires size { IsSegmentSize segment }
     ensures status { (result.status.code ≢ 1) × (result.status.code ≢ 6) × FitsTable result.status }
-    ensures served { ServesStore command.now segment result.core result.status
-        D.tells (D.state store.disk).reads E.tells (E.state store.keep) (E.state result.store.keep) }
+    ensures served { ServesStore (views_of P.Link.tells D.Reader.gives (view_of D.tells D.state D.faults D.syncs)) command.now segment
+        result.core result.status (D.state store.disk) (D.state result.store.disk)
+        E.tells (E.state store.keep) (E.state result.store.keep) }
     ensures outside { D.tells → StaysOutside (D.state store.disk) (D.state result.store.disk) }
 {
     let Store { disk, mut keep } = store;
@@ -356,10 +398,12 @@ where
     ensures idle { result.status.code ≡ 1 → result.store ≡ store }
 
     // Where links were served, they were served by the core of the log with what the kept files had. The core that is left stands
-    // for one history of steps since, and the kept files have texts of states of this history.
+    // for one history of steps since, each of which is the flusher's, one link's or the keeper's. The disk stores the log of a state
+    // that this core represents, and the kept files have texts of states of this history.
     ensures served { IfSome result.core (λ core. (command : ACommand) × (sizes : TheSizes) × (IsServeCommand (texts_of words.now) command
         × IsOpened command.sizes sizes D.tells (D.state store.disk).reads E.tells (E.state store.keep) (E.state result.store.keep))
-        × HasServed command sizes.segment result.status D.tells (D.state store.disk).reads E.tells (E.state store.keep).reads
+        × HasServed (views_of P.Link.tells D.Reader.gives (view_of D.tells D.state D.faults D.syncs)) command sizes.segment
+        result.status (D.state store.disk) (D.state result.store.disk) E.tells (E.state store.keep).reads
         (λ start history. PutsAllAlong (own_format ((E.state store.keep).reads FORMAT) command.sizes) start history
         (E.state store.keep) (E.state result.store.keep)) (E.state result.store.keep) core) }
 

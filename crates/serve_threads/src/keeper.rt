@@ -1,6 +1,6 @@
 //! The keeper: the two kept files follow what the core has, a few seconds behind it.
 
-ghost use Rattle.serve_threads.specs.Kept.{KeepsUp};
+ghost use Rattle.serve_story.specs.Kept.{KeepsUp};
 
 use broker_core::Owner;
 use event_loops::Shared;

@@ -1,5 +1,8 @@
 //! The two loops, and how other threads reach them.
 
+ghost use Rattle.std.specs.Prelude.{◌≡◌, [], IfOk};
+ghost use Rattle.serve_story.specs.Served.{AreLoops};
+
 use event_loops::{Bounds, EventLoop, LoopEnd, Port};
 use mq_outside::DiskFault;
 use mq_peers::Ready;
@@ -34,11 +37,9 @@ fn ports_of<P: Ready>(alloc: Global, first: &P, second: &P) -> Result<Vec<Port<P
 }
 
 // A loop without links.
-fn loop_of<P: Ready + Drop>(
-    alloc: Global,
-    number: usize,
-    ready: P,
-) -> Result<EventLoop<P>, LoopEnd> {
+fn loop_of<P: Ready + Drop>(alloc: Global, number: usize, ready: P) -> Result<EventLoop<P>, LoopEnd>
+    ensures { IfOk result (λ it. (it.links.loops ≡ 2) × (it.links.number ≡ number) × (it.links.slots.items ≡ [])) }
+{
     match EventLoop::new(alloc, number, LOOPS, ready) {
         Ok(made) => Ok(made),
         Err(AllocError) => Err(LoopEnd::Memory),
@@ -47,12 +48,9 @@ fn loop_of<P: Ready + Drop>(
 
 impl<P: Ready + Drop> Loops<P> {
     /// Two loops, the first of which has the door. The door is open.
-    pub fn new(
-        alloc: Global,
-        ready: P,
-        door: P::Door,
-        bounds: Bounds,
-    ) -> Result<Loops<P>, LoopEnd> {
+    pub fn new(alloc: Global, ready: P, door: P::Door, bounds: Bounds) -> Result<Loops<P>, LoopEnd>
+        ensures { IfOk result (λ it. AreLoops it.first it.second) }
+    {
         let mut ready = ready;
         let twin = twin_of(&mut ready)?;
         let Ok(ports) = ports_of(alloc, &ready, &twin) else {

@@ -1,16 +1,19 @@
 //! The threads: each owns what it works with, and gives it back at its end.
 
-ghost use Rattle.std.specs.Prelude.{◌≡◌, None};
+ghost use Rattle.std.specs.Prelude.{◌≡◌, ℕ, None};
 ghost use denote.Param.Send.{IsSync, IsSend};
 ghost use Rattle.log_model.specs.Stored.{StaysOutside};
 ghost use Rattle.segment_files.specs.Turn.{IsInside};
-ghost use Rattle.serve_threads.specs.Kept.{KeepsUp};
+ghost use Rattle.session.specs.Serving.{Leads};
+ghost use Rattle.request_acts.specs.Acts.{Acted, place_of, view_of};
+ghost use Rattle.serve_story.specs.Kept.{KeepsUp};
+ghost use Rattle.serve_story.specs.Served.{IsLoop, AreFlushing, AreAnswered};
 
 use crate::flusher::keep_flushing;
 use crate::keeper::keep_up;
 use broker_core::Owner;
 use broker_events::Calls;
-use event_loops::{Around, EventLoop, LoopEnd};
+use event_loops::{Around, EventLoop, LoopEnd, each_link_of_a_loop_is_answered_in_order};
 use group_flush::Flusher;
 use mq_outside::{Clock, Disk, Keep, Reader};
 use mq_peers::Ready;
@@ -39,18 +42,11 @@ fn tell_end<W: Wait, P: Ready, K: Clock + Send + Drop>(around: &Around<'_, W, P,
 }
 
 impl<P: Ready + Drop, C: Calls + Drop, R: Reader + Drop> Worker<P, C, R> {
-    /// A loop that has not begun.
-    pub(crate) fn new(event_loop: EventLoop<P>, calls: C, reader: R) -> Worker<P, C, R> {
-        Worker {
-            event_loop,
-            calls,
-            reader,
-            end: LoopEnd::Done,
-        }
-    }
-
     // Runs the loop to its end.
-    fn run<W: Wait, K: Clock + Send + Drop>(self, around: &Around<'_, W, P, K>) -> Worker<P, C, R> {
+    fn run<W: Wait, K: Clock + Send + Drop>(self, around: &Around<'_, W, P, K>) -> Worker<P, C, R>
+        ensures { (number : ℕ) → IsLoop number self.event_loop
+            → Leads C.makes self.calls result.calls (AreAnswered P.Link.tells R.gives number) }
+    {
         let Worker {
             mut event_loop,
             mut calls,
@@ -58,6 +54,7 @@ impl<P: Ready + Drop, C: Calls + Drop, R: Reader + Drop> Worker<P, C, R> {
             end: _,
         } = self;
         let end = event_loop.run(around, &mut calls, &mut reader);
+        each_link_of_a_loop_is_answered_in_order::<P::Link, R>();
         tell_end(around, end);
         Worker {
             event_loop,
@@ -87,6 +84,9 @@ impl<C: Calls + Drop, D: Disk + Drop> Flushing<C, D> {
         requires none_out { (C.shown self.calls).out ≡ None }
         requires inside { D.tells → IsInside self.flusher.file.base self.flusher.file.offset (D.state self.disk) }
         ensures outside { D.tells → StaysOutside (D.state self.disk) (D.state result.disk) }
+        ensures acted { Acted C.makes (view_of D.tells D.state D.faults D.syncs) AreFlushing
+            self.calls (place_of self.flusher.file self.disk)
+            result.calls (place_of result.flusher.file result.disk) }
     {
         let Flushing {
             mut calls,
@@ -156,14 +156,23 @@ fn run_loops<
     bell: &Parker,
     first: Worker<P, C, R>,
     second: Worker<P, C, R>,
-) -> (Worker<P, C, R>, Worker<P, C, R>) {
+) -> (Worker<P, C, R>, Worker<P, C, R>)
+    requires first { IsLoop 0 first.event_loop }
+    requires second { IsLoop 1 second.event_loop }
+    ensures first { Leads C.makes first.calls result.0.calls (AreAnswered P.Link.tells R.gives 0) }
+    ensures second { Leads C.makes second.calls result.1.calls (AreAnswered P.Link.tells R.gives 1) }
+{
     let both = join(
         around.rt,
         move || -> Worker<P, C, R>
-            requires { IsSend P.Link.row × IsSend P.Door.row × IsSend P.Waker.row × IsSync P.Waker.row × IsSend K.row }
+            requires { IsSend P.Link.row × IsSend P.Door.row × IsSend P.Waker.row × IsSync P.Waker.row × IsSend K.row
+                × IsLoop 0 first.event_loop }
+            ensures { Leads C.makes first.calls result.calls (AreAnswered P.Link.tells R.gives 0) }
         { first.run(around) },
         move || -> Worker<P, C, R>
-            requires { IsSend P.Link.row × IsSend P.Door.row × IsSend P.Waker.row × IsSync P.Waker.row × IsSend K.row }
+            requires { IsSend P.Link.row × IsSend P.Door.row × IsSend P.Waker.row × IsSync P.Waker.row × IsSend K.row
+                × IsLoop 1 second.event_loop }
+            ensures { Leads C.makes second.calls result.calls (AreAnswered P.Link.tells R.gives 1) }
         { second.run(around) },
     );
     around.shared.loops_ended();
@@ -185,7 +194,10 @@ fn run_kept<
     second: Worker<P, C, R>,
     keeping: Keeping<C, E>,
 ) -> (Keeping<C, E>, (Worker<P, C, R>, Worker<P, C, R>))
+    requires loops { IsLoop 0 first.event_loop × IsLoop 1 second.event_loop }
     ensures kept { KeepsUp C.sees E.tells keeping.calls (E.state keeping.keep) result.0.calls (E.state result.0.keep) }
+    ensures first { Leads C.makes first.calls result.1.0.calls (AreAnswered P.Link.tells R.gives 0) }
+    ensures second { Leads C.makes second.calls result.1.1.calls (AreAnswered P.Link.tells R.gives 1) }
 {
     let bell = Parker::new();
     let rings = &bell;
@@ -196,7 +208,9 @@ fn run_kept<
         { keeping.run(around, rings) },
         move || -> (Worker<P, C, R>, Worker<P, C, R>)
             requires { IsSync W.row × IsSend P.row × IsSync P.row × IsSend P.Link.row × IsSend P.Door.row × IsSend P.Waker.row
-                × IsSync P.Waker.row × IsSend K.row × IsSend C.row × IsSend R.row }
+                × IsSync P.Waker.row × IsSend K.row × IsSend C.row × IsSend R.row × IsLoop 0 first.event_loop × IsLoop 1 second.event_loop }
+            ensures first { Leads C.makes first.calls result.0.calls (AreAnswered P.Link.tells R.gives 0) }
+            ensures second { Leads C.makes second.calls result.1.calls (AreAnswered P.Link.tells R.gives 1) }
         { run_loops(around, rings, first, second) },
     )
 }
@@ -237,20 +251,32 @@ where
     requires key { C.has_key flushing.calls }
     requires none_out { (C.shown flushing.calls).out ≡ None }
     requires inside { D.tells → IsInside flushing.flusher.file.base flushing.flusher.file.offset (D.state flushing.disk) }
+    requires loops { IsLoop 0 first.event_loop × IsLoop 1 second.event_loop }
     ensures outside { D.tells → StaysOutside (D.state flushing.disk) (D.state result.flushing.disk) }
+    ensures acted { Acted C.makes (view_of D.tells D.state D.faults D.syncs) AreFlushing
+        flushing.calls (place_of flushing.flusher.file flushing.disk)
+        result.flushing.calls (place_of result.flushing.flusher.file result.flushing.disk) }
     ensures kept { KeepsUp C.sees E.tells keeping.calls (E.state keeping.keep) result.keeping.calls (E.state result.keeping.keep) }
+    ensures first { Leads C.makes first.calls result.first.calls (AreAnswered P.Link.tells R.gives 0) }
+    ensures second { Leads C.makes second.calls result.second.calls (AreAnswered P.Link.tells R.gives 1) }
 {
     let (flushing, (keeping, (first, second))) = join(
         around.rt,
         move || -> Flushing<C, D>
             requires { C.has_key flushing.calls × ((C.shown flushing.calls).out ≡ None)
                 × (D.tells → IsInside flushing.flusher.file.base flushing.flusher.file.offset (D.state flushing.disk)) }
-            ensures { D.tells → StaysOutside (D.state flushing.disk) (D.state result.disk) }
+            ensures outside { D.tells → StaysOutside (D.state flushing.disk) (D.state result.disk) }
+            ensures acted { Acted C.makes (view_of D.tells D.state D.faults D.syncs) AreFlushing
+                flushing.calls (place_of flushing.flusher.file flushing.disk)
+                result.calls (place_of result.flusher.file result.disk) }
         { flushing.run(around) },
         move || -> (Keeping<C, E>, (Worker<P, C, R>, Worker<P, C, R>))
             requires { IsSync W.row × IsSend P.row × IsSync P.row × IsSend P.Link.row × IsSend P.Door.row × IsSend P.Waker.row
-                × IsSync P.Waker.row × IsSend K.row × IsSend C.row × IsSend R.row × IsSend E.row }
-            ensures { KeepsUp C.sees E.tells keeping.calls (E.state keeping.keep) result.0.calls (E.state result.0.keep) }
+                × IsSync P.Waker.row × IsSend K.row × IsSend C.row × IsSend R.row × IsSend E.row
+                × IsLoop 0 first.event_loop × IsLoop 1 second.event_loop }
+            ensures kept { KeepsUp C.sees E.tells keeping.calls (E.state keeping.keep) result.0.calls (E.state result.0.keep) }
+            ensures first { Leads C.makes first.calls result.1.0.calls (AreAnswered P.Link.tells R.gives 0) }
+            ensures second { Leads C.makes second.calls result.1.1.calls (AreAnswered P.Link.tells R.gives 1) }
         { run_kept(around, first, second, keeping) },
     );
     Ran {

@@ -4,11 +4,12 @@ use Rattle.mq_outside.proofs.Moments.{rests_start}
 use Rattle.log_model.specs.Stored.{StaysOutside}
 use Rattle.log_model.proofs.OutsideLemmas.{outside_then}
 use Rattle.broker_serve.proofs.Serving.{log_unserved, log_served_with}
+use Rattle.broker_serve.proofs.Storing.{stores_each}
 use Rattle.broker_serve.proofs.run.serve_config.Goals as goal
 
 pub returns-in-Err-clause-served : goal.returns-in-Err-clause-served
 returns-in-Err-clause-served g c =
-    log_unserved _ _ _ _ _ _ _ _ _ _ _ c.unserved.ensures.core
+    log_unserved _ _ _ _ _ _ _ _ _ _ _ _ c.unserved.ensures.core
     (λ told. subst (λ k. Rests (g.E.Keep.state c.args.store.keep) (g.E.Keep.state k)) (sym (ap (λ s. s.keep) c.unserved.ensures.store)) (rests_start _))
 
 pub returns-in-Err-clause-outside : goal.returns-in-Err-clause-outside
@@ -17,8 +18,9 @@ returns-in-Err-clause-outside g c = λ tells.
 
 pub returns-clause-served : goal.returns-clause-served
 returns-clause-served g c =
-    log_served_with _ _ _ _ _ _ _ c.as_slice-offsets.result.now _ c.as_slice-topics.result.now _ _ _ c.in-Ok.opened
-    c.as_slice-offsets.ensures.value c.as_slice-topics.ensures.value c.in-Ok.ensures.represents c.in-Ok.ensures.kept c.serve_log.ensures.ends
+    log_served_with _ _ _ _ _ _ _ c.as_slice-offsets.result.now _ c.as_slice-topics.result.now _ _ _ _ c.in-Ok.opened
+    c.as_slice-offsets.ensures.value c.as_slice-topics.ensures.value c.in-Ok.ensures.represents c.in-Ok.ensures.kept
+    (λ tells. stores_each _ _ _ _ c.in-Ok.opened _ c.serve_log.result.core (c.in-Ok.ensures.ours tells) (c.serve_log.ensures.stores tells)) c.serve_log.ensures.ends
 
 pub returns-clause-outside : goal.returns-clause-outside
 returns-clause-outside g c = λ tells. outside_then (c.in-Ok.ensures.outside tells) (c.serve_log.ensures.outside tells)

@@ -4,11 +4,12 @@ use Rattle.mq_outside.proofs.Moments.{rests_start}
 use Rattle.log_model.specs.Stored.{StaysOutside}
 use Rattle.log_model.proofs.OutsideLemmas.{outside_then}
 use Rattle.broker_serve.proofs.Serving.{ends_unserved}
+use Rattle.broker_serve.proofs.Storing.{none_of, stores_before}
 use Rattle.broker_serve.proofs.run.serve_loops.Goals as goal
 
 pub returns-in-Err-clause-ends : goal.returns-in-Err-clause-ends
 returns-in-Err-clause-ends g c =
-    ends_unserved _ _ _ _ _ _ c.unserved.ensures.core
+    ends_unserved _ _ _ _ _ _ _ _ c.unserved.ensures.core
     (subst (λ k. Rests (g.E.Keep.state c.args.store.keep) (g.E.Keep.state k)) (sym (ap (λ s. s.keep) c.unserved.ensures.store)) (rests_start _))
 
 pub returns-in-Err-clause-outside : goal.returns-in-Err-clause-outside
@@ -17,3 +18,9 @@ returns-in-Err-clause-outside g c = λ tells.
 
 pub returns-in-Ok-clause-outside : goal.returns-in-Ok-clause-outside
 returns-in-Ok-clause-outside g c = λ tells. outside_then (c.in-Ok.ensures.outside tells) (c.serve_open.ensures.outside tells)
+
+pub returns-in-Err-clause-stores : goal.returns-in-Err-clause-stores
+returns-in-Err-clause-stores g c = λ tells. none_of _ _ c.unserved.ensures.core
+
+pub returns-in-Ok-clause-stores : goal.returns-in-Ok-clause-stores
+returns-in-Ok-clause-stores g c = λ tells. stores_before _ _ _ _ _ c.serve_open.result.core (c.in-Ok.ensures.ready tells) (c.serve_open.ensures.stores tells)

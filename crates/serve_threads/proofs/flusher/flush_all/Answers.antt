@@ -1,4 +1,6 @@
 use Rattle.log_model.proofs.OutsideLemmas.{outside_start, outside_then}
+use Rattle.request_acts.specs.Acts.{place_of}
+use Rattle.serve_story.proofs.Turns.{no_turns, turns_then, ended_turns, dispatch_turns}
 use Rattle.serve_threads.proofs.flusher.flush_all.Goals as goal
 
 pub loop-init : goal.loop-init
@@ -9,6 +11,7 @@ loop-init g c = record {
   none_out = c.requires.none_out;
   inside = c.requires.inside;
   outside = λ tells. outside_start _;
+  acted = no_turns g.C.Calls.makes _ _ _;
 }
 
 pub returns-then-eq-clause-outside : goal.returns-then-eq-clause-outside
@@ -16,6 +19,20 @@ returns-then-eq-clause-outside g c = λ tells. outside_then (c.loop.invariant.ou
 
 pub returns-then-ne-clause-outside : goal.returns-then-ne-clause-outside
 returns-then-ne-clause-outside g c = λ tells. outside_then (c.loop.invariant.outside tells) (c.flush_turn-end.ensures.outside tells)
+
+pub returns-then-eq-clause-acted : goal.returns-then-eq-clause-acted
+returns-then-eq-clause-acted g c =
+    turns_then g.C.Calls.makes _ _ _ _ _ _ _ c.loop.invariant.acted
+    (ended_turns g.C.Calls.makes _ c.flush_turn-end.result _ _ _ _ c.flush_turn-end.ensures.ended
+    (λ none. let rests = c.flush_turn-end.ensures.rests none in λ i. place_of ((rests.0 i).file) (rests.1 i)) c.flush_turn-end.ensures.placed c.flush_turn-end.ensures.cause)
+
+pub returns-then-ne-clause-acted : goal.returns-then-ne-clause-acted
+returns-then-ne-clause-acted g c =
+    turns_then g.C.Calls.makes _ _ _ _ _ _ _ c.loop.invariant.acted
+    (turns_then g.C.Calls.makes _ _ _ _ _ _ _
+    (ended_turns g.C.Calls.makes _ c.flush_turn-end.result _ _ _ _ c.flush_turn-end.ensures.ended
+    (λ none. let rests = c.flush_turn-end.ensures.rests none in λ i. place_of ((rests.0 i).file) (rests.1 i)) c.flush_turn-end.ensures.placed c.flush_turn-end.ensures.cause)
+    (dispatch_turns g.C.Calls.makes _ _ _ _ c.show.ensures.made))
 
 pub loop-preserved : goal.loop-preserved
 loop-preserved g c = record {
@@ -25,4 +42,9 @@ loop-preserved g c = record {
   none_out = c.show.ensures.none_out;
   inside = c.flush_turn-end.ensures.inside;
   outside = λ tells. outside_then (c.loop.invariant.outside tells) (c.flush_turn-end.ensures.outside tells);
+  acted = turns_then g.C.Calls.makes _ _ _ _ _ _ _ c.loop.invariant.acted
+      (turns_then g.C.Calls.makes _ _ _ _ _ _ _
+      (ended_turns g.C.Calls.makes _ c.flush_turn-end.result _ _ _ _ c.flush_turn-end.ensures.ended
+      (λ none. let rests = c.flush_turn-end.ensures.rests none in λ i. place_of ((rests.0 i).file) (rests.1 i)) c.flush_turn-end.ensures.placed c.flush_turn-end.ensures.cause)
+      (dispatch_turns g.C.Calls.makes _ _ _ _ c.show.ensures.made));
 }

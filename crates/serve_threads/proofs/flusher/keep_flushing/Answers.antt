@@ -1,4 +1,5 @@
 use Rattle.log_model.proofs.OutsideLemmas.{outside_start, outside_then}
+use Rattle.serve_story.proofs.Turns.{no_turns, turns_then}
 use Rattle.serve_threads.proofs.flusher.keep_flushing.Goals as goal
 
 pub loop-init : goal.loop-init
@@ -9,10 +10,14 @@ loop-init g c = record {
   none_out = c.requires.none_out;
   inside = c.requires.inside;
   outside = λ tells. outside_start _;
+  acted = no_turns g.C.Calls.makes _ _ _;
 }
 
 pub returns-then-over-clause-outside : goal.returns-then-over-clause-outside
 returns-then-over-clause-outside g c = λ tells. outside_then (c.loop.invariant.outside tells) (c.flush_all-end.ensures.outside tells)
+
+pub returns-then-over-clause-acted : goal.returns-then-over-clause-acted
+returns-then-over-clause-acted g c = turns_then g.C.Calls.makes _ _ _ _ _ _ _ c.loop.invariant.acted c.flush_all-end.ensures.acted
 
 pub loop-preserved : goal.loop-preserved
 loop-preserved g c = record {
@@ -22,4 +27,5 @@ loop-preserved g c = record {
   none_out = c.flush_all-end.ensures.none_out;
   inside = c.flush_all-end.ensures.inside;
   outside = λ tells. outside_then (c.loop.invariant.outside tells) (c.flush_all-end.ensures.outside tells);
+  acted = turns_then g.C.Calls.makes _ _ _ _ _ _ _ c.loop.invariant.acted c.flush_all-end.ensures.acted;
 }

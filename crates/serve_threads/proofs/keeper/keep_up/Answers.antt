@@ -1,4 +1,4 @@
-use Rattle.serve_threads.proofs.Keeping.{keeps_start, keeps_more}
+use Rattle.serve_story.proofs.Keeping.{keeps_start, keeps_more}
 use Rattle.serve_threads.proofs.keeper.keep_up.Goals as goal
 
 pub loop-init : goal.loop-init

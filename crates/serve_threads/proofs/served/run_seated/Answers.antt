@@ -1,30 +1,56 @@
-use Rattle.std.proofs.Common.{[], ◌∷◌, ◌∙◌, subst}
-use Rattle.story_lock.specs.Passes.{IsPassOf, seen_by, start_of}
+use Rattle.std.proofs.Common.{sym, subst}
+use Rattle.log_model.specs.Stored.{StaysOutside}
+use Rattle.request_acts.specs.Acts.{place_of, view_of}
+use Rattle.story_lock.specs.Passes.{seen_by, start_of}
 use Rattle.spine.specs.declared.spine.Spine.{Spine}
-use Rattle.serve_threads.specs.Kept.{PutsAlong}
-use Rattle.serve_threads.proofs.Keys.{split_numbers, keeps_key}
-use Rattle.serve_threads.proofs.Keeping.{keeps_along, same_place}
+use Rattle.serve_story.specs.Kept.{PutsAlong}
+use Rattle.serve_story.specs.Served.{HasMade}
+use Rattle.serve_story.proofs.Keeping.{keeps_along, puts_longer}
+use Rattle.serve_story.proofs.Parts.{looks_of, made_of, met_last, stays_acting, stays_leading}
 use Rattle.serve_threads.proofs.served.run_seated.Goals as goal
 
-pub run_all-flushing-requires-clause-key : goal.run_all-flushing-requires-clause-key
-run_all-flushing-requires-clause-key g c κs within =
-    let first = split_numbers c.args.key.pass c.twin.new.self.pass c.twin.result.pass (0 ∷ 1 ∷ 2 ∷ 3 ∷ []) c.args.key.here c.twin.result.here
-    c.requires.numbers c.twin.ensures.splits in
-    let second = split_numbers c.twin.new.self.pass c.twin-2.new.self.pass c.twin-2.result.pass (0 ∷ 1 ∷ 2 ∷ []) c.twin.new.self.here c.twin-2.result.here
-    first c.twin-2.ensures.splits in
-    keeps_key c.twin-3.new.self.pass
-    (split_numbers c.twin-2.new.self.pass c.twin-3.new.self.pass c.twin-3.result.pass (0 ∷ 1 ∷ []) c.twin-2.new.self.here c.twin-3.result.here second
-    c.twin-3.ensures.splits)
+pub gather-requires-clause-turns : goal.gather-requires-clause-turns
+gather-requires-clause-turns g c κs within =
+    let cut = c.seats_of-key.ensures.cut in
+    stays_acting (λ z. z.pass) (view_of g.D.Disk.tells g.D.Disk.state g.D.Disk.faults g.D.Disk.syncs) c.args.spine.now.story _ _ _ _ cut.turns cut.are.0 cut.of.0 c.run_all-ran.ensures.acted
 
-pub returns-clause-of : goal.returns-clause-of
-returns-clause-of g c =
-    let here = c.twin-3.ensures.spine.1 ∙ (c.twin-2.ensures.spine.0 ∙ c.twin.ensures.spine.0) in
-    let kept = c.run_all-flushing.ensures.kept in
-    subst (λ (v : Spine). IsPassOf v.story c.leave-2.result) (same_place (λ z. z.pass) (λ z. z.spine.now) (λ (v : Spine). start_of v.story) _ kept.cores _ kept.seen ∙ here) c.leave-2.ensures.of.0
+pub gather-requires-clause-first : goal.gather-requires-clause-first
+gather-requires-clause-first g c κs within =
+    let cut = c.seats_of-key.ensures.cut in
+    stays_leading (λ z. z.pass) c.args.spine.now.story _ _ cut.first _ cut.are.1 cut.of.1 c.run_all-ran.ensures.first
+
+pub gather-requires-clause-second : goal.gather-requires-clause-second
+gather-requires-clause-second g c κs within =
+    let cut = c.seats_of-key.ensures.cut in
+    stays_leading (λ z. z.pass) c.args.spine.now.story _ _ cut.second _ cut.are.2 cut.of.2 c.run_all-ran.ensures.second
+
+pub gather-requires-clause-keeper : goal.gather-requires-clause-keeper
+gather-requires-clause-keeper g c κs within =
+    let cut = c.seats_of-key.ensures.cut in
+    let kept = c.run_all-ran.ensures.kept in
+    stays_leading (λ z. z.pass) c.args.spine.now.story _ _ cut.looks _ cut.are.3 cut.of.3
+    (looks_of (λ z. z.pass) (λ z. z.spine.now) (λ (v : Spine). start_of v.story) _ kept.cores _ kept.seen)
+
+pub returns-clause-outside : goal.returns-clause-outside
+returns-clause-outside g c = λ tells.
+    subst (λ d. StaysOutside (g.D.Disk.state c.args.devices.disk) (g.D.Disk.state d)) (sym c.gather.ensures.disk) (c.run_all-ran.ensures.outside tells)
+
+pub returns-clause-made : goal.returns-clause-made
+returns-clause-made g c =
+    let view = view_of g.D.Disk.tells g.D.Disk.state g.D.Disk.faults g.D.Disk.syncs in
+    let ran = c.run_all-ran in
+    let kept = ran.ensures.kept in
+    subst (λ d. HasMade g.P.Link.Link.tells g.R.Reader.gives view (place_of c.args.devices.flusher.file c.args.devices.disk) c.gather.result.pass d) (sym c.gather.ensures.disk)
+    (made_of g.P.Link.Link.tells g.R.Reader.gives view (λ z. z.pass) (place_of c.args.devices.flusher.file c.args.devices.disk) ran.result.flushing.flusher.file ran.result.flushing.disk c.args.spine.now.story c.args.pass c.gather.result.pass _ _ _ _ _ _ _ _
+    c.requires.first.1 c.requires.numbers c.seats_of-key.ensures.cut c.gather.ensures.met ran.ensures.acted ran.ensures.first ran.ensures.second
+    (looks_of (λ z. z.pass) (λ z. z.spine.now) (λ (v : Spine). start_of v.story) _ kept.cores _ kept.seen))
 
 pub returns-clause-kept : goal.returns-clause-kept
 returns-clause-kept g c = λ told.
-    let here = c.twin-3.ensures.spine.1 ∙ (c.twin-2.ensures.spine.0 ∙ c.twin.ensures.spine.0) in
-    let kept = c.run_all-flushing.ensures.kept in
-    subst (λ (v : Spine). PutsAlong (start_of v.story).core (seen_by c.leave-2.result) (g.E.Keep.state c.args.devices.keep) (g.E.Keep.state c.run_all-flushing.result.keeping.keep)) here
-    (keeps_along (λ z. z.pass) (λ z. z.spine.now) (λ (v : Spine). start_of v.story) _ _ _ _ _ c.leave-2.result kept c.leave-2.ensures.pass told)
+    let kept = c.run_all-ran.ensures.kept in
+    let met = c.gather.ensures.met in
+    let pass = c.gather.result.pass in
+    subst (λ k. PutsAlong (start_of c.args.spine.now.story).core (seen_by pass) (g.E.Keep.state c.args.devices.keep) (g.E.Keep.state k)) (sym c.gather.ensures.keep)
+    (puts_longer _ (seen_by pass) (seen_by met.looks) _ _ (met_last pass met)
+    (subst (λ (v : Spine). PutsAlong (start_of v.story).core (seen_by met.looks) (g.E.Keep.state c.args.devices.keep) (g.E.Keep.state c.run_all-ran.result.keeping.keep)) c.seats_of-key.ensures.keeper
+    (keeps_along (λ z. z.pass) (λ z. z.spine.now) (λ (v : Spine). start_of v.story) _ _ _ _ _ met.looks kept met.are.3 told)))

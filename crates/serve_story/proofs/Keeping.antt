@@ -1,6 +1,8 @@
 -- What is put into the kept files, from one look to the next, and along the one history.
-use Rattle.std.proofs.Common.{◌≡◌, ◌⊎◌, inl, inr, refl, sym, ap, subst, ◌∙◌, ℕ, List, [], ◌∷◌, ◌++◌, Option, Some, None, IfSome, Result}
+use Rattle.std.proofs.Common.{◌≡◌, inl, inr, refl, sym, ap, subst, ◌∙◌, ℕ, List, [], ◌∷◌, ◌++◌, Option, Some, None, IfSome, Result}
 use Rattle.mq_outside.specs.Disk.{DiskState}
+use Rattle.mq_outside.specs.Readings.{Giving}
+use Rattle.request_acts.specs.Acts.{DiskView, Place}
 use Rattle.mq_outside.specs.declared.faults.DiskFault.{DiskFault}
 use Rattle.broker_model.specs.State.{State}
 use Rattle.broker_events.specs.declared.event.Event.{Event}
@@ -9,7 +11,6 @@ use Rattle.broker_core.specs.declared.parts.Parts.{Parts}
 use Rattle.broker_core.specs.Represents.{Represents}
 use Rattle.broker_core.specs.Owner.{plain_look}
 use Rattle.config_store.specs.Texts.{offsets_text_of, topics_text_of}
-use Rattle.keeper_turns.specs.Puts.{PutsBy}
 use Rattle.keeper_turns.specs.Turns.{HasKeptOf, IsOffsetsOf, IsTopicsOf}
 use Rattle.keeper_turns.proofs.PutLemmas.{puts_none, puts_then, puts_weaker}
 use Rattle.story_lock.specs.declared.chronicle.Chronicle.{Ghosts}
@@ -19,9 +20,9 @@ use Rattle.story_lock.specs.Passes.{seen_by}
 use Rattle.story_lock.proofs.Sums.{starts_longer, starts_itself, append_three}
 use Rattle.spine.specs.declared.shared.Shared.{Shared}
 use Rattle.spine.specs.Owner.{Sees}
-use Rattle.spine.specs.Stands.{Along, Stands}
-use Rattle.serve_threads.specs.Kept.{Among, SeesAll, KeepsUp, IsTextAlong, PutsAlong}
-use Rattle.serve_threads.specs.Served.{IsLeft}
+use Rattle.spine.specs.Stands.{Stands}
+use Rattle.serve_story.specs.Kept.{Among, SeesAll, KeepsUp, IsTextAlong, PutsAlong}
+use Rattle.serve_story.specs.Served.{IsLeft, IsMadeBy}
 
 -- ---- one look more
 
@@ -67,7 +68,7 @@ value_or d (Some x) = x
 same_of : {X : Type 0} (p q : X) → Some p ≡ Some q → p ≡ q
 same_of p q same = ap (value_or p) same
 
-starts_then : {X : Type 0} (log mid xs : List X) → StartsWith log mid → StartsWith mid xs → StartsWith log xs
+pub starts_then : {X : Type 0} (log mid xs : List X) → StartsWith log mid → StartsWith mid xs → StartsWith log xs
 starts_then log mid xs more begins = subst (λ l. StartsWith l xs) (sym more.1) (starts_longer mid more.0 xs begins)
 
 -- such a text of a core that stands for a beginning of the history
@@ -79,6 +80,14 @@ of_core text_of start core history part text begins stands is =
 longer_along : (text_of : State → List ℕ) (start : Parts) (history part : List (Event × Option Said)) (text : List ℕ) → StartsWith history part
     → IsTextAlong text_of start part text → IsTextAlong text_of start history text
 longer_along text_of start history part text begins is = (is.0, starts_then history part is.0 begins is.1, is.2)
+
+-- the same along a longer history
+pub puts_longer : (start : Parts) (history seen : List (Event × Option Said)) (old new : DiskState) → StartsWith history seen → PutsAlong start seen old new → PutsAlong start history old new
+puts_longer start history seen old new begins puts =
+    let offsets = λ (s : State). offsets_text_of s.offsets in
+    let topics = λ (s : State). topics_text_of s.topics in
+    puts_weaker (IsTextAlong offsets start seen) (IsTextAlong topics start seen) (IsTextAlong offsets start history) (IsTextAlong topics start history) old new
+    (λ text is. longer_along offsets start history seen text begins is) (λ text is. longer_along topics start history seen text begins is) puts
 
 module _ {chronicle : Ghosts Shared Event (Option Said)} {C V : Type 0} (pass_of : C → Option (Pass Shared Event (Option Said) chronicle)) (place_of : C → V) (start_at : V → Shared) where
   -- a look of an object at a place, where it stays
@@ -129,18 +138,19 @@ module _ {chronicle : Ghosts Shared Event (Option Said)} {C V : Type 0} (pass_of
 -- ---- the end
 
 -- the core that is left stands for the whole history, and its texts were put last
-pub left_at : (start now : Parts) (history seen : List (Event × Option Said)) (tells : Type 0) (kept : Result (Unit {0}) DiskFault) (old mid new : DiskState) → Stands start history now → StartsWith history seen
-    → (tells → PutsAlong start seen old mid) → HasKeptOf tells now kept mid new → IsLeft start tells kept old new now
-left_at start now history seen tells kept old mid new stands begins puts last =
+pub left_at : {D : Type 0} (links : Type 0) (gives : Giving) (view : DiskView D) (place : Place D) (disk : D) (start now : Parts) (history seen : List (Event × Option Said)) (tells : Type 0)
+    (kept : Result (Unit {0}) DiskFault) (old mid new : DiskState) → Stands start history now → IsMadeBy links gives view start place history now disk → StartsWith history seen
+    → (tells → PutsAlong start seen old mid) → HasKeptOf tells now kept mid new → IsLeft links gives view start place disk tells kept old new now
+left_at links gives view place disk start now history seen tells kept old mid new stands made begins puts last =
     let offsets = λ (s : State). offsets_text_of s.offsets in
     let topics = λ (s : State). topics_text_of s.topics in
     let whole = starts_itself history history refl in
     record {
       history = history;
       stands = stands;
+      made = made;
       puts = λ told. puts_then (IsTextAlong offsets start history) (IsTextAlong topics start history) old mid new
-          (puts_weaker (IsTextAlong offsets start seen) (IsTextAlong topics start seen) (IsTextAlong offsets start history) (IsTextAlong topics start history) old mid
-          (λ text is. longer_along offsets start history seen text begins is) (λ text is. longer_along topics start history seen text begins is) (puts told))
+          (puts_longer start history seen old mid begins (puts told))
           (puts_weaker (IsOffsetsOf now) (IsTopicsOf now) (IsTextAlong offsets start history) (IsTextAlong topics start history) mid new
           (λ text is. of_core offsets start now history history text whole stands is) (λ text is. of_core topics start now history history text whole stands is) (last.puts told));
       done = last.done;

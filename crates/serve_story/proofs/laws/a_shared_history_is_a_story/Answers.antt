@@ -1,0 +1,8 @@
+use Rattle.request_acts.specs.Acts.{view_of}
+use Rattle.serve_story.proofs.SharedStory.{leads_on}
+use Rattle.serve_story.proofs.laws.a_shared_history_is_a_story.Goals as goal
+
+pub returns : goal.returns
+returns g c = λ start now history first second looks turns old new stands merged links keeper write.
+    leads_on (view_of g.D.Disk.tells g.D.Disk.state g.D.Disk.faults g.D.Disk.syncs) g.L.Link.tells g.R.Reader.gives start now history turns first second looks old new stands merged links
+    keeper write
