@@ -1,2 +1,3 @@
 pub mod Serving
 pub mod Storing
+pub mod Telling

@@ -1,5 +1,5 @@
 -- What a run leaves, put together from its parts.
-use Rattle.std.proofs.Common.{◌≡◌, ◌≢◌, ◌⊎◌, inl, refl, sym, ap, subst, ◌∙◌, arith, ℕ, List, Option, Some, None, IfSome, Result, Ok, OnOk}
+use Rattle.std.proofs.Common.{◌≡◌, ◌≢◌, ◌⊎◌, inl, refl, sym, ap, subst, ◌∙◌, arith, ℕ, List, Option, Some, None, IfSome, Result, OnOk}
 use Rattle.std.specs.Prelude.{IfNone}
 use Rattle.mq_outside.specs.Files.{Files, OldOrNew, At, Same}
 use Rattle.mq_outside.specs.Disk.{DiskState, Moves, Rests}
@@ -25,7 +25,11 @@ use Rattle.store_open.specs.declared.format.Sizes.{Sizes}
 use Rattle.store_open.specs.declared.serve_words.ServeCommand.{ServeCommand}
 use Rattle.store_open.specs.declared.status.Status.{Status}
 use Rattle.broker_serve.specs.Serves.{EndsOver, HasServed, PutsAllAlong, PutsAllBy, ReplacesAllBy, ServesLog, ServesStore, StoresOurs, Views, setup_by}
+use Rattle.worker_turns.specs.declared.flush.FlushEnd.{FlushEnd}
+use Rattle.event_loops.specs.declared.event_loop.LoopEnd.{LoopEnd}
+use Rattle.broker_serve.specs.Statuses.{StatusLeft}
 use Rattle.broker_serve.proofs.Storing.{ours_same}
+use Rattle.broker_serve.proofs.Telling.{zero_kept}
 
 -- ---- links that were served, or not
 
@@ -34,11 +38,11 @@ module _ {D : Type 0} (views : Views D) where
       → EndsOver views start file left status told old new
   ends_unserved start file left status told old new none rests = subst (λ o. EndsOver views start file o status told old new) (sym none) (λ tells. rests)
 
-  pub ends_served : (start : Parts) (file : LastFile) (left : Option Parts) (status : Status) (told : Type 0) (old new : DiskState) (core : Parts) (kept : Result (Unit {0}) DiskFault) (began ended : D)
-      → left ≡ Some core → (status.code ≡ 0 → kept ≡ Ok tt) → IsLeft views.links views.gives views.disk start (place_of file began) ended told kept old new core
+  pub ends_served : (start : Parts) (file : LastFile) (left : Option Parts) (status : Status) (told : Type 0) (old new : DiskState) (core : Parts) (stopped : LoopEnd) (last : FlushEnd)
+      (kept : Result (Unit {0}) DiskFault) (began ended : D) → left ≡ Some core → StatusLeft status stopped last kept → IsLeft views.links views.gives views.disk start (place_of file began) ended told kept old new core
       → EndsOver views start file left status told old new
-  ends_served start file left status told old new core kept began ended some zero is =
-      subst (λ o. EndsOver views start file o status told old new) (sym some) (record { kept = kept; zero = zero; began = began; ended = ended; left = is })
+  ends_served start file left status told old new core stopped last kept began ended some tells is =
+      subst (λ o. EndsOver views start file o status told old new) (sym some) (record { stopped = stopped; last = last; kept = kept; tells = tells; began = began; ended = ended; left = is })
 
 module _ {D : Type 0} (views : Views D) (command : ServeCommand) (segment : ℕ) (status : Status) (disk : DiskState) (told : Type 0) where
   pub log_unserved : (offsets : List OffsetRow) (topics : List TopicRow) (left : Option Parts) (disk_then old new : DiskState) → left ≡ None → (told → Rests old new)
@@ -97,7 +101,13 @@ module _ {D : Type 0} (views : Views D) (command : ServeCommand) (segment : ℕ)
           stores = stores;
           put = λ t. puts_rested (IsTextAlong (λ s. offsets_text_of s.offsets) opened.core left.history) (IsTextAlong (λ s. topics_text_of s.topics) opened.core left.history)
               old loaded new (rests t) (left.puts t);
-          ends = λ t zero. subst (λ (r : Result (Unit {0}) DiskFault). OnOk r (KeepsBy (IsOffsetsOf core) (IsTopicsOf core) new)) (ends.zero zero) (left.done t);
+          stopped = ends.stopped;
+          last = ends.last;
+          replaced = ends.kept;
+          tells = ends.tells;
+          done = left.done;
+          ends = λ t zero. subst (λ (r : Result (Unit {0}) DiskFault). OnOk r (KeepsBy (IsOffsetsOf core) (IsTopicsOf core) new))
+              (zero_kept status ends.stopped ends.last ends.kept ends.tells zero) (left.done t);
         };
       }
 
@@ -202,6 +212,11 @@ run_served views (Some core) words command sizes status disk before disk_then to
         made = run.made;
         stores = λ t. ours_same sizes.segment before disk core disk_then (same t) (run.stores t);
         put = λ t. puts_all format P Q old opened new (puts t) (run.put t);
+        stopped = run.stopped;
+        last = run.last;
+        replaced = run.replaced;
+        tells = run.tells;
+        done = run.done;
         ends = run.ends;
       },
     )

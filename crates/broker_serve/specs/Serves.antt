@@ -1,5 +1,5 @@
 -- What a run of `serve` leaves.
-use Rattle.std.specs.Prelude.{◌≡◌, ◌≢◌, ◌⊎◌, ℕ, ◌≤◌, ◌++◌, List, length, take, Option, Some, None, IfSome, Result, Ok}
+use Rattle.std.specs.Prelude.{◌≡◌, ◌≢◌, ◌⊎◌, ℕ, ◌≤◌, ◌++◌, List, length, take, Option, Some, None, IfSome, OnOk, Result}
 use Rattle.mq_outside.specs.Files.{Files, OldOrNew}
 use Rattle.mq_outside.specs.Readings.{Giving}
 use Rattle.mq_outside.specs.Disk.{DiskState, IsCrashImage, Rests, Throughout}
@@ -33,6 +33,9 @@ use Rattle.serve_story.specs.Served.{IsLeft, IsMadeBy}
 use Rattle.store_open.specs.Openings.{FORMAT}
 use Rattle.store_open.specs.declared.serve_words.ServeCommand.{ServeCommand}
 use Rattle.store_open.specs.declared.status.Status.{Status}
+use Rattle.worker_turns.specs.declared.flush.FlushEnd.{FlushEnd}
+use Rattle.event_loops.specs.declared.event_loop.LoopEnd.{LoopEnd}
+use Rattle.broker_serve.specs.Statuses.{StatusLeft}
 
 -- what the words set up, in segments of this size
 abbrev pub setup_by : ServeCommand → ℕ → Setup
@@ -102,12 +105,14 @@ pub record Views (D : Type 0) : Type 1 where
 abbrev pub views_of : {D : Type 0} → Type 0 → Giving → DiskView D → Views D
 views_of links gives disk = record { links = links; gives = gives; disk = disk }
 
--- Links were served from the first core on, and this is left. Status 0 comes only where the last replacement of the kept files
--- ended Ok.
+-- Links were served from the first core on, and this is left. Why the loops ended, how the last flush turn did and the last
+-- replacement of the kept files tell the status.
 pub record LeavesCore {D : Type 0} (views : Views D) (start : Parts) (file : LastFile) (core : Parts) (status : Status) (told : Type 0)
     (old new : DiskState) : Type 0 where
+  pub stopped : LoopEnd
+  pub last : FlushEnd
   pub kept : Result (Unit {0}) DiskFault
-  pub zero : status.code ≡ 0 → kept ≡ Ok tt
+  pub tells : StatusLeft status stopped last kept
   pub began : D
   pub ended : D
   pub left : IsLeft views.links views.gives views.disk start (place_of file began) ended told kept old new core
@@ -120,7 +125,9 @@ EndsOver views start file (Some core) status told old new = LeavesCore views sta
 -- A log was opened as these words and the store's format say, with what the kept files had, and the core stands for one history
 -- since, of which each entry is the flusher's, one of the loops' or the keeper's. Where the disk tells its files, it is the log that
 -- recovery keeps of them; and a log that it stored and was read of honestly it stores still, with what was flushed since. What was put
--- into the kept files is told along this history. Where the status is 0 both have the texts of the core, and keep them through a crash.
+-- into the kept files is told along this history. Why the loops ended, how the last flush turn did and the last replacement of the kept
+-- files tell the status. Where that replacement ended Ok, as it did with status 0, both have the texts of the core, and keep them
+-- through a crash.
 pub record HasServed {D : Type 0} (views : Views D) (command : ServeCommand) (segment : ℕ) (status : Status) (disk disk_then : DiskState)
     (told : Type 0) (texts : Files) (puts : Parts → List (Event × Option Said) → Type 0) (left : DiskState) (core : Parts) : Type 0 where
   pub offsets : List OffsetRow
@@ -136,6 +143,11 @@ pub record HasServed {D : Type 0} (views : Views D) (command : ServeCommand) (se
   pub made : IsMadeBy views.links views.gives views.disk opened.core (place_of opened.flusher.file began) history core ended
   pub stores : views.disk.tells → StoresOurs segment disk core disk_then
   pub put : told → puts opened.core history
+  pub stopped : LoopEnd
+  pub last : FlushEnd
+  pub replaced : Result (Unit {0}) DiskFault
+  pub tells : StatusLeft status stopped last replaced
+  pub done : told → OnOk replaced (KeepsBy (IsOffsetsOf core) (IsTopicsOf core) left)
   pub ends : told → status.code ≡ 0 → KeepsBy (IsOffsetsOf core) (IsTopicsOf core) left
 
 -- the same with these rows, which were loaded

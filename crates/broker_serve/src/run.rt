@@ -1,6 +1,7 @@
 //! The whole run of `serve`: the words, the opening, the links, and the last flush.
 
-ghost use Rattle.std.specs.Prelude.{◌≡◌, ◌≢◌, ℕ, List, All, Some, None, Ok, IfSome, IfNone};
+ghost use Rattle.std.specs.Prelude.{◌≡◌, ◌≢◌, ℕ, List, All, Some, None, IfSome, IfNone};
+ghost use Rattle.mq_outside.specs.Counts.{CountsDiskFault};
 ghost use Rattle.mq_outside.specs.Disk.{Moves};
 ghost use Rattle.mq_outside.specs.Files.{Same};
 ghost use Rattle.record_codec.specs.Entry.{Entry};
@@ -23,9 +24,10 @@ ghost use Rattle.group_tables.specs.Offsets.{IsOffset};
 ghost use Rattle.request_acts.specs.Acts.{view_of};
 ghost use Rattle.serve_story.specs.Served.{AreLoops};
 ghost use Rattle.broker_serve.specs.Serves.{EndsOver, HasServed, PutsAllAlong, ServesLog, ServesStore, StoresOpened, views_of};
+ghost use Rattle.broker_serve.specs.Statuses.{IsDamagedIn, IsDamagedLog, Refused, ShutOut, StatusLeft, Unopened, Unserved};
 
 use crate::statuses::{
-    last_status, status_kept, status_of_config, status_of_fault, status_of_loops, status_of_reader,
+    last_status, status_kept, status_of_config, status_of_fault, status_of_making, status_of_reader,
 };
 use broker_core::Core;
 use broker_events::Setup;
@@ -99,6 +101,7 @@ fn readers_of<D: Disk>(alloc: Global, disk: &mut D) -> Result<(D::Reader, D::Rea
     ensures outside { D.tells → StaysOutside (D.state disk.old) (D.state disk.new) }
     ensures ready { D.tells → (it : Stored) (file : LastFile) → IsReady it 0 (growing file (D.state disk.old))
         → IsReady it 0 (growing file (D.state disk.new)) }
+    ensures cause { CountsDiskFault result (D.faults disk.old) (D.faults disk.new) }
 {
     let one = disk.reader(alloc)?;
     match disk.reader(alloc) {
@@ -130,7 +133,7 @@ fn ended_of<D: Disk + Drop, E: Keep + Drop>(
     served: Served<D, D::Reader, E>,
 ) -> Ended<D, E>
     ensures status { (result.status.code ≢ 1) × (result.status.code ≢ 6) × FitsTable result.status }
-    ensures zero { result.status.code ≡ 0 → served.kept ≡ Ok tt }
+    ensures tells { StatusLeft result.status served.end served.last served.kept }
     ensures core { result.core ≡ Some served.core }
     ensures keep { result.store.keep ≡ served.keep }
     ensures outside { D.tells → StaysOutside (D.state served.disk) (D.state result.store.disk) }
@@ -177,6 +180,7 @@ where
     requires none_out { (shown_of core).out ≡ None }
     requires inside { D.tells → IsInside devices.flusher.file.base devices.flusher.file.offset (D.state devices.disk) }
     ensures status { (result.status.code ≢ 1) × (result.status.code ≢ 6) × FitsTable result.status }
+    ensures why { IfNone result.core (result.status.code ≡ 7) }
     ensures ends { EndsOver (views_of P.Link.tells D.Reader.gives (view_of D.tells D.state D.faults D.syncs)) core devices.flusher.file
         result.core result.status E.tells (E.state devices.keep) (E.state result.store.keep) }
     ensures stores { D.tells → IfSome result.core (λ left.
@@ -222,6 +226,7 @@ where
     requires none_out { (shown_of opened.core).out ≡ None }
     requires inside { D.tells → IsInside opened.flusher.file.base opened.flusher.file.offset (D.state store.disk) }
     ensures status { (result.status.code ≢ 1) × (result.status.code ≢ 6) × FitsTable result.status }
+    ensures why { IfNone result.core (ShutOut result.status (D.faults store.disk) (D.faults result.store.disk)) }
     ensures ends { EndsOver (views_of P.Link.tells D.Reader.gives (view_of D.tells D.state D.faults D.syncs)) opened.core
         opened.flusher.file result.core result.status E.tells (E.state store.keep) (E.state result.store.keep) }
     ensures stores { D.tells → IfSome result.core (λ left.
@@ -270,6 +275,7 @@ where
     requires none_out { (shown_of opened.core).out ≡ None }
     requires inside { D.tells → IsInside opened.flusher.file.base opened.flusher.file.offset (D.state store.disk) }
     ensures status { (result.status.code ≢ 1) × (result.status.code ≢ 6) × FitsTable result.status }
+    ensures why { IfNone result.core (ShutOut result.status (D.faults store.disk) (D.faults result.store.disk)) }
     ensures ends { EndsOver (views_of P.Link.tells D.Reader.gives (view_of D.tells D.state D.faults D.syncs)) opened.core
         opened.flusher.file result.core result.status E.tells (E.state store.keep) (E.state result.store.keep) }
     ensures stores { D.tells → IfSome result.core (λ left.
@@ -293,7 +299,7 @@ where
         Err(end) => {
             drop(opened);
             drop(clock);
-            unserved(store, status_of_loops(alloc, end))
+            unserved(store, status_of_making(alloc, end))
         }
         Ok(loops) => serve_loops(rt, alloc, opened, loops, clock, store),
     }
@@ -321,6 +327,8 @@ where
     requires offsets { All IsOffset config.offsets.items }
     requires topics { All IsKeptTopic config.topics.items }
     ensures status { (result.status.code ≢ 1) × (result.status.code ≢ 6) × FitsTable result.status }
+    ensures why { IfNone result.core (Unopened (IsDamagedLog D.tells segment (D.state store.disk).reads) result.status
+        (D.faults store.disk) (D.faults result.store.disk)) }
     ensures served { ServesLog (views_of P.Link.tells D.Reader.gives (view_of D.tells D.state D.faults D.syncs)) command.now segment
         config.offsets.items config.topics.items result.core result.status (D.state store.disk) (D.state result.store.disk)
         E.tells (E.state store.keep) (E.state result.store.keep) }
@@ -359,6 +367,9 @@ where
     D::Reader: Send,
     requires size { IsSegmentSize segment }
     ensures status { (result.status.code ≢ 1) × (result.status.code ≢ 6) × FitsTable result.status }
+    ensures why { IfNone result.core (Unserved
+        (IsDamagedIn D.tells segment (D.state store.disk).reads E.tells (E.state store.keep).reads) result.status
+        (D.faults store.disk) (D.faults result.store.disk) (E.faults store.keep) (E.faults result.store.keep)) }
     ensures served { ServesStore (views_of P.Link.tells D.Reader.gives (view_of D.tells D.state D.faults D.syncs)) command.now segment
         result.core result.status (D.state store.disk) (D.state result.store.disk)
         E.tells (E.state store.keep) (E.state result.store.keep) }
@@ -409,6 +420,11 @@ where
 
     // Else of the keep only the format of a new store was written.
     ensures unserved { E.tells → IfNone result.core ((text : List ℕ) × PutsOnly text (E.state store.keep) (E.state result.store.keep)) }
+
+    // Then the status tells why: the words, another's store, damage, a device that failed, or want of memory.
+    ensures why { IfNone result.core (Refused (texts_of words.now) D.tells (D.state store.disk).reads
+        E.tells (E.state store.keep).reads result.status
+        (D.faults store.disk) (D.faults result.store.disk) (E.faults store.keep) (E.faults result.store.keep)) }
 
     // Status 6 comes where the store is another's, with the name of what shows it. The keep stays as it is.
     ensures foreign { D.tells → E.tells → result.status.code ≡ 6 → (command : ACommand) × IsServeCommand (texts_of words.now) command

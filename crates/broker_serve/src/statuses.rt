@@ -1,7 +1,9 @@
 //! The statuses of `serve`.
 
-ghost use Rattle.std.specs.Prelude.{◌≡◌, ◌≢◌, Ok};
+ghost use Rattle.std.specs.Prelude.{◌≡◌, ◌≢◌, codes};
 ghost use Rattle.store_open.specs.Statuses.{FitsTable};
+ghost use Rattle.broker_serve.specs.Statuses.{StatusKept, StatusTellsEnd, StatusTellsLoops, TellsDevice};
+ghost use Rattle.broker_serve.specs.Statuses.{StatusTellsConfig, StatusTellsFault, StatusTellsReader};
 
 use config_store::ConfigFault;
 use event_loops::LoopEnd;
@@ -14,7 +16,8 @@ use worker_turns::FlushEnd;
 
 // The status of a log that could not be opened.
 pub(crate) fn status_of_fault(alloc: Global, fault: RecoverFault) -> Status
-    ensures { (result.code ≢ 1) × (result.code ≢ 6) × FitsTable result }
+    ensures tells { StatusTellsFault result fault }
+    ensures status { (result.code ≢ 1) × (result.code ≢ 6) × FitsTable result }
 {
     match fault {
         RecoverFault::Damaged(place, name) => Status::damaged(place, name),
@@ -25,7 +28,8 @@ pub(crate) fn status_of_fault(alloc: Global, fault: RecoverFault) -> Status
 
 // The status of kept files that could not be loaded.
 pub(crate) fn status_of_config(alloc: Global, fault: ConfigFault) -> Status
-    ensures { (result.code ≢ 1) × (result.code ≢ 6) × FitsTable result }
+    ensures tells { StatusTellsConfig result fault }
+    ensures status { (result.code ≢ 1) × (result.code ≢ 6) × FitsTable result }
 {
     match fault {
         ConfigFault::BadText(name) => match String::from_str(alloc, name) {
@@ -39,7 +43,8 @@ pub(crate) fn status_of_config(alloc: Global, fault: ConfigFault) -> Status
 
 // The status of a reader that could not be made.
 pub(crate) fn status_of_reader(alloc: Global, fault: DiskFault) -> Status
-    ensures { (result.code ≢ 1) × (result.code ≢ 6) × FitsTable result }
+    ensures tells { StatusTellsReader result fault }
+    ensures status { (result.code ≢ 1) × (result.code ≢ 6) × FitsTable result }
 {
     match fault {
         DiskFault::Failed => Status::plain(alloc, 5),
@@ -47,12 +52,27 @@ pub(crate) fn status_of_reader(alloc: Global, fault: DiskFault) -> Status
     }
 }
 
-// The status of how the loops ended.
-pub(crate) fn status_of_loops(alloc: Global, end: LoopEnd) -> Status
-    ensures { (result.code ≢ 1) × (result.code ≢ 6) × FitsTable result }
+// The status of loops that could not be made.
+pub(crate) fn status_of_making(alloc: Global, end: LoopEnd) -> Status
+    ensures tells { TellsDevice result (codes "door") }
+    ensures status { (result.code ≢ 1) × (result.code ≢ 6) × FitsTable result }
 {
     match end {
-        LoopEnd::Done => Status::plain(alloc, 0),
+        LoopEnd::Memory => Status::plain(alloc, 7),
+        LoopEnd::Done | LoopEnd::Clock | LoopEnd::Door | LoopEnd::Poll => Status::named(
+            alloc, 10, "door",
+        ),
+    }
+}
+
+// The status of why the loops ended, with this code where they ended of themselves.
+fn status_of_loops(alloc: Global, end: LoopEnd, code: u8) -> Status
+    requires { (code ≢ 1) × (code ≢ 6) }
+    ensures tells { StatusTellsLoops code result end }
+    ensures status { (result.code ≢ 1) × (result.code ≢ 6) × FitsTable result }
+{
+    match end {
+        LoopEnd::Done => Status::plain(alloc, code),
         LoopEnd::Clock => Status::named(alloc, 10, "clock"),
         LoopEnd::Door | LoopEnd::Poll => Status::named(alloc, 10, "door"),
         LoopEnd::Memory => Status::plain(alloc, 7),
@@ -61,14 +81,13 @@ pub(crate) fn status_of_loops(alloc: Global, end: LoopEnd) -> Status
 
 // The status of loops that ended like this, where the last flush turn ended like that.
 pub(crate) fn last_status(alloc: Global, end: LoopEnd, last: FlushEnd) -> Status
-    ensures { (result.code ≢ 1) × (result.code ≢ 6) × FitsTable result }
+    ensures tells { StatusTellsEnd result end last }
+    ensures status { (result.code ≢ 1) × (result.code ≢ 6) × FitsTable result }
 {
     match last {
+        FlushEnd::Idle | FlushEnd::Done => status_of_loops(alloc, end, 0),
+        FlushEnd::Failed(_) | FlushEnd::Misplaced => status_of_loops(alloc, end, 5),
         FlushEnd::Memory => Status::plain(alloc, 7),
-        FlushEnd::Failed(_) | FlushEnd::Misplaced if end == LoopEnd::Done => Status::plain(
-            alloc, 5,
-        ),
-        _ => status_of_loops(alloc, end),
     }
 }
 
@@ -76,8 +95,8 @@ pub(crate) fn last_status(alloc: Global, end: LoopEnd, last: FlushEnd) -> Status
 // where nothing else is.
 pub(crate) fn status_kept(alloc: Global, status: Status, kept: Result<(), DiskFault>) -> Status
     requires { (status.code ≢ 1) × (status.code ≢ 6) × FitsTable status }
+    ensures tells { StatusKept result status kept }
     ensures status { (result.code ≢ 1) × (result.code ≢ 6) × FitsTable result }
-    ensures zero { result.code ≡ 0 → kept ≡ Ok tt }
 {
     match kept {
         Ok(()) => status,

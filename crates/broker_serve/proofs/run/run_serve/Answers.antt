@@ -1,10 +1,13 @@
-use Rattle.std.proofs.Common.{◌∙◌, [], ap, sym, subst, ℕ, List}
+use Rattle.std.proofs.Common.{◌∙◌, inl, inr, [], ap, sym, subst, ℕ, List}
 use Rattle.std.specs.Prelude.{IfNone}
 use Rattle.log_model.specs.Stored.{StaysOutside}
 use Rattle.log_model.proofs.OutsideLemmas.{outside_start, outside_same, outside_then}
 use Rattle.store_open.specs.Openings.{FORMAT, PutsOnly, own_format}
+use Rattle.store_open.specs.Words.{texts_of}
 use Rattle.store_open.proofs.SizeLemmas.{serve_asks_sizes}
+use Rattle.broker_serve.specs.Statuses.{IsDamagedFor, Refused}
 use Rattle.broker_serve.proofs.Serving.{puts_no_format, run_served, run_unserved, store_others}
+use Rattle.broker_serve.proofs.Telling.{why_unserved, why_then, not_formed, refused}
 use Rattle.broker_serve.proofs.run.run_serve.Goals as goal
 
 pub serve_store-requires-clause-size : goal.serve_store-requires-clause-size
@@ -54,3 +57,28 @@ returns-in-Ok-open_format-clause-stands g c = λ told text stood.
 pub returns-in-Ok-open_format-clause-kept : goal.returns-in-Ok-open_format-clause-kept
 returns-in-Ok-open_format-clause-kept g c = λ told name not_format not_offsets not_topics.
     store_others _ _ _ _ _ _ _ _ _ _ c.serve_store.ensures.served told name not_offsets not_topics ∙ c.in-Ok-open_format.ensures.others told name not_format
+
+-- ---- why no links were served
+
+pub returns-in-Err-clause-why : goal.returns-in-Err-clause-why
+returns-in-Err-clause-why g c =
+    let before = c.args.store in
+    why_unserved (λ s store. Refused (texts_of c.args.words.now) g.D.Disk.tells (g.D.Disk.state before.disk).reads g.E.Keep.tells (g.E.Keep.state before.keep).reads s
+    (g.D.Disk.faults before.disk) (g.D.Disk.faults store.disk) (g.E.Keep.faults before.keep) (g.E.Keep.faults store.keep)) _ _ _ _ _
+    c.unserved.ensures.core c.unserved.ensures.status c.unserved.ensures.store (inl c.at.ensures.code)
+
+pub returns-in-Err-open_format-clause-why : goal.returns-in-Err-open_format-clause-why
+returns-in-Err-open_format-clause-why g c =
+    let before = c.args.store in
+    let ended = c.unserved-in-Err-open_format in
+    let damaged = IsDamagedFor c.in-Ok.command g.D.Disk.tells (g.D.Disk.state before.disk).reads g.E.Keep.tells (g.E.Keep.state before.keep).reads in
+    why_unserved (λ s store. Refused (texts_of c.args.words.now) g.D.Disk.tells (g.D.Disk.state before.disk).reads g.E.Keep.tells (g.E.Keep.state before.keep).reads s
+    (g.D.Disk.faults before.disk) (g.D.Disk.faults store.disk) (g.E.Keep.faults before.keep) (g.E.Keep.faults store.keep)) _ _ _ _ _
+    ended.ensures.core ended.ensures.status ended.ensures.store
+    (inr (c.in-Ok.command, c.in-Ok.ensures.fits, not_formed damaged c.in-Err-open_format.status _ _ _ _ c.in-Err-open_format.ensures.cause))
+
+pub returns-in-Ok-open_format-clause-why : goal.returns-in-Ok-open_format-clause-why
+returns-in-Ok-open_format-clause-why g c =
+    why_then _ (refused _ c.in-Ok.command c.in-Ok-open_format.sizes _ _ _ _ _ _ _ c.in-Ok-open_format.ensures.rests c.in-Ok-open_format.ensures.opened.sizes_are
+    c.in-Ok-open_format.ensures.puts _ _ _ _ _ _ _ c.in-Ok.ensures.fits c.in-Ok-open_format.ensures.disk_still c.in-Ok-open_format.ensures.keep_still)
+    c.serve_store.ensures.why

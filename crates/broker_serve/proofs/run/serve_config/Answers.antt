@@ -3,8 +3,10 @@ use Rattle.mq_outside.specs.Disk.{Rests}
 use Rattle.mq_outside.proofs.Moments.{rests_start}
 use Rattle.log_model.specs.Stored.{StaysOutside}
 use Rattle.log_model.proofs.OutsideLemmas.{outside_then}
+use Rattle.broker_serve.specs.Statuses.{IsDamagedLog, Unopened}
 use Rattle.broker_serve.proofs.Serving.{log_unserved, log_served_with}
 use Rattle.broker_serve.proofs.Storing.{stores_each}
+use Rattle.broker_serve.proofs.Telling.{why_unserved, why_then, not_recovered, shut_out}
 use Rattle.broker_serve.proofs.run.serve_config.Goals as goal
 
 pub returns-in-Err-clause-served : goal.returns-in-Err-clause-served
@@ -24,3 +26,15 @@ returns-clause-served g c =
 
 pub returns-clause-outside : goal.returns-clause-outside
 returns-clause-outside g c = λ tells. outside_then (c.in-Ok.ensures.outside tells) (c.serve_log.ensures.outside tells)
+
+pub returns-in-Err-clause-why : goal.returns-in-Err-clause-why
+returns-in-Err-clause-why g c =
+    let damaged = IsDamagedLog g.D.Disk.tells c.args.segment (g.D.Disk.state c.args.store.disk).reads in
+    why_unserved (λ s store. Unopened damaged s (g.D.Disk.faults c.args.store.disk) (g.D.Disk.faults store.disk)) _ _ _ _ _
+    c.unserved.ensures.core c.unserved.ensures.status c.unserved.ensures.store
+    (not_recovered _ _ _ _ _ _ _ c.status_of_fault.ensures.tells c.in-Err.ensures.damaged c.in-Err.ensures.cause)
+
+pub returns-clause-why : goal.returns-clause-why
+returns-clause-why g c =
+    let damaged = IsDamagedLog g.D.Disk.tells c.args.segment (g.D.Disk.state c.args.store.disk).reads in
+    why_then _ (shut_out damaged c.serve_log.result.status _ _ _ c.in-Ok.ensures.cause) c.serve_log.ensures.why

@@ -3,8 +3,10 @@ use Rattle.mq_outside.specs.Disk.{Rests}
 use Rattle.mq_outside.proofs.Moments.{rests_start}
 use Rattle.log_model.specs.Stored.{StaysOutside}
 use Rattle.log_model.proofs.OutsideLemmas.{outside_then}
+use Rattle.broker_serve.specs.Statuses.{ShutOut}
 use Rattle.broker_serve.proofs.Serving.{ends_unserved}
 use Rattle.broker_serve.proofs.Storing.{none_of, stores_before}
+use Rattle.broker_serve.proofs.Telling.{why_unserved, why_then, no_reader, out_of_memory}
 use Rattle.broker_serve.proofs.run.serve_loops.Goals as goal
 
 pub returns-in-Err-clause-ends : goal.returns-in-Err-clause-ends
@@ -24,3 +26,11 @@ returns-in-Err-clause-stores g c = λ tells. none_of _ _ c.unserved.ensures.core
 
 pub returns-in-Ok-clause-stores : goal.returns-in-Ok-clause-stores
 returns-in-Ok-clause-stores g c = λ tells. stores_before _ _ _ _ _ c.serve_open.result.core (c.in-Ok.ensures.ready tells) (c.serve_open.ensures.stores tells)
+
+pub returns-in-Err-clause-why : goal.returns-in-Err-clause-why
+returns-in-Err-clause-why g c =
+    why_unserved (λ s store. ShutOut s (g.D.Disk.faults c.args.store.disk) (g.D.Disk.faults store.disk)) _ _ _ _ _
+    c.unserved.ensures.core c.unserved.ensures.status c.unserved.ensures.store (no_reader c.status_of_reader.result _ _ _ c.status_of_reader.ensures.tells c.in-Err.ensures.cause)
+
+pub returns-in-Ok-clause-why : goal.returns-in-Ok-clause-why
+returns-in-Ok-clause-why g c = why_then _ (out_of_memory c.serve_open.result.status _ _) c.serve_open.ensures.why

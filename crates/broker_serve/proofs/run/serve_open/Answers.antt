@@ -1,4 +1,4 @@
-use Rattle.std.proofs.Common.{◌∙◌, sym, ap, subst}
+use Rattle.std.proofs.Common.{◌≡◌, ◌∙◌, sym, ap, subst}
 use Rattle.mq_outside.specs.Disk.{Rests}
 use Rattle.mq_outside.proofs.Moments.{rests_start}
 use Rattle.log_model.specs.Stored.{StaysOutside}
@@ -8,6 +8,7 @@ use Rattle.serve_story.specs.Served.{IsLeft}
 use Rattle.broker_serve.specs.Serves.{StoresOpened}
 use Rattle.broker_serve.proofs.Serving.{ends_unserved, ends_served}
 use Rattle.broker_serve.proofs.Storing.{none_of, some_of, stores_opened}
+use Rattle.broker_serve.proofs.Telling.{why_unserved, why_served}
 use Rattle.broker_serve.proofs.run.serve_open.Goals as goal
 
 pub returns-in-Err-clause-ends : goal.returns-in-Err-clause-ends
@@ -24,7 +25,7 @@ pub returns-in-Ok-clause-ends : goal.returns-in-Ok-clause-ends
 returns-in-Ok-clause-ends g c =
     let served = c.in-Ok.served in
     let view = view_of g.D.Disk.tells g.D.Disk.state g.D.Disk.faults g.D.Disk.syncs in
-    ends_served _ _ _ _ _ _ _ _ _ _ c.args.devices.disk served.disk c.ended_of.ensures.core c.ended_of.ensures.zero
+    ends_served _ _ _ _ _ _ _ _ _ served.end served.last _ c.args.devices.disk served.disk c.ended_of.ensures.core c.ended_of.ensures.tells
     (subst (λ k. IsLeft g.P.Link.Link.tells g.D.Reader.Reader.gives view c.args.core (place_of c.args.devices.flusher.file c.args.devices.disk) served.disk
     g.E.Keep.tells served.kept (g.E.Keep.state c.args.devices.keep) (g.E.Keep.state k) served.core) (sym c.ended_of.ensures.keep) c.in-Ok.ensures.left)
 
@@ -43,3 +44,10 @@ returns-in-Ok-clause-outside g c = λ tells. outside_then (c.in-Ok.ensures.outsi
 
 pub returns-in-Err-clause-stores : goal.returns-in-Err-clause-stores
 returns-in-Err-clause-stores g c = λ tells. none_of _ _ c.unserved.ensures.core
+
+pub returns-in-Err-clause-why : goal.returns-in-Err-clause-why
+returns-in-Err-clause-why g c =
+    why_unserved (λ s store. s.code ≡ 7) _ _ _ _ _ c.unserved.ensures.core c.unserved.ensures.status c.unserved.ensures.store c.plain.ensures.code
+
+pub returns-in-Ok-clause-why : goal.returns-in-Ok-clause-why
+returns-in-Ok-clause-why g c = why_served _ _ _ c.ended_of.ensures.core

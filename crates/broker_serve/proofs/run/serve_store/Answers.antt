@@ -2,7 +2,9 @@ use Rattle.std.proofs.Common.{sym, ap, subst}
 use Rattle.mq_outside.specs.Disk.{Rests}
 use Rattle.log_model.specs.Stored.{StaysOutside}
 use Rattle.log_model.proofs.OutsideLemmas.{outside_start}
+use Rattle.broker_serve.specs.Statuses.{IsDamagedIn, Unserved}
 use Rattle.broker_serve.proofs.Serving.{store_unserved, store_served}
+use Rattle.broker_serve.proofs.Telling.{why_unserved, why_then, not_loaded, not_opened}
 use Rattle.broker_serve.proofs.run.serve_store.Goals as goal
 
 pub returns-in-Err-clause-served : goal.returns-in-Err-clause-served
@@ -17,3 +19,14 @@ returns-in-Err-clause-outside g c = λ tells.
 pub returns-in-Ok-clause-served : goal.returns-in-Ok-clause-served
 returns-in-Ok-clause-served g c =
     store_served _ _ _ _ _ _ _ _ _ _ _ _ _ c.in-Ok.ensures.rests c.in-Ok.ensures.read c.serve_config.ensures.served
+
+pub returns-in-Err-clause-why : goal.returns-in-Err-clause-why
+returns-in-Err-clause-why g c =
+    let before = c.args.store in
+    let damaged = IsDamagedIn g.D.Disk.tells c.args.segment (g.D.Disk.state before.disk).reads g.E.Keep.tells (g.E.Keep.state before.keep).reads in
+    why_unserved (λ s store. Unserved damaged s (g.D.Disk.faults before.disk) (g.D.Disk.faults store.disk) (g.E.Keep.faults before.keep) (g.E.Keep.faults store.keep)) _ _ _ _ _
+    c.unserved.ensures.core c.unserved.ensures.status c.unserved.ensures.store
+    (not_loaded _ _ _ _ _ _ _ _ _ _ _ c.status_of_config.ensures.tells c.in-Err.ensures.bad c.in-Err.ensures.cause)
+
+pub returns-in-Ok-clause-why : goal.returns-in-Ok-clause-why
+returns-in-Ok-clause-why g c = why_then _ (not_opened _ _ _ _ _ _ _ _ _ _) c.serve_config.ensures.why

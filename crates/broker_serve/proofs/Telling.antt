@@ -1,0 +1,165 @@
+-- Which status tells what.
+use Rattle.std.proofs.Common.{◌≡◌, ◌≢◌, ◌⊎◌, inl, inr, refl, sym, subst, ◌∙◌, arith, ℕ, List, Option, Some, None, Result, Ok, Err}
+use Rattle.std.specs.Prelude.{codes, IfNone}
+use Rattle.mq_outside.specs.Counts.{CountsDiskFault}
+use Rattle.mq_outside.specs.Files.{Files, Same}
+use Rattle.mq_outside.specs.Disk.{DiskState, Moves}
+use Rattle.mq_outside.specs.declared.faults.DiskFault.{DiskFault}
+use Rattle.mq_outside.specs.declared.faults.DiskFault.TheVariants as device
+use Rattle.log_model.specs.Bases.{whole}
+use Rattle.log_model.specs.Store.{IsDamagedAt}
+use Rattle.log_recovery.specs.Recovered.{OnDamage, CountsRecoverFault}
+use Rattle.log_recovery.specs.declared.fault.RecoverFault.{RecoverFault}
+use Rattle.log_recovery.specs.declared.fault.RecoverFault.TheVariants as recovery
+use Rattle.config_store.specs.Configs.{OFFSETS, TOPICS, HasOffsets, HasTopics}
+use Rattle.config_store.specs.Faults.{IsBadText, OnBadText, CountsConfigFault}
+use Rattle.config_store.specs.declared.config.ConfigFault.{ConfigFault}
+use Rattle.config_store.specs.declared.config.ConfigFault.TheVariants as config
+use Rattle.worker_turns.specs.declared.flush.FlushEnd.{FlushEnd}
+use Rattle.worker_turns.specs.declared.flush.FlushEnd.TheVariants as flush
+use Rattle.event_loops.specs.declared.event_loop.LoopEnd.{LoopEnd}
+use Rattle.event_loops.specs.declared.event_loop.LoopEnd.TheVariants as loops
+use Rattle.store_open.specs.Openings.{FORMAT, AreSizesOf, OpeningCause, PutsOnly}
+use Rattle.store_open.specs.ServeWords.{IsServeCommand}
+use Rattle.store_open.specs.declared.format.Sizes.{Sizes}
+use Rattle.store_open.specs.declared.serve_words.ServeCommand.{ServeCommand}
+use Rattle.store_open.specs.declared.status.Status.{Status}
+use Rattle.broker_serve.specs.Statuses.{TellsDevice, StatusTellsLoops, StatusTellsEnd, AllWell, StatusKept, StatusLeft}
+use Rattle.broker_serve.specs.Statuses.{StatusTellsFault, StatusTellsConfig, StatusTellsReader, ShutOut, Unopened, Unserved, IsDamagedLog, IsDamagedIn, IsDamagedFor, Refused}
+
+-- ---- links were served
+
+-- a status that names a device isn't 0
+device_told : (status : Status) (name : List ℕ) → TellsDevice status name → status.code ≡ 0 → ⊥
+device_told status name (inl ten) zero = omega (arith, ten.0, zero)
+device_told status name (inr seven) zero = omega (arith, seven, zero)
+
+-- with status 0 the loops ended of themselves
+ended_well : (code : ℕ) (status : Status) (end : LoopEnd) → StatusTellsLoops code status end → status.code ≡ 0 → (end ≡ loops.Done) × (code ≡ 0)
+ended_well code status loops.Done tells zero = (refl, sym tells ∙ zero)
+ended_well code status loops.Clock tells zero = absurd (device_told status (codes "clock") tells zero)
+ended_well code status loops.Door tells zero = absurd (device_told status (codes "door") tells zero)
+ended_well code status loops.Poll tells zero = absurd (device_told status (codes "door") tells zero)
+ended_well code status loops.Memory tells zero = absurd (omega (arith, tells, zero))
+
+-- and nothing is pending
+all_well : (status : Status) (end : LoopEnd) (last : FlushEnd) → StatusTellsEnd status end last → status.code ≡ 0 → AllWell end last
+all_well status end flush.Idle tells zero = ((ended_well 0 status end tells zero).0, tt)
+all_well status end flush.Done tells zero = ((ended_well 0 status end tells zero).0, tt)
+all_well status end (flush.Failed count) tells zero = let five = (ended_well 5 status end tells zero).1 in absurd (omega (arith, five))
+all_well status end flush.Misplaced tells zero = let five = (ended_well 5 status end tells zero).1 in absurd (omega (arith, five))
+all_well status end flush.Memory tells zero = absurd (omega (arith, tells, zero))
+
+-- the status behind the last replacement of the kept files
+pub left_tells : (status else_told : Status) (end : LoopEnd) (last : FlushEnd) (kept : Result (Unit {0}) DiskFault) → StatusTellsEnd else_told end last → StatusKept status else_told kept → StatusLeft status end last kept
+left_tells status else_told end last (Ok done) tells is = subst (λ (s : Status). StatusTellsEnd s end last) (sym is) tells
+left_tells status else_told end last (Err device.Memory) tells is = is
+left_tells status else_told end last (Err device.Failed) tells (inl is) = inl (all_well else_told end last tells is.0, is.1)
+left_tells status else_told end last (Err device.Failed) tells (inr is) =
+    inr (subst (λ (s : Status). StatusTellsEnd s end last × (s.code ≢ 0)) (sym is.1) (tells, is.0))
+
+-- with status 0 they were replaced
+pub zero_kept : (status : Status) (end : LoopEnd) (last : FlushEnd) (kept : Result (Unit {0}) DiskFault) → StatusLeft status end last kept → status.code ≡ 0 → kept ≡ Ok tt
+zero_kept status end last (Ok done) tells zero = refl
+zero_kept status end last (Err device.Memory) tells zero = absurd (omega (arith, tells, zero))
+zero_kept status end last (Err device.Failed) (inl tells) zero = absurd (device_told status (codes "keep") tells.1 zero)
+zero_kept status end last (Err device.Failed) (inr tells) zero = absurd (tells.1 zero)
+
+-- ---- no links were served
+
+-- what is said of the status and the store of a run that ended before links were served
+pub why_unserved : {A S : Type 0} (P : Status → S → Type 0) (left : Option A) (told status : Status) (then store : S) → left ≡ None → told ≡ status → then ≡ store → P status store → IfNone left (P told then)
+why_unserved P left told status then store none same same_store is =
+    subst (λ (o : Option _). IfNone o (P told then)) (sym none) (subst (λ (s : Status). P s then) (sym same) (subst (λ t. P status t) (sym same_store) is))
+
+-- nothing is said where they were
+pub why_served : {A : Type 0} (P : Type 0) (left : Option A) (core : A) → left ≡ Some core → IfNone left P
+why_served P left core some = subst (λ (o : Option _). IfNone o P) (sym some) tt
+
+pub why_then : {A P Q : Type 0} (left : Option A) → (P → Q) → IfNone left P → IfNone left Q
+why_then None more is = more is
+why_then (Some core) more is = tt
+
+-- there was no memory to begin
+pub out_of_memory : (status : Status) (disk disk_then : ℕ) → status.code ≡ 7 → ShutOut status disk disk_then
+out_of_memory status disk disk_then seven = inr (inr seven)
+
+pub no_reader : (status : Status) (fault : DiskFault) (disk disk_then : ℕ) → StatusTellsReader status fault → CountsDiskFault {A = Unit {0}} (Err fault) disk disk_then → ShutOut status disk disk_then
+no_reader status device.Failed disk disk_then tells counts = inl (tells, counts)
+no_reader status device.Memory disk disk_then tells counts = inr (inr tells)
+
+pub no_door : (status : Status) (disk disk_then : ℕ) → (status.code ≡ 10) ⊎ (status.code ≡ 7) → (status.code ≢ 7 → status.name ≡ codes "door") → ShutOut status disk disk_then
+no_door status disk disk_then (inl ten) named = inr (inl (ten, named (λ seven. omega (arith, ten, seven))))
+no_door status disk disk_then (inr seven) named = inr (inr seven)
+
+pub not_recovered : (tells : Type 0) (segment : ℕ) (files : Files) (status : Status) (fault : RecoverFault) (disk disk_then : ℕ) → StatusTellsFault status fault
+    → (tells → OnDamage {A = Unit {0}} (Err fault) (IsDamagedAt (whole segment) files)) → CountsRecoverFault {A = Unit {0}} (Err fault) disk disk_then
+    → Unopened (IsDamagedLog tells segment files) status disk disk_then
+not_recovered tells segment files status (recovery.Damaged place name) disk disk_then told damaged counts =
+    inl (told.0, λ it. subst (λ (n : ℕ). IsDamagedAt (whole segment) files n status.name) (sym told.1) (subst (λ (t : List ℕ). IsDamagedAt (whole segment) files place t) (sym told.2) (damaged it)))
+not_recovered tells segment files status recovery.Failed disk disk_then told damaged counts = inr (inl (told, counts))
+not_recovered tells segment files status recovery.Memory disk disk_then told damaged counts = inr (inr (inr told))
+
+-- seen from before the log was opened
+pub shut_out : (damaged : ℕ → List ℕ → Type 0) (status : Status) (disk opened disk_then : ℕ) → opened ≡ disk → ShutOut status opened disk_then → Unopened damaged status disk disk_then
+shut_out damaged status disk opened disk_then same is = inr (subst (λ (n : ℕ). ShutOut status n disk_then) same is)
+
+pub not_loaded : (tells : Type 0) (segment : ℕ) (files : Files) (keeps : Type 0) (texts : Files) (status : Status) (fault : ConfigFault) (disk disk_then keep keep_then : ℕ)
+    → StatusTellsConfig status fault → (keeps → OnBadText {A = Unit {0}} (Err fault) (IsBadText texts)) → CountsConfigFault {A = Unit {0}} (Err fault) keep keep_then
+    → Unserved (IsDamagedIn tells segment files keeps texts) status disk disk_then keep keep_then
+not_loaded tells segment files keeps texts status (config.BadText name) disk disk_then keep keep_then (inl told) bad counts =
+    inr (inl (told.0, inr (told.1, λ it. subst (λ (n : List ℕ). IsBadText texts n) (sym told.2) (bad it))))
+not_loaded tells segment files keeps texts status (config.BadText name) disk disk_then keep keep_then (inr seven) bad counts = inr (inr (out_of_memory status disk disk_then seven))
+not_loaded tells segment files keeps texts status config.Failed disk disk_then keep keep_then (inl told) bad counts = inl (told.0, told.1, counts)
+not_loaded tells segment files keeps texts status config.Failed disk disk_then keep keep_then (inr seven) bad counts = inr (inr (out_of_memory status disk disk_then seven))
+not_loaded tells segment files keeps texts status config.Memory disk disk_then keep keep_then seven bad counts = inr (inr (out_of_memory status disk disk_then seven))
+
+-- seen from before the kept files were loaded
+pub not_opened : (tells : Type 0) (segment : ℕ) (files : Files) (keeps : Type 0) (texts : Files) (status : Status) (disk disk_then keep keep_then : ℕ)
+    → Unopened (IsDamagedLog tells segment files) status disk disk_then → Unserved (IsDamagedIn tells segment files keeps texts) status disk disk_then keep keep_then
+not_opened tells segment files keeps texts status disk disk_then keep keep_then (inl damaged) = inr (inl (damaged.0, inl damaged.1))
+not_opened tells segment files keeps texts status disk disk_then keep keep_then (inr shut) = inr (inr shut)
+
+-- the store was not opened
+pub not_formed : (damaged : ℕ → List ℕ → Type 0) (status : Status) (disk disk_then keep keep_then : ℕ) → OpeningCause status disk disk_then keep keep_then
+    → (status.code ≡ 6) ⊎ Unserved damaged status disk disk_then keep keep_then
+not_formed damaged status disk disk_then keep keep_then (inl failed) = inr (inr (inr (inl failed)))
+not_formed damaged status disk disk_then keep keep_then (inr (inl six)) = inl six
+not_formed damaged status disk disk_then keep keep_then (inr (inr (inl seven))) = inr (inr (inr (out_of_memory status disk disk_then seven)))
+not_formed damaged status disk disk_then keep keep_then (inr (inr (inr kept))) = inr (inl kept)
+
+-- a kept file that isn't of its form was so before the format was put
+bad_before : (format : List ℕ) (old opened : DiskState) (name : List ℕ) → PutsOnly format old opened → IsBadText opened.reads name → IsBadText old.reads name
+bad_before format old opened name puts (inl it) = inl (record {
+  named = it.named;
+  none = λ rows has. it.none rows (subst (λ (o : Option (List ℕ)). HasOffsets o rows) (sym (puts.reads.others OFFSETS (λ e. absurd (cc e)))) has);
+})
+bad_before format old opened name puts (inr it) = inr (record {
+  named = it.named;
+  none = λ rows has. it.none rows (subst (λ (o : Option (List ℕ)). HasTopics o rows) (sym (puts.reads.others TOPICS (λ e. absurd (cc e)))) has);
+})
+
+module _ (words : List (List ℕ)) (command : ServeCommand) (sizes : Sizes) (tells keeps : Type 0) (format : List ℕ) (disk disk_opened keep keep_opened : DiskState)
+    (same : tells → Moves Same disk disk_opened) (sizes_are : keeps → AreSizesOf (keep.reads FORMAT) command.sizes sizes) (puts : keeps → PutsOnly format keep keep_opened) where
+  damaged_for : (place : ℕ) (name : List ℕ) → IsDamagedIn tells sizes.segment disk_opened.reads keeps keep_opened.reads place name → IsDamagedFor command tells disk.reads keeps keep.reads place name
+  damaged_for place name (inl log) = (sizes, sizes_are, inl (λ it. subst (λ (f : Files). IsDamagedAt (whole sizes.segment) f place name) (same it).reads (log it)))
+  damaged_for place name (inr text) = (sizes, sizes_are, inr (text.0, λ it. bad_before format keep keep_opened name (puts it) (text.1 it)))
+
+  before_opening : (status : Status) (d d_then k k_then : ℕ) → Unserved (IsDamagedIn tells sizes.segment disk_opened.reads keeps keep_opened.reads) status d d_then k k_then
+      → Unserved (IsDamagedFor command tells disk.reads keeps keep.reads) status d d_then k k_then
+  before_opening status d d_then k k_then (inl kept) = inl kept
+  before_opening status d d_then k k_then (inr (inl damaged)) = inr (inl (damaged.0, damaged_for status.place status.name damaged.1))
+  before_opening status d d_then k k_then (inr (inr shut)) = inr (inr shut)
+
+  -- seen from before the store was opened
+  pub refused : (status : Status) (d d_opened d_then k k_opened k_then : ℕ) → IsServeCommand words command → d_opened ≡ d → k_opened ≡ k
+      → Unserved (IsDamagedIn tells sizes.segment disk_opened.reads keeps keep_opened.reads) status d_opened d_then k_opened k_then
+      → Refused words tells disk.reads keeps keep.reads status d d_then k k_then
+  refused status d d_opened d_then k k_opened k_then asked same_disk same_keep is =
+      inr (
+        command,
+        asked,
+        inr (subst (λ (n : ℕ). Unserved (IsDamagedFor command tells disk.reads keeps keep.reads) status n d_then k k_then) same_disk
+            (subst (λ (n : ℕ). Unserved (IsDamagedFor command tells disk.reads keeps keep.reads) status d_opened d_then n k_then) same_keep
+            (before_opening status d_opened d_then k_opened k_then is))),
+      )

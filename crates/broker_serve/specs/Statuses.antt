@@ -1,0 +1,125 @@
+-- What ended a run of `serve`, by its status.
+use Rattle.std.specs.Prelude.{◌≡◌, ◌≢◌, ◌⊎◌, ℕ, List, codes, Result, Ok, Err}
+use Rattle.mq_outside.specs.Counts.{Rises}
+use Rattle.mq_outside.specs.Files.{Files}
+use Rattle.mq_outside.specs.declared.faults.DiskFault.{DiskFault}
+use Rattle.mq_outside.specs.declared.faults.DiskFault.TheVariants as device
+use Rattle.log_model.specs.Bases.{whole}
+use Rattle.log_model.specs.Store.{IsDamagedAt}
+use Rattle.log_recovery.specs.declared.fault.RecoverFault.{RecoverFault}
+use Rattle.log_recovery.specs.declared.fault.RecoverFault.TheVariants as recovery
+use Rattle.config_store.specs.Faults.{IsBadText}
+use Rattle.config_store.specs.declared.config.ConfigFault.{ConfigFault}
+use Rattle.config_store.specs.declared.config.ConfigFault.TheVariants as config
+use Rattle.worker_turns.specs.declared.flush.FlushEnd.{FlushEnd}
+use Rattle.worker_turns.specs.declared.flush.FlushEnd.TheVariants as flush
+use Rattle.event_loops.specs.declared.event_loop.LoopEnd.{LoopEnd}
+use Rattle.event_loops.specs.declared.event_loop.LoopEnd.TheVariants as loops
+use Rattle.store_open.specs.Openings.{FORMAT, AreSizesOf}
+use Rattle.store_open.specs.ServeWords.{IsServeCommand}
+use Rattle.store_open.specs.declared.format.Sizes.{Sizes}
+use Rattle.store_open.specs.declared.serve_words.ServeCommand.{ServeCommand}
+use Rattle.store_open.specs.declared.status.Status.{Status}
+
+-- a status that tells that this device failed, or that there was no memory to tell it
+abbrev pub TellsDevice : Status → List ℕ → Type 0
+TellsDevice status name = ((status.code ≡ 10) × (status.name ≡ name)) ⊎ (status.code ≡ 7)
+
+-- ---- links were served
+
+-- the status tells why the loops ended, and this is its code where they ended of themselves
+abbrev pub StatusTellsLoops : ℕ → Status → LoopEnd → Type 0
+StatusTellsLoops code status loops.Done = status.code ≡ code
+StatusTellsLoops code status loops.Clock = TellsDevice status (codes "clock")
+StatusTellsLoops code status loops.Door = TellsDevice status (codes "door")
+StatusTellsLoops code status loops.Poll = TellsDevice status (codes "door")
+StatusTellsLoops code status loops.Memory = status.code ≡ 7
+
+-- why the loops ended and how the last flush turn did tell the status: want of memory in that turn comes before all else, and that it
+-- failed is told where nothing else is
+abbrev pub StatusTellsEnd : Status → LoopEnd → FlushEnd → Type 0
+StatusTellsEnd status end flush.Idle = StatusTellsLoops 0 status end
+StatusTellsEnd status end flush.Done = StatusTellsLoops 0 status end
+StatusTellsEnd status end (flush.Failed count) = StatusTellsLoops 5 status end
+StatusTellsEnd status end flush.Misplaced = StatusTellsLoops 5 status end
+StatusTellsEnd status end flush.Memory = status.code ≡ 7
+
+-- the last flush turn left nothing pending
+abbrev pub IsFlushed : FlushEnd → Type 0
+IsFlushed flush.Idle = Unit {0}
+IsFlushed flush.Done = Unit {0}
+IsFlushed (flush.Failed count) = ⊥
+IsFlushed flush.Misplaced = ⊥
+IsFlushed flush.Memory = ⊥
+
+-- the loops ended of themselves, and nothing is pending
+abbrev pub AllWell : LoopEnd → FlushEnd → Type 0
+AllWell end last = (end ≡ loops.Done) × IsFlushed last
+
+-- The status that is told where the kept files were replaced or not, and would be told of all before: want of memory comes before all
+-- else, and that the keep failed is told where nothing else is.
+abbrev pub StatusKept : {A : Type 0} → Status → Status → Result A DiskFault → Type 0
+StatusKept status else_told (Ok done) = status ≡ else_told
+StatusKept status else_told (Err device.Memory) = status.code ≡ 7
+StatusKept status else_told (Err device.Failed) =
+    ((else_told.code ≡ 0) × TellsDevice status (codes "keep")) ⊎ ((else_told.code ≢ 0) × (status ≡ else_told))
+
+-- why the loops ended, how the last flush turn did and the replacement of the kept files tell the status
+abbrev pub StatusLeft : {A : Type 0} → Status → LoopEnd → FlushEnd → Result A DiskFault → Type 0
+StatusLeft status end last (Ok done) = StatusTellsEnd status end last
+StatusLeft status end last (Err device.Memory) = status.code ≡ 7
+StatusLeft status end last (Err device.Failed) =
+    (AllWell end last × TellsDevice status (codes "keep")) ⊎ (StatusTellsEnd status end last × (status.code ≢ 0))
+
+-- ---- no links were served
+
+-- the status tells why the log was not recovered
+abbrev pub StatusTellsFault : Status → RecoverFault → Type 0
+StatusTellsFault status (recovery.Damaged place name) = (status.code ≡ 8) × (status.place ≡ place) × (status.name ≡ name)
+StatusTellsFault status recovery.Failed = status.code ≡ 5
+StatusTellsFault status recovery.Memory = status.code ≡ 7
+
+-- the status tells why the kept files were not loaded, or that there was no memory to tell it
+abbrev pub StatusTellsConfig : Status → ConfigFault → Type 0
+StatusTellsConfig status (config.BadText name) =
+    ((status.code ≡ 8) × (status.place ≡ 0) × (status.name ≡ name.now)) ⊎ (status.code ≡ 7)
+StatusTellsConfig status config.Failed = TellsDevice status (codes "keep")
+StatusTellsConfig status config.Memory = status.code ≡ 7
+
+-- the status tells why there is no reader
+abbrev pub StatusTellsReader : Status → DiskFault → Type 0
+StatusTellsReader status device.Failed = status.code ≡ 5
+StatusTellsReader status device.Memory = status.code ≡ 7
+
+-- The log was open: the disk failed, by its count, or the door or the poll did, or there was no memory.
+abbrev pub ShutOut : Status → ℕ → ℕ → Type 0
+ShutOut status disk disk_then = ((status.code ≡ 5) × Rises disk disk_then) ⊎ TellsDevice status (codes "door")
+
+-- The kept files were loaded: the same, or it is damage, of which this holds.
+abbrev pub Unopened : (ℕ → List ℕ → Type 0) → Status → ℕ → ℕ → Type 0
+Unopened damaged status disk disk_then = ((status.code ≡ 8) × damaged status.place status.name) ⊎ ShutOut status disk disk_then
+
+-- The same, or the keep failed, by its count.
+abbrev pub Unserved : (ℕ → List ℕ → Type 0) → Status → ℕ → ℕ → ℕ → ℕ → Type 0
+Unserved damaged status disk disk_then keep keep_then =
+    ((status.code ≡ 10) × (status.name ≡ codes "keep") × Rises keep keep_then) ⊎ Unopened damaged status disk disk_then
+
+-- where the disk tells them, these files are damaged at this place, in this one of them
+abbrev pub IsDamagedLog : Type 0 → ℕ → Files → ℕ → List ℕ → Type 0
+IsDamagedLog disk segment files place name = disk → IsDamagedAt (whole segment) files place name
+
+-- so are they, or, where the keep tells its texts, the kept file of this name isn't of its form
+abbrev pub IsDamagedIn : Type 0 → ℕ → Files → Type 0 → Files → ℕ → List ℕ → Type 0
+IsDamagedIn disk segment files keep texts place name =
+    IsDamagedLog disk segment files place name ⊎ ((place ≡ 0) × (keep → IsBadText texts name))
+
+-- the same of a store of the sizes that these words ask for, or that its format says
+abbrev pub IsDamagedFor : ServeCommand → Type 0 → Files → Type 0 → Files → ℕ → List ℕ → Type 0
+IsDamagedFor command disk files keep texts place name =
+    (sizes : Sizes) × (keep → AreSizesOf (texts FORMAT) command.sizes sizes) × IsDamagedIn disk sizes.segment files keep texts place name
+
+-- No links were served: the words don't fit, or the store is another's, or it is damaged, or a device failed, or there was no memory.
+abbrev pub Refused : List (List ℕ) → Type 0 → Files → Type 0 → Files → Status → ℕ → ℕ → ℕ → ℕ → Type 0
+Refused words disk files keep texts status faults faults_then keep_faults keep_faults_then =
+    (status.code ≡ 1) ⊎ ((command : ServeCommand) × IsServeCommand words command
+    × ((status.code ≡ 6) ⊎ Unserved (IsDamagedFor command disk files keep texts) status faults faults_then keep_faults keep_faults_then))
