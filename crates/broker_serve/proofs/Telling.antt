@@ -42,7 +42,7 @@ ended_well code status loops.Door tells zero = absurd (device_told status (codes
 ended_well code status loops.Poll tells zero = absurd (device_told status (codes "door") tells zero)
 ended_well code status loops.Memory tells zero = absurd (omega (arith, tells, zero))
 
--- and nothing is pending
+-- and the last flush turn didn't fail
 all_well : (status : Status) (end : LoopEnd) (last : FlushEnd) → StatusTellsEnd status end last → status.code ≡ 0 → AllWell end last
 all_well status end flush.Idle tells zero = ((ended_well 0 status end tells zero).0, tt)
 all_well status end flush.Done tells zero = ((ended_well 0 status end tells zero).0, tt)

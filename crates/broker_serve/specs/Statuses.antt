@@ -35,8 +35,8 @@ StatusTellsLoops code status loops.Door = TellsDevice status (codes "door")
 StatusTellsLoops code status loops.Poll = TellsDevice status (codes "door")
 StatusTellsLoops code status loops.Memory = status.code ≡ 7
 
--- why the loops ended and how the last flush turn did tell the status: want of memory in that turn comes before all else, and that it
--- failed is told where nothing else is
+-- Why the loops ended and how the last flush turn did tell the status: want of memory in that turn comes before all else, and that it
+-- failed is told where nothing else is.
 abbrev pub StatusTellsEnd : Status → LoopEnd → FlushEnd → Type 0
 StatusTellsEnd status end flush.Idle = StatusTellsLoops 0 status end
 StatusTellsEnd status end flush.Done = StatusTellsLoops 0 status end
@@ -44,7 +44,7 @@ StatusTellsEnd status end (flush.Failed count) = StatusTellsLoops 5 status end
 StatusTellsEnd status end flush.Misplaced = StatusTellsLoops 5 status end
 StatusTellsEnd status end flush.Memory = status.code ≡ 7
 
--- the last flush turn left nothing pending
+-- the last flush turn didn't fail
 abbrev pub IsFlushed : FlushEnd → Type 0
 IsFlushed flush.Idle = Unit {0}
 IsFlushed flush.Done = Unit {0}
@@ -52,7 +52,7 @@ IsFlushed (flush.Failed count) = ⊥
 IsFlushed flush.Misplaced = ⊥
 IsFlushed flush.Memory = ⊥
 
--- the loops ended of themselves, and nothing is pending
+-- the loops ended of themselves, and the last flush turn didn't fail
 abbrev pub AllWell : LoopEnd → FlushEnd → Type 0
 AllWell end last = (end ≡ loops.Done) × IsFlushed last
 
@@ -119,6 +119,7 @@ IsDamagedFor command disk files keep texts place name =
     (sizes : Sizes) × (keep → AreSizesOf (texts FORMAT) command.sizes sizes) × IsDamagedIn disk sizes.segment files keep texts place name
 
 -- No links were served: the words don't fit, or the store is another's, or it is damaged, or a device failed, or there was no memory.
+-- The numbers are the counts of the disk's and of the keep's failures, before and behind.
 abbrev pub Refused : List (List ℕ) → Type 0 → Files → Type 0 → Files → Status → ℕ → ℕ → ℕ → ℕ → Type 0
 Refused words disk files keep texts status faults faults_then keep_faults keep_faults_then =
     (status.code ≡ 1) ⊎ ((command : ServeCommand) × IsServeCommand words command
