@@ -1,0 +1,4 @@
+pub mod Frames
+pub mod Rule
+pub mod Closing
+pub mod Passes
