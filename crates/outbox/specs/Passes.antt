@@ -20,6 +20,10 @@ Frame = Vec ℕ Global
 abbrev pub link_of : Outbox → ℕ
 link_of box = box.link
 
+-- the number that a pass shows
+abbrev pub shown_link : OutPass → ℕ
+shown_link pass = pass.link
+
 -- how many frames it can hold
 abbrev pub room_of : Outbox → ℕ
 room_of box = queue.ruled_capacity box.frames
@@ -55,7 +59,13 @@ closed_of pass = pass.ending.me.0.closed
 -- it is a pass of this box, and shows its link
 abbrev pub IsPassOf : Outbox → OutPass → Type 0
 IsPassOf box pass =
-    queue.IsPassOf box.frames pass.seat × IsEndingAt box.word.shared.table_id pass.ending × (pass.link.value ≡ box.link)
+    queue.IsPassOf box.frames pass.seat × IsEndingAt box.word.shared.table_id pass.ending × (shown_link pass ≡ link_of box)
+
+-- it is the taker's where the other is, and stands for the same pushers
+abbrev pub IsSamePass : OutPass → OutPass → Type 0
+IsSamePass old new =
+    ((view_of new).taker ≡ (view_of old).taker) × ((view_of new).numbers ≡ (view_of old).numbers)
+    × ((view_of new).next ≡ (view_of old).next)
 
 -- What a push answers. A frame is taken where the pass saw no close, and is its pusher's last. It comes back where the box
 -- was full at one moment, at which it held what its pushers had put and nobody had got, or where the box is closed

@@ -9,7 +9,6 @@ use crate::steps::{Cut, Got, Meet, Put};
 use crate::view::{InOrder, View};
 use crossbeam_queue::{Pass, RuledArrayQueue};
 use std::alloc::{AllocError, Global};
-use std::snapshot::Snapshot;
 use std::sync::Wait;
 
 /// A bounded queue of frames for one link, with one taker and any number of pushers.
@@ -22,12 +21,12 @@ pub struct Outbox {
 }
 
 /// What a caller knows of a box: the pushers that it stands for, what they put, and, where it is the taker's, what it got.
-/// It has no bytes.
+/// But for the link's number it has no bytes.
 #[derive(Drop)]
 pub struct OutPass {
     seat: Pass<Vec<u8>, View<Vec<u8>>>,
     ending: Place,
-    link: Snapshot<u32>,
+    link: u32,
     pub(crate) ghost numbered: { HasNumber (queue.view seat) },
 
     // Of each pusher that it stands for, the taker got a first part of what that pusher put.
@@ -35,6 +34,7 @@ pub struct OutPass {
 }
 
 /// What became of a frame.
+#[derive(Drop)]
 pub enum PushEnd {
     /// The box has it.
     Taken,
@@ -45,6 +45,7 @@ pub enum PushEnd {
 }
 
 /// What the taker gets.
+#[derive(Drop)]
 pub enum PopEnd {
     /// The oldest frame.
     Frame(Vec<u8>),
@@ -58,7 +59,7 @@ impl Outbox {
     ghost use Rattle.std.specs.Prelude.{◌<◌, true, false, IfOk};
     ghost use Rattle.outbox.specs.Rule.{HasAll, opening, fewer, newcomer, met};
     ghost use Rattle.outbox.specs.Closing.{IsEndingAt, both_of};
-    ghost use Rattle.outbox.specs.Passes.{link_of, room_of, view_of, closed_of, IsPassOf, IsTaker, IsPusher, Pushes, Pops};
+    ghost use Rattle.outbox.specs.Passes.{link_of, room_of, view_of, closed_of, IsPassOf, IsTaker, IsPusher, Pushes, Pops, IsSamePass};
 
     /// An open box with nothing in it, and the taker's pass, which is that of the pusher 0 too.
     pub fn new(alloc: Global, link: u32, room: u32) -> Result<(Outbox, OutPass), AllocError>
@@ -69,14 +70,9 @@ impl Outbox {
     {
         let (frames, seat) = RuledArrayQueue::ruled(alloc, room as usize)?;
         let (word, ending) = Word::of_words(alloc, &[0], &())?;
-        let shown = Snapshot::of(&link);
         Ok((
             Outbox { link, frames, word },
-            OutPass {
-                seat,
-                ending,
-                link: shown,
-            },
+            OutPass { seat, ending, link },
         ))
     }
 
@@ -111,6 +107,7 @@ impl Outbox {
     pub fn try_push<R: Wait>(&self, rt: &R, pass: OutPass, frame: Vec<u8>) -> (OutPass, PushEnd)
         requires { IsPassOf self.now pass }
         ensures of { IsPassOf self.now result.0 }
+        ensures same { IsSamePass pass result.0 }
         ensures end { Pushes self.now pass frame result.0 result.1 }
         ensures stays { closed_of pass ≡ true → closed_of result.0 ≡ true }
     {
@@ -135,6 +132,7 @@ impl Outbox {
         requires of { IsPassOf self.now pass }
         requires taker { IsTaker pass }
         ensures of { IsPassOf self.now result.0 }
+        ensures same { IsSamePass pass result.0 }
         ensures end { Pops pass result.0 result.1 }
         ensures order { IsInOrder (view_of result.0) }
         ensures stays { closed_of pass ≡ true → closed_of result.0 ≡ true }
@@ -169,13 +167,12 @@ impl Outbox {
         } = pass;
         let their_seat = self.frames.another::<Cut>(&mut seat);
         let their_ending = self.word.shared.split_seat::<Twin>(&mut ending);
-        let their_link = Snapshot::of(&self.link);
         (
             OutPass { seat, ending, link },
             OutPass {
                 seat: their_seat,
                 ending: their_ending,
-                link: their_link,
+                link,
             },
         )
     }
@@ -222,5 +219,16 @@ impl Outbox {
         } = pass;
         self.word.shared.store::<Close>(&mut ending, 0, 1);
         OutPass { seat, ending, link }
+    }
+}
+
+impl OutPass {
+    ghost use Rattle.outbox.specs.Passes.{shown_link};
+
+    /// The number of the link whose box it is of.
+    pub fn link(&self) -> u32
+        ensures { result ≡ shown_link self.now }
+    {
+        self.link
     }
 }

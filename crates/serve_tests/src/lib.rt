@@ -2,6 +2,8 @@
 #![tactic(auto)]
 
 #[cfg(test)]
+mod outbox_tests;
+#[cfg(test)]
 mod story_tests;
 #[cfg(test)]
 mod talk_tests;
