@@ -1,5 +1,5 @@
 -- What contracts say of a box and its passes, and of what a push and a pop answer.
-use Rattle.std.specs.Prelude.{◌≡◌, ℕ, Bool, true, false, List, Vec}
+use Rattle.std.specs.Prelude.{◌≡◌, ℕ, Bool, true, false, Vec}
 use Rattle.std.specs.declared.alloc.Global.{Global}
 use Rattle.crossbeam_queue.specs.Fifo.{Held}
 use Rattle.crossbeam_queue.specs.Passes as queue
@@ -39,18 +39,6 @@ IsTaker pass = (view_of pass).taker ≡ true
 -- it isn't the taker's
 abbrev pub IsPusher : OutPass → Type 0
 IsPusher pass = (view_of pass).taker ≡ false
-
--- the numbers of the pushers that it stands for
-abbrev pub pushers_of : OutPass → List ℕ
-pushers_of pass = (view_of pass).numbers
-
--- what these pushers put, each frame with its pusher's number
-abbrev pub put_of : OutPass → List (ℕ × Frame)
-put_of pass = (view_of pass).put
-
--- what the taker got, each frame with its pusher's number
-abbrev pub got_of : OutPass → List (ℕ × Frame)
-got_of pass = (view_of pass).got
 
 -- it closed the box, or saw that it is closed
 abbrev pub closed_of : OutPass → Bool
