@@ -1,5 +1,5 @@
 -- Each step keeps the rule of the queue: a push, a pop, a new pusher, and a join.
-use Rattle.std.proofs.Common.{◌≡◌, ◌≢◌, ◌==◌, ℕ, zero, suc, ◌+◌, ◌<◌, Bool, true, false, cond, eq-eqb, ne_eqb, List, [], ◌∷◌, ◌++◌, length, take, set, refl, sym, ap, ◌∙◌, subst, ⊎_elim, ◌⊎◌, inl, inr, true≢false, append_assoc, arith}
+use Rattle.std.proofs.Common.{◌≡◌, ◌≢◌, ◌==◌, ◌||◌, ℕ, zero, suc, ◌+◌, ◌<◌, Bool, true, false, cond, eq-eqb, ne_eqb, List, [], ◌∷◌, ◌++◌, length, take, set, refl, sym, ap, ◌∙◌, subst, ⊎_elim, ◌⊎◌, inl, inr, true≢false, append_assoc, arith}
 use Rattle.std.proofs.lemmas.List.{append-nil}
 use Rattle.std.proofs.Math.Seq.{take-append_seam}
 use mathlib.Core.Option.{some, some-ne-none}
@@ -229,15 +229,23 @@ module _ (F : Type 0) where
       → (k : ℕ) → is_among k v.numbers ≡ true → is_among k w.numbers ≡ false
   apart_of items views h i j v w at at' ne k p = ⊎_elim (λ (q : is_among k w.numbers ≡ true). absurd (ne (sym ((h.each j w at').pushers k q).0 ∙ ((h.each i v at).pushers k p).0))) (λ q. q) (among_or_not (is_among k w.numbers))
 
-  pub merges : (place : ℕ) (v : V) (other : ℕ) (w : V) → w.taker ≡ false → Merges Holds place v other w (met v w) spent
-  merges place v other w pusher items views h at ne at'' =
+  pub merges : (place : ℕ) (v : V) (other : ℕ) (w : V) → Merges Holds place v other w (met v w) spent
+  merges place v other w items views h at ne at'' =
       let both : V = met v w in
       let vs : List V = set views place both in
       let at' : get_elem? views other ≡ some w = ⊎_elim (λ (x : (other ≡ place) × (both ≡ w)). absurd (ne x.0)) (λ (x : (other ≢ place) × (get_elem? views other ≡ some w)). x.1) (at_set views place other both w at'') in
       let mine = h.each place v at in
       let theirs = h.each other w at' in
       let place_of : ℕ → ℕ = given h.place_of w.numbers place in
-      let P : ℕ → V → Type 0 = Fits h.taker h.next place_of h.got h.held in
+      let taker : ℕ = cond w.taker place h.taker in
+      let P : ℕ → V → Type 0 = Fits taker h.next place_of h.got h.held in
+      -- which of the two is the taker's
+      let theirs_is : w.taker ≡ true → (place ≡ taker) × (both.got ≡ h.got) × (both.next ≡ h.next) = λ q.
+      let t = theirs.taker_is q in (sym (ap (λ b. cond b place h.taker) q), ap (λ b. cond b w.got v.got) q ∙ t.1, ap (λ b. cond b w.next v.next) q ∙ t.2) in
+      let ours_is : v.taker ≡ true → w.taker ≡ false → (place ≡ taker) × (both.got ≡ h.got) × (both.next ≡ h.next) = λ p q.
+      let t = mine.taker_is p in (t.0 ∙ sym (ap (λ b. cond b place h.taker) q), ap (λ b. cond b w.got v.got) q ∙ t.1, ap (λ b. cond b w.next v.next) q ∙ t.2) in
+      let either_is : v.taker || w.taker ≡ true → (place ≡ taker) × (both.got ≡ h.got) × (both.next ≡ h.next) = λ p. ⊎_elim theirs_is
+      (λ (q : w.taker ≡ false). ⊎_elim (λ (x : v.taker ≡ true). ours_is x q) (λ (x : (v.taker ≡ false) × (w.taker ≡ true)). theirs_is x.1) (or_cases v.taker w.taker p)) (among_or_not w.taker) in
       let put_is : (k : ℕ) → frames_of k both.put ≡ frames_of k v.put ++ frames_of k w.put = λ k. frames_append k v.put w.put in
       let ours : (k : ℕ) → is_among k v.numbers ≡ true → (place_of k ≡ place) × (k < h.next) × (frames_of k both.put ≡ frames_of k (h.got ++ h.held)) = λ k p.
       let m = mine.pushers k p in
@@ -247,7 +255,7 @@ module _ (F : Type 0) where
       let m = theirs.pushers k p in
       (given_to h.place_of w.numbers place k p, m.1, put_is k ∙ ap (λ (l : List F). l ++ frames_of k w.put) (mine.others k q) ∙ m.2) in
       let joined : P place both = record {
-        taker_is = mine.taker_is;
+        taker_is = either_is;
         pushers = λ k p. ⊎_elim (λ (x : is_among k v.numbers ≡ true). ours k x) (λ (x : (is_among k v.numbers ≡ false) × (is_among k w.numbers ≡ true)). taken k x.0 x.1)
             (or_cases (is_among k v.numbers) (is_among k w.numbers) (sym (among_append k v.numbers w.numbers) ∙ p));
         others = λ k p. let o = or_false (is_among k v.numbers) (is_among k w.numbers) (sym (among_append k v.numbers w.numbers) ∙ p) in
@@ -256,12 +264,17 @@ module _ (F : Type 0) where
       let Now : ℕ → V → Type 0 = λ j y. j ≢ other → P j y in
       let now : (j : ℕ) (y : V) → get_elem? vs j ≡ some y → Now j y = each_set Now views place both (λ _. joined) (λ j y apart e away.
       let f = h.each j y e in record {
-        taker_is = f.taker_is;
+        taker_is = λ p. let t = f.taker_is p in (
+          ⊎_elim (λ (q : w.taker ≡ true). absurd (away (t.0 ∙ sym (theirs.taker_is q).0)))
+              (λ (q : w.taker ≡ false). t.0 ∙ sym (ap (λ b. cond b place h.taker) q)) (among_or_not w.taker),
+          t.1,
+          t.2,
+        );
         pushers = λ k p. let m = f.pushers k p in (not_given h.place_of w.numbers place k (apart_of items views h j other y w e at' (λ s. away (sym s)) k p) ∙ m.0, m.1, m.2);
         others = f.others;
       }) in
       record {
-        taker = h.taker;
+        taker = taker;
         next = h.next;
         place_of = place_of;
         got = h.got;

@@ -36,10 +36,6 @@ view_of pass = queue.view pass.seat
 abbrev pub IsTaker : OutPass → Type 0
 IsTaker pass = (view_of pass).taker ≡ true
 
--- it isn't the taker's
-abbrev pub IsPusher : OutPass → Type 0
-IsPusher pass = (view_of pass).taker ≡ false
-
 -- it closed the box, or saw that it is closed
 abbrev pub closed_of : OutPass → Bool
 closed_of pass = pass.ending.me.0.closed

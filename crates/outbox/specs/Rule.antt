@@ -1,5 +1,5 @@
 -- The rule of the queue: what was got and what the queue holds are what the pushers put. And what each step does to a view.
-use Rattle.std.specs.Prelude.{◌≡◌, ℕ, ◌+◌, ◌<◌, ◌≤◌, true, false, List, [], ◌∷◌, ◌++◌}
+use Rattle.std.specs.Prelude.{◌≡◌, ◌||◌, ℕ, ◌+◌, ◌<◌, ◌≤◌, true, false, cond, List, [], ◌∷◌, ◌++◌}
 use mathlib.Core.Option.{some}
 use lib.ListN.{get_elem?}
 use Rattle.outbox.specs.declared.view.View.{View}
@@ -47,11 +47,18 @@ module _ {F : Type 0} where
   abbrev pub newcomer : View F → View F
   newcomer v = record { taker = false; numbers = v.next ∷ []; put = []; got = []; next = 0 }
 
-  -- a view that has taken in a pusher's
+  -- two views as one, the taker's where either is
   abbrev pub met : View F → View F → View F
-  met v w = record v { numbers = v.numbers ++ w.numbers; put = v.put ++ w.put }
+  met v w =
+      record {
+        taker = v.taker || w.taker;
+        numbers = v.numbers ++ w.numbers;
+        put = v.put ++ w.put;
+        got = cond w.taker w.got v.got;
+        next = cond w.taker w.next v.next;
+      }
 
-  -- what is left of the pusher's
+  -- what is left of the second
   abbrev pub spent : View F
   spent = record { taker = false; numbers = []; put = []; got = []; next = 0 }
 

@@ -59,7 +59,7 @@ impl Outbox {
     ghost use Rattle.std.specs.Prelude.{◌<◌, true, false, IfOk};
     ghost use Rattle.outbox.specs.Rule.{HasAll, opening, fewer, newcomer, met};
     ghost use Rattle.outbox.specs.Closing.{IsEndingAt, both_of};
-    ghost use Rattle.outbox.specs.Passes.{link_of, room_of, view_of, closed_of, IsPassOf, IsTaker, IsPusher, Pushes, Pops, IsSamePass};
+    ghost use Rattle.outbox.specs.Passes.{link_of, room_of, view_of, closed_of, IsPassOf, IsTaker, Pushes, Pops, IsSamePass};
 
     /// An open box with nothing in it, and the taker's pass, which is that of the pusher 0 too.
     pub fn new(alloc: Global, link: u32, room: u32) -> Result<(Outbox, OutPass), AllocError>
@@ -177,14 +177,14 @@ impl Outbox {
         )
     }
 
-    /// Two passes as one, which stands for the pushers of both.
+    /// Two passes as one, which stands for the pushers of both, and is the taker's where either is.
     pub fn join(&self, one: OutPass, other: OutPass) -> OutPass
         requires one { IsPassOf self.now one }
         requires other { IsPassOf self.now other }
-        requires pusher { IsPusher other }
         ensures of { IsPassOf self.now result }
         ensures both { view_of result ≡ met (view_of one) (view_of other) }
         ensures order { IsInOrder (view_of result) }
+        ensures taker { (IsTaker one → IsTaker result) × (IsTaker other → IsTaker result) }
         ensures closed { result.ending.me.0 ≡ both_of one.ending.me.0 other.ending.me.0 }
     {
         let OutPass {

@@ -2,7 +2,7 @@
 
 ghost use Rattle.std.specs.Prelude.{IfOk};
 ghost use Rattle.outbox.specs.Rule.{HasAll};
-ghost use Rattle.outbox.specs.Passes.{IsPassOf, IsTaker, IsPusher, view_of};
+ghost use Rattle.outbox.specs.Passes.{IsPassOf, IsTaker, view_of};
 
 use outbox::{OutPass, Outbox, PopEnd, PushEnd};
 use std::alloc::{AllocError, Global};
@@ -67,9 +67,8 @@ fn put_two<R: Wait>(
     pass: OutPass,
     byte: u8,
 ) -> Result<OutPass, AllocError>
-    requires of { IsPassOf outbox.now pass }
-    requires pusher { IsPusher pass }
-    ensures { IfOk result (λ p. IsPassOf outbox.now p × IsPusher p) }
+    requires { IsPassOf outbox.now pass }
+    ensures { IfOk result (λ p. IsPassOf outbox.now p) }
 {
     let first = Vec::from_array(alloc, [byte])?;
     let second = Vec::from_array(alloc, [byte.wrapping_add(1)])?;

@@ -4,7 +4,7 @@ use Rattle.outbox.proofs.FrameSteps.{merges, learns}
 use Rattle.outbox.proofs.outbox.Outbox.join.Goals as goal
 
 pub absorb-requires-clause-rule : goal.absorb-requires-clause-rule
-absorb-requires-clause-rule c = merges _ _ _ _ _ c.requires.pusher
+absorb-requires-clause-rule c = merges _ _ _ _ _
 
 pub learn_as-requires-clause-rule : goal.learn_as-requires-clause-rule
 learn_as-requires-clause-rule c = learns _ _ _
