@@ -1,5 +1,5 @@
 #!/usr/bin/env python3
-"""Sends a message to a broker and pulls it back: examples/send_and_pull.py [HOST:PORT [TEXT]]."""
+"""Sends messages to a broker and pulls them back: examples/send_and_pull.py [HOST:PORT [TEXT..]]."""
 import json
 import socket
 import sys
@@ -23,22 +23,33 @@ def body_of(record):
     return record[88:88 + int.from_bytes(record[84:88], "big")]
 
 
-host, _, port = (sys.argv[1] if len(sys.argv) > 1 else "127.0.0.1:10911").rpartition(":")
-text = sys.argv[2] if len(sys.argv) > 2 else "hello"
-with socket.create_connection((host, int(port))) as link:
+def send(link, text):
+    """Sends a message to queue 0 of the topic; its number in the queue, once it is on the disk."""
     reply, _ = ask(link, SEND, {"producerGroup": "makers", "topic": "Greetings", "queueId": "0", "sysFlag": "0", "flag": "0",
                                 "bornTimestamp": "0", "defaultTopic": "TBW102", "defaultTopicQueueNums": "4"}, text.encode())
     if reply["code"] != OK:
         sys.exit(f"the send is refused: {reply}")
-    offset = reply["extFields"]["queueOffset"]
-    print(f"sent {text!r}: it is on the disk, as number {offset} of its queue")
+    return reply["extFields"]["queueOffset"]
 
+
+def pull(link, number):
+    """The text of the message with this number, and the number to go on at."""
     for _ in range(100):
-        reply, found = ask(link, PULL, {"consumerGroup": "takers", "topic": "Greetings", "queueId": "0", "queueOffset": offset,
+        reply, found = ask(link, PULL, {"consumerGroup": "takers", "topic": "Greetings", "queueId": "0", "queueOffset": number,
                                         "maxMsgNums": "1", "sysFlag": "0"})
         if reply["code"] == OK:
-            break
+            return body_of(found).decode(), reply["extFields"]["nextBeginOffset"]
         time.sleep(0.01)  # what was answered may be seen a moment later
-    else:
-        sys.exit(f"nothing is pulled: {reply}")
-    print(f"pulled {body_of(found).decode()!r}, go on at number {reply['extFields']['nextBeginOffset']}")
+    sys.exit(f"nothing is pulled: {reply}")
+
+
+host, _, port = (sys.argv[1] if len(sys.argv) > 1 else "127.0.0.1:10911").rpartition(":")
+texts = sys.argv[2:] or ["hello", "world"]
+with socket.create_connection((host, int(port))) as link:
+    numbers = []
+    for text in texts:
+        numbers.append(send(link, text))
+        print(f"sent {text!r}: it is on the disk, as number {numbers[-1]} of its queue")
+    for number in numbers:
+        text, following = pull(link, number)
+        print(f"pulled {text!r}, go on at number {following}")
