@@ -12,7 +12,7 @@
 //! A member of `extFields` that is null is dropped. Other names are read over. Of a name that comes twice the last
 //! value counts, and no other is looked at. A number with a point or an exponent, and `-0`, is not whole.
 
-ghost use Rattle.std.specs.Prelude.{◌≡◌, ◌<◌, length, IfOk, OnOk, IfErr, option_map, option_and_then, string_bytes, ◌++◌};
+ghost use Rattle.std.specs.Prelude.{◌≡◌, ◌<◌, length, IfOk, OnOk, IfErr, option_map, option_and_then, string_bytes, ◌++◌, []};
 ghost use Rattle.serde_json.specs.View.{view, members_view};
 ghost use Rattle.remoting_frame.specs.Gives.{Gives};
 ghost use Rattle.remoting_frame.specs.Head.{IsInOrder};
@@ -78,52 +78,70 @@ fn text_or_none(alloc: Global, value: Option<&Value>) -> Result<Text, HeaderFaul
     }
 }
 
-fn push_pair(pairs: &mut Vec<(Text, Text)>, name: &String, value: &Value) -> Result<(), HeaderFault>
+fn push_pair(
+    pairs: &mut Vec<(Text, Text)>,
+    name: String,
+    value: Value,
+) -> Result<(), HeaderFault>
     ensures { Gives (λ _. pairs.new.items) result (option_map (λ p. pairs.old.items
-        ++ p) (pair_of (string_bytes name.now) (view value.now))) }
+        ++ p) (pair_of (string_bytes name) (view value))) }
 {
     match value {
         Value::Null => Ok(()),
         Value::String(text) => {
-            pairs.push((Text::of(name.clone()?), Text::of(text.clone()?)))?;
+            pairs.push((Text::of(name), Text::of(text)))?;
             Ok(())
         }
         _ => Err(HeaderFault::Bad),
     }
 }
 
-fn pairs_in(alloc: Global, map: &Map<String, Value>) -> Result<Rows<(Text, Text)>, HeaderFault>
-    ensures pairs { Gives (λ r. r) result (pairs_of (members_view map.now.entries)) }
+fn pairs_in(alloc: Global, map: Map<String, Value>) -> Result<Rows<(Text, Text)>, HeaderFault>
+    ensures pairs { Gives (λ r. r) result (pairs_of (members_view map.entries)) }
     ensures ordered { IfOk result IsInOrder }
 {
     let mut pairs = Vec::with_capacity(alloc, map.len())?;
-    for (name, value) in map.iter() {
+    for (name, value) in map {
         push_pair(&mut pairs, name, value)?;
     }
     Ok(Rows::of(pairs))
 }
 
-fn pairs_or_empty(alloc: Global, value: Option<&Value>) -> Result<Rows<(Text, Text)>, HeaderFault>
+fn no_pairs(alloc: Global) -> Rows<(Text, Text)>
+    ensures none { result ≡ [] }
+    ensures ordered { IsInOrder result }
+{
+    Rows::of(Vec::new(alloc))
+}
+
+// Takes the pairs out of their value, so that no text is copied.
+fn pairs_or_empty(
+    alloc: Global,
+    value: Option<&mut Value>,
+) -> Result<Rows<(Text, Text)>, HeaderFault>
     ensures ordered { IfOk result IsInOrder }
     ensures pairs { Gives (λ r. r) result (pairs_or_none (option_map (λ v. view v.now) value.entry)) }
 {
-    match value {
-        None | Some(Value::Null) => Ok(Rows::of(Vec::new(alloc))),
-        Some(Value::Object(map)) => pairs_in(alloc, map),
-        Some(_) => Err(HeaderFault::Bad),
+    let Some(value) = value else {
+        return Ok(no_pairs(alloc));
+    };
+    match value.take() {
+        Value::Null => Ok(no_pairs(alloc)),
+        Value::Object(map) => pairs_in(alloc, map),
+        _ => Err(HeaderFault::Bad),
     }
 }
 
 #[tactic(auto, unfolding(crate::specs::Json::header_of))]
-fn header_from(alloc: Global, value: &Value) -> Result<Header, HeaderFault>
-    ensures { Gives (λ h. h) result (header_of (view value.now)) }
+fn header_from(alloc: Global, value: &mut Value) -> Result<Header, HeaderFault>
+    ensures { Gives (λ h. h) result (header_of (view value.old)) }
 {
     let code = number_of(value.get("code"))?;
     let opaque = number_of(value.get("opaque"))?;
     let flag = number_or_zero(value.get("flag"))?;
     let version = number_or_zero(value.get("version"))?;
     let remark = text_or_none(alloc, value.get("remark"))?;
-    let ext = pairs_or_empty(alloc, value.get("extFields"))?;
+    let ext = pairs_or_empty(alloc, value.get_mut("extFields"))?;
     Ok(Header {
         code,
         version,
@@ -139,6 +157,6 @@ pub(crate) fn read_json(alloc: Global, bytes: &[u8]) -> Result<Header, HeaderFau
     ensures header { Gives (λ h. h) result (json_header bytes.now) }
     ensures memory { IfErr result (λ e. e ≡ Memory → 0 < length bytes.now) }
 {
-    let value = value_of(alloc, bytes)?;
-    header_from(alloc, &value)
+    let mut value = value_of(alloc, bytes)?;
+    header_from(alloc, &mut value)
 }

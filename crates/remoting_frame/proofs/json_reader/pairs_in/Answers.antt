@@ -6,5 +6,5 @@ use Rattle.remoting_frame.proofs.json_reader.pairs_in.Goals as goal
 
 pub returns-clause-ordered : goal.returns-clause-ordered
 returns-clause-ordered c =
-    let whole : pairs_of (members_view c.args.map.now.entries) ≡ Some c.of.result = search rules in
-    in_order c.args.map.now.entries c.of.result c.len.ensures.ordered whole
+    let whole : pairs_of (members_view c.args.map.entries) ≡ Some c.of.result = search rules in
+    in_order c.args.map.entries c.of.result c.len.ensures.ordered whole
