@@ -56,18 +56,19 @@ fn a_query_gives_the_newest_records_before_its_end_each_once(rt: HostRuntime) ->
 fn a_key_is_found_where_the_slots_were_doubled(rt: HostRuntime) -> Result<(), Fail> {
     let alloc = rt.alloc();
     let mut view = KeyView::new(alloc);
-    for number in 0..6000u32 {
+    for number in 0..1_100_000u32 {
         view.reserve(alloc, 1)?;
-        view.add(number % 5000, u64::from(number), 1);
+        view.add(number % 1_000_000, u64::from(number), 1);
     }
     for (hash, places) in [
-        (999, &[5999, 999][..]),
-        (1000, &[1000][..]),
-        (3047, &[3047][..]),
-        (4999, &[4999][..]),
-        (5000, &[][..]),
+        (999, &[1_000_999, 999][..]),
+        (99_999, &[1_099_999, 99_999][..]),
+        (100_000, &[100_000][..]),
+        (263_143, &[263_143][..]),
+        (999_999, &[999_999][..]),
+        (1_000_000, &[][..]),
     ] {
-        let found = view.query(alloc, hash, 0, 9, 64, 6000)?;
+        let found = view.query(alloc, hash, 0, 9, 64, 1_100_000)?;
         assert!(rt; found.as_slice() == places, "{hash}");
     }
     Ok(())
