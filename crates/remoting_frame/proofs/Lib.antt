@@ -1,5 +1,6 @@
 pub mod HeaderReading
 pub mod HeaderTexts
+pub mod HeaderTokens
 pub mod TextLengths
 pub mod BinaryReading
 pub mod BinaryWriting

@@ -2,6 +2,7 @@ pub mod Head
 pub mod Gives
 pub mod Json
 pub mod Written
+pub mod Tokens
 pub mod Binary
 pub mod BinaryText
 pub mod BinaryForm

@@ -98,7 +98,7 @@ pub(crate) fn write_json_front(
 {
     let text = text_of(alloc, header)?;
     let start = out.len();
-    match push_front(0, text.as_bytes(), body, out) {
+    match push_front(0, text.as_slice(), body, out) {
         Ok(()) => Ok(()),
         Err(_) => {
             out.truncate(start);

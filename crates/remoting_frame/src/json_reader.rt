@@ -78,11 +78,7 @@ fn text_or_none(alloc: Global, value: Option<&Value>) -> Result<Text, HeaderFaul
     }
 }
 
-fn push_pair(
-    pairs: &mut Vec<(Text, Text)>,
-    name: String,
-    value: Value,
-) -> Result<(), HeaderFault>
+fn push_pair(pairs: &mut Vec<(Text, Text)>, name: String, value: Value) -> Result<(), HeaderFault>
     ensures { Gives (λ _. pairs.new.items) result (option_map (λ p. pairs.old.items
         ++ p) (pair_of (string_bytes name) (view value))) }
 {

@@ -1,97 +1,102 @@
 //! Writes a header in JSON form: the compact text of one object, whose names are `code`, `extFields`, `flag`,
 //! `language`, `opaque`, `remark` (only where it isn't empty), `serializeTypeCurrentRPC` and `version`, in this order.
 
-ghost use Rattle.std.specs.Prelude.{◌≡◌, ◌<◌, ◌^◌, ◌++◌, [], length, string_bytes, IfOk, OnOk, OnErr, Some};
-ghost use Rattle.serde_json.specs.Data.{number, string, object, put};
+ghost use Rattle.std.specs.Prelude.{◌≡◌, ◌<◌, ◌^◌, ◌++◌, ◌∷◌, [], length, OnOk, OnErr, IfOk, Some};
+ghost use Rattle.json.specs.Token.{begin_object, key, string, number};
+ghost use Rattle.json.specs.Tree.{members_tokens};
 ghost use Rattle.serde_json.specs.Find.{of_integer};
-ghost use Rattle.serde_json.specs.View.{view, members_view};
+ghost use Rattle.serde_json.specs.Written.{number_text, members_outline};
 ghost use Rattle.remoting_frame.specs.Json.{json_header};
-ghost use Rattle.remoting_frame.specs.Head.{IsInOrder, IsShort};
-ghost use Rattle.remoting_frame.specs.Written.{texts, header_data, json_text};
+ghost use Rattle.remoting_frame.specs.Head.{IsShort};
+ghost use Rattle.remoting_frame.specs.Tokens.{remark_tokens, first_tokens, last_tokens};
+ghost use Rattle.remoting_frame.specs.Written.{texts, json_text};
 
 use crate::header::Header;
+use json::Writer;
 use mq_bytes::Text;
-use serde_json::{Map, Value};
 use std::alloc::{AllocError, Global};
 
-fn map_of(alloc: Global, pairs: &[(Text, Text)]) -> Result<Map<String, Value>, AllocError>
-    requires { IsInOrder pairs.now }
-    ensures { IfOk result (λ m. members_view m.entries ≡ texts pairs.now) }
+// How many bytes are asked for at first, which are enough for most headers.
+const ROOM: usize = 256;
+
+// A name with a whole number.
+fn put_number(out: &mut Writer, name: &str, whole: i32) -> Result<(), AllocError>
+    ensures ok { OnOk result (out.new.tokens ≡ out.old.tokens ++ key name.now ∷ number (number_text (of_integer whole)) ∷ []) }
+    ensures before { out.new.before ≡ out.old.before }
 {
-    let mut map = Map::new(alloc);
+    out.key(name)?;
+    out.i64(whole as i64)
+}
+
+// A name with a text.
+fn put_text(out: &mut Writer, name: &str, text: &str) -> Result<(), AllocError>
+    ensures ok { OnOk result (out.new.tokens ≡ out.old.tokens ++ key name.now ∷ string text.now ∷ []) }
+    ensures before { out.new.before ≡ out.old.before }
+{
+    out.key(name)?;
+    out.string(text)
+}
+
+// An object of names with their texts.
+fn put_texts(out: &mut Writer, pairs: &[(Text, Text)]) -> Result<(), AllocError>
+    ensures ok { OnOk result (out.new.tokens ≡ out.old.tokens ++ begin_object ∷ members_tokens (members_outline (texts pairs.now))) }
+    ensures before { out.new.before ≡ out.old.before }
+{
+    out.begin_object()?;
     for (name, text) in pairs {
-        let value = Value::try_from_str(alloc, text.as_str())?;
-        serde_json::put(&mut map, alloc, name.as_str(), value)?;
+        put_text(out, name.as_str(), text.as_str())?;
     }
-    Ok(map)
+    out.end_object()
 }
 
-// Puts a whole number behind a name.
-fn put_number(
-    members: &mut Map<String, Value>,
-    alloc: Global,
-    name: &str,
-    whole: i32,
-) -> Result<(), AllocError>
-    ensures { OnOk result (members_view members.new.entries ≡ put name.now (number (of_integer whole)) (members_view members.old.entries)) }
+// The remark with its name, only where it isn't empty.
+fn put_remark(out: &mut Writer, remark: &str) -> Result<(), AllocError>
+    ensures ok { OnOk result (out.new.tokens ≡ out.old.tokens ++ remark_tokens remark.now) }
+    ensures before { out.new.before ≡ out.old.before }
 {
-    serde_json::put(members, alloc, name, Value::from(whole))
-}
-
-// Puts a text behind a name.
-fn put_text(
-    members: &mut Map<String, Value>,
-    alloc: Global,
-    name: &str,
-    text: &str,
-) -> Result<(), AllocError>
-    ensures { OnOk result (members_view members.new.entries ≡ put name.now (string text.now) (members_view members.old.entries)) }
-{
-    serde_json::put(members, alloc, name, Value::try_from_str(alloc, text)?)
-}
-
-// The members of the header but for its remark.
-fn members_of(alloc: Global, header: &Header, ext: Value) -> Result<Map<String, Value>, AllocError>
-    requires pairs { view ext ≡ object (texts header.now.ext) }
-    ensures { IfOk result (λ m. object (members_view m.entries) ≡ header_data (record header.now { remark = [] })) }
-{
-    let mut members = Map::new(alloc);
-    put_number(&mut members, alloc, "code", header.code)?;
-    serde_json::put(&mut members, alloc, "extFields", ext)?;
-    put_number(&mut members, alloc, "flag", header.flag)?;
-    put_text(&mut members, alloc, "language", "OTHER")?;
-    put_number(&mut members, alloc, "opaque", header.opaque)?;
-    put_text(&mut members, alloc, "serializeTypeCurrentRPC", "JSON")?;
-    put_number(&mut members, alloc, "version", header.version)?;
-    Ok(members)
-}
-
-fn value_of(alloc: Global, header: &Header) -> Result<Value, AllocError>
-    ensures { IfOk result (λ v. view v ≡ header_data header.now) }
-{
-    let ext = Value::from(map_of(alloc, header.ext.as_slice())?);
-    let mut members = members_of(alloc, header, ext)?;
-    let remark = header.remark.as_str();
     if remark.is_empty() {
-        return Ok(Value::from(members));
+        return Ok(());
     }
-    put_text(&mut members, alloc, "remark", remark)?;
-    Ok(Value::from(members))
+    put_text(out, "remark", remark)
+}
+
+// What stands in front of the remark.
+fn put_first(out: &mut Writer, header: &Header) -> Result<(), AllocError>
+    ensures ok { OnOk result (out.new.tokens ≡ out.old.tokens ++ first_tokens header.now) }
+    ensures before { out.new.before ≡ out.old.before }
+{
+    out.begin_object()?;
+    put_number(out, "code", header.code)?;
+    out.key("extFields")?;
+    put_texts(out, header.ext.as_slice())?;
+    put_number(out, "flag", header.flag)?;
+    put_text(out, "language", "OTHER")?;
+    put_number(out, "opaque", header.opaque)
+}
+
+// The remark and what stands behind it.
+fn put_last(out: &mut Writer, header: &Header) -> Result<(), AllocError>
+    ensures ok { OnOk result (out.new.tokens ≡ out.old.tokens ++ last_tokens header.now) }
+    ensures before { out.new.before ≡ out.old.before }
+{
+    put_remark(out, header.remark.as_str())?;
+    put_text(out, "serializeTypeCurrentRPC", "JSON")?;
+    put_number(out, "version", header.version)?;
+    out.end_object()
 }
 
 /// The header's JSON text, which reads as the header.
-pub(crate) fn text_of(alloc: Global, header: &Header) -> Result<String, AllocError>
-    ensures text { IfOk result (λ s. string_bytes s ≡ json_text header.now) }
+pub(crate) fn text_of(alloc: Global, header: &Header) -> Result<Vec<u8>, AllocError>
+    ensures text { IfOk result (λ text. text.items ≡ json_text header.now) }
     ensures again { OnOk result (json_header (json_text header.now) ≡ Some header.now) }
     ensures short { OnOk result (IsShort header.now → length (json_text header.now) < 2 ^ 20) }
 {
     // Read once, so that their 32 bits are known of them below.
     let _numbers = (header.code, header.version, header.opaque, header.flag);
-    let value = value_of(alloc, header)?;
-    let text = value.to_string(alloc)?;
-    // Seen as a `str` once, so that it is known to be UTF-8.
-    let _text = text.as_str();
-    Ok(text)
+    let mut out = Writer::new(Vec::with_capacity(alloc, ROOM)?);
+    put_first(&mut out, header)?;
+    put_last(&mut out, header)?;
+    Ok(out.into_inner())
 }
 
 /// Appends the header's JSON text, which reads as the header.
@@ -105,5 +110,5 @@ pub(crate) fn write_json(
     ensures err { OnErr result (out.new.items ≡ out.old.items) }
 {
     let text = text_of(alloc, header)?;
-    out.extend_from_slice(text.as_bytes())
+    out.extend_from_slice(text.as_slice())
 }
