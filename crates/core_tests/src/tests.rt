@@ -106,86 +106,87 @@ const BIG: What = What::Ask(Asked {
     ..SEND
 });
 
+const SIXTEEN_BODIES: &[Row] = &[
+    (
+        BIG,
+        "after 0 from turn 0: 0  msgId=7F00000100002A9F0000000000000000 queueId=0 queueOffset=0",
+    ),
+    (
+        BIG,
+        "after 1 from turn 0: 0  msgId=7F00000100002A9F000000000040006A queueId=0 queueOffset=1",
+    ),
+    (
+        BIG,
+        "after 2 from turn 0: 0  msgId=7F00000100002A9F00000000008000D4 queueId=0 queueOffset=2",
+    ),
+    (
+        BIG,
+        "after 3 from turn 0: 0  msgId=7F00000100002A9F0000000000C0013E queueId=0 queueOffset=3",
+    ),
+    (
+        BIG,
+        "after 4 from turn 0: 0  msgId=7F00000100002A9F00000000010001A8 queueId=0 queueOffset=4",
+    ),
+    (
+        BIG,
+        "after 5 from turn 0: 0  msgId=7F00000100002A9F0000000001400212 queueId=0 queueOffset=5",
+    ),
+    (
+        BIG,
+        "after 6 from turn 0: 0  msgId=7F00000100002A9F000000000180027C queueId=0 queueOffset=6",
+    ),
+    (
+        BIG,
+        "after 7 from turn 0: 0  msgId=7F00000100002A9F0000000001C002E6 queueId=0 queueOffset=7",
+    ),
+    (
+        BIG,
+        "after 8 from turn 0: 0  msgId=7F00000100002A9F0000000002000350 queueId=0 queueOffset=8",
+    ),
+    (
+        BIG,
+        "after 9 from turn 0: 0  msgId=7F00000100002A9F00000000024003BA queueId=0 queueOffset=9",
+    ),
+    (
+        BIG,
+        "after 10 from turn 0: 0  msgId=7F00000100002A9F0000000002800424 queueId=0 queueOffset=10",
+    ),
+    (
+        BIG,
+        "after 11 from turn 0: 0  msgId=7F00000100002A9F0000000002C0048E queueId=0 queueOffset=11",
+    ),
+    (
+        BIG,
+        "after 12 from turn 0: 0  msgId=7F00000100002A9F00000000030004F8 queueId=0 queueOffset=12",
+    ),
+    (
+        BIG,
+        "after 13 from turn 0: 0  msgId=7F00000100002A9F0000000003400562 queueId=0 queueOffset=13",
+    ),
+    (
+        BIG,
+        "after 14 from turn 0: 0  msgId=7F00000100002A9F00000000038005CC queueId=0 queueOffset=14",
+    ),
+    (BIG, "full at 0"),
+    (
+        What::Look {
+            number: 14,
+            turn: 0,
+        },
+        "not yet",
+    ),
+];
+
 // The slow broker takes too long for this one.
 #[test]
 fn the_sixteenth_body_of_4_mib_finds_no_room(rt: HostRuntime) -> Result<(), Fail> {
-    const ROWS: &[Row] = &[
-        (
-            BIG,
-            "after 0 from turn 0: 0  msgId=7F00000100002A9F0000000000000000 queueId=0 queueOffset=0",
-        ),
-        (
-            BIG,
-            "after 1 from turn 0: 0  msgId=7F00000100002A9F000000000040006A queueId=0 queueOffset=1",
-        ),
-        (
-            BIG,
-            "after 2 from turn 0: 0  msgId=7F00000100002A9F00000000008000D4 queueId=0 queueOffset=2",
-        ),
-        (
-            BIG,
-            "after 3 from turn 0: 0  msgId=7F00000100002A9F0000000000C0013E queueId=0 queueOffset=3",
-        ),
-        (
-            BIG,
-            "after 4 from turn 0: 0  msgId=7F00000100002A9F00000000010001A8 queueId=0 queueOffset=4",
-        ),
-        (
-            BIG,
-            "after 5 from turn 0: 0  msgId=7F00000100002A9F0000000001400212 queueId=0 queueOffset=5",
-        ),
-        (
-            BIG,
-            "after 6 from turn 0: 0  msgId=7F00000100002A9F000000000180027C queueId=0 queueOffset=6",
-        ),
-        (
-            BIG,
-            "after 7 from turn 0: 0  msgId=7F00000100002A9F0000000001C002E6 queueId=0 queueOffset=7",
-        ),
-        (
-            BIG,
-            "after 8 from turn 0: 0  msgId=7F00000100002A9F0000000002000350 queueId=0 queueOffset=8",
-        ),
-        (
-            BIG,
-            "after 9 from turn 0: 0  msgId=7F00000100002A9F00000000024003BA queueId=0 queueOffset=9",
-        ),
-        (
-            BIG,
-            "after 10 from turn 0: 0  msgId=7F00000100002A9F0000000002800424 queueId=0 queueOffset=10",
-        ),
-        (
-            BIG,
-            "after 11 from turn 0: 0  msgId=7F00000100002A9F0000000002C0048E queueId=0 queueOffset=11",
-        ),
-        (
-            BIG,
-            "after 12 from turn 0: 0  msgId=7F00000100002A9F00000000030004F8 queueId=0 queueOffset=12",
-        ),
-        (
-            BIG,
-            "after 13 from turn 0: 0  msgId=7F00000100002A9F0000000003400562 queueId=0 queueOffset=13",
-        ),
-        (
-            BIG,
-            "after 14 from turn 0: 0  msgId=7F00000100002A9F00000000038005CC queueId=0 queueOffset=14",
-        ),
-        (BIG, "full at 0"),
-        (
-            What::Look {
-                number: 14,
-                turn: 0,
-            },
-            "not yet",
-        ),
-    ];
     let alloc = rt.alloc();
     let setup = Setup {
         segment: 1 << 30,
         ..SETUP
     };
     let mut stage = begin(alloc, setup, Vec::new(alloc))?;
-    follow_core(&rt, alloc, &mut stage.alone, ROWS)
+    follow_core(&rt, alloc, &mut stage.alone, SIXTEEN_BODIES)
 }
 
 #[test]
@@ -225,128 +226,130 @@ fn a_record_of_failed_turns_is_told_of_the_last_one(rt: HostRuntime) -> Result<(
     follow(&rt, rt.alloc(), &[FIRST_WRITE, FIRST_WRITE + 1], ROWS)
 }
 
+const FLUSHED_AND_DISPATCHED: &[Row] = &[
+    (
+        SENT,
+        "after 0 from turn 0: 0  msgId=7F00000100002A9F0000000000000000 queueId=0 queueOffset=0",
+    ),
+    (
+        PULLED,
+        "19  maxOffset=0 minOffset=0 nextBeginOffset=0 suggestWhichBrokerId=0",
+    ),
+    (What::Look { number: 0, turn: 0 }, "not yet"),
+    (What::Flush, "Done"),
+    (What::Look { number: 0, turn: 0 }, "flushed"),
+    (
+        PULLED,
+        "19  maxOffset=0 minOffset=0 nextBeginOffset=0 suggestWhichBrokerId=0",
+    ),
+    (
+        SENT,
+        "after 1 from turn 1: 0  msgId=7F00000100002A9F000000000000006C queueId=0 queueOffset=1",
+    ),
+    (What::Look { number: 1, turn: 1 }, "not yet"),
+    (
+        What::Ask(Asked { from: "1", ..PULL }),
+        "21  maxOffset=0 minOffset=0 nextBeginOffset=0 suggestWhichBrokerId=0",
+    ),
+    (SEE, "sees 1"),
+    (
+        PULLED,
+        "0  maxOffset=1 minOffset=0 nextBeginOffset=1 suggestWhichBrokerId=0 [0 108]",
+    ),
+    (
+        What::Ask(Asked { from: "1", ..PULL }),
+        "19  maxOffset=1 minOffset=0 nextBeginOffset=1 suggestWhichBrokerId=0",
+    ),
+    (What::Flush, "Done"),
+    (What::Look { number: 1, turn: 1 }, "flushed"),
+    (
+        What::Ask(Asked { from: "1", ..PULL }),
+        "19  maxOffset=1 minOffset=0 nextBeginOffset=1 suggestWhichBrokerId=0",
+    ),
+    (SEE, "sees 2"),
+    (
+        What::Ask(Asked { from: "1", ..PULL }),
+        "0  maxOffset=2 minOffset=0 nextBeginOffset=2 suggestWhichBrokerId=0 [108 108]",
+    ),
+];
+
 #[test]
 fn a_record_is_acknowledged_once_flushed_and_pulled_once_dispatched(
     rt: HostRuntime,
 ) -> Result<(), Fail> {
-    const ROWS: &[Row] = &[
-        (
-            SENT,
-            "after 0 from turn 0: 0  msgId=7F00000100002A9F0000000000000000 queueId=0 queueOffset=0",
-        ),
-        (
-            PULLED,
-            "19  maxOffset=0 minOffset=0 nextBeginOffset=0 suggestWhichBrokerId=0",
-        ),
-        (What::Look { number: 0, turn: 0 }, "not yet"),
-        (What::Flush, "Done"),
-        (What::Look { number: 0, turn: 0 }, "flushed"),
-        (
-            PULLED,
-            "19  maxOffset=0 minOffset=0 nextBeginOffset=0 suggestWhichBrokerId=0",
-        ),
-        (
-            SENT,
-            "after 1 from turn 1: 0  msgId=7F00000100002A9F000000000000006C queueId=0 queueOffset=1",
-        ),
-        (What::Look { number: 1, turn: 1 }, "not yet"),
-        (
-            What::Ask(Asked { from: "1", ..PULL }),
-            "21  maxOffset=0 minOffset=0 nextBeginOffset=0 suggestWhichBrokerId=0",
-        ),
-        (SEE, "sees 1"),
-        (
-            PULLED,
-            "0  maxOffset=1 minOffset=0 nextBeginOffset=1 suggestWhichBrokerId=0 [0 108]",
-        ),
-        (
-            What::Ask(Asked { from: "1", ..PULL }),
-            "19  maxOffset=1 minOffset=0 nextBeginOffset=1 suggestWhichBrokerId=0",
-        ),
-        (What::Flush, "Done"),
-        (What::Look { number: 1, turn: 1 }, "flushed"),
-        (
-            What::Ask(Asked { from: "1", ..PULL }),
-            "19  maxOffset=1 minOffset=0 nextBeginOffset=1 suggestWhichBrokerId=0",
-        ),
-        (SEE, "sees 2"),
-        (
-            What::Ask(Asked { from: "1", ..PULL }),
-            "0  maxOffset=2 minOffset=0 nextBeginOffset=2 suggestWhichBrokerId=0 [108 108]",
-        ),
-    ];
-    follow(&rt, rt.alloc(), &[], ROWS)
+    follow(&rt, rt.alloc(), &[], FLUSHED_AND_DISPATCHED)
 }
+
+const PULLS_BY_TAGS: &[Row] = &[
+    (
+        What::Ask(Asked {
+            props: r"TAGS\u0001TagA\u0002",
+            ..SEND
+        }),
+        "after 0 from turn 0: 0  msgId=7F00000100002A9F0000000000000000 queueId=0 queueOffset=0",
+    ),
+    (
+        What::Ask(Asked {
+            props: r"TAGS\u0001TagB\u0002",
+            ..SEND
+        }),
+        "after 1 from turn 0: 0  msgId=7F00000100002A9F0000000000000076 queueId=0 queueOffset=1",
+    ),
+    (
+        What::Ask(Asked {
+            props: r"TAGS\u0001TagC\u0002",
+            ..SEND
+        }),
+        "after 2 from turn 0: 0  msgId=7F00000100002A9F00000000000000EC queueId=0 queueOffset=2",
+    ),
+    (
+        SENT,
+        "after 3 from turn 0: 0  msgId=7F00000100002A9F0000000000000162 queueId=0 queueOffset=3",
+    ),
+    (What::Flush, "Done"),
+    (SEE, "sees 4"),
+    (
+        What::Ask(Asked {
+            words: "TagA || TagB",
+            ..PULL
+        }),
+        "0  maxOffset=4 minOffset=0 nextBeginOffset=4 suggestWhichBrokerId=0 [0 118] [118 118]",
+    ),
+    (
+        What::Ask(Asked {
+            words: "TagZ",
+            ..PULL
+        }),
+        "20  maxOffset=4 minOffset=0 nextBeginOffset=4 suggestWhichBrokerId=0",
+    ),
+    (
+        What::Ask(Asked {
+            most: "1",
+            words: "TagB",
+            ..PULL
+        }),
+        "0  maxOffset=4 minOffset=0 nextBeginOffset=2 suggestWhichBrokerId=0 [118 118]",
+    ),
+    (
+        What::Ask(Asked { from: "3", ..PULL }),
+        "0  maxOffset=4 minOffset=0 nextBeginOffset=4 suggestWhichBrokerId=0 [354 108]",
+    ),
+    (
+        What::Ask(Asked { from: "5", ..PULL }),
+        "21  maxOffset=4 minOffset=0 nextBeginOffset=4 suggestWhichBrokerId=0",
+    ),
+    (
+        What::Ask(Asked { from: "-1", ..PULL }),
+        "21  maxOffset=4 minOffset=0 nextBeginOffset=0 suggestWhichBrokerId=0",
+    ),
+    (
+        What::Ask(Asked { queue: "1", ..PULL }),
+        "19  maxOffset=0 minOffset=0 nextBeginOffset=0 suggestWhichBrokerId=0",
+    ),
+    (What::Ask(Asked { queue: "4", ..PULL }), "1 queue"),
+];
 
 #[test]
 fn a_pull_takes_what_its_tags_say_of_its_queue(rt: HostRuntime) -> Result<(), Fail> {
-    const ROWS: &[Row] = &[
-        (
-            What::Ask(Asked {
-                props: r"TAGS\u0001TagA\u0002",
-                ..SEND
-            }),
-            "after 0 from turn 0: 0  msgId=7F00000100002A9F0000000000000000 queueId=0 queueOffset=0",
-        ),
-        (
-            What::Ask(Asked {
-                props: r"TAGS\u0001TagB\u0002",
-                ..SEND
-            }),
-            "after 1 from turn 0: 0  msgId=7F00000100002A9F0000000000000076 queueId=0 queueOffset=1",
-        ),
-        (
-            What::Ask(Asked {
-                props: r"TAGS\u0001TagC\u0002",
-                ..SEND
-            }),
-            "after 2 from turn 0: 0  msgId=7F00000100002A9F00000000000000EC queueId=0 queueOffset=2",
-        ),
-        (
-            SENT,
-            "after 3 from turn 0: 0  msgId=7F00000100002A9F0000000000000162 queueId=0 queueOffset=3",
-        ),
-        (What::Flush, "Done"),
-        (SEE, "sees 4"),
-        (
-            What::Ask(Asked {
-                words: "TagA || TagB",
-                ..PULL
-            }),
-            "0  maxOffset=4 minOffset=0 nextBeginOffset=4 suggestWhichBrokerId=0 [0 118] [118 118]",
-        ),
-        (
-            What::Ask(Asked {
-                words: "TagZ",
-                ..PULL
-            }),
-            "20  maxOffset=4 minOffset=0 nextBeginOffset=4 suggestWhichBrokerId=0",
-        ),
-        (
-            What::Ask(Asked {
-                most: "1",
-                words: "TagB",
-                ..PULL
-            }),
-            "0  maxOffset=4 minOffset=0 nextBeginOffset=2 suggestWhichBrokerId=0 [118 118]",
-        ),
-        (
-            What::Ask(Asked { from: "3", ..PULL }),
-            "0  maxOffset=4 minOffset=0 nextBeginOffset=4 suggestWhichBrokerId=0 [354 108]",
-        ),
-        (
-            What::Ask(Asked { from: "5", ..PULL }),
-            "21  maxOffset=4 minOffset=0 nextBeginOffset=4 suggestWhichBrokerId=0",
-        ),
-        (
-            What::Ask(Asked { from: "-1", ..PULL }),
-            "21  maxOffset=4 minOffset=0 nextBeginOffset=0 suggestWhichBrokerId=0",
-        ),
-        (
-            What::Ask(Asked { queue: "1", ..PULL }),
-            "19  maxOffset=0 minOffset=0 nextBeginOffset=0 suggestWhichBrokerId=0",
-        ),
-        (What::Ask(Asked { queue: "4", ..PULL }), "1 queue"),
-    ];
-    follow(&rt, rt.alloc(), &[], ROWS)
+    follow(&rt, rt.alloc(), &[], PULLS_BY_TAGS)
 }

@@ -42,63 +42,30 @@ fn each_option_of_pipe_is_read(rt: HostRuntime) -> Result<(), Fail> {
         let read = read_words(&["pipe", "--flush", value]);
         assert!(rt; read == Ok(Command { sync, ..DEFAULTS }), "{value}");
     }
-    let sizes = [
-        (
-            "--segment",
-            "4096",
-            AskedSizes {
-                segment: Some(4096),
-                ..NOTHING
-            },
-        ),
-        (
-            "--segment",
-            "1073741824",
-            AskedSizes {
-                segment: Some(1_073_741_824),
-                ..NOTHING
-            },
-        ),
-        (
-            "--slots",
-            "1",
-            AskedSizes {
-                slots: Some(1),
-                ..NOTHING
-            },
-        ),
-        (
-            "--slots",
-            "5000000",
-            AskedSizes {
-                slots: Some(5_000_000),
-                ..NOTHING
-            },
-        ),
-        (
-            "--entries",
-            "2",
-            AskedSizes {
-                entries: Some(2),
-                ..NOTHING
-            },
-        ),
-        (
-            "--entries",
-            "20000000",
-            AskedSizes {
-                entries: Some(20_000_000),
-                ..NOTHING
-            },
-        ),
-    ];
-    for (option, value, sizes) in sizes {
+    for (option, value, segment, slots, entries) in [
+        ("--segment", "4096", Some(4096), None, None),
+        ("--segment", "1073741824", Some(1_073_741_824), None, None),
+        ("--slots", "1", None, Some(1), None),
+        ("--slots", "5000000", None, Some(5_000_000), None),
+        ("--entries", "2", None, None, Some(2)),
+        ("--entries", "20000000", None, None, Some(20_000_000)),
+    ] {
+        let sizes = AskedSizes {
+            segment,
+            slots,
+            entries,
+        };
         let read = read_words(&["pipe", option, value]);
         assert!(rt;
             read == Ok(Command { sizes, ..DEFAULTS }),
             "{option} {value}"
         );
     }
+    Ok(())
+}
+
+#[test]
+fn all_options_of_pipe_are_read_together(rt: HostRuntime) -> Result<(), Fail> {
     let all = [
         "pipe",
         "--entries",
@@ -251,46 +218,34 @@ fn store(
     Ok((disk, MemKeep::new(alloc, texts, Vec::new(alloc))?))
 }
 
+const OF_PAGES: AskedSizes = AskedSizes {
+    segment: Some(4096),
+    ..NOTHING
+};
+
+const LEAST: AskedSizes = AskedSizes {
+    segment: Some(4096),
+    slots: Some(1),
+    entries: Some(2),
+};
+
 #[test]
 fn a_store_is_opened_with_the_sizes_that_its_format_says(rt: HostRuntime) -> Result<(), Fail> {
     let alloc = rt.alloc();
-    let of_4096 = AskedSizes {
-        segment: Some(4096),
-        ..NOTHING
-    };
-    let least = AskedSizes {
-        segment: Some(4096),
-        slots: Some(1),
-        entries: Some(2),
-    };
-    let rows = [
+    for (format, asked, (segment, slots, entries), text) in [
         (
             None,
-            false,
             NOTHING,
             (1_073_741_824, 65_536, 262_144),
             OF_A_GIBIBYTE,
         ),
-        (None, false, of_4096, (4096, 65_536, 262_144), OF_4096),
-        (None, false, least, (4096, 1, 2), SMALLEST),
-        (
-            Some(OF_4096),
-            true,
-            NOTHING,
-            (4096, 65_536, 262_144),
-            OF_4096,
-        ),
-        (
-            Some(OF_4096),
-            true,
-            of_4096,
-            (4096, 65_536, 262_144),
-            OF_4096,
-        ),
-        (Some(SMALLEST), true, least, (4096, 1, 2), SMALLEST),
-    ];
-    for (format, has_log, asked, (segment, slots, entries), text) in rows {
-        let (mut disk, mut keep) = store(alloc, format, has_log)?;
+        (None, OF_PAGES, (4096, 65_536, 262_144), OF_4096),
+        (None, LEAST, (4096, 1, 2), SMALLEST),
+        (Some(OF_4096), NOTHING, (4096, 65_536, 262_144), OF_4096),
+        (Some(OF_4096), OF_PAGES, (4096, 65_536, 262_144), OF_4096),
+        (Some(SMALLEST), LEAST, (4096, 1, 2), SMALLEST),
+    ] {
+        let (mut disk, mut keep) = store(alloc, format, format.is_some())?;
         let opened = open_format(alloc, &mut disk, &mut keep, &asked);
         let sizes = Sizes {
             segment,

@@ -1,6 +1,6 @@
 //! Calls of `pipe` over devices in memory: sends, a pull of what was sent, and devices that fail.
 
-use crate::devices::{Ended, Failing, NOTHING, serve};
+use crate::devices::{Calls, Ended, Failing, NOTHING, serve};
 use crate::frames::{put_pull, put_send};
 use std::alloc::{AllocError, Global};
 use std::test::Fail;
@@ -99,95 +99,44 @@ fn each_call_of_the_disk_that_fails_alone_ends_the_opening_or_is_told(
     Ok(())
 }
 
+// The device of this name fails at these calls, and no other does.
+fn failing(device: &str, calls: Calls) -> Failing {
+    match device {
+        "source" => Failing {
+            source: calls,
+            ..NOTHING
+        },
+        "sink" => Failing {
+            sink: calls,
+            ..NOTHING
+        },
+        "keep" => Failing {
+            keep: calls,
+            ..NOTHING
+        },
+        _ => Failing {
+            clock: calls,
+            ..NOTHING
+        },
+    }
+}
+
 #[test]
 fn each_other_device_that_fails_ends_the_call_by_the_table(rt: HostRuntime) -> Result<(), Fail> {
-    // Which device's call fails, the status, the device that it names, how many bytes were written, and how many records stand.
-    let rows = [
-        (
-            Failing {
-                source: (1, 1),
-                ..NOTHING
-            },
-            3,
-            "",
-            0,
-            0,
-        ),
-        (
-            Failing {
-                source: (2, 2),
-                ..NOTHING
-            },
-            3,
-            "",
-            3 * SENT_LEN,
-            3,
-        ),
-        (
-            Failing {
-                sink: (1, 1),
-                ..NOTHING
-            },
-            4,
-            "",
-            0,
-            1,
-        ),
-        (
-            Failing {
-                sink: (3, 3),
-                ..NOTHING
-            },
-            4,
-            "",
-            2 * SENT_LEN,
-            3,
-        ),
-        (
-            Failing {
-                keep: (1, 1),
-                ..NOTHING
-            },
-            10,
-            "keep",
-            0,
-            0,
-        ),
-        (
-            Failing {
-                keep: (2, 2),
-                ..NOTHING
-            },
-            10,
-            "keep",
-            0,
-            0,
-        ),
-        (
-            Failing {
-                clock: (1, 1),
-                ..NOTHING
-            },
-            10,
-            "clock",
-            0,
-            0,
-        ),
-        (
-            Failing {
-                clock: (3, 3),
-                ..NOTHING
-            },
-            10,
-            "clock",
-            2 * SENT_LEN,
-            2,
-        ),
-    ];
-    for (failing, code, device, len, records) in rows {
+    // Which device's calls fail, the status, the device that it names, how many bytes were written, and how many records stand.
+    for (which, calls, code, device, len, records) in [
+        ("source", (1, 1), 3, "", 0, 0),
+        ("source", (2, 2), 3, "", 3 * SENT_LEN, 3),
+        ("sink", (1, 1), 4, "", 0, 1),
+        ("sink", (3, 3), 4, "", 2 * SENT_LEN, 3),
+        ("keep", (1, 1), 10, "keep", 0, 0),
+        ("keep", (2, 2), 10, "keep", 0, 0),
+        ("clock", (1, 1), 10, "clock", 0, 0),
+        ("clock", (3, 3), 10, "clock", 2 * SENT_LEN, 2),
+    ] {
         let mut written = Vec::new(rt.alloc());
         let bytes = three_sends(rt.alloc())?;
-        let ended = serve(rt.alloc(), bytes, &failing, &mut written)?;
+        let ended = serve(rt.alloc(), bytes, &failing(which, calls), &mut written)?;
         let log = records * RECORD_LEN;
         assert!(rt; (ended, written.len()) == (Ended { code, device, log }, len));
     }
