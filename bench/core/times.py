@@ -1,8 +1,7 @@
 """times.py ROUNDS PROGRAM FOLDER: runs the program's works in turn at three counts, and tells the middle of the rounds.
 
-Times are those of the processor, so that a busy machine shows less. What a send costs beyond encoding is `sends` less `encode`,
-what a pull costs `pulls` less `sends`. Bytes a record are what the process held at most after a million records less the same
-after ten thousand.
+The program looks at the clock itself, so that its start and its opening don't count. Bytes a record are what the process held at
+most after a million records less the same after ten thousand.
 """
 import os
 import shutil
@@ -12,47 +11,41 @@ import sys
 
 rounds, program, folder = int(sys.argv[1]), sys.argv[2], sys.argv[3]
 COUNTS = [10_000, 100_000, 1_000_000]
-PULLS = 200_000
+WORKS = ("encode", "sends", "pulls")
 os.chdir(folder)
 
 
-def spent(work, count):
-    """User and system seconds of one run; a short one is made so often that it can be measured."""
-    runs = max(1, 200_000 // count) if work != "pulls" else 1
-    user = system = 0.0
-    for _ in range(runs):
-        shutil.rmtree("core_bench_store", ignore_errors=True)
-        pid = os.posix_spawn(program, [program, work, str(count)], os.environ)
-        _, status, usage = os.wait4(pid, 0)
-        if status != 0:
-            sys.exit(f"{work} {count}: status {status}")
-        user += usage.ru_utime
-        system += usage.ru_stime
-    return user / runs, system / runs
+def said(*command):
+    shutil.rmtree("core_bench_store", ignore_errors=True)
+    ran = subprocess.run(command, capture_output=True, text=True)
+    if ran.returncode != 0:
+        sys.exit(f"{command}: status {ran.returncode}")
+    return ran
+
+
+def took(work, count):
+    """The nanoseconds that each of the count took, and each of what came behind them."""
+    return [int(word) for word in said(program, work, str(count)).stdout.split()]
 
 
 def kilobytes(count):
-    shutil.rmtree("core_bench_store", ignore_errors=True)
-    said = subprocess.run(["/usr/bin/time", "-f", "%M", program, "sends", str(count)], stderr=subprocess.PIPE, text=True, check=True).stderr
-    return int(said.split()[-1])
+    return int(said("/usr/bin/time", "-f", "%M", program, "sends", str(count)).stderr.split()[-1])
 
 
-took = {(work, count): [] for work in ("encode", "sends", "pulls") for count in COUNTS}
+found = {(work, count): [] for work in WORKS for count in COUNTS}
 for _ in range(rounds):
     for count in COUNTS:
-        for work in ("encode", "sends", "pulls"):
-            took[work, count].append(spent(work, count))
+        for work in WORKS:
+            found[work, count].append(took(work, count))
 
 
-def middle(costs):
-    return statistics.median(costs) * 1e9
+def middle(work, count, place):
+    times = sorted(pair[place] for pair in found[work, count])
+    return f"{statistics.median(times):.0f} ({times[0]} to {times[-1]})"
 
 
 for count in COUNTS:
-    encode, sends, pulls = (took[work, count] for work in ("encode", "sends", "pulls"))
-    beyond = middle((s[0] - e[0]) / count for s, e in zip(sends, encode))
-    system = middle(s[1] / count for s in sends)
-    pull = middle((p[0] + p[1] - s[0] - s[1]) / PULLS for p, s in zip(pulls, sends))
-    print(f"{count} records: encoding {middle(e[0] / count for e in encode):.0f} ns, a send beyond it {beyond:.0f} ns and {system:.0f} ns in the system, a pull {pull:.0f} ns")
+    print(f"{count} records, ns: encoding {middle('encode', count, 0)}, each of these sends {middle('sends', count, 0)}, "
+          f"one behind them {middle('sends', count, 1)}, a pull {middle('pulls', count, 1)}")
 held = (kilobytes(COUNTS[2]) - kilobytes(COUNTS[0])) * 1024 / (COUNTS[2] - COUNTS[0])
 print(f"{held:.0f} bytes a record")
