@@ -31,8 +31,11 @@ impl Alone {
     fn make_look(&mut self, alloc: Global)
         ensures { (what : ASaid) × MakesStep self.old.core plain_look (Some what) self.new.core }
     {
-        match self.core.apply(alloc, &Event::Look { number: 0, turn: 0 }) {
-            Ok(_) => {}
+        let event = Event::Look { number: 0, turn: 0 };
+        let said = self.core.apply(alloc, &event);
+        drop(event);
+        match said {
+            Ok(said) => drop(said),
             Err(_) => unreachable!(),
         }
     }

@@ -1,5 +1,4 @@
 pub mod ActLemmas
 mod AskLemmas
 pub mod CountLemmas
-mod RemarkLemmas
 mod TurningLemmas

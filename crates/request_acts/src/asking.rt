@@ -17,7 +17,7 @@ use group_flush::Flusher;
 use mq_outside::Disk;
 use reply_fields::Reply;
 use request_fields::{Request, RequestFault};
-use session::{Applied, apply};
+use session::{Applied, apply, no_room};
 use std::alloc::{AllocError, Global};
 use worker_turns::FlushEnd;
 
@@ -25,14 +25,11 @@ use worker_turns::FlushEnd;
 const BORN_HOST: [u8; 8] = [127, 0, 0, 1, 0, 0, 0, 0];
 
 // The answer to a request that found no room, where the disk failed, with its count.
-#[tactic(auto, using(crate::proofs::RemarkLemmas::length_disk_remark))]
-fn no_room(alloc: Global, count: u64) -> Result<Answer, AllocError>
+fn without_room(alloc: Global, count: u64) -> Result<Answer, AllocError>
     ensures { IfOk result (λ answer. answer ≡ no_room_of count) }
 {
-    let remark = format!(in alloc; "disk {count}")?;
-    let reply = Reply::plain(alloc, 1, remark.as_str())?;
     Ok(Answer {
-        reply,
+        reply: no_room(alloc, count)?,
         awaits: None,
     })
 }
@@ -65,7 +62,7 @@ fn give<C: Calls>(alloc: Global, calls: &mut C, event: &Event) -> Result<Applied
 fn give_up(alloc: Global, count: u64) -> Result<Option<Answer>, Broken>
     ensures { GivesUp count result }
 {
-    match no_room(alloc, count) {
+    match without_room(alloc, count) {
         Ok(answer) => Ok(Some(answer)),
         Err(_) => Err(Broken::Memory),
     }
@@ -180,7 +177,9 @@ fn ask_at<C: Calls, D: Disk>(
         now,
         request,
     };
-    ask(alloc, calls, flusher, disk, &event)
+    let answer = ask(alloc, calls, flusher, disk, &event);
+    drop(event);
+    answer
 }
 
 /// Gives what was read of a frame with this code to the broker, at this reading of the clock in milliseconds, or refuses what is no

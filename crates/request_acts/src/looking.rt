@@ -1,12 +1,10 @@
 //! What is told of a request whose record has to be on the disk first.
 
-ghost use Rattle.std.specs.Prelude.{◌≡◌, ◌<◌, ◌^◌, Some, IfOk};
-ghost use Rattle.remoting_frame.specs.Head.{pairs_size};
+ghost use Rattle.std.specs.Prelude.{Some};
 ghost use Rattle.log_model.specs.Stored.{StaysOutside};
 ghost use Rattle.segment_files.specs.Turn.{IsInside};
 ghost use Rattle.broker_events.specs.declared.event.Event.TheVariants.{Look};
 ghost use Rattle.broker_events.specs.declared.said.Said.TheVariants as said;
-ghost use Rattle.session.specs.Owing.{not_flushed as not_flushed_of};
 ghost use Rattle.request_acts.specs.Acts.{IsFree, Acted, place_of, view_of};
 ghost use Rattle.request_acts.specs.Asking.{Looks, Tells};
 
@@ -14,41 +12,10 @@ use crate::broken::Broken;
 use crate::turning::flush_and_dispatch;
 use broker_events::{Awaited, Calls};
 use group_flush::Flusher;
-use mq_bytes::{Rows, Text};
 use mq_outside::Disk;
 use reply_fields::Reply;
-use session::{Awaits, look};
-use std::alloc::{AllocError, Global};
-
-// How many bytes the pairs have with their lengths.
-fn size_of(pairs: &[(Text, Text)]) -> usize
-    requires { pairs_size pairs.now < 2 ^ 31 }
-    ensures { result ≡ pairs_size pairs.now }
-{
-    let mut size = 0;
-    for (name, value) in pairs {
-        size += 6 + name.as_str().len() + value.as_str().len();
-    }
-    size
-}
-
-// The reply to a request whose record the disk failed to take, with the disk's count: code 10, with the fields of the reply that
-// was due. Fields that leave no room for the remark are left out; those of a send leave some.
-#[tactic(auto, using(crate::proofs::RemarkLemmas::length_flush_remark))]
-fn not_flushed(alloc: Global, reply: Reply, count: u64) -> Result<Reply, AllocError>
-    ensures { IfOk result (λ told. told ≡ not_flushed_of reply count) }
-{
-    let remark = format!(in alloc; "flush {count}")?;
-    if size_of(reply.ext.as_slice()) > 65000 {
-        return Reply::plain(alloc, 10, remark.as_str());
-    }
-    Ok(Reply {
-        code: 10,
-        remark: Text::of(remark),
-        ext: reply.ext,
-        body: Rows::of(Vec::new(alloc)),
-    })
-}
+use session::{Awaits, look, not_flushed};
+use std::alloc::Global;
 
 // One look at the record.
 fn look_at<C: Calls>(alloc: Global, calls: &mut C, awaits: Awaits) -> Awaited

@@ -1,6 +1,7 @@
 -- What one call of a session did, and what calls did one after another.
 use Rattle.std.proofs.Common.{◌≡◌, ◌⊎◌, ℕ, List, [], ◌∷◌, ◌++◌, Bool, true, false, Option, Some, None, Ok, inl, inr, refl, sym, ap, ◌∙◌, subst, append_assoc, append-nil}
 use Rattle.std.specs.Prelude.{not, option_to_list, if◌then◌else◌}
+use Rattle.std.specs.Bool.{MatchBool}
 use Rattle.std.proofs.lemmas.List.Elements.{filter-append}
 use Rattle.mq_outside.specs.Readings.{Giving}
 use Rattle.remoting_frame.specs.Held.{Held}
@@ -15,9 +16,9 @@ use Rattle.broker_events.specs.declared.said.Awaited.{Awaited}
 use Rattle.broker_events.specs.declared.said.Awaited.TheVariants.{Flushed, Failed, NotYet}
 use Rattle.session.specs.Hearing.{is_response}
 use Rattle.session.specs.Talks.{HasHeard, AreHeard, requests_of}
-use Rattle.session.specs.Owing.{applied_of, unwritten}
+use Rattle.session.specs.Owing.{applied_of, unwritten, IsWritten}
 use Rattle.session.specs.Serving.{Made, IsNext}
-use Rattle.session.specs.Settling.{look_for, IsDueAt, IsDueAfter, IsNotYet, Waits, IsPutBy, Settles}
+use Rattle.session.specs.Settling.{look_for, IsDueAt, IsDueAfter, IsNotYet, Waits, Settles}
 use Rattle.session.specs.Sessions.{applies, applied_in, has_room, finds, found_in, Answer, IsAnswer, AreAnswers, steps_of, AreReplies}
 use Rattle.session.specs.declared.heard.Heard.{Heard}
 use Rattle.session.specs.declared.caller.Caller.{Caller}
@@ -174,8 +175,8 @@ steps_append (a ∷ first) more = ap (λ l. a.made ++ l) (steps_append first mor
 -- ---- replies
 
 -- the bytes of one reply
-puts_by : (b : Bool) (gives : Giving) (caller : Caller) (reply : ReplyParts) (count : ℕ) (old new : List ℕ) → IsPutBy b gives caller reply count old new
-    → (piece : List ℕ) × (new ≡ old ++ piece) × IsPutBy b gives caller reply count [] piece
+puts_by : (b : Bool) (gives : Giving) (caller : Caller) (reply : ReplyParts) (count : ℕ) (old new : List ℕ) → MatchBool b (new ≡ old) (IsWritten gives caller reply count old new)
+    → (piece : List ℕ) × (new ≡ old ++ piece) × MatchBool b (piece ≡ []) (IsWritten gives caller reply count [] piece)
 puts_by true gives caller reply count old new h = ([], h ∙ sym (append-nil old), refl)
 puts_by false gives caller reply count old new (inl h) =
     (reply_bytes caller.form caller.opaque reply h.body, h.behind, inl (record { body = h.body; given = h.given; behind = refl }))

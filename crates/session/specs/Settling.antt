@@ -1,6 +1,7 @@
 -- How what is owed leaves: the replies that are due, in the order of their requests, and their bytes.
-use Rattle.std.specs.Prelude.{◌≡◌, ◌⊎◌, ◌-◌, ◌≤◌, ◌++◌, ◌||◌, ℕ, List, [], ◌∷◌, length, drop, nat_le, Bool, true, false, is_some}
+use Rattle.std.specs.Prelude.{◌≡◌, ◌⊎◌, ◌-◌, ◌≤◌, ◌++◌, ◌||◌, ℕ, List, [], ◌∷◌, length, drop, nat_le, Bool, false, is_some}
 use Rattle.std.specs.Prelude.{Option, Some, None, Result, Ok, Err}
+use Rattle.std.specs.Bool.{MatchBool}
 use Rattle.mq_outside.specs.Readings.{Giving}
 use Rattle.reply_fields.specs.Parts.{ReplyParts}
 use Rattle.broker_events.specs.declared.event.Event.{Event}
@@ -81,14 +82,9 @@ GivesDue old made (Err fault) new = IsLost old made new
 
 -- ---- what is written
 
--- the bytes of a reply, or none where nobody waits for it
-abbrev pub IsPutBy : Bool → Giving → Caller → ReplyParts → ℕ → List ℕ → List ℕ → Type 0
-IsPutBy true gives caller reply count old new = new ≡ old
-IsPutBy false gives caller reply count old new = IsWritten gives caller reply count old new
-
 -- a reply is put behind the bytes before it, unless nobody waits for it
 abbrev pub IsPut : Giving → Caller → ReplyParts → ℕ → List ℕ → List ℕ → Type 0
-IsPut gives caller reply count old new = IsPutBy caller.one_way gives caller reply count old new
+IsPut gives caller reply count old new = MatchBool caller.one_way (new ≡ old) (IsWritten gives caller reply count old new)
 
 -- ---- what is settled
 

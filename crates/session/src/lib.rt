@@ -15,7 +15,7 @@ pub use heard::Heard;
 pub use laws::{
     a_talk_hears_the_requests_of_its_stream, replies_leave_in_the_order_of_the_requests,
 };
-pub use owed::{Applied, Awaits, Owed, apply, look, write_reply};
+pub use owed::{Applied, Awaits, Owed, apply, look, no_room, not_flushed, write_reply};
 pub use serving::{Halt, Step};
 pub use session::Session;
 pub use talk::Talk;

@@ -1,7 +1,9 @@
 //! What is owed to a link for a request: its reply, at once or once its record is on the disk.
 
-ghost use Rattle.std.specs.Prelude.{◌≡◌, ◌<◌, ◌^◌, Some, OnOk, OnErr, IfOk};
+ghost use Rattle.std.specs.Prelude.{◌≡◌, ◌<◌, ◌^◌, ◌++◌, Some, OnOk, OnErr, IfOk, pos, codes};
+ghost use Rattle.mq_bytes.specs.Decimal.{digits_of};
 ghost use Rattle.remoting_frame.specs.Head.{pairs_size};
+ghost use Rattle.reply_fields.specs.Parts.{plain};
 ghost use Rattle.broker_events.specs.Shown.{Accepts};
 ghost use Rattle.broker_events.specs.declared.event.Event.TheVariants.{Look};
 ghost use Rattle.broker_events.specs.declared.said.Said.TheVariants as said;
@@ -76,10 +78,10 @@ fn size_of(pairs: &[(Text, Text)]) -> usize
     size
 }
 
-// The reply to a request whose record the disk failed to take, as its failure of this number: code 10, with the fields of the
-// reply that was due. Fields that leave no room for the remark are left out; those of a send do.
+/// The reply to a request whose record the disk failed to take, as its failure of this number: code 10, with the fields of the
+/// reply that was due. Fields that leave no room for the remark are left out; those of a send leave some.
 #[tactic(auto, using(crate::proofs::RemarkLemmas::length_flush_remark))]
-pub(crate) fn not_flushed(alloc: Global, reply: Reply, count: u64) -> Result<Reply, AllocError>
+pub fn not_flushed(alloc: Global, reply: Reply, count: u64) -> Result<Reply, AllocError>
     ensures { IfOk result (λ told. told ≡ not_flushed_of reply count) }
 {
     let remark = format!(in alloc; "flush {count}")?;
@@ -94,6 +96,15 @@ pub(crate) fn not_flushed(alloc: Global, reply: Reply, count: u64) -> Result<Rep
     })
 }
 
+/// The reply to a request that found no room, since the disk failed to take the records before it, as its failure of this number.
+#[tactic(auto, using(crate::proofs::RemarkLemmas::length_disk_remark))]
+pub fn no_room(alloc: Global, count: u64) -> Result<Reply, AllocError>
+    ensures { IfOk result (λ reply. reply ≡ plain (pos 1) (codes "disk " ++ digits_of count)) }
+{
+    let remark = format!(in alloc; "disk {count}")?;
+    Reply::plain(alloc, 1, remark.as_str())
+}
+
 /// Looks what became of a record.
 pub fn look<C: Calls>(alloc: Global, calls: &mut C, awaits: Awaits) -> Awaited
     ensures { C.makes calls.old (Look awaits.number awaits.turn) (Some (said.Awaited result)) calls.new }
@@ -102,7 +113,9 @@ pub fn look<C: Calls>(alloc: Global, calls: &mut C, awaits: Awaits) -> Awaited
         number: awaits.number,
         turn: awaits.turn,
     };
-    match calls.call(alloc, &event) {
+    let said = calls.call(alloc, &event);
+    drop(event);
+    match said {
         Ok(Said::Awaited(awaited)) => awaited,
         Ok(_) | Err(_) => unreachable!(),
     }
@@ -139,7 +152,9 @@ pub fn write_reply<R: Reader>(
         Err(fault) => fault,
     };
     let refusal = unwritten(alloc, fault, reader.fault_count())?;
-    match refusal.write(alloc, caller.form, caller.opaque, reader, out) {
+    let written = refusal.write(alloc, caller.form, caller.opaque, reader, out);
+    drop(refusal);
+    match written {
         Ok(()) => Ok(()),
         Err(_) => Err(AllocError),
     }

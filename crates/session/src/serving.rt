@@ -1,9 +1,7 @@
 //! One link as a machine: the bytes that were heard, and the requests that are given to the broker. It waits for nothing, and
 //! has no device.
 
-ghost use Rattle.std.specs.Prelude.{◌≡◌, ◌<◌, ◌^◌, ◌++◌, [], ◌∷◌, true, None, Some, Option, pos, codes, IfOk, OnOk, OnErr};
-ghost use Rattle.mq_bytes.specs.Decimal.{digits_of};
-ghost use Rattle.reply_fields.specs.Parts.{plain};
+ghost use Rattle.std.specs.Prelude.{◌≡◌, ◌<◌, ◌^◌, ◌++◌, [], true, None, Some, Option, OnOk, OnErr};
 ghost use Rattle.reply_fields.specs.Refusals.{fault_reply};
 ghost use Rattle.broker_events.specs.Served.{is_served as is_served_of};
 ghost use Rattle.broker_events.specs.Shown.{Accepts};
@@ -15,7 +13,7 @@ ghost use Rattle.session.specs.Serving.{halt_of as halt_of_fault, found_room as 
 
 use crate::caller::Caller;
 use crate::heard::Heard;
-use crate::owed::{Applied, Awaits, Owed, apply};
+use crate::owed::{Applied, Awaits, Owed, apply, no_room};
 use crate::session::Session;
 use crate::talk::Talk;
 use broker_events::{Calls, Event, is_served};
@@ -64,15 +62,6 @@ fn found_room(end: Result<Step, Halt>) -> bool
         Ok(Step::Full) => false,
         Ok(Step::Request | Step::Nothing) | Err(_) => true,
     }
-}
-
-// The reply to a request that found no room, where the disk failed, with its count.
-#[tactic(auto, using(crate::proofs::RemarkLemmas::length_disk_remark))]
-fn no_room(alloc: Global, count: u64) -> Result<Reply, AllocError>
-    ensures { IfOk result (λ reply. reply ≡ plain (pos 1) (codes "disk " ++ digits_of count)) }
-{
-    let remark = format!(in alloc; "disk {count}")?;
-    Reply::plain(alloc, 1, remark.as_str())
 }
 
 impl Session {
@@ -237,6 +226,7 @@ impl Session {
         ensures out { KeepsOut self.old self.new }
     {
         if !is_served(&request) {
+            drop(request);
             return self.refuse(alloc, caller, &RequestFault::Unsupported(code));
         }
         self.give_request(alloc, calls, now, caller, code, request)
@@ -267,9 +257,10 @@ impl Session {
         };
         let result = self.give_event(alloc, calls, caller, &event);
         if found_room(result) {
-            return result;
+            drop(event);
+        } else {
+            self.hold(caller, code, event);
         }
-        self.hold(caller, code, event);
         result
     }
 

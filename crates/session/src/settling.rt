@@ -123,10 +123,13 @@ impl Session {
         ensures talk { self.new.talk ≡ self.old.talk }
         ensures sent { self.new.sent ≡ self.old.sent }
     {
-        if caller.one_way {
-            return Ok(());
-        }
-        write_reply(alloc, caller, &reply, reader, &mut self.out)
+        let written = if caller.one_way {
+            Ok(())
+        } else {
+            write_reply(alloc, caller, &reply, reader, &mut self.out)
+        };
+        drop(reply);
+        written
     }
 
     /// Whether a reply waits for its record, or a request for room: a flush turn may bring it on.

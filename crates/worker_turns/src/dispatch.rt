@@ -12,7 +12,10 @@ use std::alloc::Global;
 pub fn dispatch_turn<C: Calls>(alloc: Global, calls: &mut C, most: u32) -> u64
     ensures { Makes C.makes calls.old ((Dispatch most, Some (Moved result)) ∷ []) calls.new }
 {
-    match calls.call(alloc, &Event::Dispatch { most }) {
+    let event = Event::Dispatch { most };
+    let said = calls.call(alloc, &event);
+    drop(event);
+    match said {
         Ok(Said::Moved(number)) => number,
         Ok(_) | Err(_) => unreachable!(),
     }

@@ -37,7 +37,10 @@ fn take<C: Calls>(alloc: Global, calls: &mut C) -> Result<Option<Batch>, AllocEr
     ensures batch { IfOk result (λ batch. C.makes calls.old Take (Some (said.Batch batch)) calls.new) }
     ensures memory { OnErr result (C.makes calls.old Take None calls.new) }
 {
-    match calls.call(alloc, &Event::Take) {
+    let event = Event::Take;
+    let said = calls.call(alloc, &event);
+    drop(event);
+    match said {
         Ok(Said::Batch(batch)) => Ok(batch),
         Ok(_) => unreachable!(),
         Err(fault) => Err(fault),
@@ -50,8 +53,11 @@ fn tell_flushed<C: Calls>(alloc: Global, calls: &mut C, receipt: Receipt)
     requires out { IsOut (C.shown calls.old).out (λ batch. IsReceiptFor batch receipt) }
     ensures { C.makes calls.old (Flushed receipt) (Some said.Done) calls.new }
 {
-    match calls.call(alloc, &Event::Flushed(receipt)) {
-        Ok(_) => {}
+    let event = Event::Flushed(receipt);
+    let said = calls.call(alloc, &event);
+    drop(event);
+    match said {
+        Ok(said) => drop(said),
         Err(_) => unreachable!(),
     }
 }
@@ -62,8 +68,11 @@ fn tell_failed<C: Calls>(alloc: Global, calls: &mut C, count: u64)
     requires out { IsOut (C.shown calls.old).out (λ batch. Unit {0}) }
     ensures { C.makes calls.old (FlushFailed count) (Some said.Done) calls.new }
 {
-    match calls.call(alloc, &Event::FlushFailed { count }) {
-        Ok(_) => {}
+    let event = Event::FlushFailed { count };
+    let said = calls.call(alloc, &event);
+    drop(event);
+    match said {
+        Ok(said) => drop(said),
         Err(_) => unreachable!(),
     }
 }

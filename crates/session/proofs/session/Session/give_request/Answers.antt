@@ -12,8 +12,8 @@ returns-then-found_room-clause-serves g c =
     c.args.code c.args.request c.link.ensures c.host.ensures c.requires.served c.give_event-result.result c.give_event-result.ensures.gives
     (cc (c.found_room.ensures, c.if-found_room.true)) c.give_event-result.ensures.held
 
-pub returns-clause-serves : goal.returns-clause-serves
-returns-clause-serves g c =
+pub returns-else-found_room-clause-serves : goal.returns-else-found_room-clause-serves
+returns-else-found_room-clause-serves g c =
     let held = subst (λ (z : ℤ). c.hold.new.self.held ≡ Some (heard_from c.args.caller z (Ok c.args.request))) (to_z-of_z w32 c.args.code c.ranges.code) c.hold.ensures.held in
     serves_full g.C.Calls.makes c.args.calls.now c.give_event-result.new.calls c.args.self.now c.give_event-result.new.self c.link.result c.host.result c.args.now c.args.caller
     c.args.code c.args.request c.link.ensures c.host.ensures c.requires.served c.give_event-result.result c.give_event-result.ensures.gives
