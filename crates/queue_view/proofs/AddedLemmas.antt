@@ -258,7 +258,7 @@ started_tables (Err fault) low added n old new topic queue min additional absent
 
 -- a pull of a table is one of its queue
 pub among_is : (low : List ℕ → ℕ → ℕ) (added : List Added) (n : ℕ) (tables : List Table) (k : ℕ) (t : Table) (from most : ℤ) (tags : Tags) → AreTablesOf low added n tables → slice_get tables k ≡ Some t
-    → pulled_of t from most tags ≡ pulled_among low (take n added) t.topic t.queue from most tags
+    → pulled_of t from most tags ≡ pulled_among (low t.topic t.queue) (queue_in (take n added) t.topic t.queue) from most tags
 among_is low added n tables k t from most tags are at =
     let is = are.each k t at in
     ap (λ m. pulled this m (seen_units t) from (asked_number 32 most) (tags_take tags)) is.first

@@ -252,7 +252,7 @@ impl QueueView {
         ensures table { (t : Table) → slice_get self.now table ≡ Some t → IfOk result (λ a. Answers (pulled_of t from most tags.now) a) }
         ensures records { (low : List ℕ → ℕ → ℕ) (added : List Added) (n : ℕ) (t : Table) → AreTablesOf low added n self.now
             → slice_get self.now table ≡ Some t → IfOk result
-            (λ a. Answers (pulled_among low (take n added) t.topic t.queue from most tags.now) a) }
+            (λ a. Answers (pulled_among (low t.topic t.queue) (queue_in (take n added) t.topic t.queue) from most tags.now) a) }
     {
         self.tables[table as usize].pull(alloc, from, most, tags)
     }
