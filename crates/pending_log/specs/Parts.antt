@@ -2,6 +2,7 @@
 use Rattle.std.specs.Prelude.{ℕ, ◌+◌, ◌-◌, ◌*◌, ◌^◌, ◌<◌, ◌≤◌, min, List, [], ◌++◌, length, Option, Some, None}
 use Rattle.record_codec.specs.Entry.{Entry}
 use Rattle.record_codec.specs.Layout.{size, layout}
+use Rattle.pending_log.specs.declared.pending.Pending.TheInside.{Inside}
 use Rattle.pending_log.specs.declared.turn.Out.{Out}
 use Rattle.pending_log.specs.declared.turn.FailedTurn.{FailedTurn}
 
@@ -18,22 +19,33 @@ pub record PendingPart : Type 0 where
   pub turns : ℕ
   pub failed : Option FailedTurn
 
-abbrev pub part_of : ℕ → ℕ → ℕ → ℕ → ℕ → List ℕ → Option Out → ℕ → Option FailedTurn → PendingPart
-part_of segment flushed count start end bytes out turns failed = record {
-  segment = segment;
-  flushed = flushed;
-  count = count;
-  start = start;
-  end = end;
-  bytes = bytes;
-  out = out;
-  turns = turns;
-  failed = failed;
+-- the same of the parts that the code keeps
+abbrev pub part_of : Inside → PendingPart
+part_of p = record {
+  segment = p.segment;
+  flushed = p.flushed;
+  count = p.count;
+  start = p.start;
+  end = p.end;
+  bytes = p.buffer;
+  out = p.out;
+  turns = p.turns;
+  failed = p.failed;
 }
 
 -- nothing is pending behind so many records that end there
 abbrev pub new_part : ℕ → ℕ → ℕ → PendingPart
-new_part segment count end = part_of segment count count end end [] None 0 None
+new_part segment count end = record {
+  segment = segment;
+  flushed = count;
+  count = count;
+  start = end;
+  end = end;
+  bytes = [];
+  out = None;
+  turns = 0;
+  failed = None;
+}
 
 -- with a record appended
 abbrev pub appended : PendingPart → Entry → PendingPart

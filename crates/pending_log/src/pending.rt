@@ -51,9 +51,9 @@ impl Model for Pending {
 
     ghost Value = { PendingPart };
 
-    ghost view = { λ p. part_of p.segment p.flushed p.count p.start p.end p.buffer p.out p.turns p.failed };
+    ghost view = { part_of };
 
-    ghost invariant = { λ p. IsBounded (part_of p.segment p.flushed p.count p.start p.end p.buffer p.out p.turns p.failed) };
+    ghost invariant = { λ p. IsBounded (part_of p) };
 }
 
 /// How much was pending at some time, so that what was appended since can be undone.

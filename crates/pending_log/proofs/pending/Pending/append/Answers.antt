@@ -18,7 +18,7 @@ overflow_add-self-2 c =
 pub invariant_of-self-2 : goal.invariant_of-self-2
 invariant_of-self-2 c =
     let i = c.self.inside in
-    let p : PendingPart = part_of i.segment i.flushed i.count i.start i.end i.buffer i.out i.turns i.failed in
+    let p : PendingPart = part_of i in
     let r : Entry = entry_of c.args.draft.now c.args.place.now in
     let grown = grown_by i.buffer c.append.new.self r c.in_ok-append.ensures.ok in
     let before = c.len-before.ensures in let after = c.len.ensures in
@@ -30,7 +30,7 @@ invariant_of-self-2 c =
 pub returns-clause-appended : goal.returns-clause-appended
 returns-clause-appended c =
     let i = c.self.inside in
-    let p : PendingPart = part_of i.segment i.flushed i.count i.start i.end i.buffer i.out i.turns i.failed in
+    let p : PendingPart = part_of i in
     let r : Entry = entry_of c.args.draft.now c.args.place.now in
     let grown = grown_by i.buffer c.append.new.self r c.in_ok-append.ensures.ok in
     let before = c.len-before.ensures in let after = c.len.ensures in
@@ -40,7 +40,7 @@ returns-clause-appended c =
 pub returns-clause-log : goal.returns-clause-log
 returns-clause-log c log are =
     let i = c.self.inside in
-    let p : PendingPart = part_of i.segment i.flushed i.count i.start i.end i.buffer i.out i.turns i.failed in
+    let p : PendingPart = part_of i in
     let r : Entry = entry_of c.args.draft.now c.args.place.now in
     let grown = grown_by i.buffer c.append.new.self r c.in_ok-append.ensures.ok in
     let before = c.len-before.ensures in let after = c.len.ensures in

@@ -16,7 +16,7 @@ extent-extent-requires-clause-within c =
 pub extent-extent-requires-clause-short : goal.extent-extent-requires-clause-short
 extent-extent-requires-clause-short c =
     let i = c.self.inside in
-    let p : PendingPart = part_of i.segment i.flushed i.count i.start i.end i.buffer i.out i.turns i.failed in
+    let p : PendingPart = part_of i in
     let sum = pending_short c.requires.some.0 p c.args.rows.now (subst (λ (q : PendingPart). IsPendingOf c.requires.some.0 q) (sym c.self.view_is) c.requires.some.2) c.requires.some.3 in
     let short = c.self.invariant.short in
     omega (arith, sum, short)
@@ -31,7 +31,7 @@ at-first-requires-clause-within c =
 pub overflow_add-self-inside : goal.overflow_add-self-inside
 overflow_add-self-inside c =
     let i = c.self.inside in
-    let p : PendingPart = part_of i.segment i.flushed i.count i.start i.end i.buffer i.out i.turns i.failed in
+    let p : PendingPart = part_of i in
     let are = subst (λ (q : PendingPart). IsPendingOf c.requires.some.0 q) (sym c.self.view_is) c.requires.some.2 in
     let pending = subst (λ (q : PendingPart). q.flushed < q.count) (sym c.self.view_is) c.requires.pending in
     let taken = is_taken c.requires.some.0 p c.args.rows.now c.extent-extent.result are c.requires.some.3 pending c.extent-extent.ensures in
@@ -42,7 +42,7 @@ overflow_add-self-inside c =
 pub at-last-requires-clause-within : goal.at-last-requires-clause-within
 at-last-requires-clause-within c =
     let i = c.self.inside in
-    let p : PendingPart = part_of i.segment i.flushed i.count i.start i.end i.buffer i.out i.turns i.failed in
+    let p : PendingPart = part_of i in
     let are = subst (λ (q : PendingPart). IsPendingOf c.requires.some.0 q) (sym c.self.view_is) c.requires.some.2 in
     let pending = subst (λ (q : PendingPart). q.flushed < q.count) (sym c.self.view_is) c.requires.pending in
     let taken = is_taken c.requires.some.0 p c.args.rows.now c.extent-extent.result are c.requires.some.3 pending c.extent-extent.ensures in
@@ -53,7 +53,7 @@ at-last-requires-clause-within c =
 pub front-requires : goal.front-requires
 front-requires c =
     let i = c.self.inside in
-    let p : PendingPart = part_of i.segment i.flushed i.count i.start i.end i.buffer i.out i.turns i.failed in
+    let p : PendingPart = part_of i in
     let are = subst (λ (q : PendingPart). IsPendingOf c.requires.some.0 q) (sym c.self.view_is) c.requires.some.2 in
     let pending = subst (λ (q : PendingPart). q.flushed < q.count) (sym c.self.view_is) c.requires.pending in
     let taken = is_taken c.requires.some.0 p c.args.rows.now c.extent-extent.result are c.requires.some.3 pending c.extent-extent.ensures in
@@ -62,7 +62,7 @@ front-requires c =
 pub blank_between-requires-clause-ordered : goal.blank_between-requires-clause-ordered
 blank_between-requires-clause-ordered c =
     let i = c.self.inside in
-    let p : PendingPart = part_of i.segment i.flushed i.count i.start i.end i.buffer i.out i.turns i.failed in
+    let p : PendingPart = part_of i in
     let are = subst (λ (q : PendingPart). IsPendingOf c.requires.some.0 q) (sym c.self.view_is) c.requires.some.2 in
     let lawful = subst (λ (q : PendingPart). IsLawful q.segment c.requires.some.0) (sym c.self.view_is) c.requires.some.1 in
     let ordered = first_ordered c.requires.some.0 p c.args.rows.now c.at-first.result lawful are c.requires.some.3 c.at-first.ensures in
@@ -71,7 +71,7 @@ blank_between-requires-clause-ordered c =
 pub blank_between-requires-clause-near : goal.blank_between-requires-clause-near
 blank_between-requires-clause-near c =
     let i = c.self.inside in
-    let p : PendingPart = part_of i.segment i.flushed i.count i.start i.end i.buffer i.out i.turns i.failed in
+    let p : PendingPart = part_of i in
     let are = subst (λ (q : PendingPart). IsPendingOf c.requires.some.0 q) (sym c.self.view_is) c.requires.some.2 in
     let lawful = subst (λ (q : PendingPart). IsLawful q.segment c.requires.some.0) (sym c.self.view_is) c.requires.some.1 in
     let ordered = first_ordered c.requires.some.0 p c.args.rows.now c.at-first.result lawful are c.requires.some.3 c.at-first.ensures in
@@ -81,7 +81,7 @@ blank_between-requires-clause-near c =
 pub overflow_add-result : goal.overflow_add-result
 overflow_add-result c =
     let i = c.self.inside in
-    let p : PendingPart = part_of i.segment i.flushed i.count i.start i.end i.buffer i.out i.turns i.failed in
+    let p : PendingPart = part_of i in
     let are = subst (λ (q : PendingPart). IsPendingOf c.requires.some.0 q) (sym c.self.view_is) c.requires.some.2 in
     let lawful = subst (λ (q : PendingPart). IsLawful q.segment c.requires.some.0) (sym c.self.view_is) c.requires.some.1 in
     let pending = subst (λ (q : PendingPart). q.flushed < q.count) (sym c.self.view_is) c.requires.pending in
@@ -93,7 +93,7 @@ overflow_add-result c =
 pub returns : goal.returns
 returns c log lawful are of =
     let i = c.self.inside in
-    let p : PendingPart = part_of i.segment i.flushed i.count i.start i.end i.buffer i.out i.turns i.failed in
+    let p : PendingPart = part_of i in
     let here = subst (λ (q : PendingPart). IsPendingOf log q) (sym c.self.view_is) are in
     let pending = subst (λ (q : PendingPart). q.flushed < q.count) (sym c.self.view_is) c.requires.pending in
     let turn : Out = record {

@@ -7,7 +7,7 @@ use Rattle.pending_log.proofs.pending.Pending.take.Goals as goal
 pub returns-clause-turn : goal.returns-clause-turn
 returns-clause-turn c =
     let i = c.self.inside in
-    let p : PendingPart = part_of i.segment i.flushed i.count i.start i.end i.buffer i.out i.turns i.failed in
+    let p : PendingPart = part_of i in
     let next = c.in_ok-out.ensures c.requires.0 c.requires.1 c.requires.2 c.requires.3 in
     let held = next.held ∙ ap (λ (q : PendingPart). q.count) (sym c.self.view_is) in
     subst (λ (q : PendingPart). HasTaken q c.in_ok-batch.batch (record p { out = Some (record { batch = c.in_ok-out.out.batch; held = c.in_ok-out.out.held; end = c.in_ok-out.out.end }); turns = c.saturating_add-self-inside.result })) c.self.view_is
