@@ -27,13 +27,15 @@ pub record StandsFor (base : Base) (tail : LogTail) (log : List Entry) : Type 0 
   pub latest : (k : ℕ) (r : Entry) → slice_get log k ≡ Some r → r.store ≤ tail.stored
   pub counts : (topic : List ℕ) (queue : ℕ) → count_in tail.counts topic queue ≡ queue_end base log topic queue
 
--- This record has this topic, queue, place and size, and is the newest behind the log: the next of its queue, and not stored
--- before the last.
-pub record ComesBehind (base : Base) (log : List Entry) (topic : List ℕ) (queue : ℕ) (at : Place) (n : ℕ) (r : Entry) : Type 0 where
+-- this record has this topic, queue, place and size
+pub record IsPlacedAt (topic : List ℕ) (queue : ℕ) (at : Place) (n : ℕ) (r : Entry) : Type 0 where
   pub of_topic : r.topic ≡ topic
   pub of_queue : r.queue ≡ queue
   pub offset_is : r.offset ≡ at.offset
   pub store_is : r.store ≡ at.store
   pub size_is : size r ≡ n
+
+-- a record of this queue with this place is the newest behind the log: the next of its queue, and not stored before the last
+pub record ComesBehind (base : Base) (log : List Entry) (topic : List ℕ) (queue : ℕ) (at : Place) : Type 0 where
   pub next : at.queue_offset ≡ queue_end base log topic queue
   pub later : last_store log ≤ at.store

@@ -61,7 +61,7 @@ impl LogTail {
     ghost use Rattle.log_model.specs.Bases.{Base as Removed, Geometry, geometry, no_base};
     ghost use Rattle.log_model.specs.Log.{Follows, IsSegmentSize, IsGeometry};
     ghost use Rattle.log_model.specs.Told.{base_of};
-    ghost use Rattle.log_tail.specs.Tails.{StandsFor, ComesBehind};
+    ghost use Rattle.log_tail.specs.Tails.{StandsFor, IsPlacedAt, ComesBehind};
     ghost use Rattle.log_tail.specs.Places.{place_behind, HasRoom};
 
     /// The end of the empty log, in segments of so many bytes.
@@ -169,7 +169,8 @@ impl LogTail {
         ensures end { OnOk result (self.new.end ≡ place.now.offset + size) }
         ensures stays { OnErr result (self.new.end ≡ self.old.end) }
         ensures moved { (base : Removed) (log : List Entry) (r : Entry) → StandsFor base self.old log
-            → ComesBehind base log topic.now queue place.now size r → OnOk result (StandsFor base self.new (log ++ r ∷ [])) }
+            → ComesBehind base log topic.now queue place.now → IsPlacedAt topic.now queue place.now size r
+            → OnOk result (StandsFor base self.new (log ++ r ∷ [])) }
         ensures still { (base : Removed) (log : List Entry) → StandsFor base self.old log → OnErr result (StandsFor base self.new log) }
     {
         set_count(
