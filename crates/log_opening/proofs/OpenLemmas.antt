@@ -51,7 +51,7 @@ kept_log S topics old new start log none kept has =
     record { records = kept.records; keeps = kept.keeps; loaded = kept.handed none; ends = kept.ends; has = has kept.records kept.keeps }
 
 pub our_log : (S : Geometry) (topics : List TopicRow) (log : List Entry) (flushed : ℕ) (disk : DiskState) (start : Loaded) (it : LoadedLog) → IsLoadedFrom topics [] start → IsCrashImage disk disk.reads
-    → Recovered S log flushed (loaded_in topics start) (loaded_in topics it.loaded) disk it.end → IsOurLog S topics log flushed disk it
+    → Recovered (stored S log flushed) (loaded_in topics start) (loaded_in topics it.loaded) disk it.end → IsOurLog S topics log flushed disk it
 our_log S topics log flushed disk start it none image found = record {
   number = found.number;
   low = found.low;

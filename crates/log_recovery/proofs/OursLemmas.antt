@@ -14,7 +14,7 @@ use Rattle.log_model.proofs.FileNames.{IsNamed, is_log_file}
 use Rattle.log_model.proofs.Recovery.{keeps_unique}
 use Rattle.log_model.proofs.Prefixes.{keeps_prefix}
 use Rattle.log_model.proofs.StoreLemmas.{stores_again}
-use Rattle.log_model.specs.Stored.{AreAsIn, IsOutside, StaysOutside, HasRecords}
+use Rattle.log_model.specs.Stored.{stored, AreAsIn, IsOutside, StaysOutside, HasRecords}
 use Rattle.log_model.proofs.OutsideLemmas.{outside_then}
 use Rattle.log_recovery.specs.Recovered.{Recovered, Stays, StaysFlushed}
 use Rattle.log_recovery.specs.Scan.{ReadLog}
@@ -142,7 +142,7 @@ module _ (S : Geometry) (log records : List Entry) (flushed n : ℕ) (first old 
       record { still = settles_stores settles; any_moment = so_far; honest = records_honest S log flushed first new stores so_far }
 
   pub settled_recovered : (end : ℕ) (before after : List Entry → Type 0) → end ≡ end_of S.base records → (before [] → after records)
-      → EachImage (IsSettledAt S.size (next_segment S (shape_of S records).older) n (used (shape_of S records)) old) new → Recovered S log flushed before after new end
+      → EachImage (IsSettledAt S.size (next_segment S (shape_of S records).older) n (used (shape_of S records)) old) new → Recovered (stored S log flushed) before after new end
   settled_recovered end before after is handed each =
       let kept : List Entry = take prefix.number log in
       let again : take prefix.number kept ≡ kept = take-take prefix.number prefix.number log (omega arith) in
@@ -180,7 +180,7 @@ module _ (S : Geometry) (count end : ℕ) (first old new : DiskState) (before af
       (settles_here S end (max (end / S.size + 1) (count - 1)) (next_segment S (shape_of S read.records).older) (used (shape_of S read.records)) old new at settles)
 
   pub read_recovered : (log : List Entry) (flushed : ℕ) → StoresLog S log flushed first → IsHonest S log flushed first.reads
-      → EachImage (IsSettledAt S.size (end / S.size) (max (end / S.size + 1) (count - 1)) (end % S.size) old) new → Recovered S log flushed before after new end
+      → EachImage (IsSettledAt S.size (end / S.size) (max (end / S.size + 1) (count - 1)) (end % S.size) old) new → Recovered (stored S log flushed) before after new end
   read_recovered log flushed stores honest settled =
       settled_recovered S log read.records flushed (max (end / S.size + 1) (count - 1)) first old new rests read.keeps (top_named S end count segment low each) (omega (arith, at.0)) image stores honest end
       before after read.ends read.handed

@@ -10,7 +10,7 @@ use Rattle.log_model.specs.Bases.{Geometry, first_segment}
 use Rattle.log_model.specs.Log.{IsWellFormed, end_of}
 use Rattle.log_model.specs.Segments.{used, shape_of, segment_file, last_name, last_bytes, layouts, IsLogFile, NoOther, next_segment}
 use Rattle.log_model.specs.Store.{AreEnded, Keeps, StoresAt, StoresLog, IsHonest, KeepsIfHonest}
-use Rattle.log_model.specs.Stored.{HasRecords}
+use Rattle.log_model.specs.Stored.{Stored, HasRecords}
 use Rattle.log_recovery.specs.declared.fault.RecoverFault.{RecoverFault}
 use Rattle.log_recovery.specs.declared.fault.RecoverFault.TheVariants.{Damaged, Failed, Memory}
 
@@ -75,14 +75,14 @@ pub record IsCutTo (S : Geometry) (records : List Entry) (read files : Files) : 
 
 -- Recovery of a disk that stores a log: a prefix of it with all that was flushed was handed to the visitor, and is now the
 -- log that the disk stores, all of it flushed and nothing behind it.
-pub record Recovered (S : Geometry) (log : List Entry) (flushed : ℕ) (before after : List Entry → Type 0) (disk : DiskState)
-    (end : ℕ) : Type 0 where
+pub record Recovered (it : Stored) (before after : List Entry → Type 0) (disk : DiskState) (end : ℕ) : Type 0 where
   pub number : ℕ
-  pub low : flushed ≤ number
-  pub high : number ≤ length log
-  pub handed : before [] → after (take number log)
-  pub ends : end ≡ end_of S.base (take number log)
-  pub stores : StoresAt S (take number log) number (shape_of S (take number log)) (used (shape_of S (take number log))) disk
+  pub low : it.flushed ≤ number
+  pub high : number ≤ length it.log
+  pub handed : before [] → after (take number it.log)
+  pub ends : end ≡ end_of it.geometry.base (take number it.log)
+  pub stores : StoresAt it.geometry (take number it.log) number (shape_of it.geometry (take number it.log))
+      (used (shape_of it.geometry (take number it.log))) disk
 
 -- From old to new what was flushed of this log stays: the disk still stores it, and at each moment each crash image has the
 -- flushed records at their places, and keeps them where it is honest.

@@ -31,59 +31,65 @@ pub record StandsIn (S : Geometry) (tail : LogTail) (records : List Entry) : Typ
   pub size : tail.segment ≡ S.size
   pub stands : StandsFor S.base tail records
 
--- these records are read, up to this offset of the file that begins at this base
-pub record Stood (S : Geometry) (files : Files) (records : List Entry) (shape : Shape) (tail : LogTail) (file_base at : ℕ) : Type 0 where
-  pub reads : ReadsTo S records shape files
-  pub left : StandsIn S tail records
-  pub begins : file_base ≡ segment_start S shape
-  pub here : at ≡ used shape
+-- what was read: the records, and in which segments they stand
+pub record Reading : Type 0 where
+  pub records : List Entry
+  pub shape : Shape
+
+-- the visitor that is this before and that after was handed the rest of these records, where it had been handed those
+abbrev pub Onward : (List Entry → Type 0) → (List Entry → Type 0) → List Entry → List Entry → Type 0
+Onward before after done records = before done → after records
+
+-- so much is read, up to this offset of the file that begins at this base
+pub record Stood (S : Geometry) (files : Files) (read : Reading) (tail : LogTail) (file_base at : ℕ) : Type 0 where
+  pub reads : ReadsTo S read.records read.shape files
+  pub left : StandsIn S tail read.records
+  pub begins : file_base ≡ segment_start S read.shape
+  pub here : at ≡ used read.shape
   pub low : file_base < 2 ^ 63
 
 -- no record comes next
-abbrev pub NoNext : Geometry → Files → List Entry → Shape → Type 0
-NoNext S files records shape = (r : Entry) → IsNext S records files shape r → ⊥
+abbrev pub NoNext : Geometry → Files → Reading → Type 0
+NoNext S files read = (r : Entry) → IsNext S read.records files read.shape r → ⊥
 
 -- a step read a record of n bytes, which was handed on
-pub record StepsTo (S : Geometry) (files : Files) (records : List Entry) (shape : Shape) (tail : LogTail)
-    (before after : List Entry → Type 0) (n : ℕ) : Type 0 where
+pub record StepsTo (S : Geometry) (files : Files) (read : Reading) (tail : LogTail)
+    (handed_on : List Entry → Type 0) (n : ℕ) : Type 0 where
   pub r : Entry
-  pub next : IsNext S records files shape r
+  pub next : IsNext S read.records files read.shape r
   pub long : n ≡ size r
-  pub left : StandsIn S tail (records ++ r ∷ [])
-  pub handed : before records → after (records ++ r ∷ [])
+  pub left : StandsIn S tail (read.records ++ r ∷ [])
+  pub handed : handed_on (read.records ++ r ∷ [])
 
 -- a step found no next record
-pub record Stops (S : Geometry) (files : Files) (records : List Entry) (shape : Shape) (tail : LogTail) (before after : List Entry → Type 0)
-    (n : ℕ) : Type 0 where
+pub record Stops (S : Geometry) (files : Files) (read : Reading) (tail : LogTail)
+    (handed_on : List Entry → Type 0) (n : ℕ) : Type 0 where
   pub none : n ≡ 0
-  pub ends : NoNext S files records shape
-  pub left : StandsIn S tail records
-  pub handed : before records → after records
+  pub ends : NoNext S files read
+  pub left : StandsIn S tail read.records
+  pub handed : handed_on read.records
 
--- records were read up to here and handed on, behind those that were read before
-pub record Scanned (S : Geometry) (files : Files) (done : List Entry) (tail : LogTail) (file_base : ℕ) (before after : List Entry → Type 0)
-    (at : ℕ) : Type 0 where
-  pub records : List Entry
-  pub shape : Shape
-  pub stood : Stood S files records shape tail file_base at
-  pub handed : before done → after records
+-- records were read up to here and handed on
+pub record Scanned (S : Geometry) (files : Files) (tail : LogTail) (file_base : ℕ)
+    (handed_on : List Entry → Type 0) (at : ℕ) : Type 0 where
+  pub read : Reading
+  pub stood : Stood S files read tail file_base at
+  pub handed : handed_on read.records
 
 -- and none comes next
-pub record ScansTo (S : Geometry) (files : Files) (done : List Entry) (tail : LogTail) (file_base : ℕ) (before after : List Entry → Type 0)
-    (at : ℕ) : Type 0 where
-  pub scanned : Scanned S files done tail file_base before after at
-  pub ends : NoNext S files scanned.records scanned.shape
+pub record ScansTo (S : Geometry) (files : Files) (tail : LogTail) (file_base : ℕ)
+    (handed_on : List Entry → Type 0) (at : ℕ) : Type 0 where
+  pub scanned : Scanned S files tail file_base handed_on at
+  pub ends : NoNext S files scanned.read
 
 -- records were read and handed on up to the end of a file, whose blank ends it, and so many files are read
-pub record Opened (S : Geometry) (files : Files) (done : List Entry) (number : ℕ) (tail : LogTail)
-    (before after : List Entry → Type 0) : Type 0 where
-  pub records : List Entry
-  pub shape : Shape
-  pub reads : ReadsTo S records shape files
-  pub left : StandsIn S tail records
-  pub so_many : next_segment S shape.older ≡ number
-  pub starts : used shape ≡ 0
-  pub handed : before done → after records
+pub record Opened (S : Geometry) (files : Files) (number : ℕ) (tail : LogTail) (handed_on : List Entry → Type 0) : Type 0 where
+  pub read : Reading
+  pub reads : ReadsTo S read.records read.shape files
+  pub left : StandsIn S tail read.records
+  pub so_many : next_segment S read.shape.older ≡ number
+  pub starts : used read.shape ≡ 0
+  pub handed : handed_on read.records
 
 -- the log was read: so many files, and the records that recovery keeps of them
 pub record ReadLog (S : Geometry) (files : Files) (before after : List Entry → Type 0) (count end : ℕ) : Type 0 where

@@ -7,7 +7,7 @@ ghost use Rattle.log_model.specs.Bases.{geometry};
 ghost use Rattle.log_model.specs.Told.{base_of};
 ghost use Rattle.log_model.specs.Log.{IsGeometry};
 ghost use Rattle.log_model.specs.Store.{Keeps, IsDamagedAt, IsHonest, StoresLog};
-ghost use Rattle.log_model.specs.Stored.{StaysOutside};
+ghost use Rattle.log_model.specs.Stored.{stored, StaysOutside};
 ghost use Rattle.segment_files.specs.Turn.{IsInside};
 ghost use Rattle.log_recovery.specs.Recovered.{Kept, Handed, HasKept, Recovered, IsCutTo, IsSettled};
 ghost use Rattle.log_recovery.specs.Recovered.{StaysFlushed, OnDamage, OnMemory, CountsRecoverFault};
@@ -60,7 +60,7 @@ pub fn recover<D: Disk, V: Visit>(
     ensures ours { D.tells → (log : List Entry) (flushed : ℕ)
         → StoresLog (geometry segment (base_of base.now)) log flushed (D.state disk.old)
         → IsHonest (geometry segment (base_of base.now)) log flushed (D.state disk.old).reads
-        → IfOk result (Recovered (geometry segment (base_of base.now)) log flushed (V.stands (base_of base.now) each.old)
+        → IfOk result (Recovered (stored (geometry segment (base_of base.now)) log flushed) (V.stands (base_of base.now) each.old)
         (V.stands (base_of base.now) each.new) (D.state disk.new)) }
 
     // Whatever the answer, what was flushed stays, at each moment, and so do files outside the log's folder.

@@ -8,11 +8,11 @@ ghost use Rattle.record_codec.specs.Entry.{Entry};
 ghost use Rattle.log_model.specs.Bases.{Base as Begun, geometry};
 ghost use Rattle.log_model.specs.Told.{base_of};
 ghost use Rattle.log_model.specs.Log.{IsSegmentSize, IsGeometry};
-ghost use Rattle.log_model.specs.Segments.{Shape, layouts, segment_file, next_segment};
+ghost use Rattle.log_model.specs.Segments.{layouts, segment_file, next_segment};
 ghost use Rattle.log_model.specs.Store.{ComesNext, EndsInBlank, IsDamagedAt};
 ghost use Rattle.log_recovery.specs.Reads.{OnlyReads};
 ghost use Rattle.log_recovery.specs.Recovered.{Handed, OnDamage};
-ghost use Rattle.log_recovery.specs.Scan.{Shows, StandsIn, Stood, StepsTo, Stops, ScansTo, Opened, HandsOn, ReadLog};
+ghost use Rattle.log_recovery.specs.Scan.{Shows, StandsIn, Reading, Onward, Stood, StepsTo, Stops, ScansTo, Opened, HandsOn, ReadLog};
 ghost use Rattle.log_recovery.specs.Names.{AreNamed, NoFurther};
 
 use crate::fault::RecoverFault;
@@ -53,12 +53,13 @@ fn step<D: Disk, V: Visit>(
     ensures from { OnOk result (scan.new.window.from ≤ at) }
     ensures shows { D.tells → (bytes : List ℕ) → bytes_of (D.state disk.old).reads (log_file base) ≡ bytes → Shows scan.old.window bytes
         → OnOk result (Shows scan.new.window bytes) }
-    ensures next { D.tells → (begun : Begun) (files : Files) (records : List Entry) (shape : Shape) → (D.state disk.old).reads ≡ files
+    ensures next { D.tells → (begun : Begun) (files : Files) (read : Reading) → (D.state disk.old).reads ≡ files
         → Shows scan.old.window (bytes_of files (log_file base))
-        → Stood (geometry segment begun) files records shape scan.old.tail base at
-        → IfOk result (λ n. StepsTo (geometry segment begun) files records shape scan.new.tail (V.stands begun each.old)
-        (V.stands begun each.new) n ⊎ Stops (geometry segment begun) files records shape scan.new.tail (V.stands begun each.old)
-        (V.stands begun each.new) n) }
+        → Stood (geometry segment begun) files read scan.old.tail base at
+        → IfOk result (λ n. StepsTo (geometry segment begun) files read scan.new.tail
+        (Onward (V.stands begun each.old) (V.stands begun each.new) read.records) n
+        ⊎ Stops (geometry segment begun) files read scan.new.tail
+        (Onward (V.stands begun each.old) (V.stands begun each.new) read.records) n) }
     ensures damage { OnDamage result (λ place name. ⊥) }
     ensures handed { (begun : Begun) → HandsOn (geometry segment begun) scan.old.tail (V.stands begun each.old)
         → OnOk result (HandsOn (geometry segment begun) scan.new.tail (V.stands begun each.new)) }
@@ -90,10 +91,10 @@ fn scan_file<D: Disk, V: Visit>(
     requires size { IsSegmentSize segment }
     requires base { base ≤ 2 ^ 63 }
     ensures low { IfOk result (λ at. at ≤ 2 ^ 62) }
-    ensures scanned { D.tells → (begun : Begun) (files : Files) (records : List Entry) (shape : Shape) → (D.state disk.old).reads ≡ files
-        → Stood (geometry segment begun) files records shape scan.old.tail base 0
-        → IfOk result (ScansTo (geometry segment begun) files records scan.new.tail base (V.stands begun each.old)
-        (V.stands begun each.new)) }
+    ensures scanned { D.tells → (begun : Begun) (files : Files) (read : Reading) → (D.state disk.old).reads ≡ files
+        → Stood (geometry segment begun) files read scan.old.tail base 0
+        → IfOk result (ScansTo (geometry segment begun) files scan.new.tail base
+        (Onward (V.stands begun each.old) (V.stands begun each.new) read.records)) }
     ensures damage { OnDamage result (λ place name. ⊥) }
     ensures handed { (begun : Begun) → HandsOn (geometry segment begun) scan.old.tail (V.stands begun each.old)
         → OnOk result (HandsOn (geometry segment begun) scan.new.tail (V.stands begun each.new)) }
@@ -168,16 +169,16 @@ fn read_ended<D: Disk, V: Visit>(
 ) -> Result<(), RecoverFault>
     requires size { IsSegmentSize segment }
     requires base { base ≤ 2 ^ 63 }
-    ensures opened { D.tells → (begun : Begun) (files : Files) (records : List Entry) (shape : Shape) → (D.state disk.old).reads ≡ files
-        → Stood (geometry segment begun) files records shape scan.old.tail base 0 → base < 2 ^ 63
-        → ComesNext (geometry segment begun) (next_segment (geometry segment begun) shape.older) files (log_file base)
-        → OnOk result (Opened (geometry segment begun) files records (next_segment (geometry segment begun) shape.older + 1) scan.new.tail
-        (V.stands begun each.old) (V.stands begun each.new)) }
-    ensures damaged { D.tells → (begun : Begun) (files : Files) (records : List Entry) (shape : Shape) (behind : List ℕ)
+    ensures opened { D.tells → (begun : Begun) (files : Files) (read : Reading) → (D.state disk.old).reads ≡ files
+        → Stood (geometry segment begun) files read scan.old.tail base 0 → base < 2 ^ 63
+        → ComesNext (geometry segment begun) (next_segment (geometry segment begun) read.shape.older) files (log_file base)
+        → OnOk result (Opened (geometry segment begun) files (next_segment (geometry segment begun) read.shape.older + 1) scan.new.tail
+        (Onward (V.stands begun each.old) (V.stands begun each.new) read.records)) }
+    ensures damaged { D.tells → (begun : Begun) (files : Files) (read : Reading) (behind : List ℕ)
         → (D.state disk.old).reads ≡ files
-        → Stood (geometry segment begun) files records shape scan.old.tail base 0 → base < 2 ^ 63
-        → ComesNext (geometry segment begun) (next_segment (geometry segment begun) shape.older) files (log_file base)
-        → ComesNext (geometry segment begun) (next_segment (geometry segment begun) shape.older + 1) files behind
+        → Stood (geometry segment begun) files read scan.old.tail base 0 → base < 2 ^ 63
+        → ComesNext (geometry segment begun) (next_segment (geometry segment begun) read.shape.older) files (log_file base)
+        → ComesNext (geometry segment begun) (next_segment (geometry segment begun) read.shape.older + 1) files behind
         → OnDamage result (IsDamagedAt (geometry segment begun) files) }
     ensures handed { (begun : Begun) → HandsOn (geometry segment begun) scan.old.tail (V.stands begun each.old)
         → OnOk result (HandsOn (geometry segment begun) scan.new.tail (V.stands begun each.new)) }
@@ -214,8 +215,8 @@ fn read_front<D: Disk, V: Visit>(
     requires low { (k : ℕ) → k < count → k * segment < 2 ^ 63 }
     ensures opened { D.tells → (files : Files) → (D.state disk.old).reads ≡ files
         → StandsIn (geometry segment (base_of base.now)) scan.old.tail [] → AreNamed (geometry segment (base_of base.now)) count files
-        → OnOk result (Opened (geometry segment (base_of base.now)) files [] count scan.new.tail (V.stands (base_of base.now) each.old)
-        (V.stands (base_of base.now) each.new)) }
+        → OnOk result (Opened (geometry segment (base_of base.now)) files count scan.new.tail
+        (Onward (V.stands (base_of base.now) each.old) (V.stands (base_of base.now) each.new) [])) }
     ensures damaged { D.tells → (files : Files) (behind : List ℕ) → (D.state disk.old).reads ≡ files
         → StandsIn (geometry segment (base_of base.now)) scan.old.tail [] → AreNamed (geometry segment (base_of base.now)) count files
         → ComesNext (geometry segment (base_of base.now)) count files behind

@@ -3,6 +3,7 @@ use Rattle.mq_outside.specs.Disk.{DiskState}
 use Rattle.record_codec.specs.Entry.{Entry}
 use Rattle.log_model.specs.Bases.{Base, geometry}
 use Rattle.log_model.specs.Store.{IsHonest, StoresLog}
+use Rattle.log_model.specs.Stored.{stored}
 use Rattle.log_model.specs.Told.{base_of}
 use Rattle.log_recovery.specs.Recovered.{Handed, Kept, Recovered, StaysFlushed}
 use Rattle.broker_model.specs.Tables.{TopicRow}
@@ -49,4 +50,4 @@ returns-clause-ours g c = λ tells.
     → IsOurLog (geometry c.args.segment b) topics log flushed new (record { loaded = loaded; end = c.in-Ok.end })) c.none-base.ensures
     (λ log flushed stores honest. our_log S topics log flushed new c.args.loaded (record { loaded = loaded; end = c.in-Ok.end }) c.requires.topics
     (g.met.D.Disk.reads_is_image c.recover.new.disk tells)
-    (subst (λ (t : List TopicRow). Recovered S log flushed (loaded_in topics c.args.loaded) (loaded_in t loaded) new c.in-Ok.end) same (c.in-Ok.ensures.ours tells log flushed stores honest)))
+    (subst (λ (t : List TopicRow). Recovered (stored S log flushed) (loaded_in topics c.args.loaded) (loaded_in t loaded) new c.in-Ok.end) same (c.in-Ok.ensures.ours tells log flushed stores honest)))

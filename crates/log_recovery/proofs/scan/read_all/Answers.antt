@@ -26,11 +26,11 @@ returns-clause-read g c = λ tells files reads left named all.
     let is : file_base ≡ last * S.size = ap (λ (k : ℕ). last * k) c.from.ensures in
     let low : file_base < 2 ^ 63 = omega (arith, is, c.requires.low last (omega (arith, one))) in
     let so_far = c.in_ok-read_front.ensures.opened tells files reads left (λ k from less. named k from (omega (arith, less, one))) in
-    let stood = front_stood S last file_base files [] c.read_front.new.scan.tail _ _ so_far is low in
-    let to = c.in_ok-scan_file.ensures.scanned tells (base_of c.args.base.now) files so_far.records so_far.shape ((c.read_front.ensures.only_reads.rests tells).same ∙ reads) stood in
+    let stood = front_stood S last file_base files c.read_front.new.scan.tail _ so_far is low in
+    let to = c.in_ok-scan_file.ensures.scanned tells (base_of c.args.base.now) files so_far.read ((c.read_front.ensures.only_reads.rests tells).same ∙ reads) stood in
     subst (λ (end : ℕ). ReadLog S files (g.V.Visit.stands (base_of c.args.base.now) c.args.each.now) (g.V.Visit.stands (base_of c.args.base.now) c.scan_file.new.each) c.args.count end) (sym c.end-2.ensures.value)
     (subst (λ (n : ℕ). ReadLog S files (g.V.Visit.stands (base_of c.args.base.now) c.args.each.now) (g.V.Visit.stands (base_of c.args.base.now) c.scan_file.new.each) n c.scan_file.new.scan.tail.end) (sym one)
-    (all_read S last files c.read_front.new.scan.tail c.scan_file.new.scan.tail _ _ _ file_base c.in_ok-scan_file.field-0 so_far is
+    (all_read S last files c.read_front.new.scan.tail c.scan_file.new.scan.tail (g.V.Visit.stands (base_of c.args.base.now) c.args.each.now) (g.V.Visit.stands (base_of c.args.base.now) c.read_front.new.each) (g.V.Visit.stands (base_of c.args.base.now) c.scan_file.new.each) file_base c.in_ok-scan_file.field-0 so_far is
     (subst (λ (n : ℕ). AreNamed S n files) one named) (subst (λ (n : ℕ). NoFurther S n files) one all) to))
 
 pub returns-in_err-read_front-clause-damaged : goal.returns-in_err-read_front-clause-damaged

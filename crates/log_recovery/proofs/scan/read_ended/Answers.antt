@@ -8,26 +8,26 @@ use Rattle.log_recovery.proofs.ScanLemmas.{stood_front, file_ended, file_broken,
 use Rattle.log_recovery.proofs.scan.read_ended.Goals as goal
 
 pub returns-then-not-is_ended-clause-damaged : goal.returns-then-not-is_ended-clause-damaged
-returns-then-not-is_ended-clause-damaged g c = λ tells begun files records shape behind reads stood low next further.
+returns-then-not-is_ended-clause-damaged g c = λ tells begun files reading behind reads stood low next further.
     let S : Geometry = geometry c.args.segment begun in
-    let to = c.in_ok-at.ensures.scanned tells begun files records shape reads stood in
+    let to = c.in_ok-at.ensures.scanned tells begun files reading reads stood in
     let last = to.scanned in
     let bytes : List ℕ = bytes_of files (log_file c.args.base) in
     let read : bytes_of (g.D.Disk.state c.scan_file.new.disk).reads (log_file c.args.base) ≡ bytes = ap (λ (f : Files). bytes_of f (log_file c.args.base)) ((c.scan_file.ensures.only_reads.rests tells).same ∙ reads) in
-    let room : c.in_ok-at.at + 8 ≤ S.size = omega (arith, last.stood.here, reads_room S last.records last.shape files last.stood.reads) in
-    let blank = c.in_ok-is_ended.ensures.ended tells begun bytes last.shape.last read last.stood.here room (stood_front S files last.records last.shape c.scan_file.new.scan.tail c.args.base c.in_ok-at.at last.stood) in
-    let broken = file_broken S files records shape c.args.scan.now.tail c.scan_file.new.scan.tail c.args.base _ _ c.in_ok-at.at stood to behind next further (blank.1 c.if-not-is_ended.true) in
+    let room : c.in_ok-at.at + 8 ≤ S.size = omega (arith, last.stood.here, reads_room S last.read.records last.read.shape files last.stood.reads) in
+    let blank = c.in_ok-is_ended.ensures.ended tells begun bytes last.read.shape.last read last.stood.here room (stood_front S files last.read c.scan_file.new.scan.tail c.args.base c.in_ok-at.at last.stood) in
+    let broken = file_broken S files reading c.args.scan.now.tail c.scan_file.new.scan.tail c.args.base _ c.in_ok-at.at stood to behind next further (blank.1 c.if-not-is_ended.true) in
     let named : c.as_str.result.now ≡ log_file c.args.base = c.as_str.ensures ∙ c.of.ensures in
     on_damage (Unit {0}) c.in_ok-damaged.field-0 (c.args.base + c.in_ok-at.at) c.as_str.result.now (IsDamagedAt S files) c.in_ok-damaged.ensures
     (subst (λ (n : List ℕ). IsDamagedAt S files (c.args.base + c.in_ok-at.at) n) (sym named) broken)
 
 pub returns-clause-opened : goal.returns-clause-opened
-returns-clause-opened g c = λ tells begun files records shape reads stood low next.
+returns-clause-opened g c = λ tells begun files reading reads stood low next.
     let S : Geometry = geometry c.args.segment begun in
-    let to = c.in_ok-at.ensures.scanned tells begun files records shape reads stood in
+    let to = c.in_ok-at.ensures.scanned tells begun files reading reads stood in
     let last = to.scanned in
     let bytes : List ℕ = bytes_of files (log_file c.args.base) in
     let read : bytes_of (g.D.Disk.state c.scan_file.new.disk).reads (log_file c.args.base) ≡ bytes = ap (λ (f : Files). bytes_of f (log_file c.args.base)) ((c.scan_file.ensures.only_reads.rests tells).same ∙ reads) in
-    let room : c.in_ok-at.at + 8 ≤ S.size = omega (arith, last.stood.here, reads_room S last.records last.shape files last.stood.reads) in
-    let blank = c.in_ok-is_ended.ensures.ended tells begun bytes last.shape.last read last.stood.here room (stood_front S files last.records last.shape c.scan_file.new.scan.tail c.args.base c.in_ok-at.at last.stood) in
-    file_ended S files records shape c.args.scan.now.tail c.scan_file.new.scan.tail c.args.base _ _ c.in_ok-at.at stood to next (blank.0 c.if-not-is_ended.false)
+    let room : c.in_ok-at.at + 8 ≤ S.size = omega (arith, last.stood.here, reads_room S last.read.records last.read.shape files last.stood.reads) in
+    let blank = c.in_ok-is_ended.ensures.ended tells begun bytes last.read.shape.last read last.stood.here room (stood_front S files last.read c.scan_file.new.scan.tail c.args.base c.in_ok-at.at last.stood) in
+    file_ended S files reading c.args.scan.now.tail c.scan_file.new.scan.tail c.args.base _ c.in_ok-at.at stood to next (blank.0 c.if-not-is_ended.false)

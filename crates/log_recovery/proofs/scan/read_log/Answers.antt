@@ -41,7 +41,7 @@ returns-in-Some-clause-damaged g c = λ tells.
     let odd = subst (λ o. IfSome o (λ name. IsOdd S count files name.now)) c.in-Some.is (c.order_of-order.ensures.odd files lists) in
     let opened = c.in_ok-read_front.ensures.opened tells files same start named in
     on_damage Log c.in_ok-damaged.field-0 (count * c.from.result) c.in-Some.name.now (IsDamagedAt S files) c.in_ok-damaged.ensures
-    (odd_damaged S count files c.read_front.new.scan.tail _ _ (count * c.from.result) c.in-Some.name.now opened odd (ap (λ (k : ℕ). count * k) c.from.ensures))
+    (odd_damaged S count files c.read_front.new.scan.tail _ (count * c.from.result) c.in-Some.name.now opened odd (ap (λ (k : ℕ). count * k) c.from.ensures))
 
 pub returns-in_err-end-clause-damaged : goal.returns-in_err-end-clause-damaged
 returns-in_err-end-clause-damaged g c = λ tells.

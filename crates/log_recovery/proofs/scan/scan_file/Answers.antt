@@ -2,17 +2,17 @@ use Rattle.std.proofs.Common.{◌∙◌, ◌+◌, ℕ, subst, ap, arith, sym}
 use Rattle.mq_bytes.specs.Names.{log_file}
 use Rattle.mq_outside.specs.Files.{Files, bytes_of}
 use Rattle.mq_outside.proofs.Moments.{rests_then}
-use Rattle.log_recovery.specs.Scan.{Shows, Scanned}
+use Rattle.log_recovery.specs.Scan.{Shows, Onward, Scanned}
 use Rattle.log_recovery.proofs.ScanLemmas.{scan_end, scan_more, scan_full}
 use Rattle.log_recovery.proofs.scan.scan_file.Goals as goal
 use Rattle.log_model.specs.Bases.{geometry}
 
 pub returns-then-size-eq0-clause-scanned : goal.returns-then-size-eq0-clause-scanned
-returns-then-size-eq0-clause-scanned g c = λ tells begun files records shape reads stood.
-    let so_far = c.loop-i.invariant.scanned tells begun files records shape reads stood in
+returns-then-size-eq0-clause-scanned g c = λ tells begun files read reads stood.
+    let so_far = c.loop-i.invariant.scanned tells begun files read reads stood in
     let shows = subst (λ (f : Files). Shows c.loop-i.scan.window (bytes_of f (log_file c.args.base))) reads (c.loop-i.invariant.shows tells) in
-    let step = c.in_ok-size.ensures.next tells begun files so_far.records so_far.shape ((c.loop-i.invariant.rests tells).same ∙ reads) shows so_far.stood in
-    scan_end (geometry c.args.segment begun) files records c.loop-i.scan.tail c.step.new.scan.tail c.args.base _ (g.V.Visit.stands begun c.loop-i.each) _ c.loop-i.at c.in_ok-size.size so_far step c.if-size-eq0.true
+    let step = c.in_ok-size.ensures.next tells begun files so_far.read ((c.loop-i.invariant.rests tells).same ∙ reads) shows so_far.stood in
+    scan_end (geometry c.args.segment begun) files read.records c.loop-i.scan.tail c.step.new.scan.tail c.args.base (g.V.Visit.stands begun c.args.each.now) (g.V.Visit.stands begun c.loop-i.each) (g.V.Visit.stands begun c.step.new.each) c.loop-i.at c.in_ok-size.size so_far step c.if-size-eq0.true
 
 pub loop-i-preserved : goal.loop-i-preserved
 loop-i-preserved g c = record {
@@ -21,12 +21,12 @@ loop-i-preserved g c = record {
   far = omega (arith, c.from-at.ensures, c.loop-i.invariant.far, c.if-size-eq0.false);
   shows = λ tells. c.in_ok-size.ensures.shows tells (bytes_of (g.D.Disk.state c.args.disk.now).reads (log_file c.args.base))
       (ap (λ (f : Files). bytes_of f (log_file c.args.base)) (c.loop-i.invariant.rests tells).same) (c.loop-i.invariant.shows tells);
-  scanned = λ tells begun files records shape reads stood.
-      let so_far = c.loop-i.invariant.scanned tells begun files records shape reads stood in
+  scanned = λ tells begun files read reads stood.
+      let so_far = c.loop-i.invariant.scanned tells begun files read reads stood in
       let shows = subst (λ (f : Files). Shows c.loop-i.scan.window (bytes_of f (log_file c.args.base))) reads (c.loop-i.invariant.shows tells) in
-      let step = c.in_ok-size.ensures.next tells begun files so_far.records so_far.shape ((c.loop-i.invariant.rests tells).same ∙ reads) shows so_far.stood in
-      subst (λ (n : ℕ). Scanned (geometry c.args.segment begun) files records c.step.new.scan.tail c.args.base (g.V.Visit.stands begun c.args.each.now) (g.V.Visit.stands begun c.step.new.each) (c.loop-i.at + n)) (sym c.from-at.ensures)
-      (scan_more (geometry c.args.segment begun) files records c.loop-i.scan.tail c.step.new.scan.tail c.args.base _ (g.V.Visit.stands begun c.loop-i.each) _ c.loop-i.at c.in_ok-size.size so_far step c.if-size-eq0.false);
+      let step = c.in_ok-size.ensures.next tells begun files so_far.read ((c.loop-i.invariant.rests tells).same ∙ reads) shows so_far.stood in
+      subst (λ (n : ℕ). Scanned (geometry c.args.segment begun) files c.step.new.scan.tail c.args.base (Onward (g.V.Visit.stands begun c.args.each.now) (g.V.Visit.stands begun c.step.new.each) read.records) (c.loop-i.at + n)) (sym c.from-at.ensures)
+      (scan_more (geometry c.args.segment begun) files read.records c.loop-i.scan.tail c.step.new.scan.tail c.args.base (g.V.Visit.stands begun c.args.each.now) (g.V.Visit.stands begun c.loop-i.each) (g.V.Visit.stands begun c.step.new.each) c.loop-i.at c.in_ok-size.size so_far step c.if-size-eq0.false);
   handed = λ begun start. c.in_ok-size.ensures.handed begun (c.loop-i.invariant.handed begun start);
   rests = λ tells. rests_then (c.loop-i.invariant.rests tells) (c.step.ensures.only_reads.rests tells);
   faults = c.in_ok-size.ensures.only_reads.cause ∙ c.loop-i.invariant.faults;
@@ -34,5 +34,5 @@ loop-i-preserved g c = record {
 }
 
 pub returns-clause-scanned : goal.returns-clause-scanned
-returns-clause-scanned g c = λ tells begun files records shape reads stood.
-    scan_full (geometry c.args.segment begun) files records c.loop-i.scan.tail c.args.base _ _ c.loop-i.at (c.loop-i.invariant.scanned tells begun files records shape reads stood) (omega (arith, c.loop-i.invariant.far, c.loop-i-test.false))
+returns-clause-scanned g c = λ tells begun files read reads stood.
+    scan_full (geometry c.args.segment begun) files c.loop-i.scan.tail c.args.base _ c.loop-i.at (c.loop-i.invariant.scanned tells begun files read reads stood) (omega (arith, c.loop-i.invariant.far, c.loop-i-test.false))

@@ -8,55 +8,55 @@ use Rattle.log_recovery.proofs.StepLemmas.{step_none, step_other, step_next}
 use Rattle.log_recovery.proofs.scan.step.Goals as goal
 
 pub returns-in_default-clause-next : goal.returns-in_default-clause-next
-returns-in_default-clause-next g c = λ tells begun files records shape reads shows stood.
+returns-in_default-clause-next g c = λ tells begun files read reads shows stood.
     let bytes : List ℕ = bytes_of files (log_file c.args.base) in
     let here : bytes_of (g.D.Disk.state c.args.disk.now).reads c.args.name.now ≡ bytes = λ i. bytes_of (reads i) (c.requires.named i) in
     let shown = c.in_ok-load.ensures.shows tells bytes here shows in
     inr (record {
       none = refl;
-      ends = step_none (geometry c.args.segment begun) files records shape c.args.scan.now.tail c.args.base c.args.at stood c.load.new.window c.front.result.now shown c.in_ok-load.ensures.from c.front.ensures (c.in_ok-load.ensures.whole tells bytes here shows) c.in_default.ensures.none;
+      ends = step_none (geometry c.args.segment begun) files read c.args.scan.now.tail c.args.base c.args.at stood c.load.new.window c.front.result.now shown c.in_ok-load.ensures.from c.front.ensures (c.in_ok-load.ensures.whole tells bytes here shows) c.in_default.ensures.none;
       left = stood.left;
       handed = λ before. before;
     })
 
 pub returns-then-offset-base-clause-next : goal.returns-then-offset-base-clause-next
-returns-then-offset-base-clause-next g c = λ tells begun files records shape reads shows stood.
+returns-then-offset-base-clause-next g c = λ tells begun files read reads shows stood.
     let bytes : List ℕ = bytes_of files (log_file c.args.base) in
     let here : bytes_of (g.D.Disk.state c.args.disk.now).reads c.args.name.now ≡ bytes = λ i. bytes_of (reads i) (c.requires.named i) in
     let shown = c.in_ok-load.ensures.shows tells bytes here shows in
     inr (record {
       none = refl;
-      ends = step_other (geometry c.args.segment begun) files records shape c.args.scan.now.tail c.args.base c.args.at stood c.load.new.window c.front.result.now shown c.in_ok-load.ensures.from c.front.ensures c.in-Some.view c.in-Some.ensures.found (λ place follows. c.if-offset-base.true (c.offset.ensures.value ∙ place));
+      ends = step_other (geometry c.args.segment begun) files read c.args.scan.now.tail c.args.base c.args.at stood c.load.new.window c.front.result.now shown c.in_ok-load.ensures.from c.front.ensures c.in-Some.view c.in-Some.ensures.found (λ place follows. c.if-offset-base.true (c.offset.ensures.value ∙ place));
       left = stood.left;
       handed = λ before. before;
     })
 
 pub returns-then-not-is_next-clause-next : goal.returns-then-not-is_next-clause-next
-returns-then-not-is_next-clause-next g c = λ tells begun files records shape reads shows stood.
+returns-then-not-is_next-clause-next g c = λ tells begun files read reads shows stood.
     let bytes : List ℕ = bytes_of files (log_file c.args.base) in
     let here : bytes_of (g.D.Disk.state c.args.disk.now).reads c.args.name.now ≡ bytes = λ i. bytes_of (reads i) (c.requires.named i) in
     let shown = c.in_ok-load.ensures.shows tells bytes here shows in
     inr (record {
       none = refl;
-      ends = step_other (geometry c.args.segment begun) files records shape c.args.scan.now.tail c.args.base c.args.at stood c.load.new.window c.front.result.now shown c.in_ok-load.ensures.from c.front.ensures c.in-Some.view c.in-Some.ensures.found
-          (λ place follows. let both : false ≡ true = sym c.if-not-is_next.true ∙ (c.is_next.ensures begun records stood.left.stands).1 (subst (λ (k : ℕ). Follows (geometry k begun) records c.in-Some.view) (sym stood.left.size) follows) in absurd (cc));
+      ends = step_other (geometry c.args.segment begun) files read c.args.scan.now.tail c.args.base c.args.at stood c.load.new.window c.front.result.now shown c.in_ok-load.ensures.from c.front.ensures c.in-Some.view c.in-Some.ensures.found
+          (λ place follows. let both : false ≡ true = sym c.if-not-is_next.true ∙ (c.is_next.ensures begun read.records stood.left.stands).1 (subst (λ (k : ℕ). Follows (geometry k begun) read.records c.in-Some.view) (sym stood.left.size) follows) in absurd (cc));
       left = stood.left;
       handed = λ before. before;
     })
 
 pub returns-clause-next : goal.returns-clause-next
-returns-clause-next g c = λ tells begun files records shape reads shows stood.
+returns-clause-next g c = λ tells begun files read reads shows stood.
     let bytes : List ℕ = bytes_of files (log_file c.args.base) in
     let here : bytes_of (g.D.Disk.state c.args.disk.now).reads c.args.name.now ≡ bytes = λ i. bytes_of (reads i) (c.requires.named i) in
     let shown = c.in_ok-load.ensures.shows tells bytes here shows in
-    let follows : Follows (geometry c.args.segment begun) records c.in-Some.view = subst (λ (k : ℕ). Follows (geometry k begun) records c.in-Some.view) stood.left.size ((c.is_next.ensures begun records stood.left.stands).0 c.if-not-is_next.false) in
-    let next = step_next (geometry c.args.segment begun) files records shape c.args.scan.now.tail c.args.base c.args.at stood c.load.new.window c.front.result.now shown c.in_ok-load.ensures.from c.front.ensures c.in-Some.view c.in-Some.ensures.found (sym c.offset.ensures.value ∙ c.if-offset-base.false) follows in
+    let follows : Follows (geometry c.args.segment begun) read.records c.in-Some.view = subst (λ (k : ℕ). Follows (geometry k begun) read.records c.in-Some.view) stood.left.size ((c.is_next.ensures begun read.records stood.left.stands).0 c.if-not-is_next.false) in
+    let next = step_next (geometry c.args.segment begun) files read c.args.scan.now.tail c.args.base c.args.at stood c.load.new.window c.front.result.now shown c.in_ok-load.ensures.from c.front.ensures c.in-Some.view c.in-Some.ensures.found (sym c.offset.ensures.value ∙ c.if-offset-base.false) follows in
     inl (record {
       r = c.in-Some.view;
       next = next;
       long = c.size.ensures;
-      left = record { size = c.add.ensures.segment ∙ stood.left.size; stands = c.in_ok-add.ensures.taken (geometry c.args.segment begun) records stood.left.stands follows };
-      handed = λ before. c.in_ok-record.ensures (geometry c.args.segment begun) records next.follows before;
+      left = record { size = c.add.ensures.segment ∙ stood.left.size; stands = c.in_ok-add.ensures.taken (geometry c.args.segment begun) read.records stood.left.stands follows };
+      handed = λ before. c.in_ok-record.ensures (geometry c.args.segment begun) read.records next.follows before;
     })
 
 pub returns-clause-handed : goal.returns-clause-handed
