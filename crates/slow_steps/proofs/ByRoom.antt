@@ -15,7 +15,7 @@ use Rattle.slow_appends.specs.declared.room.Room.TheVariants.{Past, Full, Placed
 use Rattle.slow_appends.proofs.AppendSteps.{after_is, answer_is}
 use Rattle.slow_broker.specs.declared.broker.SlowBroker.{SlowBroker}
 use Rattle.slow_broker.specs.States.{state_of}
-use Rattle.slow_steps.specs.Appending.{next_of, by_room, AreKeptIn, IsByRoom, IsStored}
+use Rattle.slow_steps.specs.Appending.{next_of, by_room, room_answers, AreKeptIn, IsByRoom, IsStored}
 use Rattle.slow_steps.specs.Bounds.{IsBounded}
 use Rattle.slow_steps.specs.Steps.{Makes}
 
@@ -35,7 +35,7 @@ pub by_room_makes : (old new : SlowBroker) (e : model.Event) (now : ℕ) (ds : L
     → drafts_of (state_of old) e ≡ ds → moment (state_of old) e ≡ now → is_refused_request (state_of old) e ≡ false
     → event_refusal (state_of old) e ≡ None → changed (state_of old) e ≡ state_of old
     → own ≡ carried_out_answer (state_of old) e (next_of (state_of old) now ds)
-    → IsByRoom old now (next_of (state_of old) now ds) (end_of_log e) own answer new → Makes old e answer new
+    → IsByRoom old now (next_of (state_of old) now ds) (room_answers (end_of_log e) own) answer new → Makes old e answer new
 by_room_makes old new e now ds own answer drafts moment_is taken none same own_is is =
     let s = state_of old in
     let records = next_of s now ds in
@@ -49,7 +49,7 @@ by_room_makes old new e now ds own answer drafts moment_is taken none same own_i
 -- ---- by the room that was found
 
 pub past_room : (old : SlowBroker) (now : ℕ) (records : List Entry) (end own : model.Answer) → IsBounded old → IsRoom (pending_bytes (state_of old)) records Past
-    → IsByRoom old now records end own end old
+    → IsByRoom old now records (room_answers end own) end old
 past_room old now records end own bounded past =
     let s = state_of old in
     let F = is_full_with (pending_bytes s) records in
@@ -60,7 +60,7 @@ past_room old now records end own bounded past =
     }
 
 pub full_room : (old : SlowBroker) (now : ℕ) (records : List Entry) (end own : model.Answer) → IsBounded old → IsRoom (pending_bytes (state_of old)) records Full
-    → IsByRoom old now records end own (model.Full old.flushed) old
+    → IsByRoom old now records (room_answers end own) (model.Full old.flushed) old
 full_room old now records end own bounded full =
     let s = state_of old in
     let F = is_full_with (pending_bytes s) records in
@@ -71,7 +71,7 @@ full_room old now records end own bounded full =
     }
 
 pub placed_room : (old new : SlowBroker) (now : ℕ) (records : List Entry) (end own : model.Answer) → IsStored old now records new
-    → list_any is_past records ≡ false → is_full_with (pending_bytes (state_of old)) records ≡ false → IsByRoom old now records end own own new
+    → list_any is_past records ≡ false → is_full_with (pending_bytes (state_of old)) records ≡ false → IsByRoom old now records (room_answers end own) own new
 placed_room old new now records end own stored past full =
     let s = state_of old in
     let F = is_full_with (pending_bytes s) records in

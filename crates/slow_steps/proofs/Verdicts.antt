@@ -120,17 +120,17 @@ wide_commit host now verdict (Some half) t h wide =
 
 -- the records of a verdict on an open origin
 pub open_judged : {A : Type 0} (host : List ℕ) (now verdict : ℕ) (half : Entry) (h : ℕ) (made : Option (Vec Draft A))
-    → AreVerdicts verdict (open_drafts host now verdict half h) half made → AreJudged host now verdict (Some half) origin.Open h made
+    → AreVerdicts verdict (open_drafts host now verdict half h) half made → AreJudged host now verdict (Some half) (record { origin = h; state = origin.Open }) made
 open_judged host now verdict half h None is = (refl, is.0, is.1)
 open_judged host now verdict half h (Some made) is = is
 
 -- those that were found, of the log as it is
 pub judged_in : {A : Type 0} (s : State) (end : EndSaid) (j : Judged) (now : ℕ) (log : List Record) (found made : Option (Vec Draft A)) → entries_of log ≡ s.log.records
-    → found ≡ made → AreJudged s.setup.host now end.verdict (half_at (entries_of log) end.queue_offset end.place) j.state j.origin found
-    → AreJudged s.setup.host now end.verdict (named_half s end) j.state j.origin made
+    → found ≡ made → AreJudged s.setup.host now end.verdict (half_at (entries_of log) end.queue_offset end.place) j found
+    → AreJudged s.setup.host now end.verdict (named_half s end) j made
 judged_in {A = A} s end j now log found made same is are =
-    subst (λ (l : List Entry). AreJudged s.setup.host now end.verdict (half_at l end.queue_offset end.place) j.state j.origin made) same
-    (subst (λ (o : Option (Vec Draft A)). AreJudged s.setup.host now end.verdict (half_at (entries_of log) end.queue_offset end.place) j.state j.origin o) is are)
+    subst (λ (l : List Entry). AreJudged s.setup.host now end.verdict (half_at l end.queue_offset end.place) j made) same
+    (subst (λ (o : Option (Vec Draft A)). AreJudged s.setup.host now end.verdict (half_at (entries_of log) end.queue_offset end.place) j o) is are)
 
 -- ---- answers
 

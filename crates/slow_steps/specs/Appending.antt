@@ -30,9 +30,18 @@ pub record IsStored (old : SlowBroker) (now : ℕ) (records : List Entry) (new :
   pub state : state_of new ≡ with_records (state_of old) now records
   pub bounded : IsBounded new
 
+-- the answers of an event that appends: where a record would end past all places, and its own
+pub record RoomAnswers : Type 0 where
+  pub end : model.Answer
+  pub own : model.Answer
+
+abbrev pub room_answers : model.Answer → model.Answer → RoomAnswers
+room_answers end own = record { end = end; own = own }
+
 -- the answer goes by the room for these records, and they were appended where they found it
-pub record IsByRoom (old : SlowBroker) (now : ℕ) (records : List Entry) (end own answer : model.Answer) (new : SlowBroker) : Type 0 where
-  pub answer_is : answer ≡ by_room (state_of old) records end own
+pub record IsByRoom (old : SlowBroker) (now : ℕ) (records : List Entry) (answers : RoomAnswers) (answer : model.Answer)
+    (new : SlowBroker) : Type 0 where
+  pub answer_is : answer ≡ by_room (state_of old) records answers.end answers.own
   pub state : state_of new ≡ appended_after (state_of old) now records
   pub bounded : IsBounded new
 

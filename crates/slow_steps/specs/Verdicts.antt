@@ -53,9 +53,9 @@ IsWideCommit verdict None state = ⊥
 IsWideCommit verdict (Some half) state = (state ≡ Open) × (verdict ≡ 8) × HasWideQueue half
 
 -- these drafts of a verdict, or none where it is such a Commit
-abbrev pub AreJudged : {A : Type 0} → List ℕ → ℕ → ℕ → Option Entry → OriginState → ℕ → Option (Vec Draft A) → Type 0
-AreJudged host now verdict half state origin None = IsWideCommit verdict half state
-AreJudged host now verdict half state origin (Some made) = made.items ≡ judged_drafts host now verdict half state origin
+abbrev pub AreJudged : {A : Type 0} → List ℕ → ℕ → ℕ → Option Entry → Judged → Option (Vec Draft A) → Type 0
+AreJudged host now verdict half judged None = IsWideCommit verdict half judged.state
+AreJudged host now verdict half judged (Some made) = made.items ≡ judged_drafts host now verdict half judged.state judged.origin
 
 -- the answer to a verdict on the origin with this queue offset that appends nothing
 abbrev pub later_answer_by : State → EndSaid → ℕ → model.Answer

@@ -8,7 +8,7 @@ ghost use Rattle.slow_appends.specs.Appends.{are_writable as are_writable_drafts
 ghost use Rattle.slow_broker.specs.declared.fault.SlowFault.TheVariants as SlowFault;
 ghost use Rattle.slow_broker.specs.States.{state_of};
 ghost use Rattle.slow_steps.specs.Answers.{told};
-ghost use Rattle.slow_steps.specs.Appending.{next_of, IsByRoom};
+ghost use Rattle.slow_steps.specs.Appending.{next_of, room_answers, IsByRoom};
 ghost use Rattle.slow_steps.specs.Bounds.{IsBounded};
 ghost use Rattle.slow_steps.specs.Checks.{check_by};
 ghost use Rattle.slow_steps.specs.Steps.{Makes, Stays};
@@ -35,8 +35,9 @@ fn check_written(
     requires few { length drafts.now ≤ 2 ^ 62 }
     requires now { now < 2 ^ 62 }
     requires writable { are_writable_drafts drafts.now ≡ true }
-    ensures by_room { IfOk result (λ answer. IsByRoom broker.old now (next_of (state_of broker.old) now drafts.now) model.LogEnd
-        (model.Checked (Some (check_by (state_of broker.old) origin (next_of (state_of broker.old) now drafts.now))))
+    ensures by_room { IfOk result (λ answer. IsByRoom broker.old now (next_of (state_of broker.old) now drafts.now)
+        (room_answers model.LogEnd (model.Checked
+        (Some (check_by (state_of broker.old) origin (next_of (state_of broker.old) now drafts.now)))))
         (told answer) broker.new) }
     ensures stays { OnErr result (Stays broker.old broker.new) }
 {

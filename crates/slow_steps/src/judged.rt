@@ -82,7 +82,7 @@ pub(crate) fn judged_drafts(
     judged: Judged,
 ) -> Result<Option<Vec<Draft>>, AllocError>
     ensures { IfOk result (AreJudged host now end.now.verdict
-        (half_at_of (entries_of log.now) end.now.queue_offset end.now.place) judged.state judged.origin) }
+        (half_at_of (entries_of log.now) end.now.queue_offset end.now.place) judged) }
 {
     match named_half(log, end) {
         None => Ok(Some(Vec::new(alloc))),

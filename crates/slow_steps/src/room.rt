@@ -10,7 +10,7 @@ ghost use Rattle.slow_appends.specs.Appends.{IsRoom, are_writable as are_writabl
 ghost use Rattle.slow_broker.specs.declared.fault.SlowFault.TheVariants as SlowFault;
 ghost use Rattle.slow_broker.specs.States.{state_of};
 ghost use Rattle.slow_steps.specs.Answers.{told};
-ghost use Rattle.slow_steps.specs.Appending.{next_of, AreKeptIn, IsByRoom, IsStored};
+ghost use Rattle.slow_steps.specs.Appending.{next_of, room_answers, AreKeptIn, IsByRoom, IsStored};
 ghost use Rattle.slow_steps.specs.Bounds.{IsBounded};
 ghost use Rattle.slow_steps.specs.Steps.{Stays};
 
@@ -114,7 +114,7 @@ pub(crate) fn answer_by_room(
     requires kept { AreKeptIn room }
     requires now { now < 2 ^ 62 }
     ensures by_room { (records : List Entry) → IsRoom (pending_bytes_of (state_of broker.old)) records room
-        → IfOk result (λ answer. IsByRoom broker.old now records (told end) (told own) (told answer) broker.new) }
+        → IfOk result (λ answer. IsByRoom broker.old now records (room_answers (told end) (told own)) (told answer) broker.new) }
     ensures stays { OnErr result (Stays broker.old broker.new) }
 {
     match room {
@@ -142,8 +142,8 @@ pub(crate) fn append_for(
     requires bounded { IsBounded broker.old }
     requires few { length drafts.now ≤ 2 ^ 62 }
     requires now { now < 2 ^ 62 }
-    ensures by_room { IfOk result (λ answer.
-        IsByRoom broker.old now (next_of (state_of broker.old) now drafts.now) (told end) (told own) (told answer) broker.new) }
+    ensures by_room { IfOk result (λ answer. IsByRoom broker.old now (next_of (state_of broker.old) now drafts.now)
+        (room_answers (told end) (told own)) (told answer) broker.new) }
     ensures stays { OnErr result (Stays broker.old broker.new) }
     ensures unwritable { result ≡ Err SlowFault.Unwritable → are_writable_drafts drafts.now ≡ false }
 {

@@ -12,7 +12,7 @@ ghost use Rattle.slow_broker.specs.declared.fault.SlowFault.TheVariants as SlowF
 ghost use Rattle.slow_broker.specs.States.{state_of};
 ghost use Rattle.slow_rows.specs.Replies.{reply_of, refusal_reply};
 ghost use Rattle.slow_steps.specs.Answers.{told};
-ghost use Rattle.slow_steps.specs.Appending.{next_of, IsByRoom};
+ghost use Rattle.slow_steps.specs.Appending.{next_of, room_answers, IsByRoom};
 ghost use Rattle.slow_steps.specs.Bounds.{IsBounded};
 ghost use Rattle.slow_steps.specs.Steps.{Makes, Stays};
 ghost use Rattle.slow_steps.specs.Unwritable.{MakesUnwritable};
@@ -128,8 +128,8 @@ fn append_verdict(
     requires few { length drafts.now ≤ 2 ^ 62 }
     requires now { now < 2 ^ 62 }
     ensures by_room { IfOk result (λ answer. IsByRoom broker.old now (next_of (state_of broker.old) now drafts.now)
-        (model.Replies (plain_reply_of 14 (codes "log end"))) (answer_by (state_of broker.old) end.now origin (length drafts.now))
-        (told answer) broker.new) }
+        (room_answers (model.Replies (plain_reply_of 14 (codes "log end")))
+        (answer_by (state_of broker.old) end.now origin (length drafts.now))) (told answer) broker.new) }
     ensures stays { OnErr result (Stays broker.old broker.new) }
     ensures unwritable { result ≡ Err SlowFault.Unwritable → are_writable drafts.now ≡ false }
 {

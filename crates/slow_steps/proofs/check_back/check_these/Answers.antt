@@ -6,7 +6,7 @@ use Rattle.broker_model.specs.Appended.{check_drafts}
 use Rattle.slow_appends.specs.Appends.{are_writable}
 use Rattle.slow_broker.specs.States.{state_of}
 use Rattle.slow_steps.specs.Answers.{told}
-use Rattle.slow_steps.specs.Appending.{next_of, IsByRoom}
+use Rattle.slow_steps.specs.Appending.{next_of, room_answers, IsByRoom}
 use Rattle.slow_steps.specs.Checks.{check_by}
 use Rattle.slow_steps.specs.Unwritable.{HasUnwritable}
 use Rattle.slow_steps.proofs.ByRoom.{by_room_makes}
@@ -34,4 +34,4 @@ returns-in-Ok-clause-makes c = λ reading same.
     by_room_makes old new (model.Check reading) now ds (own ds) (told c.in-Ok.answer)
     (check_drafts_are s reading now same (Some o) c.requires.due) same refl refl (check_changes s reading)
     (check_told s reading now same (Some o) c.requires.due (next_of s now ds))
-    (subst (λ (l : List Draft). IsByRoom old now (next_of s now l) model.LogEnd (own l) (told c.in-Ok.answer) new) c.requires.drafts c.in-Ok.ensures.by_room)
+    (subst (λ (l : List Draft). IsByRoom old now (next_of s now l) (room_answers model.LogEnd (own l)) (told c.in-Ok.answer) new) c.requires.drafts c.in-Ok.ensures.by_room)

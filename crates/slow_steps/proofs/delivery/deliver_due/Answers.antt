@@ -8,7 +8,7 @@ use Rattle.slow_broker.specs.States.{state_of}
 use Rattle.slow_halves.specs.Verdicts.{AreDeliveries}
 use Rattle.slow_rows.proofs.Lists.{ok_by}
 use Rattle.slow_steps.specs.Answers.{told}
-use Rattle.slow_steps.specs.Appending.{next_of, IsByRoom}
+use Rattle.slow_steps.specs.Appending.{next_of, room_answers, IsByRoom}
 use Rattle.slow_steps.specs.Unwritable.{HasUnwritable}
 use Rattle.slow_steps.proofs.ByRoom.{by_room_makes}
 use Rattle.slow_steps.proofs.Deliveries.{due_drafts, due_told, delivery_changes}
@@ -29,7 +29,7 @@ returns-in-Ok-Some-clause-makes c = λ reading same.
     (λ answer is. by_room_makes old new (model.Deliver reading) c.args.now ds own (told answer)
     (due_drafts s reading c.args.now same due.level due.count r c.requires.due) same refl refl (delivery_changes s reading)
     (due_told s reading c.args.now same due.level due.count r c.requires.due (next_of s c.args.now ds))
-    (subst (λ (l : List Draft). IsByRoom old c.args.now (next_of s c.args.now l) model.LogEnd own (told answer) new) items is))
+    (subst (λ (l : List Draft). IsByRoom old c.args.now (next_of s c.args.now l) (room_answers model.LogEnd own) (told answer) new) items is))
     c.append_for.ensures.by_room
 
 pub returns-in-Ok-Some-clause-unwritable : goal.returns-in-Ok-Some-clause-unwritable

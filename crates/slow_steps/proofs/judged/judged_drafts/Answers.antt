@@ -26,9 +26,9 @@ returns-in-Open c =
     let j = c.args.judged in
     let named = ap (λ (o : Option (Bor Record)). option_map (λ r. said_by r.now) o) (sym c.in-Some.is) ∙ c.named_half.ensures in
     ok_by c.open_drafts.result (AreVerdicts verdict (open_drafts c.args.host c.args.now verdict half j.origin) half)
-    (AreJudged c.args.host c.args.now end.verdict (half_at (entries_of c.args.log.now) end.queue_offset end.place) j.state j.origin)
-    (λ made is. subst (λ (o : Option Entry). AreJudged c.args.host c.args.now end.verdict o j.state j.origin made) named
-    (subst (λ (t : OriginState). AreJudged c.args.host c.args.now end.verdict (Some half) t j.origin made) (sym c.in-Open.is)
-    (subst (λ (e : EndSaid). AreJudged c.args.host c.args.now e.verdict (Some half) Open j.origin made) c.end.view_is
+    (AreJudged c.args.host c.args.now end.verdict (half_at (entries_of c.args.log.now) end.queue_offset end.place) j)
+    (λ made is. subst (λ (o : Option Entry). AreJudged c.args.host c.args.now end.verdict o j made) named
+    (subst (λ (t : OriginState). AreJudged c.args.host c.args.now end.verdict (Some half) (record { origin = j.origin; state = t }) made) (sym c.in-Open.is)
+    (subst (λ (e : EndSaid). AreJudged c.args.host c.args.now e.verdict (Some half) (record { origin = j.origin; state = Open }) made) c.end.view_is
     (open_judged c.args.host c.args.now verdict half j.origin made is))))
     c.open_drafts.ensures

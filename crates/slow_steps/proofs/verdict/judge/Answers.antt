@@ -10,7 +10,7 @@ use Rattle.slow_appends.proofs.AppendSteps.{length-next_records}
 use Rattle.slow_broker.specs.States.{state_of}
 use Rattle.slow_rows.proofs.Lists.{ok_by}
 use Rattle.slow_steps.specs.Answers.{told}
-use Rattle.slow_steps.specs.Appending.{next_of, IsByRoom}
+use Rattle.slow_steps.specs.Appending.{next_of, room_answers, IsByRoom}
 use Rattle.slow_steps.specs.Unwritable.{HasUnwritable}
 use Rattle.slow_steps.specs.Verdicts.{answer_by, judged_drafts}
 use Rattle.slow_steps.proofs.ByRoom.{by_room_makes}
@@ -45,7 +45,7 @@ returns-in-Ok-Some-clause-makes c = λ link reading host same.
     (verdict_drafts_are s end j c.requires.judged link reading now host same) same (verdict_taken s end j c.requires.judged link reading now host same c.requires.taken)
     c.requires.taken (verdict_changes s end j c.requires.judged link reading now host same)
     (verdict_told s end j c.requires.judged link reading now host same (next_of s now ds) (length ds) (length-next_records s.setup.segment now s.log ds))
-    (subst (λ (l : List Draft). IsByRoom old now (next_of s now l) past (answer_by s end j.origin (length l)) (told answer) new) items is))
+    (subst (λ (l : List Draft). IsByRoom old now (next_of s now l) (room_answers past (answer_by s end j.origin (length l))) (told answer) new) items is))
     c.append_verdict.ensures.by_room
 
 pub returns-in-Ok-Some-clause-unwritable : goal.returns-in-Ok-Some-clause-unwritable
