@@ -9,7 +9,8 @@ use Rattle.broker_core.specs.Makes.{shown_of}
 use Rattle.story_lock.specs.declared.chronicle.Chronicle.{Ghosts}
 use Rattle.story_lock.specs.declared.story.Pass.{Pass}
 use Rattle.story_lock.specs.Counts.{times}
-use Rattle.story_lock.specs.Passes.{NoneKeyed, HasKey, IsSamePass, Adds, seen_by}
+use Rattle.story_lock.specs.Owned.{StepsBy}
+use Rattle.story_lock.specs.Passes.{NoneKeyed, HasKey, seen_by}
 use Rattle.spine.specs.declared.shared.Shared.{Shared}
 use Rattle.spine.specs.Entries.{is_keyed}
 use Rattle.spine.specs.Stands.{shown_after}
@@ -52,22 +53,25 @@ pub shown_more : (keyed : Event → Option Said → Bool) → ((e : Event) (a : 
     → shown_after shown (seen ++ between) ≡ shown_after shown seen
 shown_more keyed same shown seen between none = shown_append shown seen between ∙ unmoved keyed same (shown_after shown seen) between none
 
-module _ {chronicle : Ghosts Shared Event (Option Said)} where
-  pub key_kept : (x y : Option (Pass Shared Event (Option Said) chronicle)) (p q : Pass Shared Event (Option Said) chronicle) → x ≡ Some p
-      → y ≡ Some q → IsSamePass p q → IfSome x (λ r. HasKey r) → IfSome y (λ r. HasKey r)
-  key_kept x y p q at there same key =
-      subst (λ o. IfSome o (λ r. HasKey r)) (sym there) (subst (λ (ns : List ℕ). 0 < times 0 ns) (sym same.2)
-      (subst (λ o. IfSome o (λ r. HasKey r)) at key))
+-- one step of who has a pass
+module _ {chronicle : Ghosts Shared Event (Option Said)} (x y : Option (Pass Shared Event (Option Said) chronicle))
+    (event : Event) (what : Option Said) (step : StepsBy (λ pass. pass) x event what y) where
+  pub key_kept : IfSome x (λ r. HasKey r) → IfSome y (λ r. HasKey r)
+  key_kept key =
+      subst (λ o. IfSome o (λ r. HasKey r)) (sym step.3) (subst (λ (ns : List ℕ). 0 < times 0 ns) (sym step.4.same.2)
+      (subst (λ o. IfSome o (λ r. HasKey r)) step.2 key))
 
-  pub shown_moved : (x y : Option (Pass Shared Event (Option Said) chronicle)) (p q : Pass Shared Event (Option Said) chronicle)
-      (event : Event) (what : Option Said) → x ≡ Some p → y ≡ Some q → Adds p event what q → IfSome x (λ r. HasKey r)
-      → ((e : Event) (a : Option Said) → chronicle.keyed e a ≡ is_keyed e) → shown_by y ≡ moved (shown_by x) event what
-  shown_moved x y p q event what at there adds key keyed =
-      let has : HasKey p = subst (λ o. IfSome o (λ r. HasKey r)) at key in
+  pub shown_moved : IfSome x (λ r. HasKey r) → ((e : Event) (a : Option Said) → chronicle.keyed e a ≡ is_keyed e)
+      → shown_by y ≡ moved (shown_by x) event what
+  shown_moved key keyed =
+      let p = step.0 in
+      let q = step.1 in
+      let adds = step.4 in
+      let has : HasKey p = subst (λ o. IfSome o (λ r. HasKey r)) step.2 key in
       let first : Shown = first_shown p.seat.me.0.opened in
       let ends : shown_by (Some q) ≡ shown_after first ((seen_by p ++ adds.between) ++ (event, what)
       ∷ []) = (λ i. shown_after (first_shown (adds.same.1 i)) (adds.seen i)) in
       let more : shown_after first ((seen_by p ++ adds.between) ++ (event, what) ∷ []) ≡ moved (shown_by (Some p)) event what =
       shown_append first (seen_by p ++ adds.between) ((event, what) ∷ [])
       ∙ ap (λ (z : Shown). moved z event what) (shown_more chronicle.keyed keyed first (seen_by p) adds.between (adds.unkeyed has)) in
-      ap (λ o. shown_by o) there ∙ (ends ∙ (more ∙ ap (λ o. moved (shown_by o) event what) (sym at)))
+      ap (λ o. shown_by o) step.3 ∙ (ends ∙ (more ∙ ap (λ o. moved (shown_by o) event what) (sym step.2)))

@@ -143,8 +143,7 @@ impl<'a, R: Wait> Calls for SpinePass<'a, R> {
         }
     }
 
-    ghost key_stays = { λ x event said y step key. key_kept x.pass y.pass step.0 step.1 step.2 step.3 step.4.same key };
+    ghost key_stays = { λ x event said y step key. key_kept x.pass y.pass event said step key };
 
-    ghost shown_moves = { λ x event said y step key. shown_moved x.pass y.pass step.0 step.1 event said step.2 step.3 step.4 key
-        (λ e a. refl) };
+    ghost shown_moves = { λ x event said y step key. shown_moved x.pass y.pass event said step key (λ e a. refl) };
 }
