@@ -25,7 +25,7 @@ use Rattle.broker_events.specs.declared.event.Event.{Event}
 use Rattle.broker_events.specs.declared.event.Event.TheVariants.{Take, Flushed, FlushFailed}
 use Rattle.broker_events.specs.declared.said.Said.{Said}
 use Rattle.broker_events.specs.declared.said.Said.TheVariants as said
-use Rattle.flush_story.specs.Story.{StepsAs, Reaches, AreBetween, Happening, Stepped, Ended, Broke, OutTurn, HasStepped, HasEnded, HasBroken, Happens, Story, turns_in, turns_of, steps_in, steps_of}
+use Rattle.flush_story.specs.Story.{StepsAs, Reaches, AreBetween, Happening, Stepped, Ended, Broke, OutTurn, HasStepped, HasEnded, HasBroken, Happens, Story, turns_in, turns_of, steps_in, steps_of, span_of}
 use Rattle.flush_story.specs.Keeping.{flushed_in, geometry_of, log_in, IsOpenFor, Grows, AreExact, Keeps}
 use Rattle.flush_story.proofs.NextBatch.{step_takes, next_longer}
 use Rattle.flush_story.proofs.Steps.{step_flushed, step_flushes, step_grows, grows_none, grows_then, log_grown}
@@ -62,13 +62,13 @@ answered_count : (s t : State) (receipt : Receipt) (answer : Option events.Answe
 answered_count s t receipt None says step = absurd says
 answered_count s t receipt (Some answer) says step = step_flushes s t receipt answer step
 
-pub step_moves : {P : Type 0} (e : Event) (what : Option Said) (s t : State) (old new : P) → HasStepped e what s old t new → Moves s t 0
+pub step_moves : {P : Type 0} (e : Event) (what : Option Said) (s t : State) (old new : P) → HasStepped e what (span_of s old t new) → Moves s t 0
 step_moves e what s t old new it = record {
   grows = step_grows s t e it.made.answer it.made.step;
   flushed = omega (arith, step_flushed s t e it.made.answer it.between it.made.step);
 }
 
-pub ended_moves : {P : Type 0} (tells : Type 0) (at : P → Growing) (turn : OutTurn) (receipt : Receipt) (moment : ℕ) (s t : State) (old new : P) → HasEnded tells at turn receipt moment s old t new → Moves s t receipt.count
+pub ended_moves : {P : Type 0} (tells : Type 0) (at : P → Growing) (turn : OutTurn) (receipt : Receipt) (moment : ℕ) (s t : State) (old new : P) → HasEnded tells at turn receipt moment (span_of s old t new) → Moves s t receipt.count
 ended_moves tells at turn receipt moment s t old new it = record {
   grows = grows_then s it.full t
       (grows_then s it.out it.full (step_grows s it.out Take it.taken.answer it.taken.step) (reaches_grows it.out it.full turn.others it.others))
@@ -81,7 +81,7 @@ ended_moves tells at turn receipt moment s t old new it = record {
   );
 }
 
-pub broken_moves : {P : Type 0} (tells : Type 0) (at : P → Growing) (turn : OutTurn) (count : ℕ) (s t : State) (old new : P) → HasBroken tells at turn count s old t new → Moves s t 0
+pub broken_moves : {P : Type 0} (tells : Type 0) (at : P → Growing) (turn : OutTurn) (count : ℕ) (s t : State) (old new : P) → HasBroken tells at turn count (span_of s old t new) → Moves s t 0
 broken_moves tells at turn count s t old new it = record {
   grows = grows_then s it.full t
       (grows_then s it.out it.full (step_grows s it.out Take it.taken.answer it.taken.step) (reaches_grows it.out it.full turn.others it.others))
@@ -104,12 +104,12 @@ flushed_by (Stepped e what) = 0
 flushed_by (Ended turn receipt moment) = receipt.count
 flushed_by (Broke turn count) = 0
 
-pub happening_moves : {P : Type 0} (tells : Type 0) (at : P → Growing) (it : Happening) (s t : State) (old new : P) → Happens tells at it s old t new → Moves s t (flushed_by it)
+pub happening_moves : {P : Type 0} (tells : Type 0) (at : P → Growing) (it : Happening) (s t : State) (old new : P) → Happens tells at it (span_of s old t new) → Moves s t (flushed_by it)
 happening_moves tells at (Stepped e what) s t old new happens = step_moves e what s t old new happens
 happening_moves tells at (Ended turn receipt moment) s t old new happens = ended_moves tells at turn receipt moment s t old new happens
 happening_moves tells at (Broke turn count) s t old new happens = broken_moves tells at turn count s t old new happens
 
-pub story_grows : {P : Type 0} (tells : Type 0) (at : P → Growing) (story : List Happening) (s t : State) (old new : P) → Story tells at story s old t new → Grows s t
+pub story_grows : {P : Type 0} (tells : Type 0) (at : P → Growing) (story : List Happening) (s t : State) (old new : P) → Story tells at story (span_of s old t new) → Grows s t
 story_grows tells at [] s t old new happened = subst (λ (u : State). Grows s u) (sym happened.0) (grows_none s)
 story_grows tells at (it ∷ story) s t old new happened =
     grows_then s happened.0 t (happening_moves tells at it s happened.0 old happened.1 happened.2).grows (story_grows tells at story happened.0 t happened.1 new happened.3)
@@ -256,7 +256,7 @@ keeps_broken s t turns batch count p q r so_far bytes can turned =
 
 module _ {P : Type 0} (tells : Type 0) (at : P → Growing) where
   keeps_happening : tells → (s t u : State) (turns : List FlushTurn) (it : Happening) (p : DiskState) (q r : P) → IsLawful u.setup.segment u.log → t.log.base.records ≤ t.flushed
-      → Keeps s t turns p (at q) → Happens tells at it t q u r → Keeps s u (turns ++ turns_in it) p (at r)
+      → Keeps s t turns p (at q) → Happens tells at it (span_of t q u r) → Keeps s u (turns ++ turns_in it) p (at r)
   keeps_happening told s t u turns (Stepped e what) p q r lawful low so_far it =
       let moves = step_moves e what t u q r it in
       let kept = keeps_grown s t u turns p (at q) lawful moves.grows (omega (arith, moves.flushed)) so_far in
@@ -274,7 +274,7 @@ module _ {P : Type 0} (tells : Type 0) (at : P → Growing) where
       subst (λ (l : List FlushTurn). Keeps s u l p (at r)) (sym (append-nil turns)) (keeps_grown s t u turns p (at r) lawful moves.grows (omega (arith, moves.flushed)) missed)
 
   pub keeps_story : tells → (s t u : State) (turns : List FlushTurn) (story : List Happening) (p : DiskState) (q r : P) → IsLawful u.setup.segment u.log → t.log.base.records ≤ t.flushed
-      → Keeps s t turns p (at q) → Story tells at story t q u r → Keeps s u (turns ++ turns_of story) p (at r)
+      → Keeps s t turns p (at q) → Story tells at story (span_of t q u r) → Keeps s u (turns ++ turns_of story) p (at r)
   keeps_story told s t u turns [] p q r lawful low so_far happened =
       subst (λ (place : P). Keeps s u (turns ++ []) p (at place)) (sym happened.1) (subst (λ (w : State). Keeps s w (turns ++ []) p (at q)) (sym happened.0)
       (subst (λ (l : List FlushTurn). Keeps s t l p (at q)) (sym (append-nil turns)) so_far))
@@ -288,12 +288,12 @@ module _ {P : Type 0} (tells : Type 0) (at : P → Growing) where
       (keeps_story told s mid u (turns ++ turns_in it) story p place r lawful (low_then t mid _ moves low) next happened.3)
 
   -- the steps of a story are a run of the model
-  happening_reaches : (s t : State) (it : Happening) (old new : P) → Happens tells at it s old t new → Reaches s (steps_in it) t
+  happening_reaches : (s t : State) (it : Happening) (old new : P) → Happens tells at it (span_of s old t new) → Reaches s (steps_in it) t
   happening_reaches s t (Stepped e what) old new it = (t, it.made, refl)
   happening_reaches s t (Ended turn receipt moment) old new it = (it.out, it.taken, one_more it.out it.full t turn.others (Flushed receipt) (Some said.Done) it.others it.flushed)
   happening_reaches s t (Broke turn count) old new it = (it.out, it.taken, one_more it.out it.full t turn.others (FlushFailed count) (Some said.Done) it.others it.failed)
 
-  pub story_reaches : (s t : State) (story : List Happening) (old new : P) → Story tells at story s old t new → Reaches s (steps_of story) t
+  pub story_reaches : (s t : State) (story : List Happening) (old new : P) → Story tells at story (span_of s old t new) → Reaches s (steps_of story) t
   story_reaches s t [] old new happened = happened.0
   story_reaches s t (it ∷ story) old new happened =
       reaches_then (steps_in it) (steps_of story) s happened.0 t (happening_reaches s happened.0 it old happened.1 happened.2) (story_reaches happened.0 t story happened.1 new happened.3)

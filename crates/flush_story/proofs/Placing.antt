@@ -13,7 +13,7 @@ use Rattle.segment_files.proofs.Ready.{goes_to_place}
 use Rattle.broker_model.specs.State.{State}
 use Rattle.broker_events.specs.declared.event.Event.TheVariants.{Take}
 use Rattle.broker_events.specs.declared.said.Said.TheVariants as said
-use Rattle.flush_story.specs.Story.{StepsAs, Happening, Stepped, Ended, Broke, Happens, Story}
+use Rattle.flush_story.specs.Story.{StepsAs, Happening, Stepped, Ended, Broke, Happens, Story, span_of}
 use Rattle.flush_story.specs.Keeping.{flushed_in, geometry_of, log_in, Grows, IsPlacedFor}
 use Rattle.flush_story.proofs.Keeps.{step_moves, ended_moves, broken_moves, happening_moves, story_grows, lawful_before, low_then}
 use Rattle.flush_story.proofs.NextBatch.{step_takes}
@@ -62,7 +62,7 @@ within_grown s t n file grows flushed within placed = record {
 
 module _ {P : Type 0} (tells : Type 0) (at : P → Growing) where
   placed_happening : (s t : State) (it : Happening) (p q : P) → IsLawful s.setup.segment s.log → s.log.base.records ≤ s.flushed → IsPlacedFor s (at p).file
-      → Happens tells at it s p t q → IsPlacedFor t (at q).file
+      → Happens tells at it (span_of s p t q) → IsPlacedFor t (at q).file
   placed_happening s t (Stepped e what) p q lawful low here it =
       let moves = step_moves e what s t p q it in
       let flushed : flushed_in t ≡ flushed_in s = omega (arith, moves.flushed, ap (λ (l : Log). l.base.records) moves.grows.log) in
@@ -81,7 +81,7 @@ module _ {P : Type 0} (tells : Type 0) (at : P → Growing) where
       within_grown s t (flushed_in s) (at q).file moves.grows flushed here.within on.err
 
   pub placed_story : (s t : State) (story : List Happening) (p q : P) → IsLawful t.setup.segment t.log → s.log.base.records ≤ s.flushed → IsPlacedFor s (at p).file
-      → Story tells at story s p t q → IsPlacedFor t (at q).file
+      → Story tells at story (span_of s p t q) → IsPlacedFor t (at q).file
   placed_story s t [] p q lawful low here happened =
       subst (λ (place : P). IsPlacedFor t (at place).file) (sym happened.1) (subst (λ (w : State). IsPlacedFor w (at p).file) (sym happened.0) here)
   placed_story s t (it ∷ story) p q lawful low here happened =

@@ -69,49 +69,59 @@ PlacesEach batch result old new =
     (it : Stored) → IsWellFormed it.geometry it.log → IsBatchOf it.geometry it.log it.flushed batch → IsPlaced it old
     → PlacesOn it batch result new
 
+-- a state and a place of the disk, and those that they became
+pub record Span (P : Type 0) : Type 0 where
+  pub state : State
+  pub place : P
+  pub state_then : State
+  pub place_then : P
+
+abbrev pub span_of : {P : Type 0} → State → P → State → P → Span P
+span_of state place state_then place_then = record { state = state; place = place; state_then = state_then; place_then = place_then }
+
 -- the step was made, and the disk is as it was
-pub record HasStepped {P : Type 0} (e : Event) (what : Option Said) (s : State) (old : P) (t : State) (new : P) : Type 0 where
+pub record HasStepped {P : Type 0} (e : Event) (what : Option Said) (span : Span P) : Type 0 where
   pub between : IsBetween e
-  pub made : StepsAs s e what t
-  pub still : new ≡ old
+  pub made : StepsAs span.state e what span.state_then
+  pub still : span.place_then ≡ span.place
 
 -- The batch was taken; others made their steps; the batch was written and synced; and then it was flushed.
-pub record HasEnded {P : Type 0} (tells : Type 0) (at : P → Growing) (turn : OutTurn) (receipt : Receipt) (moment : ℕ) (s : State) (old : P)
-    (t : State) (new : P) : Type 0 where
+pub record HasEnded {P : Type 0} (tells : Type 0) (at : P → Growing) (turn : OutTurn) (receipt : Receipt) (moment : ℕ)
+    (span : Span P) : Type 0 where
   pub out : State
   pub full : State
-  pub taken : StepsAs s Take (Some (said.Batch (Some turn.batch))) out
+  pub taken : StepsAs span.state Take (Some (said.Batch (Some turn.batch))) out
   pub between : AreBetween turn.others
   pub others : Reaches out turn.others full
-  pub wrote : tells → TurnsEach at turn.batch (Ok receipt) old new
-  pub places : PlacesEach turn.batch (Ok receipt) (at old).file (at new).file
+  pub wrote : tells → TurnsEach at turn.batch (Ok receipt) span.place span.place_then
+  pub places : PlacesEach turn.batch (Ok receipt) (at span.place).file (at span.place_then).file
   pub is : IsReceiptFor turn.batch receipt
-  pub ended : moment ≡ (at new).disk.moment
-  pub flushed : StepsAs full (Flushed receipt) (Some said.Done) t
+  pub ended : moment ≡ (at span.place_then).disk.moment
+  pub flushed : StepsAs full (Flushed receipt) (Some said.Done) span.state_then
 
 -- The batch was taken; others made their steps; the batch was not written, or not synced; and it is pending again.
-pub record HasBroken {P : Type 0} (tells : Type 0) (at : P → Growing) (turn : OutTurn) (count : ℕ) (s : State) (old : P) (t : State)
-    (new : P) : Type 0 where
+pub record HasBroken {P : Type 0} (tells : Type 0) (at : P → Growing) (turn : OutTurn) (count : ℕ) (span : Span P) : Type 0 where
   pub out : State
   pub full : State
-  pub taken : StepsAs s Take (Some (said.Batch (Some turn.batch))) out
+  pub taken : StepsAs span.state Take (Some (said.Batch (Some turn.batch))) out
   pub between : AreBetween turn.others
   pub others : Reaches out turn.others full
-  pub wrote : tells → TurnsEach at turn.batch (Err count) old new
-  pub places : PlacesEach turn.batch (Err count) (at old).file (at new).file
-  pub failed : StepsAs full (FlushFailed count) (Some said.Done) t
+  pub wrote : tells → TurnsEach at turn.batch (Err count) span.place span.place_then
+  pub places : PlacesEach turn.batch (Err count) (at span.place).file (at span.place_then).file
+  pub failed : StepsAs full (FlushFailed count) (Some said.Done) span.state_then
 
 -- this happened, on a disk that may tell what it holds
-abbrev pub Happens : {P : Type 0} → Type 0 → (P → Growing) → Happening → State → P → State → P → Type 0
-Happens tells at (Stepped e what) s old t new = HasStepped e what s old t new
-Happens tells at (Ended turn receipt moment) s old t new = HasEnded tells at turn receipt moment s old t new
-Happens tells at (Broke turn count) s old t new = HasBroken tells at turn count s old t new
+abbrev pub Happens : {P : Type 0} → Type 0 → (P → Growing) → Happening → Span P → Type 0
+Happens tells at (Stepped e what) span = HasStepped e what span
+Happens tells at (Ended turn receipt moment) span = HasEnded tells at turn receipt moment span
+Happens tells at (Broke turn count) span = HasBroken tells at turn count span
 
 -- all of this happened, one after another
-abbrev pub Story : {P : Type 0} → Type 0 → (P → Growing) → List Happening → State → P → State → P → Type 0
-Story tells at [] s old t new = (t ≡ s) × (new ≡ old)
-Story {P} tells at (it ∷ story) s old t new = (mid : State) × (place : P) × Happens tells at it s old mid place
-    × Story tells at story mid place t new
+abbrev pub Story : {P : Type 0} → Type 0 → (P → Growing) → List Happening → Span P → Type 0
+Story tells at [] span = (span.state_then ≡ span.state) × (span.place_then ≡ span.place)
+Story {P} tells at (it ∷ story) span = (mid : State) × (place : P)
+    × Happens tells at it (span_of span.state span.place mid place)
+    × Story tells at story (span_of mid place span.state_then span.place_then)
 
 -- ---- what a story is for the broker and for the log
 
