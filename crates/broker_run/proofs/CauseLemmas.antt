@@ -16,13 +16,14 @@ use Rattle.request_stream.specs.declared.stop.Halt.TheVariants.{BadFrame, Read, 
 use Rattle.broker_run.specs.Closing.{IsFailed, CountsRun}
 use Rattle.broker_run.specs.Promise.{StatusOf, StatusTells, StatusTellsFault, AllFaults, Causes, CountsStatus, CountsEnd}
 use Rattle.broker_run.specs.declared.ended.Ended.{Ended}
+use Rattle.request_stream.specs.Telling.{fault_counts}
 
 -- ---- a run from a log that is open
 
 module _ (status : Status) (source source_then sink sink_then disk disk_then clock clock_then : ℕ) (grows : disk ≤ disk_then) where
   -- the status is none of a fault
   quiet_run : (code : ℕ) → status.code ≡ code → code ≢ 3 → code ≢ 4 → code ≢ 5 → code ≢ 10 → (code ≡ 0) ⊎ ((code ≡ 2) ⊎ (code ≡ 7))
-      → CountsStatus status source source_then sink sink_then disk disk_then clock clock_then
+      → CountsStatus status (fault_counts source source_then) (fault_counts sink sink_then) (fault_counts disk disk_then) (fault_counts clock clock_then)
   quiet_run code is three four five ten known = record {
     read = λ e. absurd (three (sym is ∙ e));
     write = λ e. absurd (four (sym is ∙ e));
@@ -35,10 +36,10 @@ module _ (status : Status) (source source_then sink sink_then disk disk_then clo
     disk_grows = grows;
   }
 
-  seven : status.code ≡ 7 → CountsStatus status source source_then sink sink_then disk disk_then clock clock_then
+  seven : status.code ≡ 7 → CountsStatus status (fault_counts source source_then) (fault_counts sink sink_then) (fault_counts disk disk_then) (fault_counts clock clock_then)
   seven is = quiet_run 7 is (λ e. omega (arith, e)) (λ e. omega (arith, e)) (λ e. omega (arith, e)) (λ e. omega (arith, e)) (inr (inr refl))
 
-  clock_ended : status.code ≡ 10 → status.name ≡ codes "clock" → Rises clock clock_then → CountsStatus status source source_then sink sink_then disk disk_then clock clock_then
+  clock_ended : status.code ≡ 10 → status.name ≡ codes "clock" → Rises clock clock_then → CountsStatus status (fault_counts source source_then) (fault_counts sink sink_then) (fault_counts disk disk_then) (fault_counts clock clock_then)
   clock_ended is named rises = record {
     read = λ e. absurd (omega (arith, is, e));
     write = λ e. absurd (omega (arith, is, e));
@@ -48,8 +49,8 @@ module _ (status : Status) (source source_then sink sink_then disk disk_then clo
     disk_grows = grows;
   }
 
-  reading_counts : (reading : Result (Unit {0}) Halt) (last : Option ℕ) → StatusTells status reading last → CountsPipe reading source source_then sink sink_then clock clock_then
-      → (IsFailed {E = Broken} (Ok last) → Rises disk disk_then) → CountsStatus status source source_then sink sink_then disk disk_then clock clock_then
+  reading_counts : (reading : Result (Unit {0}) Halt) (last : Option ℕ) → StatusTells status reading last → CountsPipe reading (fault_counts source source_then) (fault_counts sink sink_then) (fault_counts clock clock_then)
+      → (IsFailed {E = Broken} (Ok last) → Rises disk disk_then) → CountsStatus status (fault_counts source source_then) (fault_counts sink sink_then) (fault_counts disk disk_then) (fault_counts clock clock_then)
   reading_counts (Ok done) None tells counts failed = quiet_run 0 tells (λ e. omega (arith, e)) (λ e. omega (arith, e)) (λ e. omega (arith, e)) (λ e. omega (arith, e)) (inl refl)
   reading_counts (Ok done) (Some count) tells counts failed = record {
     read = λ e. absurd (omega (arith, tells, e));
@@ -81,15 +82,15 @@ module _ (status : Status) (source source_then sink sink_then disk disk_then clo
   reading_counts (Err (Stopped stops.Clock)) last (inl ten) counts failed = clock_ended ten.0 ten.1 counts
   reading_counts (Err (Stopped stops.Clock)) last (inr memory) counts failed = seven memory
 
-  ended_counts : (reading : Result (Unit {0}) Halt) (last : Result (Option ℕ) Broken) → StatusOf status reading last → CountsPipe reading source source_then sink sink_then clock clock_then
-      → (IsFailed last → Rises disk disk_then) → CountsStatus status source source_then sink sink_then disk disk_then clock clock_then
+  ended_counts : (reading : Result (Unit {0}) Halt) (last : Result (Option ℕ) Broken) → StatusOf status reading last → CountsPipe reading (fault_counts source source_then) (fault_counts sink sink_then) (fault_counts clock clock_then)
+      → (IsFailed last → Rises disk disk_then) → CountsStatus status (fault_counts source source_then) (fault_counts sink sink_then) (fault_counts disk disk_then) (fault_counts clock clock_then)
   ended_counts reading (Ok last) tells counts failed = reading_counts reading last tells counts failed
   ended_counts reading (Err broken.Memory) tells counts failed = seven tells
   ended_counts reading (Err broken.Misplaced) tells counts failed = absurd tells
 
 -- the status of a run has its cause
 pub counts_status : (status : Status) (ended : Ended) (source source_then sink sink_then disk disk_then clock clock_then : ℕ) → StatusOf status ended.reading ended.last
-    → CountsRun ended source source_then sink sink_then disk disk_then clock clock_then → CountsStatus status source source_then sink sink_then disk disk_then clock clock_then
+    → CountsRun ended (fault_counts source source_then) (fault_counts sink sink_then) (fault_counts disk disk_then) (fault_counts clock clock_then) → CountsStatus status (fault_counts source source_then) (fault_counts sink sink_then) (fault_counts disk disk_then) (fault_counts clock clock_then)
 counts_status status ended source source_then sink sink_then disk disk_then clock clock_then tells counts =
     ended_counts status source source_then sink sink_then disk disk_then clock clock_then counts.disk_grows ended.reading ended.last tells counts.reading counts.disk_rises
 
@@ -178,7 +179,7 @@ known_codes status (inr (inr (inr (inr (inr (inr e)))))) = inr e
 
 -- and a run, seen from before the opening
 pub run_causes : (status : Status) (old new : AllFaults) (disk : ℕ) → disk ≡ old.disk → (keep : ℕ) → keep ≡ old.keep
-    → CountsEnd status old.source new.source old.sink new.sink disk new.disk old.clock new.clock keep new.keep → Causes status old new
+    → CountsEnd status (fault_counts old.source new.source) (fault_counts old.sink new.sink) (fault_counts disk new.disk) (fault_counts old.clock new.clock) (fault_counts keep new.keep) → Causes status old new
 run_causes status old new disk same keep same_keep counts = record {
   read = counts.read;
   write = counts.write;

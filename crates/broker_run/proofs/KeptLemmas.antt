@@ -29,6 +29,7 @@ use Rattle.request_stream.specs.declared.stop.Stop.TheVariants as stops
 use Rattle.keeper_turns.specs.Turns.{HasKept}
 use Rattle.broker_run.specs.Promise.{StatusOf, StatusKept, StatusAfter, StatusTellsConfig, AllWell, TellsKeep, AllFaults, Causes, Seen, before, behind, KeepSeen, ReplacesAll, PutsAll, CanBeKept, KeepsOpen, KeepsState, Misread, CountsStatus, CountsEnd}
 use Rattle.broker_run.proofs.CauseLemmas.{quiet}
+use Rattle.request_stream.specs.Telling.{fault_counts}
 
 -- ---- the status
 
@@ -58,13 +59,13 @@ told_after status inner ended last (Err keeper.Failed) tells (inr it) =
 -- ---- the causes
 
 module _ (status : Status) (source source_then sink sink_then disk disk_then clock clock_then keep keep_then : ℕ) where
-  same_end : (inner : Status) → status ≡ inner → CountsStatus inner source source_then sink sink_then disk disk_then clock clock_then
-      → CountsEnd status source source_then sink sink_then disk disk_then clock clock_then keep keep_then
+  same_end : (inner : Status) → status ≡ inner → CountsStatus inner (fault_counts source source_then) (fault_counts sink sink_then) (fault_counts disk disk_then) (fault_counts clock clock_then)
+      → CountsEnd status (fault_counts source source_then) (fault_counts sink sink_then) (fault_counts disk disk_then) (fault_counts clock clock_then) (fault_counts keep keep_then)
   same_end inner same counts =
-      let it = subst (λ (s : Status). CountsStatus s source source_then sink sink_then disk disk_then clock clock_then) (sym same) counts in
+      let it = subst (λ (s : Status). CountsStatus s (fault_counts source source_then) (fault_counts sink sink_then) (fault_counts disk disk_then) (fault_counts clock clock_then)) (sym same) counts in
       record { read = it.read; write = it.write; disk_failed = it.disk_failed; device = λ ten. inl (it.clock_failed ten); known = it.known }
 
-  seven_end : status.code ≡ 7 → CountsEnd status source source_then sink sink_then disk disk_then clock clock_then keep keep_then
+  seven_end : status.code ≡ 7 → CountsEnd status (fault_counts source source_then) (fault_counts sink sink_then) (fault_counts disk disk_then) (fault_counts clock clock_then) (fault_counts keep keep_then)
   seven_end is = record {
     read = λ e. absurd (omega (arith, is, e));
     write = λ e. absurd (omega (arith, is, e));
@@ -73,7 +74,7 @@ module _ (status : Status) (source source_then sink sink_then disk disk_then clo
     known = inr (inr (inr (inr (inr (inl is)))));
   }
 
-  keep_end : Rises keep keep_then → TellsKeep status → CountsEnd status source source_then sink sink_then disk disk_then clock clock_then keep keep_then
+  keep_end : Rises keep keep_then → TellsKeep status → CountsEnd status (fault_counts source source_then) (fault_counts sink sink_then) (fault_counts disk disk_then) (fault_counts clock clock_then) (fault_counts keep keep_then)
   keep_end rises (inl it) =
       let ten = it.0 in
       record {
@@ -86,8 +87,8 @@ module _ (status : Status) (source source_then sink sink_then disk disk_then clo
   keep_end rises (inr seven) = seven_end seven
 
 pub counts_end : {B : Type 0} (status inner : Status) (kept : Result B DiskFault) (source source_then sink sink_then disk disk_then clock clock_then keep keep_then : ℕ) → StatusKept status inner kept
-    → CountsDiskFault kept keep keep_then → CountsStatus inner source source_then sink sink_then disk disk_then clock clock_then
-    → CountsEnd status source source_then sink sink_then disk disk_then clock clock_then keep keep_then
+    → CountsDiskFault kept keep keep_then → CountsStatus inner (fault_counts source source_then) (fault_counts sink sink_then) (fault_counts disk disk_then) (fault_counts clock clock_then)
+    → CountsEnd status (fault_counts source source_then) (fault_counts sink sink_then) (fault_counts disk disk_then) (fault_counts clock clock_then) (fault_counts keep keep_then)
 counts_end status inner (Ok done) source source_then sink sink_then disk disk_then clock clock_then keep keep_then same cause counts =
     same_end status source source_then sink sink_then disk disk_then clock clock_then keep keep_then inner same counts
 counts_end status inner (Err keeper.Memory) source source_then sink sink_then disk disk_then clock clock_then keep keep_then seven cause counts =

@@ -113,7 +113,7 @@ module _ {D : Type 0} (words : List (List ℕ)) (status : Status) (seen : Seen D
   quiet_unrecovered command asked it = by_fault it.fault it.tells
     where
       by_fault : (fault : RecoverFault) → StatusTellsFault status fault → EndsWell status
-      by_fault (Damaged place name) tells = absurd (quiet.undamaged command it.sizes status.place status.name asked (it.opened_as.sizes_are quiet.keep_tells) (it.damaged quiet.disk_tells tells.0).0)
+      by_fault (Damaged place name) tells = absurd (quiet.undamaged command it.sizes asked (it.opened_as.sizes_are quiet.keep_tells) status.place status.name (it.damaged quiet.disk_tells tells.0).0)
       by_fault DiskFailed tells = absurd (quiet.disk_still (causes.disk_failed tells))
       by_fault NoMemory tells = inr tells
 

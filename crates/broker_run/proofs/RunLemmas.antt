@@ -28,7 +28,7 @@ use Rattle.broker_core.specs.declared.parts.Parts.{Parts}
 use Rattle.broker_core.specs.Represents.{Represents}
 use Rattle.log_opening.specs.Opens.{OpensWith, OpensKeptWith, OpensOursWith, OpensLogWith}
 use Rattle.log_opening.specs.declared.opening.Opened.{Opened}
-use Rattle.request_acts.specs.Acts.{Act, HasUnwritten, Acts, Acted, DiskView, Place, place_of, growing_at, turns_of, steps_of}
+use Rattle.request_acts.specs.Acts.{Act, HasUnwritten, Acts, Acted, DiskView, Place, place_of, growing_at, turns_of, steps_of, change_of}
 use Rattle.request_acts.specs.Turning.{AreAllTurns}
 use Rattle.request_stream.specs.Serving.{Sides, Point, point_of, acts_of, Begun, Nothing, Asked, begun_acts, Breaks}
 use Rattle.request_stream.specs.Piping.{RanBy, acts_in}
@@ -36,7 +36,7 @@ use Rattle.log_recovery.specs.Recovered.{OnDamage, StaysFlushed}
 use Rattle.log_recovery.specs.declared.fault.RecoverFault.{RecoverFault}
 use Rattle.log_recovery.specs.declared.fault.RecoverFault.TheVariants.{Damaged, Failed as DiskFailed, Memory as NoMemory}
 use Rattle.store_open.specs.Openings.{IsOpened}
-use Rattle.broker_run.specs.Closing.{ServesToEnd, ReadsPlaced, FlushesPlaced}
+use Rattle.broker_run.specs.Closing.{ServesToEnd, ReadsPlaced, FlushesPlaced, ending_of, ended_as}
 use Rattle.flush_story.specs.Story.{Reaches}
 use Rattle.flush_story.specs.Keeping.{IsPlacedFor, flushed_in, geometry_of, log_in, IsOpenFor, AreExact, Keeps}
 use Rattle.flush_story.proofs.Keeps.{kept_as}
@@ -69,8 +69,8 @@ moves_of (it ∷ steps) s t before reaches =
 
 -- ---- what happened
 
-ran_happened : {C D A : Type 0} (sides : Sides C D) (result : Result A Halt) (frames : List Frame) (x y : C) (old new : Point D) (ran : RanBy sides result frames x old y new)
-    → Acts sides.makes sides.disk (acts_in sides result frames x old y new ran) x old.place y new.place
+ran_happened : {C D A : Type 0} (sides : Sides C D) (result : Result A Halt) (frames : List Frame) (x y : C) (old new : Point D) (ran : RanBy sides result frames (change_of x old y new))
+    → Acts sides.makes sides.disk (acts_in sides result frames (change_of x old y new) ran) (change_of x old.place y new.place)
 ran_happened sides (Ok done) frames x y old new ran = ran.happened
 ran_happened sides (Err (BadFrame place)) frames x y old new ran = ran.happened
 ran_happened sides (Err Read) frames x y old new ran = ran.happened
@@ -150,8 +150,8 @@ open_for setup saved log at ready =
     record { behind = 0; few = omega arith; ready = subst (λ (n : ℕ). IsReady (stored (whole setup.segment) log n) 0 at) none ready }
 
 pub run_from : {D : Type 0} (it : Opened) (ended : Ended) (seen : Seen D) (setup : Setup) (saved : Saved) (log : List Entry) (x y : Alone) (reads : ℕ) → OpensWith setup saved log it → x.core ≡ it.core
-    → ServesToEnd (sides_for seen) ended seen.source x (point_of (place_of it.flusher.file seen.old) reads seen.taken seen.readings) y seen.new seen.taken_then seen.readings_then
-    → RunFrom setup saved log ended.reading ended.last seen (λ acts reached. LeavesDisk it seen setup log acts reached × Represents y.core reached)
+    → ServesToEnd (sides_for seen) ended seen.source x (point_of (place_of it.flusher.file seen.old) reads seen.taken seen.readings) (ending_of y seen.new seen.taken_then seen.readings_then)
+    → RunFrom setup saved log (ended_as ended.reading ended.last) seen (λ acts reached. LeavesDisk it seen setup log acts reached × Represents y.core reached)
 run_from {D = D} it ended seen setup saved log x y reads opens same served =
     let sides = sides_for seen in
     let s = (opened_over setup saved log).now in
@@ -159,7 +159,7 @@ run_from {D = D} it ended seen setup saved log x y reads opens same served =
     let start = point_of place reads seen.taken seen.readings in
     let mid = point_of served.mid served.reads seen.taken_then seen.readings_then in
     let are : Represents x.core s = subst (λ (c : Parts). Represents c s) (sym same) opens.represents in
-    let first = acts_in sides ended.reading served.piped.frames x start served.served mid served.piped.ran in
+    let first = acts_in sides ended.reading served.piped.frames (change_of x start served.served mid) served.piped.ran in
     let acts = first ++ served.flushed.acts in
     let happened = acts_then alone seen.disk first served.flushed.acts x served.served y place served.mid served.final
     (ran_happened sides ended.reading served.piped.frames x served.served start mid served.piped.ran) served.flushed.happened in
@@ -190,9 +190,9 @@ run_from {D = D} it ended seen setup saved log x y reads opens same served =
     }
 
 -- the same run, of whose last state more is said
-pub run_with : {D A : Type 0} (setup : Setup) (saved : Saved) (log : List Entry) (ended : Result A Halt) (last : Result (Option ℕ) Broken) (seen : Seen D) (P : List Act → State → Type 0) (R Q : State → Type 0)
-    → ((reached : State) → R reached → Q reached) → RunFrom setup saved log ended last seen (λ acts reached. P acts reached × R reached)
-    → RunFrom setup saved log ended last seen (λ acts reached. P acts reached × Q reached)
+pub run_with : {D : Type 0} (setup : Setup) (saved : Saved) (log : List Entry) (ended : Result (Unit {0}) Halt) (last : Result (Option ℕ) Broken) (seen : Seen D) (P : List Act → State → Type 0) (R Q : State → Type 0)
+    → ((reached : State) → R reached → Q reached) → RunFrom setup saved log (ended_as ended last) seen (λ acts reached. P acts reached × R reached)
+    → RunFrom setup saved log (ended_as ended last) seen (λ acts reached. P acts reached × Q reached)
 run_with setup saved log ended last seen P R Q as_well ran = record {
   calls = ran.calls;
   served = ran.served;
@@ -224,7 +224,7 @@ begun_unwritten gives Nothing faults faults_then breaks = absurd breaks
 begun_unwritten gives (Asked it) faults faults_then breaks = breaks.0
 
 reads_placed : {D A : Type 0} (seen : Seen D) (result : Result A Halt) (frames : List Frame) (s : State) (x y : Alone) (old new : Point D) → Represents x.core s
-    → IsPlacedFor s old.place.file → RanBy (sides_for seen) result frames x old y new → ReadsPlaced result
+    → IsPlacedFor s old.place.file → RanBy (sides_for seen) result frames (change_of x old y new) → ReadsPlaced result
 reads_placed seen (Ok done) frames s x y old new are here ran = tt
 reads_placed seen (Err (BadFrame place)) frames s x y old new are here ran = tt
 reads_placed seen (Err Read) frames s x y old new are here ran = tt
@@ -236,14 +236,14 @@ reads_placed seen (Err (Stopped stops.Misplaced)) frames s x y old new are here 
     (unwritten_behind (acts_of ran.served) (begun_acts ran.begun) (begun_unwritten seen.gives ran.begun ran.mid new.reads ran.breaks))
 
 flushes_placed : {D : Type 0} (view : DiskView D) (result : Result (Option ℕ) Broken) (s : State) (x y : Alone) (p q : Place D) → Represents x.core s → IsPlacedFor s p.file
-    → Acted alone view (AreAllTurns result) x p y q → FlushesPlaced result
+    → Acted alone view (AreAllTurns result) (change_of x p y q) → FlushesPlaced result
 flushes_placed view (Ok done) s x y p q are here acted = tt
 flushes_placed view (Err broken.Misplaced) s x y p q are here acted = acts_written view acted.acts s x y p q are here acted.happened acted.kind
 flushes_placed view (Err broken.Memory) s x y p q are here acted = tt
 
 -- nor in a whole run
 pub run_placed : {D : Type 0} (it : Opened) (ended : Ended) (seen : Seen D) (setup : Setup) (saved : Saved) (log : List Entry) (x y : Alone) (reads : ℕ) → OpensWith setup saved log it → x.core ≡ it.core
-    → ServesToEnd (sides_for seen) ended seen.source x (point_of (place_of it.flusher.file seen.old) reads seen.taken seen.readings) y seen.new seen.taken_then seen.readings_then
+    → ServesToEnd (sides_for seen) ended seen.source x (point_of (place_of it.flusher.file seen.old) reads seen.taken seen.readings) (ending_of y seen.new seen.taken_then seen.readings_then)
     → ReadsPlaced ended.reading × FlushesPlaced ended.last
 run_placed {D = D} it ended seen setup saved log x y reads opens same served =
     let sides = sides_for seen in
@@ -253,7 +253,7 @@ run_placed {D = D} it ended seen setup saved log x y reads opens same served =
     let mid = point_of served.mid served.reads seen.taken_then seen.readings_then in
     let are : Represents x.core s = subst (λ (c : Parts). Represents c s) (sym same) opens.represents in
     let here = placed_for setup saved log it opens in
-    let first = acts_in sides ended.reading served.piped.frames x start served.served mid served.piped.ran in
+    let first = acts_in sides ended.reading served.piped.frames (change_of x start served.served mid) served.piped.ran in
     let led = acts_lead seen.disk first s x served.served place served.mid are
     (ran_happened sides ended.reading served.piped.frames x served.served start mid served.piped.ran) in (
       reads_placed seen ended.reading served.piped.frames s x served.served start mid are here served.piped.ran,
@@ -278,8 +278,8 @@ seen_open seen disk = record {
   readings_then = seen.readings_then;
 }
 
-run_as : {D A : Type 0} (setup : Setup) (saved : Saved) (log : List Entry) (ended : Result A Halt) (last : Result (Option ℕ) Broken) (seen : Seen D) (disk : D) (P Q : List Act → State → Type 0)
-    → ((acts : List Act) (reached : State) → P acts reached → Q acts reached) → RunFrom setup saved log ended last (seen_open seen disk) P → RunFrom setup saved log ended last seen Q
+run_as : {D : Type 0} (setup : Setup) (saved : Saved) (log : List Entry) (ended : Result (Unit {0}) Halt) (last : Result (Option ℕ) Broken) (seen : Seen D) (disk : D) (P Q : List Act → State → Type 0)
+    → ((acts : List Act) (reached : State) → P acts reached → Q acts reached) → RunFrom setup saved log (ended_as ended last) (seen_open seen disk) P → RunFrom setup saved log (ended_as ended last) seen Q
 run_as setup saved log ended last seen disk P Q as_well ran = record {
   calls = ran.calls;
   served = ran.served;
@@ -331,7 +331,7 @@ leaves_from S log flushed old first mid new opened read stores has =
 
 survives : (setup : Setup) (log : List Entry) (flushed : ℕ) (opening : List Entry) (acts : List Act) (reached : State) (old mid new : DiskState)
     → Throughout old mid (Leaves (whole setup.segment) log flushed) → KeepsAfter setup opening acts reached mid new
-    → Survives (whole setup.segment) log flushed opening (turns_of acts) reached.log.records old new
+    → Survives (stored (whole setup.segment) log flushed) opening (turns_of acts) reached.log.records old new
 survives setup log flushed opening acts reached old mid new leaves kept = record {
   opening = mid.moment;
   later = leaves.later;
@@ -353,14 +353,14 @@ left_open it status seen setup saved keep served opens = let ran = served.runs s
 
 module _ {D : Type 0} (it : Opened) (status : Status) (seen : Seen D) (disk : D) (setup : Setup) (saved : Saved) (keep : KeepSeen) (kept : State → Type 0)
     (as_well : (reached : State) → KeepsOpen status keep reached → kept reached) (served : ServedOver it status (seen_open seen disk) keep) where
-  pub runs_some : OpensLogWith setup saved it → RunsFromSome setup saved served.ended served.last seen kept
+  pub runs_some : OpensLogWith setup saved it → RunsFromSome setup saved (ended_as served.ended served.last) seen kept
   runs_some opens = record {
     log = opens.records;
     ran = run_as setup saved opens.records served.ended served.last seen disk _ (λ acts reached. kept reached) (λ acts reached done. as_well reached done.1)
         (served.runs setup saved opens.records opens.opens);
   }
 
-  pub begins_with : (files : Files) → files ≡ (before seen).reads → OpensKeptWith setup saved files it → BeginsWithKept setup saved served.ended served.last seen kept
+  pub begins_with : (files : Files) → files ≡ (before seen).reads → OpensKeptWith setup saved files it → BeginsWithKept setup saved (ended_as served.ended served.last) seen kept
   begins_with files same opens = record {
     records = opens.records;
     keeps = subst (λ (f : Files). RecoveryKeeps (whole setup.segment) opens.records f) same opens.keeps;
@@ -369,7 +369,7 @@ module _ {D : Type 0} (it : Opened) (status : Status) (seen : Seen D) (disk : D)
   }
 
   pub keeps_on : seen.disk.tells → (log : List Entry) (flushed : ℕ) → OpensOursWith setup saved log flushed (seen.disk.state disk) it → Throughout (before seen) (seen.disk.state disk) (Leaves (whole setup.segment) log flushed)
-      → KeepsOn setup saved log flushed served.ended served.last seen kept
+      → KeepsOn setup saved (stored (whole setup.segment) log flushed) (ended_as served.ended served.last) seen kept
   keeps_on told log flushed opens leaves =
       let opening = take opens.number log in
       let long : opens.number ≡ length opening = omega (arith, opens.high, length-take opens.number log) in
@@ -378,7 +378,7 @@ module _ {D : Type 0} (it : Opened) (status : Status) (seen : Seen D) (disk : D)
         low = opens.low;
         high = opens.high;
         ran = run_as setup saved opening served.ended served.last seen disk _
-            (λ acts reached. Survives (whole setup.segment) log flushed opening (turns_of acts) reached.log.records (before seen) (behind seen) × kept reached)
+            (λ acts reached. Survives (stored (whole setup.segment) log flushed) opening (turns_of acts) reached.log.records (before seen) (behind seen) × kept reached)
             (λ acts reached done. (
               survives setup log flushed opening acts reached (before seen) (seen.disk.state disk) (behind seen) leaves
                   (done.0 told (subst (λ (n : ℕ). IsReady (stored (whole setup.segment) opening n) 0 (growing it.flusher.file (seen.disk.state disk))) long opens.ready)),

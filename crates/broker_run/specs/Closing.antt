@@ -3,7 +3,7 @@ use Rattle.std.specs.Prelude.{ℕ, ◌≤◌, List, Option, Some, None, Result, 
 use Rattle.mq_outside.specs.Counts.{Rises}
 use Rattle.mq_outside.specs.Files.{Same}
 use Rattle.mq_outside.specs.Disk.{Moves}
-use Rattle.request_acts.specs.Acts.{Acted, Place}
+use Rattle.request_acts.specs.Acts.{Acted, Place, change_of}
 use Rattle.request_acts.specs.Turning.{AreAllTurns}
 use Rattle.request_stream.specs.Serving.{Sides, Point, point_of}
 use Rattle.request_stream.specs.Piping.{SourceSeen, Piped, CountsPipe}
@@ -13,6 +13,7 @@ use Rattle.request_acts.specs.declared.broken.Broken.TheVariants.{Misplaced, Mem
 use Rattle.request_stream.specs.declared.stop.Halt.{Halt}
 use Rattle.request_stream.specs.declared.stop.Halt.TheVariants.{BadFrame, Read, Stopped}
 use Rattle.request_stream.specs.declared.stop.Stop.TheVariants as stops
+use Rattle.request_stream.specs.Telling.{FaultCounts}
 
 -- no batch that begins elsewhere than where the flusher writes ended the reading
 abbrev pub ReadsPlaced : {A : Type 0} → Result A Halt → Type 0
@@ -30,16 +31,30 @@ FlushesPlaced (Ok done) = Unit {0}
 FlushesPlaced (Err Misplaced) = ⊥
 FlushesPlaced (Err Memory) = Unit {0}
 
+-- what ended the reading of the requests, and what came of the last flush turns
+abbrev pub ended_as : Result (Unit {0}) Halt → Result (Option ℕ) Broken → Ended
+ended_as reading last = record { reading = reading; last = last }
+
+-- who makes the broker's steps at the end, the disk, what the sink took, and the readings that the clock gave
+pub record Ending (C D : Type 0) : Type 0 where
+  pub calls : C
+  pub disk : D
+  pub taken : List ℕ
+  pub readings : List ℕ
+
+abbrev pub ending_of : {C D : Type 0} → C → D → List ℕ → List ℕ → Ending C D
+ending_of calls disk taken readings = record { calls = calls; disk = disk; taken = taken; readings = readings }
+
 -- The requests of the source were served, then flush turns were made, and the reader was given back.
-pub record ServesToEnd {C D : Type 0} (sides : Sides C D) (ended : Ended) (source : SourceSeen) (x : C) (old : Point D) (y : C) (disk : D)
-    (taken readings : List ℕ) : Type 0 where
+pub record ServesToEnd {C D : Type 0} (sides : Sides C D) (ended : Ended) (source : SourceSeen) (x : C) (old : Point D)
+    (ending : Ending C D) : Type 0 where
   pub served : C
   pub mid : Place D
   pub final : Place D
   pub reads : ℕ
-  pub piped : Piped sides ended.reading source x old served (point_of mid reads taken readings)
-  pub flushed : Acted sides.makes sides.disk (AreAllTurns ended.last) served mid y final
-  pub back : sides.disk.tells → Moves Same (sides.disk.state final.disk) (sides.disk.state disk)
+  pub piped : Piped sides ended.reading source (change_of x old served (point_of mid reads ending.taken ending.readings))
+  pub flushed : Acted sides.makes sides.disk (AreAllTurns ended.last) (change_of served mid ending.calls final)
+  pub back : sides.disk.tells → Moves Same (sides.disk.state final.disk) (sides.disk.state ending.disk)
 
 -- the last flush turn failed
 abbrev pub IsFailed : {E : Type 0} → Result (Option ℕ) E → Type 0
@@ -48,7 +63,7 @@ IsFailed (Ok (Some count)) = Unit {0}
 IsFailed (Err fault) = ⊥
 
 -- the counts of the source, the sink and the clock rise as the reading says; the disk's rises where the last flush turn failed
-pub record CountsRun (ended : Ended) (source source_then sink sink_then disk disk_then clock clock_then : ℕ) : Type 0 where
-  pub reading : CountsPipe ended.reading source source_then sink sink_then clock clock_then
-  pub disk_rises : IsFailed ended.last → Rises disk disk_then
-  pub disk_grows : disk ≤ disk_then
+pub record CountsRun (ended : Ended) (source sink disk clock : FaultCounts) : Type 0 where
+  pub reading : CountsPipe ended.reading source sink clock
+  pub disk_rises : IsFailed ended.last → Rises disk.old disk.new
+  pub disk_grows : disk.old ≤ disk.new

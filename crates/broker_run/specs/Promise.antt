@@ -13,7 +13,7 @@ use Rattle.record_codec.specs.Entry.{Entry}
 use Rattle.log_model.specs.Bases.{Geometry, whole}
 use Rattle.log_model.specs.Segments.{AreSegmentFiles}
 use Rattle.log_model.specs.Store.{Keeps, IsDamagedAt, IsHonest, StoresLog, KeepsIfHonest}
-use Rattle.log_model.specs.Stored.{HasFirst, FlushTurn, KeepsAtLeast, stored, turned_by, turned_in}
+use Rattle.log_model.specs.Stored.{HasFirst, FlushTurn, KeepsAtLeast, stored, turned_by, turned_in, Stored}
 use Rattle.log_recovery.specs.declared.fault.RecoverFault.{RecoverFault}
 use Rattle.log_recovery.specs.declared.fault.RecoverFault.TheVariants.{Damaged, Failed as DiskFailed, Memory as NoMemory}
 use Rattle.segment_files.specs.Turn.{IsReady, growing}
@@ -41,7 +41,7 @@ use Rattle.config_store.specs.Texts.{IsKeptTopic, offsets_text_of, topics_text_o
 use Rattle.group_tables.specs.Offsets.{IsOffset}
 use Rattle.log_opening.specs.Opens.{OpensWith, saved_as}
 use Rattle.log_opening.specs.declared.opening.Opened.{Opened}
-use Rattle.request_acts.specs.Acts.{Act, Acted, DiskView, Place, steps_of, turns_of}
+use Rattle.request_acts.specs.Acts.{Act, Acted, DiskView, Place, steps_of, turns_of, change_of}
 use Rattle.request_acts.specs.Turning.{AreAllTurns}
 use Rattle.request_acts.specs.declared.broken.Broken.{Broken}
 use Rattle.request_acts.specs.declared.broken.Broken.TheVariants as broken
@@ -52,6 +52,9 @@ use Rattle.kept_log.specs.Leads.{alone}
 use Rattle.request_stream.specs.declared.stop.Halt.{Halt}
 use Rattle.request_stream.specs.declared.stop.Halt.TheVariants.{BadFrame, Read, Stopped}
 use Rattle.request_stream.specs.declared.stop.Stop.TheVariants as stops
+use Rattle.request_stream.specs.Telling.{FaultCounts}
+use Rattle.broker_run.specs.Closing.{ended_as}
+use Rattle.broker_run.specs.declared.ended.Ended.{Ended}
 
 -- ---- the status
 
@@ -238,22 +241,23 @@ pub record Leaves (S : Geometry) (log : List Entry) (least : ℕ) (files : Files
 -- Up to a moment it was being opened, and then a crash leaves exactly the files of the run's first log. From then on the turns that
 -- ended Ok came one behind another, and each record that a turn flushed stays from its moment on: at that moment a crash leaves
 -- exactly the files of what was flushed.
-pub record Survives (S : Geometry) (stored : List Entry) (flushed : ℕ) (log : List Entry)
-    (turns : List FlushTurn) (reached : List Entry) (old new : DiskState) : Type 0 where
+pub record Survives (it : Stored) (log : List Entry) (turns : List FlushTurn) (reached : List Entry)
+    (old new : DiskState) : Type 0 where
   pub opening : ℕ
   pub later : old.moment ≤ opening
   pub order : AreInOrder opening turns new.moment
-  pub before : (m : ℕ) (files : Files) → old.moment ≤ m → m ≤ opening → new.image_at m files → Leaves S stored flushed files
-  pub opened : (files : Files) → new.image_at opening files → AreSegmentFiles S log files
+  pub before : (m : ℕ) (files : Files) → old.moment ≤ m → m ≤ opening → new.image_at m files
+      → Leaves it.geometry it.log it.flushed files
+  pub opened : (files : Files) → new.image_at opening files → AreSegmentFiles it.geometry log files
   pub after : (m : ℕ) (files : Files) → opening ≤ m → m ≤ new.moment → new.image_at m files
-      → Leaves S reached (length log + turned_by turns m) files
-  pub exact : AreExact S reached (length log) turns new
-  pub stores : StoresLog S reached (length log + turned_in turns) new
+      → Leaves it.geometry reached (length log + turned_by turns m) files
+  pub exact : AreExact it.geometry reached (length log) turns new
+  pub stores : StoresLog it.geometry reached (length log + turned_in turns) new
 
 -- The requests of the source were served by a core that was opened over this log, and then flush turns were made. All that
 -- happened is a run of the model.
-pub record RunFrom {D A : Type 0} (setup : Setup) (saved : Saved) (log : List Entry) (ended : Result A Halt)
-    (last : Result (Option ℕ) Broken) (seen : Seen D) (holds : List Act → State → Type 0) : Type 0 where
+pub record RunFrom {D : Type 0} (setup : Setup) (saved : Saved) (log : List Entry) (ended : Ended) (seen : Seen D)
+    (holds : List Act → State → Type 0) : Type 0 where
   pub calls : Alone
   pub served : Alone
   pub closed : Alone
@@ -263,37 +267,38 @@ pub record RunFrom {D A : Type 0} (setup : Setup) (saved : Saved) (log : List En
   pub reads : ℕ
   pub reads_then : ℕ
   pub first : List Act
-  pub piped : Piped (sides_for seen) ended seen.source
-      calls (point_of place reads seen.taken seen.readings) served (point_of mid reads_then seen.taken_then seen.readings_then)
-  pub first_is : first ≡ acts_in (sides_for seen) ended piped.frames calls (point_of place reads seen.taken seen.readings)
-      served (point_of mid reads_then seen.taken_then seen.readings_then) piped.ran
-  pub flushed : Acted alone seen.disk (AreAllTurns last) served mid closed final
+  pub piped : Piped (sides_for seen) ended.reading seen.source
+      (change_of calls (point_of place reads seen.taken seen.readings)
+      served (point_of mid reads_then seen.taken_then seen.readings_then))
+  pub first_is : first ≡ acts_in (sides_for seen) ended.reading piped.frames
+      (change_of calls (point_of place reads seen.taken seen.readings)
+      served (point_of mid reads_then seen.taken_then seen.readings_then)) piped.ran
+  pub flushed : Acted alone seen.disk (AreAllTurns ended.last) (change_of served mid closed final)
   pub reached : State
   pub runs : RunsTo setup saved log (first ++ flushed.acts) reached
   pub done : holds (first ++ flushed.acts) reached
 
 -- A run from the log that recovery keeps of the files as they were read, which leaves of the kept files what is said of its state.
-pub record BeginsWithKept {D A : Type 0} (setup : Setup) (saved : Saved) (ended : Result A Halt) (last : Result (Option ℕ) Broken)
-    (seen : Seen D) (kept : State → Type 0) : Type 0 where
+pub record BeginsWithKept {D : Type 0} (setup : Setup) (saved : Saved) (ended : Ended) (seen : Seen D)
+    (kept : State → Type 0) : Type 0 where
   pub records : List Entry
   pub keeps : Keeps (whole setup.segment) records (before seen).reads
-  pub ran : RunFrom setup saved records ended last seen (λ acts reached. kept reached)
+  pub ran : RunFrom setup saved records ended seen (λ acts reached. kept reached)
 
 -- A run from a prefix of the stored log that has all that was flushed, and every crash leaves what it flushed.
-pub record KeepsOn {D A : Type 0} (setup : Setup) (saved : Saved) (stored : List Entry) (flushed : ℕ) (ended : Result A Halt)
-    (last : Result (Option ℕ) Broken) (seen : Seen D) (kept : State → Type 0) : Type 0 where
+pub record KeepsOn {D : Type 0} (setup : Setup) (saved : Saved) (it : Stored) (ended : Ended) (seen : Seen D)
+    (kept : State → Type 0) : Type 0 where
   pub number : ℕ
-  pub low : flushed ≤ number
-  pub high : number ≤ length stored
-  pub ran : RunFrom setup saved (take number stored) ended last seen
-      (λ acts reached. Survives (whole setup.segment) stored flushed (take number stored) (turns_of acts) reached.log.records
-      (before seen) (behind seen) × kept reached)
+  pub low : it.flushed ≤ number
+  pub high : number ≤ length it.log
+  pub ran : RunFrom setup saved (take number it.log) ended seen
+      (λ acts reached. Survives it (take number it.log) (turns_of acts) reached.log.records (before seen) (behind seen) × kept reached)
 
 -- A run from some log.
-pub record RunsFromSome {D A : Type 0} (setup : Setup) (saved : Saved) (ended : Result A Halt) (last : Result (Option ℕ) Broken)
-    (seen : Seen D) (kept : State → Type 0) : Type 0 where
+pub record RunsFromSome {D : Type 0} (setup : Setup) (saved : Saved) (ended : Ended) (seen : Seen D)
+    (kept : State → Type 0) : Type 0 where
   pub log : List Entry
-  pub ran : RunFrom setup saved log ended last seen (λ acts reached. kept reached)
+  pub ran : RunFrom setup saved log ended seen (λ acts reached. kept reached)
 
 -- Requests were served from a log that was opened with what the kept files had, in a store of these sizes, as the command asks. At
 -- the end the kept files were replaced by the texts of the run's last state.
@@ -307,13 +312,14 @@ pub record Served {D : Type 0} (command : Command) (status : Status) (seen : See
   pub offsets : List OffsetRow
   pub topics : List TopicRow
   pub config : keep.tells → HasConfig keep.old.reads offsets topics
-  pub some : RunsFromSome (pipe_setup command sizes) (saved_as offsets topics) ended last seen
+  pub some : RunsFromSome (pipe_setup command sizes) (saved_as offsets topics) (ended_as ended last) seen
       (KeepsState (own_format (keep.old.reads FORMAT) command.sizes) status keep)
-  pub begins : seen.disk.tells → BeginsWithKept (pipe_setup command sizes) (saved_as offsets topics) ended last seen
+  pub begins : seen.disk.tells → BeginsWithKept (pipe_setup command sizes) (saved_as offsets topics) (ended_as ended last) seen
       (KeepsState (own_format (keep.old.reads FORMAT) command.sizes) status keep)
   pub durable : seen.disk.tells → (log : List Entry) (flushed : ℕ) → StoresLog (whole sizes.segment) log flushed (before seen)
       → IsHonest (whole sizes.segment) log flushed (before seen).reads
-      → KeepsOn (pipe_setup command sizes) (saved_as offsets topics) log flushed ended last seen
+      → KeepsOn (pipe_setup command sizes) (saved_as offsets topics) (stored (whole sizes.segment) log flushed)
+      (ended_as ended last) seen
       (KeepsState (own_format (keep.old.reads FORMAT) command.sizes) status keep)
 
 -- nothing was read from the source or the clock, and nothing written to the sink
@@ -390,30 +396,35 @@ pub record ServedOver {D : Type 0} (it : Opened) (status : Status) (seen : Seen 
   pub last : Result (Option ℕ) Broken
   pub replaced : Result (Unit {0}) DiskFault
   pub tells : StatusAfter status ended last replaced
-  pub runs : (setup : Setup) (saved : Saved) (log : List Entry) → OpensWith setup saved log it → RunFrom setup saved log ended last seen
+  pub runs : (setup : Setup) (saved : Saved) (log : List Entry) → OpensWith setup saved log it
+      → RunFrom setup saved log (ended_as ended last) seen
       (λ acts reached. LeavesDisk it seen setup log acts reached × KeepsOpen status keep reached)
 
 -- the causes of the statuses of such a run
-pub record CountsStatus (status : Status) (source source_then sink sink_then disk disk_then clock clock_then : ℕ) : Type 0 where
-  pub read : status.code ≡ 3 → Rises source source_then
-  pub write : status.code ≡ 4 → Rises sink sink_then
-  pub disk_failed : status.code ≡ 5 → Rises disk disk_then
-  pub clock_failed : status.code ≡ 10 → (status.name ≡ codes "clock") × Rises clock clock_then
+pub record CountsStatus (status : Status) (source sink disk clock : FaultCounts) : Type 0 where
+  pub read : status.code ≡ 3 → Rises source.old source.new
+  pub write : status.code ≡ 4 → Rises sink.old sink.new
+  pub disk_failed : status.code ≡ 5 → Rises disk.old disk.new
+  pub clock_failed : status.code ≡ 10 → (status.name ≡ codes "clock") × Rises clock.old clock.new
   pub known : (status.code ≡ 0) ⊎ ((status.code ≡ 2) ⊎ ((status.code ≡ 3) ⊎ ((status.code ≡ 4) ⊎
       ((status.code ≡ 5) ⊎ ((status.code ≡ 7) ⊎ (status.code ≡ 10))))))
-  pub disk_grows : disk ≤ disk_then
+  pub disk_grows : disk.old ≤ disk.new
 
 -- the same once the kept files were replaced, or not
-pub record CountsEnd (status : Status) (source source_then sink sink_then disk disk_then clock clock_then keep keep_then : ℕ) : Type 0 where
-  pub read : status.code ≡ 3 → Rises source source_then
-  pub write : status.code ≡ 4 → Rises sink sink_then
-  pub disk_failed : status.code ≡ 5 → Rises disk disk_then
-  pub device : status.code ≡ 10 → ((status.name ≡ codes "clock") × Rises clock clock_then)
-      ⊎ ((status.name ≡ codes "keep") × Rises keep keep_then)
+pub record CountsEnd (status : Status) (source sink disk clock keep : FaultCounts) : Type 0 where
+  pub read : status.code ≡ 3 → Rises source.old source.new
+  pub write : status.code ≡ 4 → Rises sink.old sink.new
+  pub disk_failed : status.code ≡ 5 → Rises disk.old disk.new
+  pub device : status.code ≡ 10 → ((status.name ≡ codes "clock") × Rises clock.old clock.new)
+      ⊎ ((status.name ≡ codes "keep") × Rises keep.old keep.new)
   pub known : (status.code ≡ 0) ⊎ ((status.code ≡ 2) ⊎ ((status.code ≡ 3) ⊎ ((status.code ≡ 4) ⊎
       ((status.code ≡ 5) ⊎ ((status.code ≡ 7) ⊎ (status.code ≡ 10))))))
 
 -- ---- a call in which nothing fails
+
+-- the files are damaged nowhere
+abbrev pub AreUndamaged : Geometry → Files → Type 0
+AreUndamaged S files = (place : ℕ) (name : List ℕ) → IsDamagedAt S files place name → ⊥
 
 -- The words are a command, the store is this program's and undamaged, its options agree with its format, its kept files are of their
 -- form, the bytes that were read are whole frames, and no device's count rises. What is said of the store is said of its files and
@@ -425,8 +436,8 @@ pub record IsQuiet {D : Type 0} (words : List (List ℕ)) (seen : Seen D) (keep 
   pub source_tells : seen.source.tells
   pub own : (command : Command) (name : List ℕ) → IsCommand words command
       → IsForeign (before seen).reads (keep.old.reads FORMAT) command.sizes name → ⊥
-  pub undamaged : (command : Command) (sizes : Sizes) (place : ℕ) (name : List ℕ) → IsCommand words command
-      → AreSizesOf (keep.old.reads FORMAT) command.sizes sizes → IsDamagedAt (whole sizes.segment) (before seen).reads place name → ⊥
+  pub undamaged : (command : Command) (sizes : Sizes) → IsCommand words command
+      → AreSizesOf (keep.old.reads FORMAT) command.sizes sizes → AreUndamaged (whole sizes.segment) (before seen).reads
   pub formed : (name : List ℕ) → IsBadText keep.old.reads name → ⊥
   pub bytes : List ℕ
   pub frames : List Frame

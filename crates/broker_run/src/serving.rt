@@ -11,9 +11,10 @@ ghost use Rattle.log_opening.specs.Opens.{OpensWith};
 ghost use Rattle.request_acts.specs.Acts.{IsFree, place_of, view_of};
 ghost use Rattle.request_stream.specs.Serving.{sides_of, point_of};
 ghost use Rattle.request_stream.specs.Piping.{source_of};
-ghost use Rattle.broker_run.specs.Closing.{ServesToEnd, CountsRun, ReadsPlaced, FlushesPlaced};
+ghost use Rattle.broker_run.specs.Closing.{ServesToEnd, CountsRun, ReadsPlaced, FlushesPlaced, ending_of};
 ghost use Rattle.broker_run.specs.Promise.{StatusOf, StatusTells, StatusKept, ServedOver, CountsEnd};
 ghost use Rattle.broker_events.specs.declared.event.Setup.{Setup as TheSetup};
+ghost use Rattle.request_stream.specs.Telling.{fault_counts};
 
 use crate::ended::Ended;
 use broker_core::Alone;
@@ -45,10 +46,11 @@ fn serve_to_end<S: Source, C: Calls, D: Disk, K: Sink, T: Clock>(
         (source_of S.tells (S.given source.old) (S.given source.new) (S.left source.new))
         calls.old (point_of (place_of flusher.old.file disk.old)
         (D.Reader.faults reader) (K.taken sink.old) (T.readings clock.old))
-        calls.new disk.new (K.taken sink.new) (T.readings clock.new) }
+        (ending_of calls.new disk.new (K.taken sink.new) (T.readings clock.new)) }
     ensures outside { D.tells → StaysOutside (D.state disk.old) (D.state disk.new) }
-    ensures cause { CountsRun result (S.faults source.old) (S.faults source.new) (K.faults sink.old) (K.faults sink.new)
-        (D.faults disk.old) (D.faults disk.new) (T.faults clock.old) (T.faults clock.new) }
+    ensures cause { CountsRun result (fault_counts (S.faults source.old) (S.faults source.new))
+        (fault_counts (K.faults sink.old) (K.faults sink.new)) (fault_counts (D.faults disk.old) (D.faults disk.new))
+        (fault_counts (T.faults clock.old) (T.faults clock.new)) }
 {
     let mut reader = reader;
     let mut buffer = Vec::new(alloc);
@@ -162,8 +164,9 @@ pub(crate) fn serve_log<S: Source, K: Sink, D: Disk, P: Keep, T: Clock>(
     ensures others { P.tells → (name : List ℕ) → name ≢ OFFSETS → name ≢ TOPICS
         → (P.state keep.new).reads name ≡ (P.state keep.old).reads name }
     ensures table { FitsTable result }
-    ensures cause { CountsEnd result (S.faults source.old) (S.faults source.new) (K.faults sink.old) (K.faults sink.new)
-        (D.faults disk.old) (D.faults disk.new) (T.faults clock.old) (T.faults clock.new) (P.faults keep.old) (P.faults keep.new) }
+    ensures cause { CountsEnd result (fault_counts (S.faults source.old) (S.faults source.new))
+        (fault_counts (K.faults sink.old) (K.faults sink.new)) (fault_counts (D.faults disk.old) (D.faults disk.new))
+        (fault_counts (T.faults clock.old) (T.faults clock.new)) (fault_counts (P.faults keep.old) (P.faults keep.new)) }
 {
     let Opened { core, flusher } = opened;
     let mut calls = Alone::new(core);

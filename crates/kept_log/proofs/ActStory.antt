@@ -16,12 +16,12 @@ use Rattle.broker_core.specs.Represents.{Represents}
 use Rattle.broker_core.specs.declared.alone.Alone.{Alone}
 use Rattle.broker_core.specs.declared.parts.Parts.{Parts}
 use Rattle.worker_turns.specs.Turns.{TakesFrom}
-use Rattle.request_acts.specs.Acts.{Act, Made, Wrote, Missed, Acts, Acted, DiskView, Place, growing_at, steps_of, turns_of, IsBetween, IsUnwritten, HasUnwritten, Happens, HasMade, HasWritten, HasMissed}
+use Rattle.request_acts.specs.Acts.{Act, Made, Wrote, Missed, Acts, Acted, DiskView, Place, growing_at, steps_of, turns_of, IsBetween, IsUnwritten, HasUnwritten, Happens, HasMade, HasWritten, HasMissed, change_of}
 use Rattle.request_acts.specs.Turning.{AreAllTurns}
 use Rattle.request_acts.specs.declared.broken.Broken.{Broken}
 use Rattle.request_acts.specs.declared.broken.Broken.TheVariants as broken
 use Rattle.flush_story.specs.Story as story
-use Rattle.flush_story.specs.Story.{StepsAs, Happening, Stepped, Ended, Broke, Story, Reaches}
+use Rattle.flush_story.specs.Story.{StepsAs, Happening, Stepped, Ended, Broke, Story, Reaches, span_of}
 use Rattle.flush_story.specs.Keeping.{IsPlacedFor, Keeps}
 use Rattle.flush_story.proofs.Keeps.{keeps_start, keeps_story, story_reaches}
 use Rattle.flush_story.proofs.Placing.{placed_story, takes_to_place}
@@ -82,7 +82,7 @@ err_placed it batch count new places = record { ok = places.ok; err = places.err
 
 -- from a state that the core represents this happens, up to a state that it represents then
 abbrev Goes : {D : Type 0} → DiskView D → Happening → State → Place D → Alone → Place D → Type 0
-Goes view it s old y new = (t : State) × Represents y.core t × story.Happens view.tells (growing_at view) it s old t new
+Goes view it s old y new = (t : State) × Represents y.core t × story.Happens view.tells (growing_at view) it (story.span_of s old t new)
 
 -- each batch that can be taken is written from its place on
 pub takes_from : (x : Alone) (s : State) (file : LastFile) → Represents x.core s → IsPlacedFor s file → TakesFrom alone x file
@@ -92,12 +92,12 @@ takes_from x s file are here batch y makes =
     (step_as s Take (Some (said.Batch (Some batch))) y.core taken)
 
 module _ {D : Type 0} (view : DiskView D) where
-  made_goes : (e : Event) (what : Option Said) (s : State) (x y : Alone) (p q : Place D) → Represents x.core s → HasMade alone e what x p y q → Goes view (Stepped e what) s p y q
+  made_goes : (e : Event) (what : Option Said) (s : State) (x y : Alone) (p q : Place D) → Represents x.core s → HasMade alone e what (change_of x p y q) → Goes view (Stepped e what) s p y q
   made_goes e what s x y p q are made =
       let makes = made.made.step s are in
       (makes.reached, makes.represents, record { between = between_as e made.between; made = step_as s e what y.core makes; still = made.still })
 
-  written_goes : (turn : _) (s : State) (x y : Alone) (p q : Place D) → Represents x.core s → HasWritten alone view turn x p y q
+  written_goes : (turn : _) (s : State) (x y : Alone) (p q : Place D) → Represents x.core s → HasWritten alone view turn (change_of x p y q)
       → Goes view (Ended (record { batch = turn.batch; others = [] }) turn.receipt turn.moment) s p y q
   written_goes turn s x y p q are wrote =
       let taken = wrote.steps.1.step s are in
@@ -118,7 +118,7 @@ module _ {D : Type 0} (view : DiskView D) where
         },
       )
 
-  missed_goes : (batch : Batch) (count : ℕ) (s : State) (x y : Alone) (p q : Place D) → Represents x.core s → HasMissed alone view batch count x p y q
+  missed_goes : (batch : Batch) (count : ℕ) (s : State) (x y : Alone) (p q : Place D) → Represents x.core s → HasMissed alone view batch count (change_of x p y q)
       → Goes view (Broke (record { batch = batch; others = [] }) count) s p y q
   missed_goes batch count s x y p q are missed =
       let taken = missed.steps.1.step s are in
@@ -137,14 +137,14 @@ module _ {D : Type 0} (view : DiskView D) where
         },
       )
 
-  act_goes : (act : Act) (s : State) (x y : Alone) (p q : Place D) → Represents x.core s → Happens alone view act x p y q → Goes view (happening_of act) s p y q
+  act_goes : (act : Act) (s : State) (x y : Alone) (p q : Place D) → Represents x.core s → Happens alone view act (change_of x p y q) → Goes view (happening_of act) s p y q
   unfolding happening_of
   act_goes (Made e what) s x y p q are happens = made_goes e what s x y p q are happens
   act_goes (Wrote turn) s x y p q are happens = written_goes turn s x y p q are happens
   act_goes (Missed batch count) s x y p q are happens = missed_goes batch count s x y p q are happens
 
-  acts_story : (acts : List Act) (s : State) (x y : Alone) (p q : Place D) → Represents x.core s → Acts alone view acts x p y q
-      → (t : State) × Represents y.core t × Story view.tells (growing_at view) (map happening_of acts) s p t q
+  acts_story : (acts : List Act) (s : State) (x y : Alone) (p q : Place D) → Represents x.core s → Acts alone view acts (change_of x p y q)
+      → (t : State) × Represents y.core t × Story view.tells (growing_at view) (map happening_of acts) (span_of s p t q)
   acts_story [] s x y p q are happened = (s, subst (λ (w : Alone). Represents w.core s) (sym happened.calls) are, (refl, happened.place))
   acts_story (act ∷ acts) s x y p q are happened =
       let one = act_goes act s x happened.0 p happened.1 are happened.2 in
@@ -152,7 +152,7 @@ module _ {D : Type 0} (view : DiskView D) where
       (rest.0, rest.1, (one.0, happened.1, one.2, rest.2))
 
   -- where the flusher writes behind the flushed records, each batch that is taken is written, or the disk fails
-  act_written : (act : Act) (s : State) (x y : Alone) (p q : Place D) → Represents x.core s → IsPlacedFor s p.file → Happens alone view act x p y q → IsUnwritten act → ⊥
+  act_written : (act : Act) (s : State) (x y : Alone) (p q : Place D) → Represents x.core s → IsPlacedFor s p.file → Happens alone view act (change_of x p y q) → IsUnwritten act → ⊥
   act_written (Made e what) s x y p q are here happens takes = happens.apart takes (takes_from x s p.file are here)
   act_written (Wrote turn) s x y p q are here happens takes = takes
   act_written (Missed batch count) s x y p q are here happens takes = takes
@@ -163,7 +163,7 @@ module _ {D : Type 0} (view : DiskView D) where
       placed_story view.tells (growing_at view) s goes.0 (happening_of act ∷ []) p q goes.1.state.log (omega (arith, are.state.base, are.state.dispatched)) here
       (goes.0, q, goes.2, (refl, refl))
 
-  pub acts_written : (acts : List Act) (s : State) (x y : Alone) (p q : Place D) → Represents x.core s → IsPlacedFor s p.file → Acts alone view acts x p y q → HasUnwritten acts → ⊥
+  pub acts_written : (acts : List Act) (s : State) (x y : Alone) (p q : Place D) → Represents x.core s → IsPlacedFor s p.file → Acts alone view acts (change_of x p y q) → HasUnwritten acts → ⊥
   acts_written [] s x y p q are here happened has = has
   acts_written (act ∷ acts) s x y p q are here happened has =
       let goes = act_goes act s x happened.0 p happened.1 are happened.2 in
@@ -172,7 +172,7 @@ module _ {D : Type 0} (view : DiskView D) where
       has
 
   -- and so every crash leaves what they flushed
-  pub acts_lead : (acts : List Act) (s : State) (x y : Alone) (p q : Place D) → Represents x.core s → Acts alone view acts x p y q → LeadsTo view acts s p y q
+  pub acts_lead : (acts : List Act) (s : State) (x y : Alone) (p q : Place D) → Represents x.core s → Acts alone view acts (change_of x p y q) → LeadsTo view acts s p y q
   acts_lead acts s x y p q are happened =
       let it = acts_story acts s x y p q are happened in
       let low : s.log.base.records ≤ s.flushed = omega (arith, are.state.base, are.state.dispatched) in
@@ -186,7 +186,7 @@ module _ {D : Type 0} (view : DiskView D) where
         written = λ here. acts_written acts s x y p q are here happened;
       }
 
-  pub acted_led : (IsKind : List Act → Type 0) (x y : Alone) (p q : Place D) → Acted alone view IsKind x p y q → Led view IsKind x p y q
+  pub acted_led : (IsKind : List Act → Type 0) (x y : Alone) (p q : Place D) → Acted alone view IsKind (change_of x p y q) → Led view IsKind x p y q
   acted_led IsKind x y p q acted = record {
     acts = acted.acts;
     kind = acted.kind;
@@ -196,7 +196,7 @@ module _ {D : Type 0} (view : DiskView D) where
 
   -- so flush turns never break off at a misplaced batch
   pub all_placed : (result : Result (Option ℕ) Broken) (s : State) (x y : Alone) (p q : Place D) → Represents x.core s → IsPlacedFor s p.file
-      → Acted alone view (AreAllTurns result) x p y q → result ≢ Err broken.Misplaced
+      → Acted alone view (AreAllTurns result) (change_of x p y q) → result ≢ Err broken.Misplaced
   all_placed result s x y p q are here acted is =
-      let all = subst (λ (r : Result (Option ℕ) Broken). Acted alone view (AreAllTurns r) x p y q) is acted in
+      let all = subst (λ (r : Result (Option ℕ) Broken). Acted alone view (AreAllTurns r) (change_of x p y q)) is acted in
       acts_written all.acts s x y p q are here all.happened all.kind

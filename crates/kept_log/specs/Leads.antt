@@ -5,7 +5,7 @@ use Rattle.broker_core.specs.Makes.{MakesStep}
 use Rattle.broker_core.specs.Represents.{Represents}
 use Rattle.broker_core.specs.declared.alone.Alone.{Alone}
 use Rattle.worker_turns.specs.Turns.{Steps}
-use Rattle.request_acts.specs.Acts.{Act, Acts, HasUnwritten, DiskView, Place, growing_at, steps_of, turns_of}
+use Rattle.request_acts.specs.Acts.{Act, Acts, HasUnwritten, DiskView, Place, growing_at, steps_of, turns_of, change_of}
 use Rattle.flush_story.specs.Story.{Reaches}
 use Rattle.flush_story.specs.Keeping.{IsOpenFor, IsPlacedFor, Keeps}
 
@@ -29,5 +29,5 @@ pub record Led {D : Type 0} (view : DiskView D) (IsKind : List Act → Type 0) (
     (new : Place D) : Type 0 where
   pub acts : List Act
   pub kind : IsKind acts
-  pub happened : Acts alone view acts x old y new
+  pub happened : Acts alone view acts (change_of x old y new)
   pub leads : (s : State) → Represents x.core s → LeadsTo view acts s old y new

@@ -5,7 +5,7 @@ ghost use Rattle.segment_files.specs.declared.last_file.LastFile.{LastFile};
 ghost use Rattle.broker_model.specs.State.{State};
 ghost use Rattle.broker_core.specs.Represents.{Represents};
 ghost use Rattle.broker_core.specs.declared.alone.Alone.{Alone};
-ghost use Rattle.request_acts.specs.Acts.{Act, Acts, place_of, view_of};
+ghost use Rattle.request_acts.specs.Acts.{Act, Acts, place_of, view_of, change_of};
 ghost use Rattle.kept_log.specs.Leads.{LeadsTo, alone};
 
 use mq_outside::Disk;
@@ -15,6 +15,7 @@ use mq_outside::Disk;
 /// at the end of each turn that ended Ok exactly that.
 pub fn acts_keep_the_log<D: Disk>(old: &D, new: &D)
     ensures { (s : State) (x y : Alone) (acts : List Act) (file file_then : LastFile) → Represents x.core s
-        → Acts alone (view_of D.tells D.state D.faults D.syncs) acts x (place_of file old.now) y (place_of file_then new.now)
+        → Acts alone (view_of D.tells D.state D.faults D.syncs) acts
+        (change_of x (place_of file old.now) y (place_of file_then new.now))
         → LeadsTo (view_of D.tells D.state D.faults D.syncs) acts s (place_of file old.now) y (place_of file_then new.now) }
 {}

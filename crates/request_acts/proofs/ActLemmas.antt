@@ -9,7 +9,7 @@ use Rattle.session.specs.Owing.{IsRequest}
 use Rattle.worker_turns.specs.Turns.{Steps, TakesFrom, Writes, HasEnded, WroteNone, CountsEnd}
 use Rattle.worker_turns.specs.declared.flush.FlushEnd.{FlushEnd}
 use Rattle.worker_turns.specs.declared.flush.FlushEnd.TheVariants.{Idle, Done, Failed, Misplaced, Memory}
-use Rattle.request_acts.specs.Acts.{Turn, Act, Made, Wrote, Missed, DiskView, Place, growing_at, IsFree, IsBetween, TakesBatch, HasMade, Happens, IsStill, IsUnwritten, HasUnwritten, Acts, Acted}
+use Rattle.request_acts.specs.Acts.{Turn, Act, Made, Wrote, Missed, DiskView, Place, IsFree, IsBetween, TakesBatch, HasMade, Happens, IsStill, IsUnwritten, HasUnwritten, Acts, Acted, change_of, synced_at}
 use Rattle.log_model.specs.declared.batch.Batch.{Batch}
 use Rattle.request_acts.specs.Turning.{idle, IsTurn, BrokeBy}
 use Rattle.request_acts.specs.declared.broken.Broken.{Broken}
@@ -65,26 +65,26 @@ takes_nothing takes = nothing_said takes.batch takes.said_is
 
 module _ {C D : Type 0} (makes : Steps C) (view : DiskView D) where
   -- nothing happened
-  pub still : (x : C) (p : Place D) → IsStill x p x p
+  pub still : (x : C) (p : Place D) → IsStill (change_of x p x p)
   still x p = record { calls = refl; place = refl }
 
-  pub acts_then : (first later : List Act) (x y z : C) (p q r : Place D) → Acts makes view first x p y q → Acts makes view later y q z r → Acts makes view (first ++ later) x p z r
+  pub acts_then : (first later : List Act) (x y z : C) (p q r : Place D) → Acts makes view first (change_of x p y q) → Acts makes view later (change_of y q z r) → Acts makes view (first ++ later) (change_of x p z r)
   acts_then [] later x y z p q r before behind =
-      subst (λ (w : C). Acts makes view later w p z r) before.calls (subst (λ (m : Place D). Acts makes view later y m z r) before.place behind)
+      subst (λ (w : C). Acts makes view later (change_of w p z r)) before.calls (subst (λ (m : Place D). Acts makes view later (change_of y m z r)) before.place behind)
   acts_then (act ∷ first) later x y z p q r before behind = (before.0, before.1, before.2, acts_then first later before.0 y z before.1 q r before.3 behind)
 
   -- one act
-  pub one : (act : Act) (x y : C) (p q : Place D) → Happens makes view act x p y q → Acts makes view (act ∷ []) x p y q
+  pub one : (act : Act) (x y : C) (p q : Place D) → Happens makes view act (change_of x p y q) → Acts makes view (act ∷ []) (change_of x p y q)
   one act x y p q happens = (y, q, happens, still y q)
 
   -- one step, of which the disk knows nothing
-  pub one_step : (e : Event) (what : Option Said) (x y : C) (p q : Place D) → IsBetween e → (TakesBatch e what → ⊥) → makes x e what y → q ≡ p → Acts makes view (Made e what ∷ []) x p y q
+  pub one_step : (e : Event) (what : Option Said) (x y : C) (p q : Place D) → IsBetween e → (TakesBatch e what → ⊥) → makes x e what y → q ≡ p → Acts makes view (Made e what ∷ []) (change_of x p y q)
   one_step e what x y p q between none made same =
       one (Made e what) x y p q (record { made = made; between = between; apart = λ takes from. none takes; still = same })
 
   -- acts of one kind, and behind them acts of another
-  pub acted_then : (P Q R : List Act → Type 0) (x y z : C) (p q r : Place D) → Acted makes view P x p y q → Acted makes view Q y q z r
-      → ((first later : List Act) → P first → Q later → R (first ++ later)) → Acted makes view R x p z r
+  pub acted_then : (P Q R : List Act → Type 0) (x y z : C) (p q r : Place D) → Acted makes view P (change_of x p y q) → Acted makes view Q (change_of y q z r)
+      → ((first later : List Act) → P first → Q later → R (first ++ later)) → Acted makes view R (change_of x p z r)
   acted_then P Q R x y z p q r first later joined = record {
     acts = first.acts ++ later.acts;
     kind = joined first.acts later.acts first.kind later.kind;
@@ -92,27 +92,27 @@ module _ {C D : Type 0} (makes : Steps C) (view : DiskView D) where
   }
 
   -- of one kind, and so of another
-  pub acted_as : (P Q : List Act → Type 0) (x y : C) (p q : Place D) → ((acts : List Act) → P acts → Q acts) → Acted makes view P x p y q → Acted makes view Q x p y q
+  pub acted_as : (P Q : List Act → Type 0) (x y : C) (p q : Place D) → ((acts : List Act) → P acts → Q acts) → Acted makes view P (change_of x p y q) → Acted makes view Q (change_of x p y q)
   acted_as P Q x y p q as_well acted = record { acts = acted.acts; kind = as_well acted.acts acted.kind; happened = acted.happened }
 
   -- of any kind
-  pub acted_any : (P : List Act → Type 0) (x y : C) (p q : Place D) → Acted makes view P x p y q → Acted makes view (λ acts. Unit {0}) x p y q
+  pub acted_any : (P : List Act → Type 0) (x y : C) (p q : Place D) → Acted makes view P (change_of x p y q) → Acted makes view (λ acts. Unit {0}) (change_of x p y q)
   acted_any P x y p q acted = record { acts = acted.acts; kind = tt; happened = acted.happened }
 
   -- of a kind that is broken off, behind acts
-  pub acted_broke : (P : List Act → Type 0) (fault : Broken) (x y z : C) (p q r : Place D) → Acted makes view P x p y q → Acted makes view (BrokeBy fault) y q z r
-      → Acted makes view (BrokeBy fault) x p z r
+  pub acted_broke : (P : List Act → Type 0) (fault : Broken) (x y z : C) (p q r : Place D) → Acted makes view P (change_of x p y q) → Acted makes view (BrokeBy fault) (change_of y q z r)
+      → Acted makes view (BrokeBy fault) (change_of x p z r)
   acted_broke P fault x y z p q r first later =
       acted_then P (BrokeBy fault) (BrokeBy fault) x y z p q r first later (λ before behind is broke. broke_behind fault before behind broke)
 
   -- no act
-  pub acted_none : (P : List Act → Type 0) (x : C) (p : Place D) → P [] → Acted makes view P x p x p
+  pub acted_none : (P : List Act → Type 0) (x : C) (p : Place D) → P [] → Acted makes view P (change_of x p x p)
   acted_none P x p none = record { acts = []; kind = none; happened = still x p }
 
   -- one flush turn
   pub turn_acted : (end : FlushEnd) (x y : C) (old new : Place D)
-      → HasEnded makes (Writes view.tells (growing_at view old) (growing_at view new) (view.syncs old.disk) (view.syncs new.disk)) x end y
-      → (WroteNone end → new ≡ old) → (TakesFrom makes x old.file → end ≢ Misplaced) → CountsEnd end (view.faults old.disk) (view.faults new.disk) → Acted makes view (IsTurn end) x old y new
+      → HasEnded makes (Writes view.tells (synced_at view old) (synced_at view new)) x end y
+      → (WroteNone end → new ≡ old) → (TakesFrom makes x old.file → end ≢ Misplaced) → CountsEnd end (view.faults old.disk) (view.faults new.disk) → Acted makes view (IsTurn end) (change_of x old y new)
   turn_acted Idle x y old new ended same placed counts = record {
     acts = idle ∷ [];
     kind = refl;

@@ -14,7 +14,7 @@ use Rattle.broker_events.specs.declared.event.Event.{Event}
 use Rattle.broker_events.specs.declared.event.Event.TheVariants.{Request, Take, Flushed, FlushFailed, Look, Dispatch, Leave}
 use Rattle.broker_events.specs.declared.said.Said.{Said}
 use Rattle.broker_events.specs.declared.said.Said.TheVariants as said
-use Rattle.worker_turns.specs.Turns.{Steps, TakesFrom, Writes}
+use Rattle.worker_turns.specs.Turns.{Steps, TakesFrom, SyncedLog, synced_log, Writes}
 
 -- a flush turn that ended Ok: what it wrote, its receipt, and the disk's moment at its end
 pub record Turn : Type 0 where
@@ -51,6 +51,20 @@ place_of file disk = record { file = file; disk = disk }
 abbrev pub growing_at : {D : Type 0} → DiskView D → Place D → Growing
 growing_at view at = growing at.file (view.state at.disk)
 
+-- with how often its disk was synced
+abbrev pub synced_at : {D : Type 0} → DiskView D → Place D → SyncedLog
+synced_at view at = synced_log (growing_at view at) (view.syncs at.disk)
+
+-- who makes the broker's steps and a place, and those that they became
+pub record Change (C P : Type 0) : Type 0 where
+  pub calls : C
+  pub place : P
+  pub calls_then : C
+  pub place_then : P
+
+abbrev pub change_of : {C P : Type 0} → C → P → C → P → Change C P
+change_of calls place calls_then place_then = record { calls = calls; place = place; calls_then = calls_then; place_then = place_then }
+
 -- it has the key, and no batch is out
 pub record IsFree (key : Type 0) (shown : Shown) : Type 0 where
   pub key_is : key
@@ -74,55 +88,54 @@ pub record TakesBatch (e : Event) (what : Option Said) : Type 0 where
 
 -- One step was made, and the disk is as it was. A batch is taken so, without being written, only where one that can be taken doesn't
 -- begin where the flusher writes.
-pub record HasMade {C D : Type 0} (makes : Steps C) (e : Event) (what : Option Said) (x : C) (old : Place D) (y : C)
-    (new : Place D) : Type 0 where
-  pub made : makes x e what y
+pub record HasMade {C D : Type 0} (makes : Steps C) (e : Event) (what : Option Said) (change : Change C (Place D)) : Type 0 where
+  pub made : makes change.calls e what change.calls_then
   pub between : IsBetween e
-  pub apart : TakesBatch e what → TakesFrom makes x old.file → ⊥
-  pub still : new ≡ old
+  pub apart : TakesBatch e what → TakesFrom makes change.calls change.place.file → ⊥
+  pub still : change.place_then ≡ change.place
 
 -- a flush turn wrote its batch and synced it, and the batch is flushed
-pub record HasWritten {C D : Type 0} (makes : Steps C) (view : DiskView D) (turn : Turn) (x : C) (old : Place D) (y : C)
-    (new : Place D) : Type 0 where
-  pub steps : Makes makes x ((Take, Some (said.Batch (Some turn.batch))) ∷ (Flushed turn.receipt, Some said.Done) ∷ []) y
+pub record HasWritten {C D : Type 0} (makes : Steps C) (view : DiskView D) (turn : Turn) (change : Change C (Place D)) : Type 0 where
+  pub steps : Makes makes change.calls ((Take, Some (said.Batch (Some turn.batch))) ∷ (Flushed turn.receipt, Some said.Done) ∷ [])
+      change.calls_then
   pub is : IsReceiptFor turn.batch turn.receipt
-  pub wrote : Writes view.tells (growing_at view old) (growing_at view new) (view.syncs old.disk) (view.syncs new.disk) turn.batch
-      (Ok turn.receipt)
-  pub ended : turn.moment ≡ (view.state new.disk).moment
-  pub still : view.faults new.disk ≡ view.faults old.disk
+  pub wrote : Writes view.tells (synced_at view change.place) (synced_at view change.place_then) turn.batch (Ok turn.receipt)
+  pub ended : turn.moment ≡ (view.state change.place_then.disk).moment
+  pub still : view.faults change.place_then.disk ≡ view.faults change.place.disk
 
 -- a flush turn failed, and its batch is pending again
-pub record HasMissed {C D : Type 0} (makes : Steps C) (view : DiskView D) (batch : Batch) (count : ℕ) (x : C) (old : Place D) (y : C)
-    (new : Place D) : Type 0 where
-  pub steps : Makes makes x ((Take, Some (said.Batch (Some batch))) ∷ (FlushFailed count, Some said.Done) ∷ []) y
-  pub wrote : Writes view.tells (growing_at view old) (growing_at view new) (view.syncs old.disk) (view.syncs new.disk) batch
-      (Err (record { count = count }))
-  pub rises : Rises (view.faults old.disk) (view.faults new.disk)
-  pub count_is : count ≡ view.faults new.disk
+pub record HasMissed {C D : Type 0} (makes : Steps C) (view : DiskView D) (batch : Batch) (count : ℕ)
+    (change : Change C (Place D)) : Type 0 where
+  pub steps : Makes makes change.calls ((Take, Some (said.Batch (Some batch))) ∷ (FlushFailed count, Some said.Done) ∷ [])
+      change.calls_then
+  pub wrote : Writes view.tells (synced_at view change.place) (synced_at view change.place_then) batch (Err (record { count = count }))
+  pub rises : Rises (view.faults change.place.disk) (view.faults change.place_then.disk)
+  pub count_is : count ≡ view.faults change.place_then.disk
 
 -- the act was this
-abbrev pub Happens : {C D : Type 0} → Steps C → DiskView D → Act → C → Place D → C → Place D → Type 0
-Happens makes view (Made e what) x old y new = HasMade makes e what x old y new
-Happens makes view (Wrote turn) x old y new = HasWritten makes view turn x old y new
-Happens makes view (Missed batch count) x old y new = HasMissed makes view batch count x old y new
+abbrev pub Happens : {C D : Type 0} → Steps C → DiskView D → Act → Change C (Place D) → Type 0
+Happens makes view (Made e what) change = HasMade makes e what change
+Happens makes view (Wrote turn) change = HasWritten makes view turn change
+Happens makes view (Missed batch count) change = HasMissed makes view batch count change
 
 -- nothing happened
-pub record IsStill {C D : Type 0} (x : C) (old : Place D) (y : C) (new : Place D) : Type 0 where
-  pub calls : y ≡ x
-  pub place : new ≡ old
+pub record IsStill {C P : Type 0} (change : Change C P) : Type 0 where
+  pub calls : change.calls_then ≡ change.calls
+  pub place : change.place_then ≡ change.place
 
 -- these acts, one after another, lead from the first broker and its disk to the second
-abbrev pub Acts : {C D : Type 0} → Steps C → DiskView D → List Act → C → Place D → C → Place D → Type 0
-Acts makes view [] x old y new = IsStill x old y new
-Acts {C} {D} makes view (act ∷ acts) x old y new = (z : C) × (mid : Place D) × Happens makes view act x old z mid
-    × Acts makes view acts z mid y new
+abbrev pub Acts : {C D : Type 0} → Steps C → DiskView D → List Act → Change C (Place D) → Type 0
+Acts makes view [] change = IsStill change
+Acts {C} {D} makes view (act ∷ acts) change = (calls : C) × (place : Place D)
+    × Happens makes view act (change_of change.calls change.place calls place)
+    × Acts makes view acts (change_of calls place change.calls_then change.place_then)
 
 -- acts of this kind do
-pub record Acted {C D : Type 0} (makes : Steps C) (view : DiskView D) (IsKind : List Act → Type 0) (x : C) (old : Place D) (y : C)
-    (new : Place D) : Type 0 where
+pub record Acted {C D : Type 0} (makes : Steps C) (view : DiskView D) (IsKind : List Act → Type 0)
+    (change : Change C (Place D)) : Type 0 where
   pub acts : List Act
   pub kind : IsKind acts
-  pub happened : Acts makes view acts x old y new
+  pub happened : Acts makes view acts change
 
 -- a batch was taken by the act, and not written
 abbrev pub IsUnwritten : Act → Type 0

@@ -6,7 +6,7 @@ ghost use Rattle.segment_files.specs.Turn.{IsInside};
 ghost use Rattle.broker_events.specs.Served.{is_served as is_served_of};
 ghost use Rattle.broker_events.specs.Shown.{Shown, Accepts};
 ghost use Rattle.session.specs.Owing.{IsRequest, IsApplied};
-ghost use Rattle.request_acts.specs.Acts.{IsFree, Acted, place_of, view_of};
+ghost use Rattle.request_acts.specs.Acts.{IsFree, Acted, place_of, view_of, change_of};
 ghost use Rattle.request_acts.specs.Asking.{GivesUp, MakesRoom, IsTry, Asks, Gives, Refuses, event_for, no_room as no_room_of};
 
 use crate::answer::Answer;
@@ -79,8 +79,8 @@ fn make_room<C: Calls, D: Disk>(
     requires free { IsFree (C.has_key calls.old) (C.shown calls.old) }
     requires inside { D.tells → IsInside flusher.old.file.base flusher.old.file.offset (D.state disk.old) }
     ensures acted { Acted C.makes (view_of D.tells D.state D.faults D.syncs) (MakesRoom result)
-        calls.old (place_of flusher.old.file disk.old)
-        calls.new (place_of flusher.new.file disk.new) }
+        (change_of calls.old (place_of flusher.old.file disk.old)
+        calls.new (place_of flusher.new.file disk.new)) }
     ensures free { IsFree (C.has_key calls.new) (C.shown calls.new) }
     ensures inside { D.tells → IsInside flusher.new.file.base flusher.new.file.offset (D.state disk.new) }
     ensures outside { D.tells → StaysOutside (D.state disk.old) (D.state disk.new) }
@@ -108,8 +108,8 @@ fn try_once<C: Calls, D: Disk>(
     requires free { IsFree (C.has_key calls.old) (C.shown calls.old) }
     requires inside { D.tells → IsInside flusher.old.file.base flusher.old.file.offset (D.state disk.old) }
     ensures acted { Acted C.makes (view_of D.tells D.state D.faults D.syncs) (IsTry event.now result)
-        calls.old (place_of flusher.old.file disk.old)
-        calls.new (place_of flusher.new.file disk.new) }
+        (change_of calls.old (place_of flusher.old.file disk.old)
+        calls.new (place_of flusher.new.file disk.new)) }
     ensures free { IsFree (C.has_key calls.new) (C.shown calls.new) }
     ensures inside { D.tells → IsInside flusher.new.file.base flusher.new.file.offset (D.state disk.new) }
     ensures outside { D.tells → StaysOutside (D.state disk.old) (D.state disk.new) }
@@ -135,8 +135,8 @@ fn ask<C: Calls, D: Disk>(
     requires free { IsFree (C.has_key calls.old) (C.shown calls.old) }
     requires inside { D.tells → IsInside flusher.old.file.base flusher.old.file.offset (D.state disk.old) }
     ensures acted { Acted C.makes (view_of D.tells D.state D.faults D.syncs) (Asks event.now result)
-        calls.old (place_of flusher.old.file disk.old)
-        calls.new (place_of flusher.new.file disk.new) }
+        (change_of calls.old (place_of flusher.old.file disk.old)
+        calls.new (place_of flusher.new.file disk.new)) }
     ensures free { IsFree (C.has_key calls.new) (C.shown calls.new) }
     ensures inside { D.tells → IsInside flusher.new.file.base flusher.new.file.offset (D.state disk.new) }
     ensures outside { D.tells → StaysOutside (D.state disk.old) (D.state disk.new) }
@@ -165,8 +165,8 @@ fn ask_at<C: Calls, D: Disk>(
     requires free { IsFree (C.has_key calls.old) (C.shown calls.old) }
     requires inside { D.tells → IsInside flusher.old.file.base flusher.old.file.offset (D.state disk.old) }
     ensures acted { Acted C.makes (view_of D.tells D.state D.faults D.syncs) (Asks (event_for now request) result)
-        calls.old (place_of flusher.old.file disk.old)
-        calls.new (place_of flusher.new.file disk.new) }
+        (change_of calls.old (place_of flusher.old.file disk.old)
+        calls.new (place_of flusher.new.file disk.new)) }
     ensures free { IsFree (C.has_key calls.new) (C.shown calls.new) }
     ensures inside { D.tells → IsInside flusher.new.file.base flusher.new.file.offset (D.state disk.new) }
     ensures outside { D.tells → StaysOutside (D.state disk.old) (D.state disk.new) }
@@ -198,8 +198,8 @@ pub fn give_request<C: Calls, D: Disk>(
     requires free { IsFree (C.has_key calls.old) (C.shown calls.old) }
     requires inside { D.tells → IsInside flusher.old.file.base flusher.old.file.offset (D.state disk.old) }
     ensures acted { Acted C.makes (view_of D.tells D.state D.faults D.syncs) (Gives code now request result)
-        calls.old (place_of flusher.old.file disk.old)
-        calls.new (place_of flusher.new.file disk.new) }
+        (change_of calls.old (place_of flusher.old.file disk.old)
+        calls.new (place_of flusher.new.file disk.new)) }
     ensures free { IsFree (C.has_key calls.new) (C.shown calls.new) }
     ensures inside { D.tells → IsInside flusher.new.file.base flusher.new.file.offset (D.state disk.new) }
     ensures outside { D.tells → StaysOutside (D.state disk.old) (D.state disk.new) }

@@ -5,7 +5,7 @@ ghost use Rattle.log_model.specs.Stored.{StaysOutside};
 ghost use Rattle.segment_files.specs.Turn.{IsInside};
 ghost use Rattle.broker_events.specs.declared.event.Event.TheVariants.{Look};
 ghost use Rattle.broker_events.specs.declared.said.Said.TheVariants as said;
-ghost use Rattle.request_acts.specs.Acts.{IsFree, Acted, place_of, view_of};
+ghost use Rattle.request_acts.specs.Acts.{IsFree, Acted, place_of, view_of, change_of};
 ghost use Rattle.request_acts.specs.Asking.{Looks, Tells};
 
 use crate::broken::Broken;
@@ -54,8 +54,8 @@ pub fn flush_and_look<C: Calls, D: Disk>(
     requires free { IsFree (C.has_key calls.old) (C.shown calls.old) }
     requires inside { D.tells → IsInside flusher.old.file.base flusher.old.file.offset (D.state disk.old) }
     ensures acted { Acted C.makes (view_of D.tells D.state D.faults D.syncs) (Looks reply awaits result)
-        calls.old (place_of flusher.old.file disk.old)
-        calls.new (place_of flusher.new.file disk.new) }
+        (change_of calls.old (place_of flusher.old.file disk.old)
+        calls.new (place_of flusher.new.file disk.new)) }
     ensures free { IsFree (C.has_key calls.new) (C.shown calls.new) }
     ensures inside { D.tells → IsInside flusher.new.file.base flusher.new.file.offset (D.state disk.new) }
     ensures outside { D.tells → StaysOutside (D.state disk.old) (D.state disk.new) }

@@ -4,7 +4,7 @@ ghost use Rattle.std.specs.Prelude.{◌≡◌, ◌≢◌};
 ghost use Rattle.log_model.specs.Stored.{StaysOutside};
 ghost use Rattle.segment_files.specs.Turn.{IsInside};
 ghost use Rattle.worker_turns.specs.Turns.{CountsEnd, TakesFrom};
-ghost use Rattle.request_acts.specs.Acts.{IsFree, Acted, place_of, view_of};
+ghost use Rattle.request_acts.specs.Acts.{IsFree, Acted, place_of, view_of, change_of};
 ghost use Rattle.request_acts.specs.Turning.{IsTurn, AreAllTurns, AllTurnsDispatched, IsDispatch, CountsAll};
 
 use crate::broken::Broken;
@@ -24,8 +24,8 @@ pub fn turn<C: Calls, D: Disk>(
     requires free { IsFree (C.has_key calls.old) (C.shown calls.old) }
     requires inside { D.tells → IsInside flusher.old.file.base flusher.old.file.offset (D.state disk.old) }
     ensures acted { Acted C.makes (view_of D.tells D.state D.faults D.syncs) (IsTurn result)
-        calls.old (place_of flusher.old.file disk.old)
-        calls.new (place_of flusher.new.file disk.new) }
+        (change_of calls.old (place_of flusher.old.file disk.old)
+        calls.new (place_of flusher.new.file disk.new)) }
     ensures free { IsFree (C.has_key calls.new) (C.shown calls.new) }
     ensures inside { D.tells → IsInside flusher.new.file.base flusher.new.file.offset (D.state disk.new) }
     ensures outside { D.tells → StaysOutside (D.state disk.old) (D.state disk.new) }
@@ -46,8 +46,8 @@ pub fn flush_all<C: Calls, D: Disk>(
     requires free { IsFree (C.has_key calls.old) (C.shown calls.old) }
     requires inside { D.tells → IsInside flusher.old.file.base flusher.old.file.offset (D.state disk.old) }
     ensures acted { Acted C.makes (view_of D.tells D.state D.faults D.syncs) (AreAllTurns result)
-        calls.old (place_of flusher.old.file disk.old)
-        calls.new (place_of flusher.new.file disk.new) }
+        (change_of calls.old (place_of flusher.old.file disk.old)
+        calls.new (place_of flusher.new.file disk.new)) }
     ensures free { IsFree (C.has_key calls.new) (C.shown calls.new) }
     ensures inside { D.tells → IsInside flusher.new.file.base flusher.new.file.offset (D.state disk.new) }
     ensures outside { D.tells → StaysOutside (D.state disk.old) (D.state disk.new) }
@@ -85,8 +85,8 @@ pub fn flush_and_dispatch<C: Calls, D: Disk>(
     requires free { IsFree (C.has_key calls.old) (C.shown calls.old) }
     requires inside { D.tells → IsInside flusher.old.file.base flusher.old.file.offset (D.state disk.old) }
     ensures acted { Acted C.makes (view_of D.tells D.state D.faults D.syncs) (AllTurnsDispatched result)
-        calls.old (place_of flusher.old.file disk.old)
-        calls.new (place_of flusher.new.file disk.new) }
+        (change_of calls.old (place_of flusher.old.file disk.old)
+        calls.new (place_of flusher.new.file disk.new)) }
     ensures free { IsFree (C.has_key calls.new) (C.shown calls.new) }
     ensures inside { D.tells → IsInside flusher.new.file.base flusher.new.file.offset (D.state disk.new) }
     ensures outside { D.tells → StaysOutside (D.state disk.old) (D.state disk.new) }

@@ -11,13 +11,14 @@ use Rattle.remoting_frame.proofs.StreamLaws.{next_shorter}
 use Rattle.session.specs.Hearing.{Hears, HearsNext, HearsNone}
 use Rattle.session.specs.declared.heard.Heard.{Heard}
 use Rattle.request_stream.specs.Serving.{Sides, Point, Ran, Broke}
-use Rattle.request_stream.specs.Telling.{CountsTelling}
+use Rattle.request_stream.specs.Telling.{CountsTelling, fault_counts}
 use Rattle.request_stream.specs.Piping.{CountsStop, CountsHalt, IsFaultAt, FaultAt, halt_of, NextHeard, ServedHeld, ServesHeld}
 use Rattle.request_stream.specs.declared.stop.Stop.{Stop}
 use Rattle.request_stream.specs.declared.stop.Stop.TheVariants as stops
 use Rattle.request_stream.specs.declared.stop.Halt.{Halt}
 use Rattle.request_stream.specs.declared.stop.Halt.TheVariants.{BadFrame, Read, Stopped}
 use Rattle.request_stream.proofs.ServingLemmas.{no_requests, ran_nothing, ran_then, broke_then, broke_memory, skipped_ran, skipped_broke}
+use Rattle.request_acts.specs.Acts.{change_of}
 
 -- ---- a frame is never empty
 
@@ -48,7 +49,7 @@ hears_fault faults.Memory old new hears = record { skipped = hears.skipped; skip
 -- ---- causes
 
 -- the clock gave a reading, and the request was served
-pub counts_stop : {A : Type 0} (result : Result A Stop) (sink sink_then clock clock_then : ℕ) → CountsTelling result sink sink_then → clock_then ≡ clock → CountsStop result sink sink_then clock clock_then
+pub counts_stop : {A : Type 0} (result : Result A Stop) (sink sink_then clock clock_then : ℕ) → CountsTelling result sink sink_then → clock_then ≡ clock → CountsStop result (fault_counts sink sink_then) (fault_counts clock clock_then)
 counts_stop (Ok done) sink sink_then clock clock_then counts same = (counts, same)
 counts_stop (Err stops.Clock) sink sink_then clock clock_then counts same = absurd counts
 counts_stop (Err stops.Sink) sink sink_then clock clock_then counts same = counts
@@ -57,18 +58,18 @@ counts_stop (Err stops.Misplaced) sink sink_then clock clock_then counts same = 
 
 -- behind requests that were served
 pub counts_later : (stop : Stop) (sink sink_mid sink_then clock clock_mid clock_then : ℕ) → sink_mid ≡ sink → clock_mid ≡ clock
-    → CountsStop {A = Unit {0}} (Err stop) sink_mid sink_then clock_mid clock_then → CountsHalt {A = Unit {0}} (Err (Stopped stop)) sink sink_then clock clock_then
+    → CountsStop {A = Unit {0}} (Err stop) (fault_counts sink_mid sink_then) (fault_counts clock_mid clock_then) → CountsHalt {A = Unit {0}} (Err (Stopped stop)) (fault_counts sink sink_then) (fault_counts clock clock_then)
 counts_later stops.Clock sink sink_mid sink_then clock clock_mid clock_then same_sink same_clock counts = subst (λ (n : ℕ). Rises n clock_then) same_clock counts
 counts_later stops.Sink sink sink_mid sink_then clock clock_mid clock_then same_sink same_clock counts = subst (λ (n : ℕ). Rises n sink_then) same_sink counts
 counts_later stops.Memory sink sink_mid sink_then clock clock_mid clock_then same_sink same_clock counts = tt
 counts_later stops.Misplaced sink sink_mid sink_then clock clock_mid clock_then same_sink same_clock counts = tt
 
 -- no request was found
-pub counts_none : (halt : Halt) (old new : Held) (sink sink_then clock clock_then : ℕ) → NextHeard old (Err halt) new → CountsHalt {A = Unit {0}} (Err halt) sink sink_then clock clock_then
+pub counts_none : (halt : Halt) (old new : Held) (sink sink_then clock clock_then : ℕ) → NextHeard old (Err halt) new → CountsHalt {A = Unit {0}} (Err halt) (fault_counts sink sink_then) (fault_counts clock clock_then)
 counts_none (BadFrame place) old new sink sink_then clock clock_then none = tt
 counts_none Read old new sink sink_then clock clock_then none = absurd none
 counts_none (Stopped stop) old new sink sink_then clock clock_then none =
-    subst (λ (s : Stop). CountsStop {A = Unit {0}} (Err s) sink sink_then clock clock_then) (sym none.here) tt
+    subst (λ (s : Stop). CountsStop {A = Unit {0}} (Err s) (fault_counts sink sink_then) (fault_counts clock clock_then)) (sym none.here) tt
 
 -- ---- requests that are held
 
@@ -84,12 +85,12 @@ begins_then at bytes (frame ∷ frames) more mid end held rest first then = (fir
 
 module _ {C D : Type 0} (sides : Sides C D) (from : Held) (x : C) (p : Point D) where
   -- nothing was asked for yet
-  pub held_start : ServedHeld sides from from x p x p
+  pub held_start : ServedHeld sides from from (change_of x p x p)
   held_start = record { frames = []; cut = (refl, refl); ran = ran_nothing sides [] x p refl }
 
   -- one request more
-  pub held_more : (heard : Heard) (old new : Held) (y z : C) (q r : Point D) → ServedHeld sides from old x p y q → (hears : HearsNext heard old new) → Ran sides (hears.frame ∷ []) y q z r
-      → ServedHeld sides from new x p z r
+  pub held_more : (heard : Heard) (old new : Held) (y z : C) (q r : Point D) → ServedHeld sides from old (change_of x p y q) → (hears : HearsNext heard old new) → Ran sides (hears.frame ∷ []) (change_of y q z r)
+      → ServedHeld sides from new (change_of x p z r)
   held_more heard old new y z q r served hears ran = record {
     frames = served.frames ++ (hears.skipped ++ hears.frame ∷ []);
     cut = begins_then from.at from.bytes served.frames (hears.skipped ++ hears.frame ∷ []) old.at new.at old.bytes new.bytes served.cut hears.begins;
@@ -97,8 +98,8 @@ module _ {C D : Type 0} (sides : Sides C D) (from : Held) (x : C) (p : Point D) 
   }
 
   -- one at which something ended it
-  pub held_broke : {A : Type 0} (stop : Stop) (heard : Heard) (old new : Held) (y z : C) (q r : Point D) → ServedHeld sides from old x p y q → (hears : HearsNext heard old new)
-      → Broke sides stop (hears.frame ∷ []) y q z r → ServesHeld {A = A} sides (Err (Stopped stop)) from new x p z r
+  pub held_broke : {A : Type 0} (stop : Stop) (heard : Heard) (old new : Held) (y z : C) (q r : Point D) → ServedHeld sides from old (change_of x p y q) → (hears : HearsNext heard old new)
+      → Broke sides stop (hears.frame ∷ []) (change_of y q z r) → ServesHeld {A = A} sides (Err (Stopped stop)) from new (change_of x p z r)
   held_broke stop heard old new y z q r served hears broke = record {
     frames = served.frames ++ (hears.skipped ++ hears.frame ∷ []);
     cut = begins_then from.at from.bytes served.frames (hears.skipped ++ hears.frame ∷ []) old.at new.at old.bytes new.bytes served.cut hears.begins;
@@ -107,27 +108,27 @@ module _ {C D : Type 0} (sides : Sides C D) (from : Held) (x : C) (p : Point D) 
   }
 
   -- only responses were left
-  rest_ran : {P : Type 0} (old new : Held) (y : C) (q : Point D) (served : ServedHeld sides from old x p y q) → (none : HearsNone old new P) → Ran sides (served.frames ++ none.skipped) x p y q
+  rest_ran : {P : Type 0} (old new : Held) (y : C) (q : Point D) (served : ServedHeld sides from old (change_of x p y q)) → (none : HearsNone old new P) → Ran sides (served.frames ++ none.skipped) (change_of x p y q)
   rest_ran old new y q served none =
       ran_then sides served.frames none.skipped x y y p q q served.ran (ran_nothing sides none.skipped y q (no_requests none.skipped none.skips.responses))
 
-  rest_cut : {P : Type 0} (old new : Held) (y : C) (q : Point D) (served : ServedHeld sides from old x p y q) → (none : HearsNone old new P)
+  rest_cut : {P : Type 0} (old new : Held) (y : C) (q : Point D) (served : ServedHeld sides from old (change_of x p y q)) → (none : HearsNone old new P)
       → BeginsWith from.at from.bytes (served.frames ++ none.skipped) new.at new.bytes
   rest_cut old new y q served none = begins_then from.at from.bytes served.frames none.skipped old.at new.at old.bytes new.bytes served.cut none.skips.begins
 
-  pub held_ended : (old new : Held) (y : C) (q : Point D) → ServedHeld sides from old x p y q → HearsNone old new (next_of new.at new.bytes ≡ Ok None)
-      → ServesHeld {A = Unit {0}} sides (Ok tt) from new x p y q
+  pub held_ended : (old new : Held) (y : C) (q : Point D) → ServedHeld sides from old (change_of x p y q) → HearsNone old new (next_of new.at new.bytes ≡ Ok None)
+      → ServesHeld {A = Unit {0}} sides (Ok tt) from new (change_of x p y q)
   held_ended old new y q served none =
       record { frames = served.frames ++ none.skipped; cut = rest_cut old new y q served none; ran = rest_ran old new y q served none; halts = none.here }
 
-  pub held_halted : (halt : Halt) (old new : Held) (y : C) (q : Point D) → ServedHeld sides from old x p y q → NextHeard old (Err halt) new → ServesHeld {A = Unit {0}} sides (Err halt) from new x p y q
+  pub held_halted : (halt : Halt) (old new : Held) (y : C) (q : Point D) → ServedHeld sides from old (change_of x p y q) → NextHeard old (Err halt) new → ServesHeld {A = Unit {0}} sides (Err halt) from new (change_of x p y q)
   held_halted (BadFrame place) old new y q served none =
       record { frames = served.frames ++ none.skipped; cut = rest_cut old new y q served none; ran = rest_ran old new y q served none; halts = none.here }
   held_halted Read old new y q served none = absurd none
   held_halted (Stopped stop) old new y q served none = record {
     frames = served.frames ++ none.skipped;
     cut = rest_cut old new y q served none;
-    ran = subst (λ (s : Stop). Broke sides s (served.frames ++ none.skipped) x p y q) (sym none.here)
+    ran = subst (λ (s : Stop). Broke sides s (served.frames ++ none.skipped) (change_of x p y q)) (sym none.here)
         (broke_memory sides (served.frames ++ none.skipped) x y p q (rest_ran old new y q served none));
     halts = tt;
   }

@@ -7,7 +7,7 @@ use Rattle.mq_outside.specs.Readings.{Giving}
 use Rattle.remoting_frame.specs.declared.frame.Frame.{Frame}
 use Rattle.session.specs.Hearing.{AreResponses, is_response}
 use Rattle.session.specs.Talks.{requests_of}
-use Rattle.request_acts.specs.Acts.{Act, Acts, Place}
+use Rattle.request_acts.specs.Acts.{Act, Acts, Place, change_of}
 use Rattle.request_stream.specs.Telling.{TookPart}
 use Rattle.request_stream.specs.Serving.{Sides, Point, point_of, Served, served_as, AreServed, acts_of, bytes_of, frames_of, readings_of, Ran, Nothing, Asked, begun_acts, begun_bytes, begun_readings, Breaks, Broke, Serves, HasPartlyServed, HasBroken, ServesAt, sides_of}
 use Rattle.request_stream.specs.declared.stop.Stop.{Stop}
@@ -47,7 +47,7 @@ more_behind given bytes piece mid new more before = more ∙ ap (λ (l : List �
 module _ {C D : Type 0} (sides : Sides C D) where
   -- ---- runs
 
-  pub ran_nothing : (frames : List Frame) (x : C) (p : Point D) → requests_of frames ≡ [] → Ran sides frames x p x p
+  pub ran_nothing : (frames : List Frame) (x : C) (p : Point D) → requests_of frames ≡ [] → Ran sides frames (change_of x p x p)
   ran_nothing frames x p none = record {
     served = [];
     asked = sym none;
@@ -57,13 +57,13 @@ module _ {C D : Type 0} (sides : Sides C D) where
     read = λ told. sym (append-nil p.readings);
   }
 
-  pub ran_then : (frames more : List Frame) (x y z : C) (p q r : Point D) → Ran sides frames x p y q → Ran sides more y q z r → Ran sides (frames ++ more) x p z r
+  pub ran_then : (frames more : List Frame) (x y z : C) (p q r : Point D) → Ran sides frames (change_of x p y q) → Ran sides more (change_of y q z r) → Ran sides (frames ++ more) (change_of x p z r)
   ran_then frames more x y z p q r first later = record {
     served = first.served ++ later.served;
     asked = map-append (λ (it : Served). it.frame) first.served later.served ∙ ap (λ (l : List Frame). l ++ frames_of later.served) first.asked
         ∙ ap (λ (l : List Frame). requests_of frames ++ l) later.asked ∙ sym (requests_then frames more);
     each = served_then sides.gives first.served later.served p.reads q.reads r.reads first.each later.each;
-    happened = subst (λ (l : List Act). Acts sides.makes sides.disk l x p.place z r.place) (sym (acts_of-append first.served later.served))
+    happened = subst (λ (l : List Act). Acts sides.makes sides.disk l (change_of x p.place z r.place)) (sym (acts_of-append first.served later.served))
         (acts_then sides.makes sides.disk (acts_of first.served) (acts_of later.served) x y z p.place q.place r.place first.happened later.happened);
     answered = λ told. more_behind p.taken (bytes_of first.served) (bytes_of later.served) q.taken r.taken (later.answered told) (first.answered told)
         ∙ ap (λ (l : List ℕ). p.taken ++ l) (sym (bytes_of-append first.served later.served));
@@ -71,7 +71,7 @@ module _ {C D : Type 0} (sides : Sides C D) where
         ∙ ap (λ (l : List ℕ). p.readings ++ l) (sym (map-append (λ (it : Served). it.reading) first.served later.served));
   }
 
-  pub broke_then : (stop : Stop) (frames more : List Frame) (x y z : C) (p q r : Point D) → Ran sides frames x p y q → Broke sides stop more y q z r → Broke sides stop (frames ++ more) x p z r
+  pub broke_then : (stop : Stop) (frames more : List Frame) (x y z : C) (p q r : Point D) → Ran sides frames (change_of x p y q) → Broke sides stop more (change_of y q z r) → Broke sides stop (frames ++ more) (change_of x p z r)
   broke_then stop frames more x y z p q r first later = record {
     served = first.served ++ later.served;
     begun = later.begun;
@@ -83,7 +83,7 @@ module _ {C D : Type 0} (sides : Sides C D) where
     next = later.next;
     each = served_then sides.gives first.served later.served p.reads q.reads later.mid first.each later.each;
     breaks = later.breaks;
-    happened = subst (λ (l : List Act). Acts sides.makes sides.disk l x p.place z r.place)
+    happened = subst (λ (l : List Act). Acts sides.makes sides.disk l (change_of x p.place z r.place))
         (sym (append_assoc (acts_of first.served) (acts_of later.served) (begun_acts later.begun)) ∙ ap (λ (l : List Act). l ++ begun_acts later.begun) (sym (acts_of-append first.served later.served)))
         (acts_then sides.makes sides.disk (acts_of first.served) (acts_of later.served ++ begun_acts later.begun) x y z p.place q.place r.place first.happened later.happened);
     answered = λ told. subst (λ (l : List ℕ). TookPart l r.taken (begun_bytes later.begun))
@@ -97,7 +97,7 @@ module _ {C D : Type 0} (sides : Sides C D) where
 
   -- it broke off with nothing begun
   pub broke_idle : (stop : Stop) (frames : List Frame) (x : C) (place : Place D) (reads : ℕ) (taken readings readings_then : List ℕ) → Breaks sides.gives stop Nothing reads reads
-      → (sides.clock → readings_then ≡ readings) → Broke sides stop frames x (point_of place reads taken readings) x (point_of place reads taken readings_then)
+      → (sides.clock → readings_then ≡ readings) → Broke sides stop frames (change_of x (point_of place reads taken readings) x (point_of place reads taken readings_then))
   broke_idle stop frames x place reads taken readings readings_then breaks same = record {
     served = [];
     begun = Nothing;
@@ -112,16 +112,16 @@ module _ {C D : Type 0} (sides : Sides C D) where
     read = λ told. same told ∙ sym (append-nil readings);
   }
 
-  pub broke_memory : (frames : List Frame) (x y : C) (p q : Point D) → Ran sides frames x p y q → Broke sides stops.Memory frames x p y q
+  pub broke_memory : (frames : List Frame) (x y : C) (p q : Point D) → Ran sides frames (change_of x p y q) → Broke sides stops.Memory frames (change_of x p y q)
   broke_memory frames x y p q ran =
-      subst (λ (l : List Frame). Broke sides stops.Memory l x p y q) (append-nil frames)
+      subst (λ (l : List Frame). Broke sides stops.Memory l (change_of x p y q)) (append-nil frames)
       (broke_then stops.Memory frames [] x y y p q q ran (broke_idle stops.Memory [] y q.place q.reads q.taken q.readings q.readings tt (λ told. refl)))
 
   -- behind frames that are responses
-  pub skipped_ran : (skipped more : List Frame) (x y : C) (p q : Point D) → AreResponses skipped → Ran sides more x p y q → Ran sides (skipped ++ more) x p y q
+  pub skipped_ran : (skipped more : List Frame) (x y : C) (p q : Point D) → AreResponses skipped → Ran sides more (change_of x p y q) → Ran sides (skipped ++ more) (change_of x p y q)
   skipped_ran skipped more x y p q all ran = ran_then skipped more x x y p p q (ran_nothing skipped x p (no_requests skipped all)) ran
 
-  pub skipped_broke : (stop : Stop) (skipped more : List Frame) (x y : C) (p q : Point D) → AreResponses skipped → Broke sides stop more x p y q → Broke sides stop (skipped ++ more) x p y q
+  pub skipped_broke : (stop : Stop) (skipped more : List Frame) (x y : C) (p q : Point D) → AreResponses skipped → Broke sides stop more (change_of x p y q) → Broke sides stop (skipped ++ more) (change_of x p y q)
   skipped_broke stop skipped more x y p q all broke = broke_then stop skipped more x x y p p q (ran_nothing skipped x p (no_requests skipped all)) broke
 
 -- ---- one request
@@ -131,9 +131,9 @@ module _ {C D : Type 0} (sides : Sides C D) (other : Type 0) (frame : Frame) (re
   of_one = sides_of sides.makes sides.gives sides.disk sides.sink other
 
   partly_broke : (stop : Stop) (acts : List Act) (bytes : List ℕ) → is_response frame.header ≡ false → (sides.clock → readings_then ≡ readings ++ reading ∷ [])
-      → Breaks sides.gives stop (Asked (served_as frame reading acts bytes)) reads reads_then → Acts sides.makes sides.disk acts x old y new
+      → Breaks sides.gives stop (Asked (served_as frame reading acts bytes)) reads reads_then → Acts sides.makes sides.disk acts (change_of x old y new)
       → (sides.sink → TookPart taken taken_then bytes)
-      → Broke sides stop (frame ∷ []) x (point_of old reads taken readings) y (point_of new reads_then taken_then readings_then)
+      → Broke sides stop (frame ∷ []) (change_of x (point_of old reads taken readings) y (point_of new reads_then taken_then readings_then))
   partly_broke stop acts bytes asks read breaks happened took = record {
     served = [];
     begun = Asked (served_as frame reading acts bytes);
@@ -149,27 +149,27 @@ module _ {C D : Type 0} (sides : Sides C D) (other : Type 0) (frame : Frame) (re
   }
 
   pub one_served : {A : Type 0} (result : Result A Stop) → is_response frame.header ≡ false → (sides.clock → readings_then ≡ readings ++ reading ∷ [])
-      → ServesAt of_one frame reading result x (point_of old reads taken []) y (point_of new reads_then taken_then [])
-      → Serves sides result (frame ∷ []) x (point_of old reads taken readings) y (point_of new reads_then taken_then readings_then)
+      → ServesAt of_one frame reading result (change_of x (point_of old reads taken []) y (point_of new reads_then taken_then []))
+      → Serves sides result (frame ∷ []) (change_of x (point_of old reads taken readings) y (point_of new reads_then taken_then readings_then))
   one_served (Ok done) asks read it = record {
     served = served_as frame reading it.acts it.bytes ∷ [];
     asked = sym (one_request frame asks);
     each = (reads_then, it.served, refl);
-    happened = subst (λ (l : List Act). Acts sides.makes sides.disk l x old y new) (sym (append-nil it.acts)) it.happened;
+    happened = subst (λ (l : List Act). Acts sides.makes sides.disk l (change_of x old y new)) (sym (append-nil it.acts)) it.happened;
     answered = λ told. it.taken_is told ∙ ap (λ (l : List ℕ). taken ++ l) (sym (append-nil it.bytes));
     read = read;
   }
   one_served (Err stops.Clock) asks read it = absurd it
   one_served (Err stops.Sink) asks read it = partly_broke stops.Sink it.acts it.bytes asks read it.served it.happened it.took
   one_served (Err stops.Memory) asks read it = ⊎_elim
-      (λ (some : HasPartlyServed of_one stops.Memory frame reading x (point_of old reads taken []) y (point_of new reads_then taken_then [])).
+      (λ (some : HasPartlyServed of_one stops.Memory frame reading (change_of x (point_of old reads taken []) y (point_of new reads_then taken_then []))).
       partly_broke stops.Memory some.acts some.bytes asks read (inr some.served) some.happened some.took)
-      (λ (none : HasBroken of_one stops.Memory x (point_of old reads taken []) y (point_of new reads_then taken_then [])).
+      (λ (none : HasBroken of_one stops.Memory (change_of x (point_of old reads taken []) y (point_of new reads_then taken_then []))).
       partly_broke stops.Memory none.acts [] asks read (inl refl) none.happened (λ told. took_none taken taken_then [] (none.still told)))
       it
   one_served (Err stops.Misplaced) asks read it = ⊎_elim
-      (λ (some : HasPartlyServed of_one stops.Misplaced frame reading x (point_of old reads taken []) y (point_of new reads_then taken_then [])).
+      (λ (some : HasPartlyServed of_one stops.Misplaced frame reading (change_of x (point_of old reads taken []) y (point_of new reads_then taken_then []))).
       partly_broke stops.Misplaced some.acts some.bytes asks read (some.stopped, inr some.served) some.happened some.took)
-      (λ (none : HasBroken of_one stops.Misplaced x (point_of old reads taken []) y (point_of new reads_then taken_then [])).
+      (λ (none : HasBroken of_one stops.Misplaced (change_of x (point_of old reads taken []) y (point_of new reads_then taken_then []))).
       partly_broke stops.Misplaced none.acts [] asks read (none.stopped, inl refl) none.happened (λ told. took_none taken taken_then [] (none.still told)))
       it

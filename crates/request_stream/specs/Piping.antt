@@ -9,7 +9,8 @@ use Rattle.remoting_frame.specs.declared.fault.FrameFault.{FrameFault}
 use Rattle.remoting_frame.specs.declared.fault.FrameFault.TheVariants as faults
 use Rattle.session.specs.Hearing.{HearsNext, HearsNone}
 use Rattle.session.specs.declared.heard.Heard.{Heard}
-use Rattle.request_acts.specs.Acts.{Act}
+use Rattle.request_acts.specs.Acts.{Act, Change}
+use Rattle.request_stream.specs.Telling.{FaultCounts}
 use Rattle.request_stream.specs.Serving.{Sides, Point, Ran, Broke, acts_of, begun_acts}
 use Rattle.request_stream.specs.declared.stop.Stop.{Stop}
 use Rattle.request_stream.specs.declared.stop.Stop.TheVariants.{Clock, Sink, Memory, Misplaced}
@@ -19,27 +20,26 @@ use Rattle.request_stream.specs.declared.stop.Halt.TheVariants.{BadFrame, Read, 
 -- ---- causes
 
 -- the sink's and the clock's counts of faults: each rises where it ended the serving of a request
-abbrev pub CountsStop : {A : Type 0} → Result A Stop → ℕ → ℕ → ℕ → ℕ → Type 0
-CountsStop (Ok done) sink sink_then clock clock_then = (sink_then ≡ sink) × (clock_then ≡ clock)
-CountsStop (Err Clock) sink sink_then clock clock_then = Rises clock clock_then
-CountsStop (Err Sink) sink sink_then clock clock_then = Rises sink sink_then
-CountsStop (Err Memory) sink sink_then clock clock_then = Unit {0}
-CountsStop (Err Misplaced) sink sink_then clock clock_then = Unit {0}
+abbrev pub CountsStop : {A : Type 0} → Result A Stop → FaultCounts → FaultCounts → Type 0
+CountsStop (Ok done) sink clock = (sink.new ≡ sink.old) × (clock.new ≡ clock.old)
+CountsStop (Err Clock) sink clock = Rises clock.old clock.new
+CountsStop (Err Sink) sink clock = Rises sink.old sink.new
+CountsStop (Err Memory) sink clock = Unit {0}
+CountsStop (Err Misplaced) sink clock = Unit {0}
 
 -- of the frames that are held
-abbrev pub CountsHalt : {A : Type 0} → Result A Halt → ℕ → ℕ → ℕ → ℕ → Type 0
-CountsHalt (Ok done) sink sink_then clock clock_then = (sink_then ≡ sink) × (clock_then ≡ clock)
-CountsHalt (Err (BadFrame place)) sink sink_then clock clock_then = Unit {0}
-CountsHalt (Err Read) sink sink_then clock clock_then = ⊥
-CountsHalt (Err (Stopped stop)) sink sink_then clock clock_then = CountsStop {A = Unit {0}} (Err stop) sink sink_then clock clock_then
+abbrev pub CountsHalt : {A : Type 0} → Result A Halt → FaultCounts → FaultCounts → Type 0
+CountsHalt (Ok done) sink clock = (sink.new ≡ sink.old) × (clock.new ≡ clock.old)
+CountsHalt (Err (BadFrame place)) sink clock = Unit {0}
+CountsHalt (Err Read) sink clock = ⊥
+CountsHalt (Err (Stopped stop)) sink clock = CountsStop {A = Unit {0}} (Err stop) sink clock
 
 -- of a whole stream
-abbrev pub CountsPipe : {A : Type 0} → Result A Halt → ℕ → ℕ → ℕ → ℕ → ℕ → ℕ → Type 0
-CountsPipe (Ok done) source source_then sink sink_then clock clock_then = Unit {0}
-CountsPipe (Err (BadFrame place)) source source_then sink sink_then clock clock_then = Unit {0}
-CountsPipe (Err Read) source source_then sink sink_then clock clock_then = Rises source source_then
-CountsPipe (Err (Stopped stop)) source source_then sink sink_then clock clock_then = CountsStop {A = Unit {0}} (Err stop) sink sink_then
-    clock clock_then
+abbrev pub CountsPipe : {A : Type 0} → Result A Halt → (source sink clock : FaultCounts) → Type 0
+CountsPipe (Ok done) source sink clock = Unit {0}
+CountsPipe (Err (BadFrame place)) source sink clock = Unit {0}
+CountsPipe (Err Read) source sink clock = Rises source.old source.new
+CountsPipe (Err (Stopped stop)) source sink clock = CountsStop {A = Unit {0}} (Err stop) sink clock
 
 -- ---- frames that are held
 
@@ -72,11 +72,11 @@ NextHeard old (Err Read) new = ⊥
 NextHeard old (Err (Stopped stop)) new = HearsNone old new (stop ≡ Memory)
 
 -- all requests were served, or this ended it at one of them
-abbrev pub RanBy : {C D A : Type 0} → Sides C D → Result A Halt → List Frame → C → Point D → C → Point D → Type 0
-RanBy sides (Ok done) frames x old y new = Ran sides frames x old y new
-RanBy sides (Err (BadFrame place)) frames x old y new = Ran sides frames x old y new
-RanBy sides (Err Read) frames x old y new = Ran sides frames x old y new
-RanBy sides (Err (Stopped stop)) frames x old y new = Broke sides stop frames x old y new
+abbrev pub RanBy : {C D A : Type 0} → Sides C D → Result A Halt → List Frame → Change C (Point D) → Type 0
+RanBy sides (Ok done) frames change = Ran sides frames change
+RanBy sides (Err (BadFrame place)) frames change = Ran sides frames change
+RanBy sides (Err Read) frames change = Ran sides frames change
+RanBy sides (Err (Stopped stop)) frames change = Broke sides stop frames change
 
 -- what stands behind the frames that were served
 abbrev pub HaltsAt : {A : Type 0} → Result A Halt → Held → Type 0
@@ -86,19 +86,18 @@ HaltsAt (Err Read) held = ⊥
 HaltsAt (Err (Stopped stop)) held = Unit {0}
 
 -- the frames at the front of what was held were served
-pub record ServesHeld {C D A : Type 0} (sides : Sides C D) (result : Result A Halt) (held held_then : Held) (x : C) (old : Point D) (y : C)
-    (new : Point D) : Type 0 where
+pub record ServesHeld {C D A : Type 0} (sides : Sides C D) (result : Result A Halt) (held held_then : Held)
+    (change : Change C (Point D)) : Type 0 where
   pub frames : List Frame
   pub cut : BeginsWith held.at held.bytes frames held_then.at held_then.bytes
-  pub ran : RanBy sides result frames x old y new
+  pub ran : RanBy sides result frames change
   pub halts : HaltsAt result held_then
 
 -- the same while more may be held
-pub record ServedHeld {C D : Type 0} (sides : Sides C D) (held held_then : Held) (x : C) (old : Point D) (y : C)
-    (new : Point D) : Type 0 where
+pub record ServedHeld {C D : Type 0} (sides : Sides C D) (held held_then : Held) (change : Change C (Point D)) : Type 0 where
   pub frames : List Frame
   pub cut : BeginsWith held.at held.bytes frames held_then.at held_then.bytes
-  pub ran : Ran sides frames x old y new
+  pub ran : Ran sides frames change
 
 -- ---- the whole stream
 
@@ -138,8 +137,8 @@ EndsBy (Err (Stopped stop)) at rest bytes source left = Unit {0}
 
 -- The bytes that were read are these frames and what stands behind them, and the requests among the frames were served in order,
 -- or those before the one at which this ended it.
-pub record Piped {C D A : Type 0} (sides : Sides C D) (result : Result A Halt) (source : SourceSeen) (x : C) (old : Point D) (y : C)
-    (new : Point D) : Type 0 where
+pub record Piped {C D A : Type 0} (sides : Sides C D) (result : Result A Halt) (source : SourceSeen)
+    (change : Change C (Point D)) : Type 0 where
   pub bytes : List ℕ
   pub frames : List Frame
   pub at : ℕ
@@ -147,17 +146,21 @@ pub record Piped {C D A : Type 0} (sides : Sides C D) (result : Result A Halt) (
   pub given_is : source.tells → source.given_then ≡ source.given ++ bytes
   pub cut : BeginsWith 0 bytes frames at rest
   pub ends : EndsBy result at rest bytes source.tells source.left_then
-  pub ran : RanBy sides result frames x old y new
+  pub ran : RanBy sides result frames change
+
+-- the source gave these bytes, where it tells what it gives
+abbrev pub Gave : Type 0 → List ℕ → List ℕ → List ℕ → Type 0
+Gave source given given_then bytes = source → given_then ≡ given ++ bytes
 
 -- so many bytes were read, all of their frames were served, and the rest is held
-pub record SoFar {C D : Type 0} (sides : Sides C D) (total : ℕ) (held : Held) (source : Type 0) (given given_then : List ℕ) (x : C)
-    (old : Point D) (y : C) (new : Point D) : Type 0 where
+pub record SoFar {C D : Type 0} (sides : Sides C D) (total : ℕ) (held : Held) (gave : List ℕ → Type 0)
+    (change : Change C (Point D)) : Type 0 where
   pub bytes : List ℕ
   pub frames : List Frame
   pub total_is : length bytes ≡ total
-  pub given_is : source → given_then ≡ given ++ bytes
+  pub given_is : gave bytes
   pub cut : BeginsWith 0 bytes frames held.at held.bytes
-  pub ran : Ran sides frames x old y new
+  pub ran : Ran sides frames change
 
 -- nothing is held where the source ended between two frames, and else the place is that of the frame that it ends in
 abbrev pub EndsHere : Held → Result (Unit {0}) Halt → Type 0
@@ -167,10 +170,9 @@ EndsHere held (Err Read) = ⊥
 EndsHere held (Err (Stopped stop)) = ⊥
 
 -- what happened for the requests
-abbrev pub acts_in : {C D A : Type 0} (sides : Sides C D) (result : Result A Halt) (frames : List Frame) (x : C) (old : Point D) (y : C)
-    (new : Point D)
-    → RanBy sides result frames x old y new → List Act
-acts_in sides (Ok done) frames x old y new ran = acts_of ran.served
-acts_in sides (Err (BadFrame place)) frames x old y new ran = acts_of ran.served
-acts_in sides (Err Read) frames x old y new ran = acts_of ran.served
-acts_in sides (Err (Stopped stop)) frames x old y new ran = acts_of ran.served ++ begun_acts ran.begun
+abbrev pub acts_in : {C D A : Type 0} (sides : Sides C D) (result : Result A Halt) (frames : List Frame) (change : Change C (Point D))
+    → RanBy sides result frames change → List Act
+acts_in sides (Ok done) frames change ran = acts_of ran.served
+acts_in sides (Err (BadFrame place)) frames change ran = acts_of ran.served
+acts_in sides (Err Read) frames change ran = acts_of ran.served
+acts_in sides (Err (Stopped stop)) frames change ran = acts_of ran.served ++ begun_acts ran.begun

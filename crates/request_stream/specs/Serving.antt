@@ -11,10 +11,10 @@ use Rattle.session.specs.Talks.{requests_of}
 use Rattle.session.specs.declared.caller.Caller.{Caller}
 use Rattle.session.specs.declared.owed.Awaits.{Awaits}
 use Rattle.worker_turns.specs.Turns.{Steps}
-use Rattle.request_acts.specs.Acts.{Act, Acts, DiskView, Place, HasUnwritten}
+use Rattle.request_acts.specs.Acts.{Act, Acts, Change, DiskView, Place, HasUnwritten, change_of}
 use Rattle.request_acts.specs.Turning.{AreTurnsAndDispatch}
 use Rattle.request_acts.specs.Asking.{IsGiven, IsLooked}
-use Rattle.request_stream.specs.Telling.{IsTold, TookPart}
+use Rattle.request_stream.specs.Telling.{FaultCounts, fault_counts, IsTold, TookPart}
 use Rattle.request_acts.specs.declared.answer.Answer.{Answer}
 use Rattle.request_stream.specs.declared.stop.Stop.{Stop}
 use Rattle.request_stream.specs.declared.stop.Stop.TheVariants.{Clock, Sink, Memory, Misplaced}
@@ -41,6 +41,10 @@ pub record Point (D : Type 0) : Type 0 where
 abbrev pub point_of : {D : Type 0} → Place D → ℕ → List ℕ → List ℕ → Point D
 point_of place reads taken readings = record { place = place; reads = reads; taken = taken; readings = readings }
 
+-- the places of the disk in it
+abbrev pub places_of : {C D : Type 0} → Change C (Point D) → Change C (Place D)
+places_of change = change_of change.calls change.place.place change.calls_then change.place_then.place
+
 -- ---- one request
 
 -- who waits for the answer to the frame
@@ -57,20 +61,6 @@ abbrev pub IsFollowed : Option Awaits → List Act → Type 0
 IsFollowed None acts = AreTurnsAndDispatch acts
 IsFollowed (Some awaits) acts = acts ≡ []
 
--- The frame was read, what it asks was given to the broker at the reading of the clock, its record was waited for if the answer
--- says so, and these are the bytes that answer it.
-pub record IsAnswered (gives : Giving) (frame : Frame) (reading : ℕ) (answer : Answer) (acts : List Act) (bytes : List ℕ)
-    (faults faults_then : ℕ) : Type 0 where
-  pub request : Result Request RequestFault
-  pub given : List Act
-  pub settled : List Act
-  pub reply : ReplyParts
-  pub read : Reads request (request_of frame.header frame.body)
-  pub is_given : IsGiven frame.header.code reading request answer given
-  pub is_settled : IsSettled answer.reply answer.awaits reply settled
-  pub told : IsTold gives (caller_of frame) reply faults faults_then bytes
-  pub are_all : acts ≡ given ++ settled
-
 -- a request, the reading that was taken for it, what happened for it, and what was written
 pub record Served : Type 0 where
   pub frame : Frame
@@ -81,6 +71,19 @@ pub record Served : Type 0 where
 abbrev pub served_as : Frame → ℕ → List Act → List ℕ → Served
 served_as frame reading acts bytes = record { frame = frame; reading = reading; acts = acts; bytes = bytes }
 
+-- The frame was read, what it asks was given to the broker at the reading of the clock, its record was waited for if the answer
+-- says so, and these are the bytes that answer it.
+pub record IsAnswered (gives : Giving) (it : Served) (answer : Answer) (faults : FaultCounts) : Type 0 where
+  pub request : Result Request RequestFault
+  pub given : List Act
+  pub settled : List Act
+  pub reply : ReplyParts
+  pub read : Reads request (request_of it.frame.header it.frame.body)
+  pub is_given : IsGiven it.frame.header.code it.reading request answer given
+  pub is_settled : IsSettled answer.reply answer.awaits reply settled
+  pub told : IsTold gives (caller_of it.frame) reply faults it.bytes
+  pub are_all : it.acts ≡ given ++ settled
+
 -- what was pending was flushed, it was answered, and flush turns came behind a reply that was told at once
 pub record IsServed (gives : Giving) (it : Served) (faults faults_then : ℕ) : Type 0 where
   pub answer : Answer
@@ -88,7 +91,7 @@ pub record IsServed (gives : Giving) (it : Served) (faults faults_then : ℕ) : 
   pub first : List Act
   pub later : List Act
   pub turned : AreTurnsAndDispatch before
-  pub answered : IsAnswered gives it.frame it.reading answer first it.bytes faults faults_then
+  pub answered : IsAnswered gives (served_as it.frame it.reading first it.bytes) answer (fault_counts faults faults_then)
   pub followed : IsFollowed answer.awaits later
   pub are_all : it.acts ≡ before ++ (first ++ later)
 
@@ -99,7 +102,7 @@ pub record IsPartly (gives : Giving) (it : Served) (faults faults_then : ℕ) : 
   pub first : List Act
   pub later : List Act
   pub turned : AreTurnsAndDispatch before
-  pub answered : IsAnswered gives it.frame it.reading answer first it.bytes faults faults_then
+  pub answered : IsAnswered gives (served_as it.frame it.reading first it.bytes) answer (fault_counts faults faults_then)
   pub are_all : it.acts ≡ before ++ (first ++ later)
 
 -- ---- many
@@ -127,13 +130,13 @@ readings_of = map (λ it. it.reading)
 
 -- The requests among the frames were served, in order. What is said of the sink and the clock is said where these tell what they
 -- hold.
-pub record Ran {C D : Type 0} (sides : Sides C D) (frames : List Frame) (x : C) (old : Point D) (y : C) (new : Point D) : Type 0 where
+pub record Ran {C D : Type 0} (sides : Sides C D) (frames : List Frame) (change : Change C (Point D)) : Type 0 where
   pub served : List Served
   pub asked : frames_of served ≡ requests_of frames
-  pub each : AreServed sides.gives old.reads served new.reads
-  pub happened : Acts sides.makes sides.disk (acts_of served) x old.place y new.place
-  pub answered : sides.sink → new.taken ≡ old.taken ++ bytes_of served
-  pub read : sides.clock → new.readings ≡ old.readings ++ readings_of served
+  pub each : AreServed sides.gives change.place.reads served change.place_then.reads
+  pub happened : Acts sides.makes sides.disk (acts_of served) (places_of change)
+  pub answered : sides.sink → change.place_then.taken ≡ change.place.taken ++ bytes_of served
+  pub read : sides.clock → change.place_then.readings ≡ change.place.readings ++ readings_of served
 
 -- What was begun when serving broke off: nothing, where the clock failed or memory ran out between two requests; and else a
 -- request with what happened for it. Its bytes are none, or those of its answer.
@@ -178,93 +181,89 @@ Breaks gives Misplaced Nothing faults faults_then = ⊥
 Breaks gives Misplaced (Asked it) faults faults_then = HasUnwritten it.acts × ((it.bytes ≡ []) ⊎ IsPartly gives it faults faults_then)
 
 -- The same where this ended it. What was written of the request that was begun is a front of its answer.
-pub record Broke {C D : Type 0} (sides : Sides C D) (stop : Stop) (frames : List Frame) (x : C) (old : Point D) (y : C)
-    (new : Point D) : Type 0 where
+pub record Broke {C D : Type 0} (sides : Sides C D) (stop : Stop) (frames : List Frame) (change : Change C (Point D)) : Type 0 where
   pub served : List Served
   pub begun : Begun
   pub left : List Frame
   pub mid : ℕ
   pub asked : frames_of served ++ left ≡ requests_of frames
   pub next : IsNext begun left
-  pub each : AreServed sides.gives old.reads served mid
-  pub breaks : Breaks sides.gives stop begun mid new.reads
-  pub happened : Acts sides.makes sides.disk (acts_of served ++ begun_acts begun) x old.place y new.place
-  pub answered : sides.sink → TookPart (old.taken ++ bytes_of served) new.taken (begun_bytes begun)
-  pub read : sides.clock → new.readings ≡ old.readings ++ (readings_of served ++ begun_readings begun)
+  pub each : AreServed sides.gives change.place.reads served mid
+  pub breaks : Breaks sides.gives stop begun mid change.place_then.reads
+  pub happened : Acts sides.makes sides.disk (acts_of served ++ begun_acts begun) (places_of change)
+  pub answered : sides.sink → TookPart (change.place.taken ++ bytes_of served) change.place_then.taken (begun_bytes begun)
+  pub read : sides.clock → change.place_then.readings ≡ change.place.readings ++ (readings_of served ++ begun_readings begun)
 
 -- which of the two it is
-abbrev pub Serves : {C D A : Type 0} → Sides C D → Result A Stop → List Frame → C → Point D → C → Point D → Type 0
-Serves sides (Ok done) frames x old y new = Ran sides frames x old y new
-Serves sides (Err stop) frames x old y new = Broke sides stop frames x old y new
+abbrev pub Serves : {C D A : Type 0} → Sides C D → Result A Stop → List Frame → Change C (Point D) → Type 0
+Serves sides (Ok done) frames change = Ran sides frames change
+Serves sides (Err stop) frames change = Broke sides stop frames change
 
 -- ---- one request, step by step
 
 -- the answer was told, and this happened for it
-pub record HasAnswered {C D : Type 0} (sides : Sides C D) (caller : Caller) (answer : Answer) (x : C) (old : Point D) (y : C)
-    (new : Point D) : Type 0 where
+pub record HasAnswered {C D : Type 0} (sides : Sides C D) (caller : Caller) (answer : Answer)
+    (change : Change C (Point D)) : Type 0 where
   pub settled : List Act
   pub followed : List Act
   pub reply : ReplyParts
   pub bytes : List ℕ
   pub is_settled : IsSettled answer.reply answer.awaits reply settled
   pub is_followed : IsFollowed answer.awaits followed
-  pub told : IsTold sides.gives caller reply old.reads new.reads bytes
-  pub happened : Acts sides.makes sides.disk (settled ++ followed) x old.place y new.place
-  pub taken_is : sides.sink → new.taken ≡ old.taken ++ bytes
+  pub told : IsTold sides.gives caller reply (fault_counts change.place.reads change.place_then.reads) bytes
+  pub happened : Acts sides.makes sides.disk (settled ++ followed) (places_of change)
+  pub taken_is : sides.sink → change.place_then.taken ≡ change.place.taken ++ bytes
 
 -- it was made, and then its serving broke off
-pub record HasPartly {C D : Type 0} (sides : Sides C D) (stop : Stop) (caller : Caller) (answer : Answer) (x : C) (old : Point D) (y : C)
-    (new : Point D) : Type 0 where
+pub record HasPartly {C D : Type 0} (sides : Sides C D) (stop : Stop) (caller : Caller) (answer : Answer)
+    (change : Change C (Point D)) : Type 0 where
   pub settled : List Act
   pub followed : List Act
   pub reply : ReplyParts
   pub bytes : List ℕ
   pub is_settled : IsSettled answer.reply answer.awaits reply settled
-  pub told : IsTold sides.gives caller reply old.reads new.reads bytes
-  pub happened : Acts sides.makes sides.disk (settled ++ followed) x old.place y new.place
+  pub told : IsTold sides.gives caller reply (fault_counts change.place.reads change.place_then.reads) bytes
+  pub happened : Acts sides.makes sides.disk (settled ++ followed) (places_of change)
   pub stopped : StoppedIn stop (settled ++ followed)
-  pub took : sides.sink → TookPart old.taken new.taken bytes
+  pub took : sides.sink → TookPart change.place.taken change.place_then.taken bytes
 
 -- it was not made
-pub record HasBroken {C D : Type 0} (sides : Sides C D) (stop : Stop) (x : C) (old : Point D) (y : C) (new : Point D) : Type 0 where
+pub record HasBroken {C D : Type 0} (sides : Sides C D) (stop : Stop) (change : Change C (Point D)) : Type 0 where
   pub acts : List Act
-  pub happened : Acts sides.makes sides.disk acts x old.place y new.place
+  pub happened : Acts sides.makes sides.disk acts (places_of change)
   pub stopped : StoppedIn stop acts
-  pub still : sides.sink → new.taken ≡ old.taken
+  pub still : sides.sink → change.place_then.taken ≡ change.place.taken
 
 -- which of them, by what ended it
-abbrev pub Answers : {C D A : Type 0} → Sides C D → Caller → Answer → Result A Stop → C → Point D → C → Point D → Type 0
-Answers sides caller answer (Ok done) x old y new = HasAnswered sides caller answer x old y new
-Answers sides caller answer (Err Clock) x old y new = ⊥
-Answers sides caller answer (Err Sink) x old y new = HasPartly sides Sink caller answer x old y new
-Answers sides caller answer (Err Memory) x old y new = HasPartly sides Memory caller answer x old y new ⊎ HasBroken sides Memory x old y new
-Answers sides caller answer (Err Misplaced) x old y new = HasPartly sides Misplaced caller answer x old y new
-    ⊎ HasBroken sides Misplaced x old y new
+abbrev pub Answers : {C D A : Type 0} → Sides C D → Caller → Answer → Result A Stop → Change C (Point D) → Type 0
+Answers sides caller answer (Ok done) change = HasAnswered sides caller answer change
+Answers sides caller answer (Err Clock) change = ⊥
+Answers sides caller answer (Err Sink) change = HasPartly sides Sink caller answer change
+Answers sides caller answer (Err Memory) change = HasPartly sides Memory caller answer change ⊎ HasBroken sides Memory change
+Answers sides caller answer (Err Misplaced) change = HasPartly sides Misplaced caller answer change ⊎ HasBroken sides Misplaced change
 
 -- the frame's request was served
-pub record HasServed {C D : Type 0} (sides : Sides C D) (frame : Frame) (reading : ℕ) (x : C) (old : Point D) (y : C)
-    (new : Point D) : Type 0 where
+pub record HasServed {C D : Type 0} (sides : Sides C D) (frame : Frame) (reading : ℕ) (change : Change C (Point D)) : Type 0 where
   pub acts : List Act
   pub bytes : List ℕ
-  pub served : IsServed sides.gives (served_as frame reading acts bytes) old.reads new.reads
-  pub happened : Acts sides.makes sides.disk acts x old.place y new.place
-  pub taken_is : sides.sink → new.taken ≡ old.taken ++ bytes
+  pub served : IsServed sides.gives (served_as frame reading acts bytes) change.place.reads change.place_then.reads
+  pub happened : Acts sides.makes sides.disk acts (places_of change)
+  pub taken_is : sides.sink → change.place_then.taken ≡ change.place.taken ++ bytes
 
 -- its answer was made, and then its serving broke off
-pub record HasPartlyServed {C D : Type 0} (sides : Sides C D) (stop : Stop) (frame : Frame) (reading : ℕ) (x : C) (old : Point D) (y : C)
-    (new : Point D) : Type 0 where
+pub record HasPartlyServed {C D : Type 0} (sides : Sides C D) (stop : Stop) (frame : Frame) (reading : ℕ)
+    (change : Change C (Point D)) : Type 0 where
   pub acts : List Act
   pub bytes : List ℕ
-  pub served : IsPartly sides.gives (served_as frame reading acts bytes) old.reads new.reads
-  pub happened : Acts sides.makes sides.disk acts x old.place y new.place
+  pub served : IsPartly sides.gives (served_as frame reading acts bytes) change.place.reads change.place_then.reads
+  pub happened : Acts sides.makes sides.disk acts (places_of change)
   pub stopped : StoppedIn stop acts
-  pub took : sides.sink → TookPart old.taken new.taken bytes
+  pub took : sides.sink → TookPart change.place.taken change.place_then.taken bytes
 
-abbrev pub ServesAt : {C D A : Type 0} → Sides C D → Frame → ℕ → Result A Stop → C → Point D → C → Point D → Type 0
-ServesAt sides frame reading (Ok done) x old y new = HasServed sides frame reading x old y new
-ServesAt sides frame reading (Err Clock) x old y new = ⊥
-ServesAt sides frame reading (Err Sink) x old y new = HasPartlyServed sides Sink frame reading x old y new
-ServesAt sides frame reading (Err Memory) x old y new = HasPartlyServed sides Memory frame reading x old y new
-    ⊎ HasBroken sides Memory x old y new
-ServesAt sides frame reading (Err Misplaced) x old y new = HasPartlyServed sides Misplaced frame reading x old y new
-    ⊎ HasBroken sides Misplaced x old y new
+abbrev pub ServesAt : {C D A : Type 0} → Sides C D → Frame → ℕ → Result A Stop → Change C (Point D) → Type 0
+ServesAt sides frame reading (Ok done) change = HasServed sides frame reading change
+ServesAt sides frame reading (Err Clock) change = ⊥
+ServesAt sides frame reading (Err Sink) change = HasPartlyServed sides Sink frame reading change
+ServesAt sides frame reading (Err Memory) change = HasPartlyServed sides Memory frame reading change ⊎ HasBroken sides Memory change
+ServesAt sides frame reading (Err Misplaced) change = HasPartlyServed sides Misplaced frame reading change
+    ⊎ HasBroken sides Misplaced change

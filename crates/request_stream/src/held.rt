@@ -5,9 +5,10 @@ ghost use Rattle.remoting_frame.specs.declared.frame.Frame.{Frame};
 ghost use Rattle.log_model.specs.Stored.{StaysOutside};
 ghost use Rattle.segment_files.specs.Turn.{IsInside};
 ghost use Rattle.session.specs.Hearing.{IsHeard, is_response};
-ghost use Rattle.request_acts.specs.Acts.{IsFree, place_of, view_of};
+ghost use Rattle.request_acts.specs.Acts.{IsFree, place_of, view_of, change_of};
 ghost use Rattle.request_stream.specs.Serving.{Serves, sides_of, point_of};
 ghost use Rattle.request_stream.specs.Piping.{halt_of as halt_of_fault, CountsStop, CountsHalt, NextHeard, ServesHeld};
+ghost use Rattle.request_stream.specs.Telling.{fault_counts};
 
 use crate::request::serve_at;
 use crate::stop::{Halt, Stop};
@@ -56,11 +57,12 @@ fn serve_heard<C: Calls, D: Disk, R: Reader, K: Sink, T: Clock>(
     requires inside { D.tells → IsInside flusher.old.file.base flusher.old.file.offset (D.state disk.old) }
     ensures served { (frame : Frame) → IsHeard heard frame → is_response frame.header ≡ false
         → Serves (sides_of C.makes R.gives (view_of D.tells D.state D.faults D.syncs) K.tells T.tells) result (frame ∷ [])
-        calls.old (point_of (place_of flusher.old.file disk.old)
+        (change_of calls.old (point_of (place_of flusher.old.file disk.old)
         (R.faults reader.old) (K.taken sink.old) (T.readings clock.old))
         calls.new (point_of (place_of flusher.new.file disk.new)
-        (R.faults reader.new) (K.taken sink.new) (T.readings clock.new)) }
-    ensures cause { CountsStop result (K.faults sink.old) (K.faults sink.new) (T.faults clock.old) (T.faults clock.new) }
+        (R.faults reader.new) (K.taken sink.new) (T.readings clock.new))) }
+    ensures cause { CountsStop result (fault_counts (K.faults sink.old) (K.faults sink.new))
+        (fault_counts (T.faults clock.old) (T.faults clock.new)) }
     ensures free { IsFree (C.has_key calls.new) (C.shown calls.new) }
     ensures inside { D.tells → IsInside flusher.new.file.base flusher.new.file.offset (D.state disk.new) }
     ensures outside { D.tells → StaysOutside (D.state disk.old) (D.state disk.new) }
@@ -90,11 +92,12 @@ pub(crate) fn serve_held<C: Calls, D: Disk, R: Reader, K: Sink, T: Clock>(
     requires inside { D.tells → IsInside flusher.old.file.base flusher.old.file.offset (D.state disk.old) }
     ensures served { ServesHeld (sides_of C.makes R.gives (view_of D.tells D.state D.faults D.syncs) K.tells T.tells) result
         talk.old.cutter talk.new.cutter
-        calls.old (point_of (place_of flusher.old.file disk.old)
+        (change_of calls.old (point_of (place_of flusher.old.file disk.old)
         (R.faults reader.old) (K.taken sink.old) (T.readings clock.old))
         calls.new (point_of (place_of flusher.new.file disk.new)
-        (R.faults reader.new) (K.taken sink.new) (T.readings clock.new)) }
-    ensures cause { CountsHalt result (K.faults sink.old) (K.faults sink.new) (T.faults clock.old) (T.faults clock.new) }
+        (R.faults reader.new) (K.taken sink.new) (T.readings clock.new))) }
+    ensures cause { CountsHalt result (fault_counts (K.faults sink.old) (K.faults sink.new))
+        (fault_counts (T.faults clock.old) (T.faults clock.new)) }
     ensures free { IsFree (C.has_key calls.new) (C.shown calls.new) }
     ensures inside { D.tells → IsInside flusher.new.file.base flusher.new.file.offset (D.state disk.new) }
     ensures outside { D.tells → StaysOutside (D.state disk.old) (D.state disk.new) }

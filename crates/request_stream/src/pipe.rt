@@ -4,9 +4,10 @@ ghost use Rattle.std.specs.Prelude.{◌≡◌, ◌^◌, ◌≤◌, ◌<◌, ◌+
 ghost use Rattle.mq_outside.specs.Counts.{CountsFailure};
 ghost use Rattle.log_model.specs.Stored.{StaysOutside};
 ghost use Rattle.segment_files.specs.Turn.{IsInside};
-ghost use Rattle.request_acts.specs.Acts.{IsFree, place_of, view_of};
+ghost use Rattle.request_acts.specs.Acts.{IsFree, place_of, view_of, change_of};
 ghost use Rattle.request_stream.specs.Serving.{sides_of, point_of};
 ghost use Rattle.request_stream.specs.Piping.{CountsPipe, EndsHere, Piped, source_of};
+ghost use Rattle.request_stream.specs.Telling.{fault_counts};
 
 use crate::held::serve_held;
 use crate::stop::{Halt, Stop};
@@ -89,12 +90,12 @@ fn serve_stream<S: Source, C: Calls, D: Disk, R: Reader, K: Sink, T: Clock>(
     requires inside { D.tells → IsInside flusher.old.file.base flusher.old.file.offset (D.state disk.old) }
     ensures served { Piped (sides_of C.makes R.gives (view_of D.tells D.state D.faults D.syncs) K.tells T.tells) result
         (source_of S.tells (S.given source.old) (S.given source.new) (S.left source.new))
-        calls.old (point_of (place_of flusher.old.file disk.old)
+        (change_of calls.old (point_of (place_of flusher.old.file disk.old)
         (R.faults reader.old) (K.taken sink.old) (T.readings clock.old))
         calls.new (point_of (place_of flusher.new.file disk.new)
-        (R.faults reader.new) (K.taken sink.new) (T.readings clock.new)) }
-    ensures cause { CountsPipe result (S.faults source.old) (S.faults source.new)
-        (K.faults sink.old) (K.faults sink.new) (T.faults clock.old) (T.faults clock.new) }
+        (R.faults reader.new) (K.taken sink.new) (T.readings clock.new))) }
+    ensures cause { CountsPipe result (fault_counts (S.faults source.old) (S.faults source.new))
+        (fault_counts (K.faults sink.old) (K.faults sink.new)) (fault_counts (T.faults clock.old) (T.faults clock.new)) }
     ensures free { IsFree (C.has_key calls.new) (C.shown calls.new) }
     ensures inside { D.tells → IsInside flusher.new.file.base flusher.new.file.offset (D.state disk.new) }
     ensures outside { D.tells → StaysOutside (D.state disk.old) (D.state disk.new) }
@@ -140,12 +141,12 @@ pub fn serve_source<S: Source, C: Calls, D: Disk, R: Reader, K: Sink, T: Clock>(
     requires inside { D.tells → IsInside flusher.old.file.base flusher.old.file.offset (D.state disk.old) }
     ensures served { Piped (sides_of C.makes R.gives (view_of D.tells D.state D.faults D.syncs) K.tells T.tells) result
         (source_of S.tells (S.given source.old) (S.given source.new) (S.left source.new))
-        calls.old (point_of (place_of flusher.old.file disk.old)
+        (change_of calls.old (point_of (place_of flusher.old.file disk.old)
         (R.faults reader.old) (K.taken sink.old) (T.readings clock.old))
         calls.new (point_of (place_of flusher.new.file disk.new)
-        (R.faults reader.new) (K.taken sink.new) (T.readings clock.new)) }
-    ensures cause { CountsPipe result (S.faults source.old) (S.faults source.new)
-        (K.faults sink.old) (K.faults sink.new) (T.faults clock.old) (T.faults clock.new) }
+        (R.faults reader.new) (K.taken sink.new) (T.readings clock.new))) }
+    ensures cause { CountsPipe result (fault_counts (S.faults source.old) (S.faults source.new))
+        (fault_counts (K.faults sink.old) (K.faults sink.new)) (fault_counts (T.faults clock.old) (T.faults clock.new)) }
     ensures grows { D.faults disk.old ≤ D.faults disk.new }
     ensures free { IsFree (C.has_key calls.new) (C.shown calls.new) }
     ensures inside { D.tells → IsInside flusher.new.file.base flusher.new.file.offset (D.state disk.new) }

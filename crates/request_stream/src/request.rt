@@ -6,7 +6,7 @@ ghost use Rattle.segment_files.specs.Turn.{IsInside};
 ghost use Rattle.remoting_frame.specs.declared.frame.Frame.{Frame};
 ghost use Rattle.session.specs.Hearing.{IsHeard};
 ghost use Rattle.request_acts.specs.declared.answer.Answer.{Answer as AnAnswer};
-ghost use Rattle.request_acts.specs.Acts.{IsFree, place_of, view_of};
+ghost use Rattle.request_acts.specs.Acts.{IsFree, place_of, view_of, change_of};
 ghost use Rattle.request_stream.specs.Telling.{CountsTelling};
 ghost use Rattle.request_stream.specs.Serving.{Answers, ServesAt, sides_of, point_of};
 
@@ -37,10 +37,10 @@ fn tell_at_once<C: Calls, D: Disk, R: Reader, K: Sink>(
     requires inside { D.tells → IsInside flusher.old.file.base flusher.old.file.offset (D.state disk.old) }
     ensures answered { (answer : AnAnswer) → answer ≡ record { reply = reply.now; awaits = None }
         → Answers (sides_of C.makes R.gives (view_of D.tells D.state D.faults D.syncs) K.tells (Unit {0})) caller answer result
-        calls.old (point_of (place_of flusher.old.file disk.old)
+        (change_of calls.old (point_of (place_of flusher.old.file disk.old)
         (R.faults reader.old) (K.taken sink.old) [])
         calls.new (point_of (place_of flusher.new.file disk.new)
-        (R.faults reader.new) (K.taken sink.new) []) }
+        (R.faults reader.new) (K.taken sink.new) [])) }
     ensures free { IsFree (C.has_key calls.new) (C.shown calls.new) }
     ensures inside { D.tells → IsInside flusher.new.file.base flusher.new.file.offset (D.state disk.new) }
     ensures outside { D.tells → StaysOutside (D.state disk.old) (D.state disk.new) }
@@ -73,10 +73,10 @@ fn tell_behind<C: Calls, D: Disk, R: Reader, K: Sink>(
     requires inside { D.tells → IsInside flusher.old.file.base flusher.old.file.offset (D.state disk.old) }
     ensures answered { (answer : AnAnswer) → answer ≡ record { reply = reply; awaits = Some awaits }
         → Answers (sides_of C.makes R.gives (view_of D.tells D.state D.faults D.syncs) K.tells (Unit {0})) caller answer result
-        calls.old (point_of (place_of flusher.old.file disk.old)
+        (change_of calls.old (point_of (place_of flusher.old.file disk.old)
         (R.faults reader.old) (K.taken sink.old) [])
         calls.new (point_of (place_of flusher.new.file disk.new)
-        (R.faults reader.new) (K.taken sink.new) []) }
+        (R.faults reader.new) (K.taken sink.new) [])) }
     ensures free { IsFree (C.has_key calls.new) (C.shown calls.new) }
     ensures inside { D.tells → IsInside flusher.new.file.base flusher.new.file.offset (D.state disk.new) }
     ensures outside { D.tells → StaysOutside (D.state disk.old) (D.state disk.new) }
@@ -104,10 +104,10 @@ fn answer_request<C: Calls, D: Disk, R: Reader, K: Sink>(
     requires free { IsFree (C.has_key calls.old) (C.shown calls.old) }
     requires inside { D.tells → IsInside flusher.old.file.base flusher.old.file.offset (D.state disk.old) }
     ensures answered { Answers (sides_of C.makes R.gives (view_of D.tells D.state D.faults D.syncs) K.tells (Unit {0})) caller answer result
-        calls.old (point_of (place_of flusher.old.file disk.old)
+        (change_of calls.old (point_of (place_of flusher.old.file disk.old)
         (R.faults reader.old) (K.taken sink.old) [])
         calls.new (point_of (place_of flusher.new.file disk.new)
-        (R.faults reader.new) (K.taken sink.new) []) }
+        (R.faults reader.new) (K.taken sink.new) [])) }
     ensures free { IsFree (C.has_key calls.new) (C.shown calls.new) }
     ensures inside { D.tells → IsInside flusher.new.file.base flusher.new.file.offset (D.state disk.new) }
     ensures outside { D.tells → StaysOutside (D.state disk.old) (D.state disk.new) }
@@ -142,10 +142,10 @@ pub(crate) fn serve_at<C: Calls, D: Disk, R: Reader, K: Sink>(
     requires inside { D.tells → IsInside flusher.old.file.base flusher.old.file.offset (D.state disk.old) }
     ensures served { (frame : Frame) → IsHeard heard frame
         → ServesAt (sides_of C.makes R.gives (view_of D.tells D.state D.faults D.syncs) K.tells (Unit {0})) frame now result
-        calls.old (point_of (place_of flusher.old.file disk.old)
+        (change_of calls.old (point_of (place_of flusher.old.file disk.old)
         (R.faults reader.old) (K.taken sink.old) [])
         calls.new (point_of (place_of flusher.new.file disk.new)
-        (R.faults reader.new) (K.taken sink.new) []) }
+        (R.faults reader.new) (K.taken sink.new) [])) }
     ensures free { IsFree (C.has_key calls.new) (C.shown calls.new) }
     ensures inside { D.tells → IsInside flusher.new.file.base flusher.new.file.offset (D.state disk.new) }
     ensures outside { D.tells → StaysOutside (D.state disk.old) (D.state disk.new) }

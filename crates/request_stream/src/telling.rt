@@ -2,7 +2,7 @@
 
 ghost use Rattle.std.specs.Prelude.{◌≡◌, ◌++◌, OnOk, OnErr, IfOk, MatchResult};
 ghost use Rattle.mq_outside.specs.Counts.{CountsFailure};
-ghost use Rattle.request_stream.specs.Telling.{Appends, AppendsUnread, Tells, WritesReply, CountsTelling, TookPart, unread as unread_of};
+ghost use Rattle.request_stream.specs.Telling.{Appends, AppendsUnread, Tells, WritesReply, CountsTelling, TookPart, unread as unread_of, fault_counts, sink_of};
 
 use crate::stop::Stop;
 use mq_outside::{DiskFault, Failed, Reader, Sink};
@@ -39,7 +39,8 @@ fn append_unread<R: Reader>(
     reader: &mut R,
     out: &mut Vec<u8>,
 ) -> Result<(), AllocError>
-    ensures { OnOk result (AppendsUnread R.gives caller (R.faults reader.old) (R.faults reader.new) out.old.items out.new.items) }
+    ensures { OnOk result
+        (AppendsUnread R.gives caller (fault_counts (R.faults reader.old) (R.faults reader.new)) out.old.items out.new.items) }
 {
     let reply = unread(alloc, reader.fault_count())?;
     match reply.write(alloc, caller.form, caller.opaque, reader, out) {
@@ -56,7 +57,8 @@ fn append_reply<R: Reader>(
     reader: &mut R,
     out: &mut Vec<u8>,
 ) -> Result<(), AllocError>
-    ensures { OnOk result (Appends R.gives caller reply.now (R.faults reader.old) (R.faults reader.new) out.old.items out.new.items) }
+    ensures { OnOk result
+        (Appends R.gives caller reply.now (fault_counts (R.faults reader.old) (R.faults reader.new)) out.old.items out.new.items) }
 {
     match reply.write(alloc, caller.form, caller.opaque, reader, out) {
         Ok(()) => Ok(()),
@@ -74,8 +76,8 @@ fn write_reply<R: Reader, K: Sink>(
     buffer: &mut Vec<u8>,
     sink: &mut K,
 ) -> Result<(), Stop>
-    ensures told { WritesReply R.gives caller reply.now (R.faults reader.old) (R.faults reader.new) K.tells (K.taken sink.old)
-        (K.taken sink.new) result }
+    ensures told { WritesReply R.gives caller reply.now (fault_counts (R.faults reader.old) (R.faults reader.new))
+        (sink_of K.tells (K.taken sink.old) (K.taken sink.new)) result }
     ensures cause { CountsTelling result (K.faults sink.old) (K.faults sink.new) }
 {
     buffer.clear();
@@ -97,8 +99,8 @@ pub(crate) fn tell<R: Reader, K: Sink>(
     buffer: &mut Vec<u8>,
     sink: &mut K,
 ) -> Result<(), Stop>
-    ensures told { Tells R.gives caller reply.now (R.faults reader.old) (R.faults reader.new) K.tells (K.taken sink.old) (K.taken sink.new)
-        result }
+    ensures told { Tells R.gives caller reply.now (fault_counts (R.faults reader.old) (R.faults reader.new))
+        (sink_of K.tells (K.taken sink.old) (K.taken sink.new)) result }
     ensures cause { CountsTelling result (K.faults sink.old) (K.faults sink.new) }
 {
     if caller.one_way {

@@ -26,7 +26,7 @@ use Rattle.spine.specs.Passes.{Joins}
 use Rattle.spine.specs.Stands.{Stands, StandsFor}
 use Rattle.segment_files.specs.declared.last_file.LastFile.{LastFile}
 use Rattle.request_acts.specs.Acts as acts
-use Rattle.request_acts.specs.Acts.{Acted, DiskView, Place, place_of}
+use Rattle.request_acts.specs.Acts.{Acted, DiskView, Place, place_of, change_of}
 use Rattle.serve_story.specs.Kept.{SeesAll}
 use Rattle.serve_story.specs.Served.{AreFlushing, Write, AreAnswered, AreLooks, IsMerged, Meets, Cuts, AreCut, AreMet, HasMade, IsMadeBy}
 use Rattle.serve_story.proofs.Keeping.{SeesAt, starts_then}
@@ -124,7 +124,7 @@ module _ {chronicle : Ghosts Shared Event (Option Said)} where
     write : Write view turns p q
 
   gains_turns : {C D : Type 0} (pass_of : C → Option (Pass Shared Event (Option Said) chronicle)) (view : DiskView D) (x y : C) (p q : Place D) (old new : Pass Shared Event (Option Said) chronicle)
-      → pass_of x ≡ Some old → pass_of y ≡ Some new → Acted (StepsBy pass_of) view AreFlushing x p y q → GainsTurns view old p new q
+      → pass_of x ≡ Some old → pass_of y ≡ Some new → Acted (StepsBy pass_of) view AreFlushing (change_of x p y q) → GainsTurns view old p new q
   gains_turns pass_of view x y p q old new at there acted =
       let made = acts_make (StepsBy pass_of) view acted.acts x y p q acted.happened in
       let all = owned pass_of (λ a es b. Makes (StepsBy pass_of) a es b) (λ a b s. s) (λ a s ss b m. m) x (acts.steps_of acted.acts) y old at made in
@@ -149,7 +149,7 @@ module _ {chronicle : Ghosts Shared Event (Option Said)} where
   stays_leading pass_of story x y old P at of went = stays_made pass_of story x y old went.made at of went.leads
 
   pub stays_acting : {C D : Type 0} (pass_of : C → Option (Pass Shared Event (Option Said) chronicle)) (view : DiskView D) (story : Story Shared Event (Option Said)) (x y : C) (p q : Place D)
-      (old : Pass Shared Event (Option Said) chronicle) → pass_of x ≡ Some old → IsPassOf story old → Acted (StepsBy pass_of) view AreFlushing x p y q → IfSome (pass_of y) (λ p. IsPassOf story p)
+      (old : Pass Shared Event (Option Said) chronicle) → pass_of x ≡ Some old → IsPassOf story old → Acted (StepsBy pass_of) view AreFlushing (change_of x p y q) → IfSome (pass_of y) (λ p. IsPassOf story p)
   stays_acting pass_of view story x y p q old at of acted =
       stays_made pass_of story x y old (acts.steps_of acted.acts) at of (acts_make (StepsBy pass_of) view acted.acts x y p q acted.happened)
 
@@ -228,7 +228,7 @@ module _ {chronicle : Ghosts Shared Event (Option Said)} where
     pub made_of : {C : Type 0} (pass_of : C → Option (Pass Shared Event (Option Said) chronicle)) (p : Place D) (file : LastFile) (disk : D) (story : Story Shared Event (Option Said))
         (whole new : Pass Shared Event (Option Said) chronicle) (k a b e kt at bt et : C) → mine_of whole ≡ [] → numbers_of whole ≡ 0 ∷ 1 ∷ 2 ∷ 3 ∷ []
         → AreCut story whole (pass_of k) (pass_of a) (pass_of b) (pass_of e) → AreMet (pass_of kt) (pass_of at) (pass_of bt) (pass_of et) new
-        → Acted (StepsBy pass_of) view AreFlushing k p kt (place_of file disk) → Leads (StepsBy pass_of) a at (AreAnswered tells gives 0)
+        → Acted (StepsBy pass_of) view AreFlushing (change_of k p kt (place_of file disk)) → Leads (StepsBy pass_of) a at (AreAnswered tells gives 0)
         → Leads (StepsBy pass_of) b bt (AreAnswered tells gives 1) → Leads (StepsBy pass_of) e et AreLooks → HasMade tells gives view p new disk
     made_of pass_of p file disk story whole new k a b e kt at bt et none numbers cut are acted first second looks =
         met p file disk whole cut.turns cut.first cut.second cut.looks are.turns are.first are.second are.looks new none numbers cut.cuts

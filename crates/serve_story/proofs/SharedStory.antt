@@ -16,9 +16,9 @@ use Rattle.broker_core.specs.Represents.{Represents}
 use Rattle.broker_core.specs.declared.parts.Parts.{Parts}
 use Rattle.session.specs.Serving.{Made}
 use Rattle.request_acts.specs.Acts as acts
-use Rattle.request_acts.specs.Acts.{Act, Turn, DiskView, Place, growing_at, steps_of, HasWritten, HasMissed}
+use Rattle.request_acts.specs.Acts.{Act, Turn, DiskView, Place, growing_at, steps_of, HasWritten, HasMissed, change_of}
 use Rattle.flush_story.specs.Story as stories
-use Rattle.flush_story.specs.Story.{StepsAs, Happening, Stepped, Ended, Broke, Story, Reaches, IsBetween, AreBetween}
+use Rattle.flush_story.specs.Story.{StepsAs, Happening, Stepped, Ended, Broke, Story, Reaches, IsBetween, AreBetween, span_of}
 use Rattle.flush_story.proofs.Keeps.{keeps_start, keeps_story}
 use Rattle.spine.specs.Stands.{StepsAlong, Along, Stands}
 use Rattle.serve_story.specs.Served.{AreAnswered, AreLooks, IsMerged, of_anybody, Write, LeadsOn}
@@ -115,7 +115,7 @@ module _ {D : Type 0} (view : DiskView D) where
   record Told (H : Made) (s : State) (p : Place D) (t : State) (q : Place D) : Type 0 where
     story : List Happening
     steps : stories.steps_of story ≡ H
-    happens : Story view.tells (growing_at view) story s p t q
+    happens : Story view.tells (growing_at view) story (span_of s p t q)
 
   told_step : (e : Event × Option Said) (H : Made) (s m t : State) (p q : Place D) → IsBetween e.0 → StepsAlong s e.0 e.1 m → Told H m p t q → Told (e ∷ H) s p t q
   told_step e H s m t p q between step rest = record {
@@ -129,7 +129,7 @@ module _ {D : Type 0} (view : DiskView D) where
   turn_steps take last others rest all is = ap (λ (l : Made). take ∷ l) (append_assoc others (last ∷ []) all ∙ ap (λ (l : Made). others ++ last ∷ l) is)
 
   told_written : (turn : Turn) (H : Made) (s out t : State) (p mid q : Place D) (more : Made) → StepsAs s Take (Some (said.Batch (Some turn.batch))) out
-      → (split : SplitOut H (Flushed turn.receipt, Some said.Done) more out t) → HasWritten of_anybody view turn tt p tt mid → Told split.rest split.next mid t q
+      → (split : SplitOut H (Flushed turn.receipt, Some said.Done) more out t) → HasWritten of_anybody view turn (change_of tt p tt mid) → Told split.rest split.next mid t q
       → Told ((Take, Some (said.Batch (Some turn.batch))) ∷ H) s p t q
   told_written turn H s out t p mid q more taken split wrote rest = record {
     story = Ended (record { batch = turn.batch; others = split.others }) turn.receipt turn.moment ∷ rest.story;
@@ -155,7 +155,7 @@ module _ {D : Type 0} (view : DiskView D) where
   }
 
   told_missed : (batch : Batch) (count : ℕ) (H : Made) (s out t : State) (p mid q : Place D) (more : Made) → StepsAs s Take (Some (said.Batch (Some batch))) out
-      → (split : SplitOut H (FlushFailed count, Some said.Done) more out t) → HasMissed of_anybody view batch count tt p tt mid → Told split.rest split.next mid t q
+      → (split : SplitOut H (FlushFailed count, Some said.Done) more out t) → HasMissed of_anybody view batch count (change_of tt p tt mid) → Told split.rest split.next mid t q
       → Told ((Take, Some (said.Batch (Some batch))) ∷ H) s p t q
   told_missed batch count H s out t p mid q more taken split missed rest = record {
     story = Broke (record { batch = batch; others = split.others }) count ∷ rest.story;

@@ -12,7 +12,7 @@ use Rattle.worker_turns.specs.Turns.{Steps, TakesFrom, Writes, HasEnded, WroteNo
 use Rattle.worker_turns.specs.declared.flush.FlushEnd.{FlushEnd}
 use Rattle.worker_turns.specs.declared.flush.FlushEnd.TheVariants.{Idle, Done, Failed, Misplaced, Memory}
 use Rattle.request_acts.specs.Acts as acts
-use Rattle.request_acts.specs.Acts.{Act, DiskView, Place, TakesBatch, Acts, Acted, Happens, growing_at, steps_in, steps_of}
+use Rattle.request_acts.specs.Acts.{Act, DiskView, Place, TakesBatch, Acts, Acted, Happens, steps_in, steps_of, change_of, synced_at}
 use Rattle.request_acts.specs.Turning.{IsTurn, IsDispatch, most_seen}
 use Rattle.request_acts.proofs.ActLemmas.{acted_then, acted_as, acted_none, one_step, takes_none, turn_acted}
 use Rattle.serve_story.specs.Served.{IsOfFlusher, AreOfFlusher, AreFlushing, of_anybody, Write}
@@ -49,16 +49,16 @@ takes_nothing : TakesBatch events.Take None → ⊥
 takes_nothing takes = let is : ◌≡◌ {A = Option Said} None (Some (said.Batch (Some takes.batch))) = takes.said_is in cc
 
 module _ {C D : Type 0} (makes : Steps C) (view : DiskView D) where
-  pub no_turns : (x : C) (p : Place D) → Acted makes view AreFlushing x p x p
+  pub no_turns : (x : C) (p : Place D) → Acted makes view AreFlushing (change_of x p x p)
   no_turns x p = acted_none makes view AreFlushing x p tt
 
-  pub turns_then : (x y z : C) (p q r : Place D) → Acted makes view AreFlushing x p y q → Acted makes view AreFlushing y q z r → Acted makes view AreFlushing x p z r
+  pub turns_then : (x y z : C) (p q r : Place D) → Acted makes view AreFlushing (change_of x p y q) → Acted makes view AreFlushing (change_of y q z r) → Acted makes view AreFlushing (change_of x p z r)
   turns_then x y z p q r first later = acted_then makes view AreFlushing AreFlushing AreFlushing x y z p q r first later flushing_append
 
   -- a flush turn
   pub ended_turns : (end : FlushEnd) (x y : C) (old new : Place D)
-      → HasEnded makes (Writes view.tells (growing_at view old) (growing_at view new) (view.syncs old.disk) (view.syncs new.disk)) x end y
-      → (WroteNone end → new ≡ old) → (TakesFrom makes x old.file → end ≢ Misplaced) → CountsEnd end (view.faults old.disk) (view.faults new.disk) → Acted makes view AreFlushing x old y new
+      → HasEnded makes (Writes view.tells (synced_at view old) (synced_at view new)) x end y
+      → (WroteNone end → new ≡ old) → (TakesFrom makes x old.file → end ≢ Misplaced) → CountsEnd end (view.faults old.disk) (view.faults new.disk) → Acted makes view AreFlushing (change_of x old y new)
   ended_turns Idle x y old new ended same placed counts =
       acted_as makes view (IsTurn Idle) AreFlushing x y old new (λ made is. subst AreFlushing (sym is) (takes, tt)) (turn_acted makes view Idle x y old new ended same placed counts)
   ended_turns Done x y old new ended same placed counts =
@@ -89,7 +89,7 @@ module _ {C D : Type 0} (makes : Steps C) (view : DiskView D) where
   }
 
   -- a dispatch
-  pub dispatch_turns : (x y : C) (p : Place D) → IsDispatch makes x y → Acted makes view AreFlushing x p y p
+  pub dispatch_turns : (x y : C) (p : Place D) → IsDispatch makes x y → Acted makes view AreFlushing (change_of x p y p)
   dispatch_turns x y p made = record {
     acts = acts.Made (events.Dispatch most_seen) (Some (said.Moved made.0)) ∷ [];
     kind = (shows most_seen, tt);
@@ -99,17 +99,17 @@ module _ {C D : Type 0} (makes : Steps C) (view : DiskView D) where
 
   -- ---- acts, by their steps and by what they did to the disk
 
-  act_makes : (act : Act) (x y : C) (p q : Place D) → Happens makes view act x p y q → Makes makes x (steps_in act) y
+  act_makes : (act : Act) (x y : C) (p q : Place D) → Happens makes view act (change_of x p y q) → Makes makes x (steps_in act) y
   act_makes (acts.Made event what) x y p q happens = (y, happens.made, refl)
   act_makes (acts.Wrote turn) x y p q happens = happens.steps
   act_makes (acts.Missed batch count) x y p q happens = happens.steps
 
-  pub acts_make : (turns : List Act) (x y : C) (p q : Place D) → Acts makes view turns x p y q → Makes makes x (steps_of turns) y
+  pub acts_make : (turns : List Act) (x y : C) (p q : Place D) → Acts makes view turns (change_of x p y q) → Makes makes x (steps_of turns) y
   acts_make [] x y p q happened = sym happened.calls
   acts_make (act ∷ turns) x y p q happened =
       makes_append makes x (steps_in act) happened.0 (steps_of turns) y (act_makes act x happened.0 p happened.1 happened.2) (acts_make turns happened.0 y happened.1 q happened.3)
 
-  act_writes : (act : Act) (x y : C) (p q : Place D) → Happens makes view act x p y q → Happens of_anybody view act tt p tt q
+  act_writes : (act : Act) (x y : C) (p q : Place D) → Happens makes view act (change_of x p y q) → Happens of_anybody view act (change_of tt p tt q)
   act_writes (acts.Made event what) x y p q happens =
       record { made = tt; between = happens.between; apart = λ takes from. happens.apart takes (λ batch z made. from batch tt tt); still = happens.still }
   act_writes (acts.Wrote turn) x y p q happens =
@@ -117,7 +117,7 @@ module _ {C D : Type 0} (makes : Steps C) (view : DiskView D) where
   act_writes (acts.Missed batch count) x y p q happens =
       record { steps = (tt, tt, (tt, tt, refl)); wrote = happens.wrote; rises = happens.rises; count_is = happens.count_is }
 
-  pub acts_write : (turns : List Act) (x y : C) (p q : Place D) → Acts makes view turns x p y q → Write view turns p q
+  pub acts_write : (turns : List Act) (x y : C) (p q : Place D) → Acts makes view turns (change_of x p y q) → Write view turns p q
   acts_write [] x y p q happened = record { calls = refl; place = happened.place }
   acts_write (act ∷ turns) x y p q happened =
       (tt, happened.1, act_writes act x happened.0 p happened.1 happened.2, acts_write turns happened.0 y happened.1 q happened.3)

@@ -13,7 +13,7 @@ use Rattle.broker_core.specs.Owner.{plain_look}
 use Rattle.broker_core.specs.Represents.{Represents}
 use Rattle.broker_core.specs.declared.parts.Parts.{Parts}
 use Rattle.flush_story.specs.Story as stories
-use Rattle.flush_story.specs.Story.{Happening, Story}
+use Rattle.flush_story.specs.Story.{Happening, Story, span_of}
 use Rattle.flush_story.specs.Keeping.{IsOpenFor, Keeps}
 use Rattle.session.specs.Serving.{Made}
 use Rattle.event_loops.specs.Tales.{Act, steps_of, made_for, loop_of, IsAnsweredInOrder}
@@ -21,7 +21,7 @@ use Rattle.event_loops.specs.declared.event_loop.EventLoop.{EventLoop}
 use Rattle.spine.specs.declared.shared.Shared.{Shared}
 use Rattle.worker_turns.specs.Turns.{Steps}
 use Rattle.request_acts.specs.Acts as acts
-use Rattle.request_acts.specs.Acts.{Acts, DiskView, Place, place_of, growing_at}
+use Rattle.request_acts.specs.Acts.{Acts, DiskView, Place, place_of, growing_at, change_of}
 use Rattle.story_lock.specs.declared.chronicle.Chronicle.{Ghosts}
 use Rattle.story_lock.specs.declared.story.Pass.{Pass}
 use Rattle.story_lock.specs.Counts.{times, IsDistinct}
@@ -66,7 +66,7 @@ of_anybody x event said y = Unit {0}
 
 -- what these acts did to the disk, whoever made their steps
 abbrev pub Write : {D : Type 0} → DiskView D → List acts.Act → Place D → Place D → Type 0
-Write view turns old new = Acts of_anybody view turns tt old tt new
+Write view turns old new = Acts of_anybody view turns (change_of tt old tt new)
 
 -- ---- the links
 
@@ -171,7 +171,7 @@ pub record LeadsOn {D : Type 0} (view : DiskView D) (history : Made) (s : State)
   pub represents : Represents now reached
   pub story : List Happening
   pub steps : stories.steps_of story ≡ history
-  pub happens : Story view.tells (growing_at view) story s old reached new
+  pub happens : Story view.tells (growing_at view) story (span_of s old reached new)
   pub keeps : view.tells → IsOpenFor s (growing_at view old)
       → Keeps s reached (stories.turns_of story) (view.state old.disk) (growing_at view new)
 

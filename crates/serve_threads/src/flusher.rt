@@ -3,7 +3,7 @@
 ghost use Rattle.std.specs.Prelude.{◌≡◌, None};
 ghost use Rattle.log_model.specs.Stored.{StaysOutside};
 ghost use Rattle.segment_files.specs.Turn.{IsInside};
-ghost use Rattle.request_acts.specs.Acts.{Acted, place_of, view_of};
+ghost use Rattle.request_acts.specs.Acts.{Acted, place_of, view_of, change_of};
 ghost use Rattle.request_acts.specs.Turning.{IsDispatch};
 ghost use Rattle.serve_story.specs.Served.{AreFlushing};
 
@@ -57,8 +57,8 @@ fn flush_all<W: Wait, C: Calls, D: Disk, P: Ready>(
     ensures inside { D.tells → IsInside flusher.new.file.base flusher.new.file.offset (D.state disk.new) }
     ensures outside { D.tells → StaysOutside (D.state disk.old) (D.state disk.new) }
     ensures acted { Acted C.makes (view_of D.tells D.state D.faults D.syncs) AreFlushing
-        calls.old (place_of flusher.old.file disk.old)
-        calls.new (place_of flusher.new.file disk.new) }
+        (change_of calls.old (place_of flusher.old.file disk.old)
+        calls.new (place_of flusher.new.file disk.new)) }
 {
     for _ in rt.forever() {
         let end = flush_turn(alloc, calls, flusher, disk);
@@ -93,8 +93,8 @@ pub(crate) fn keep_flushing<W: Wait, C: Calls, D: Disk, P: Ready>(
     ensures inside { D.tells → IsInside flusher.new.file.base flusher.new.file.offset (D.state disk.new) }
     ensures outside { D.tells → StaysOutside (D.state disk.old) (D.state disk.new) }
     ensures acted { Acted C.makes (view_of D.tells D.state D.faults D.syncs) AreFlushing
-        calls.old (place_of flusher.old.file disk.old)
-        calls.new (place_of flusher.new.file disk.new) }
+        (change_of calls.old (place_of flusher.old.file disk.old)
+        calls.new (place_of flusher.new.file disk.new)) }
 {
     for _ in rt.forever() {
         // Looked at before the turns, so that these flush what the loops appended to their end.

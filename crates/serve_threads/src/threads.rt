@@ -5,7 +5,7 @@ ghost use denote.Param.Send.{IsSync, IsSend};
 ghost use Rattle.log_model.specs.Stored.{StaysOutside};
 ghost use Rattle.segment_files.specs.Turn.{IsInside};
 ghost use Rattle.session.specs.Serving.{Leads};
-ghost use Rattle.request_acts.specs.Acts.{Acted, place_of, view_of};
+ghost use Rattle.request_acts.specs.Acts.{Acted, place_of, view_of, change_of};
 ghost use Rattle.serve_story.specs.Kept.{KeepsUp};
 ghost use Rattle.serve_story.specs.Served.{IsLoop, AreFlushing, AreAnswered};
 
@@ -85,8 +85,8 @@ impl<C: Calls + Drop, D: Disk + Drop> Flushing<C, D> {
         requires inside { D.tells → IsInside self.flusher.file.base self.flusher.file.offset (D.state self.disk) }
         ensures outside { D.tells → StaysOutside (D.state self.disk) (D.state result.disk) }
         ensures acted { Acted C.makes (view_of D.tells D.state D.faults D.syncs) AreFlushing
-            self.calls (place_of self.flusher.file self.disk)
-            result.calls (place_of result.flusher.file result.disk) }
+            (change_of self.calls (place_of self.flusher.file self.disk)
+            result.calls (place_of result.flusher.file result.disk)) }
     {
         let Flushing {
             mut calls,
@@ -254,8 +254,8 @@ where
     requires loops { IsLoop 0 first.event_loop × IsLoop 1 second.event_loop }
     ensures outside { D.tells → StaysOutside (D.state flushing.disk) (D.state result.flushing.disk) }
     ensures acted { Acted C.makes (view_of D.tells D.state D.faults D.syncs) AreFlushing
-        flushing.calls (place_of flushing.flusher.file flushing.disk)
-        result.flushing.calls (place_of result.flushing.flusher.file result.flushing.disk) }
+        (change_of flushing.calls (place_of flushing.flusher.file flushing.disk)
+        result.flushing.calls (place_of result.flushing.flusher.file result.flushing.disk)) }
     ensures kept { KeepsUp C.sees E.tells keeping.calls (E.state keeping.keep) result.keeping.calls (E.state result.keeping.keep) }
     ensures first { Leads C.makes first.calls result.first.calls (AreAnswered P.Link.tells R.gives 0) }
     ensures second { Leads C.makes second.calls result.second.calls (AreAnswered P.Link.tells R.gives 1) }
@@ -267,8 +267,8 @@ where
                 × (D.tells → IsInside flushing.flusher.file.base flushing.flusher.file.offset (D.state flushing.disk)) }
             ensures outside { D.tells → StaysOutside (D.state flushing.disk) (D.state result.disk) }
             ensures acted { Acted C.makes (view_of D.tells D.state D.faults D.syncs) AreFlushing
-                flushing.calls (place_of flushing.flusher.file flushing.disk)
-                result.calls (place_of result.flusher.file result.disk) }
+                (change_of flushing.calls (place_of flushing.flusher.file flushing.disk)
+                result.calls (place_of result.flusher.file result.disk)) }
         { flushing.run(around) },
         move || -> (Keeping<C, E>, (Worker<P, C, R>, Worker<P, C, R>))
             requires { IsSync W.row × IsSend P.row × IsSync P.row × IsSend P.Link.row × IsSend P.Door.row × IsSend P.Waker.row

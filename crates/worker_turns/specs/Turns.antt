@@ -25,15 +25,23 @@ Steps C = C → Event → Option Said → C → Type 0
 abbrev pub TakesFrom : {C : Type 0} → Steps C → C → LastFile → Type 0
 TakesFrom {C} makes x file = (batch : Batch) (y : C) → makes x Take (Some (said.Batch (Some batch))) y → GoesToPlace file batch
 
+-- a log that is open for batches, and how often its disk was synced
+pub record SyncedLog : Type 1 where
+  pub log : Growing
+  pub syncs : ℕ
+
+abbrev pub synced_log : Growing → ℕ → SyncedLog
+synced_log log syncs = record { log = log; syncs = syncs }
+
 -- What the turn of the batch did: to each log that is open on this disk and of which the batch is the next one; and where
 -- the next bytes go, whatever the disk tells. An Ok has synced the batch, and the blank before it.
-pub record Writes (tells : Type 0) (old new : Growing) (old_syncs new_syncs : ℕ) (batch : Batch)
-    (result : Result Receipt FlushFault) : Type 0 where
-  pub turned : tells → (it : Stored) (behind : ℕ) → CanTurn it behind batch old → HasTurned it behind batch result old new
-  pub places : (it : Stored) → IsWellFormed it.geometry it.log → IsBatchOf it.geometry it.log it.flushed batch → IsPlaced it old.file
-      → PlacesOn it batch result new.file
-  pub moves : MovesOn tells batch result old.file new.file
-  pub synced : OnOk result (Counted (syncs_of (opens_segment old.file batch)) old_syncs new_syncs)
+pub record Writes (tells : Type 0) (old new : SyncedLog) (batch : Batch) (result : Result Receipt FlushFault) : Type 0 where
+  pub turned : tells → (it : Stored) (behind : ℕ) → CanTurn it behind batch old.log
+      → HasTurned it behind batch result old.log new.log
+  pub places : (it : Stored) → IsWellFormed it.geometry it.log → IsBatchOf it.geometry it.log it.flushed batch
+      → IsPlaced it old.log.file → PlacesOn it batch result new.log.file
+  pub moves : MovesOn tells batch result old.log.file new.log.file
+  pub synced : OnOk result (Counted (syncs_of (opens_segment old.log.file batch)) old.syncs new.syncs)
 
 -- a turn of some batch that ended Ok: it was taken, written, and is flushed
 pub record IsDone {C : Type 0} (makes : Steps C) (writes : Batch → Result Receipt FlushFault → Type 0) (x y : C) : Type 0 where

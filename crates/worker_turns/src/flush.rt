@@ -8,7 +8,7 @@ ghost use Rattle.segment_files.specs.Turn.{IsInside, growing};
 ghost use Rattle.broker_events.specs.Shown.{IsOut};
 ghost use Rattle.broker_events.specs.declared.event.Event.TheVariants.{Take, Flushed, FlushFailed};
 ghost use Rattle.broker_events.specs.declared.said.Said.TheVariants as said;
-ghost use Rattle.worker_turns.specs.Turns.{TakesFrom, Writes, HasEnded, WroteNone, CountsEnd};
+ghost use Rattle.worker_turns.specs.Turns.{TakesFrom, Writes, HasEnded, WroteNone, CountsEnd, synced_log};
 
 use broker_events::{Calls, Event, Said};
 use group_flush::Flusher;
@@ -90,8 +90,8 @@ pub fn flush_turn<C: Calls, D: Disk>(
 
     // The steps that it made, and what its batch did to the disk.
     ensures ended { HasEnded C.makes
-        (Writes D.tells (growing flusher.old.file (D.state disk.old)) (growing flusher.new.file (D.state disk.new))
-        (D.syncs disk.old) (D.syncs disk.new))
+        (Writes D.tells (synced_log (growing flusher.old.file (D.state disk.old)) (D.syncs disk.old))
+        (synced_log (growing flusher.new.file (D.state disk.new)) (D.syncs disk.new)))
         calls.old result calls.new }
     ensures rests { WroteNone result → (flusher.new ≡ flusher.old) × (disk.new ≡ disk.old) }
     ensures outside { D.tells → StaysOutside (D.state disk.old) (D.state disk.new) }

@@ -1,7 +1,7 @@
 use Rattle.std.proofs.Common.{◌≡◌, None}
 use Rattle.log_model.specs.Stored.{StaysOutside}
 use Rattle.segment_files.specs.Turn.{IsInside}
-use Rattle.request_acts.specs.Acts.{Acted, place_of, view_of}
+use Rattle.request_acts.specs.Acts.{Acted, place_of, view_of, change_of}
 use Rattle.serve_story.specs.Served.{AreFlushing}
 use Rattle.serve_threads.proofs.flusher.keep_flushing.Given as goal
 
@@ -14,5 +14,5 @@ invariant-loop g l = record {
   inside : g.D.Disk.tells → IsInside l.flusher.file.base l.flusher.file.offset (g.D.Disk.state l.disk);
   outside : g.D.Disk.tells → StaysOutside (g.D.Disk.state l.initial.disk) (g.D.Disk.state l.disk);
   acted : Acted g.C.Calls.makes (view_of g.D.Disk.tells g.D.Disk.state g.D.Disk.faults g.D.Disk.syncs) AreFlushing
-      l.fn.calls (place_of l.fn.flusher.file l.fn.disk) l.calls (place_of l.flusher.file l.disk);
+      (change_of l.fn.calls (place_of l.fn.flusher.file l.fn.disk) l.calls (place_of l.flusher.file l.disk));
 }
