@@ -1,5 +1,7 @@
 //! The door, which one loop has: it numbers the links in the order in which they come.
 
+ghost use Rattle.event_loops.specs.Causes.{CountsDoor};
+
 use crate::event_loop::LoopEnd;
 use crate::shared::NewLink;
 use mq_outside::Failed;
@@ -12,13 +14,13 @@ pub struct Bounds {
     pub most: Option<u32>,
 }
 
-// The door, with what came in by it.
+/// The door, with what came in by it.
 #[derive(Drop)]
-pub(crate) struct Entrance<P: Ready> {
-    pub(crate) door: P::Door,
-    // How many links came so far.
-    pub(crate) came: u32,
-    pub(crate) bounds: Bounds,
+pub struct Entrance<P: Ready> {
+    pub door: P::Door,
+    /// How many links came so far.
+    pub came: u32,
+    pub bounds: Bounds,
 }
 
 impl<P: Ready> Entrance<P> {
@@ -31,7 +33,9 @@ impl<P: Ready> Entrance<P> {
     }
 
     // The next link at the door, with its number.
-    pub(crate) fn accept(&mut self) -> Result<Option<NewLink<P::Link>>, LoopEnd> {
+    pub(crate) fn accept(&mut self) -> Result<Option<NewLink<P::Link>>, LoopEnd>
+        ensures cause { CountsDoor result (P.Door.faults self.old.door) (P.Door.faults self.new.door) }
+    {
         match self.door.accept() {
             Ok(Some(link)) => {
                 self.came = self.came.saturating_add(1);

@@ -1,19 +1,17 @@
 //! A loop: it waits until one of its links may have something to say, serves what came on all of them, and sends what is due.
 
 ghost use Rattle.std.specs.Prelude.{◌≡◌, ◌<◌, ◌^◌, [], IfOk, vec_len};
+ghost use Rattle.event_loops.specs.Causes.{CountsEnd, CountsLoop, Grow, loop_faults};
 ghost use Rattle.event_loops.specs.Tales.{GoesOn, LeadsBy};
 
-use crate::entrance::{Bounds, Entrance};
 use crate::links::Links;
+use crate::outside::{DOOR, Outside};
 use crate::shared::{NewLink, Port, Shared};
 use broker_events::Calls;
-use mq_outside::{Clock, DiskFault, Failed, Reader};
+use mq_outside::{Clock, Reader};
 use mq_peers::{Event, Ready};
 use std::alloc::{AllocError, Global};
-use std::sync::{Mutex, Wait};
-
-/// The token of the door.
-const DOOR: u32 = u32::MAX;
+use std::sync::Wait;
 
 /// So many bytes are read of a link at once.
 const READ_SIZE: usize = 1 << 16;
@@ -38,20 +36,16 @@ pub enum LoopEnd {
 
 /// What all loops use.
 #[derive(Drop)]
-pub struct Around<'a, W: Wait, P: Ready, K: Clock + Send + Drop> {
+pub struct Around<'a, W: Wait, P: Ready> {
     pub rt: &'a W,
     pub alloc: Global,
     pub shared: &'a Shared,
     pub ports: &'a [Port<P>],
-    pub clock: &'a Mutex<K>,
 }
 
 /// A loop with its links.
 #[derive(Drop)]
 pub struct EventLoop<P: Ready + Drop> {
-    pub(crate) ready: P,
-    // One loop has the door.
-    pub(crate) entrance: Option<Entrance<P>>,
     pub(crate) links: Links<P::Link>,
     pub(crate) events: Vec<Event>,
     pub(crate) buffer: Vec<u8>,
@@ -61,42 +55,15 @@ pub struct EventLoop<P: Ready + Drop> {
     pub(crate) door_waits: bool,
 }
 
-// How a loop ends where waiting for links fails.
-fn end_of(fault: DiskFault) -> LoopEnd {
-    match fault {
-        DiskFault::Failed => LoopEnd::Poll,
-        DiskFault::Memory => LoopEnd::Memory,
-    }
-}
-
-// What the clock says.
-fn time_now<W: Wait, P: Ready, K: Clock + Send + Drop>(
-    around: &Around<'_, W, P, K>,
-) -> Result<u64, LoopEnd>
-    ensures { IfOk result (λ now. now < 2 ^ 62) }
-{
-    match around.clock.lock(around.rt).now() {
-        Ok(now) => Ok(now),
-        Err(Failed) => Err(LoopEnd::Clock),
-    }
-}
-
 impl<P: Ready + Drop> EventLoop<P> {
     /// A loop without links, this one of so many.
-    pub fn new(
-        alloc: Global,
-        number: usize,
-        loops: usize,
-        ready: P,
-    ) -> Result<EventLoop<P>, AllocError>
+    pub fn new(alloc: Global, number: usize, loops: usize) -> Result<EventLoop<P>, AllocError>
         ensures loops { IfOk result (λ it. (it.links.loops ≡ loops) × (it.links.number ≡ number)) }
         ensures none { IfOk result (λ it. it.links.slots.items ≡ []) }
     {
         let mut buffer = Vec::new(alloc);
         buffer.resize(READ_SIZE, 0)?;
         Ok(EventLoop {
-            ready,
-            entrance: None,
             links: Links::new(alloc, number, loops),
             events: Vec::new(alloc),
             buffer,
@@ -106,26 +73,17 @@ impl<P: Ready + Drop> EventLoop<P> {
         })
     }
 
-    /// Gives the loop a door that is open, within these bounds.
-    pub fn watch(&mut self, door: P::Door, bounds: Bounds) -> Result<(), LoopEnd>
-        ensures links { self.new.links ≡ self.old.links }
-    {
-        let mut door = door;
-        if let Err(fault) = self.ready.register_door(&mut door, DOOR) {
-            return Err(end_of(fault));
-        }
-        self.entrance = Some(Entrance {
-            door,
-            came: 0,
-            bounds,
-        });
-        Ok(())
-    }
-
     // Serves this link from now on. One that doesn't fall to the loop, or for which there is no place, is dropped, which closes
     // it. Answers whether it is served.
-    fn adopt<R: Reader>(&mut self, alloc: Global, new: NewLink<P::Link>) -> bool
+    fn adopt<K: Clock + Drop, R: Reader>(
+        &mut self,
+        alloc: Global,
+        outside: &mut Outside<P, K>,
+        new: NewLink<P::Link>,
+    ) -> bool
         ensures went { GoesOn P.Link.tells R.gives P.Link.given P.Link.taken self.old.links [] self.new.links }
+        ensures grow { Grow (loop_faults P.faults P.Door.faults K.faults outside.old)
+            (loop_faults P.faults P.Door.faults K.faults outside.new) }
     {
         let NewLink { number, mut link } = new;
         if !self.links.may_have(number) {
@@ -137,7 +95,7 @@ impl<P: Ready + Drop> EventLoop<P> {
         let Ok(token) = u32::try_from(slot) else {
             return false;
         };
-        if self.ready.register(&mut link, token).is_err() {
+        if !outside.register(&mut link, token) {
             return false;
         }
         self.links.put::<R>(alloc, slot, number, link);
@@ -145,12 +103,15 @@ impl<P: Ready + Drop> EventLoop<P> {
     }
 
     // Serves a link that is new, or hands it over to the loop to which it falls.
-    fn place<W: Wait, K: Clock + Send + Drop, R: Reader>(
+    fn place<W: Wait, K: Clock + Drop, R: Reader>(
         &mut self,
-        around: &Around<'_, W, P, K>,
+        around: &Around<'_, W, P>,
+        outside: &mut Outside<P, K>,
         new: NewLink<P::Link>,
     )
         ensures went { GoesOn P.Link.tells R.gives P.Link.given P.Link.taken self.old.links [] self.new.links }
+        ensures grow { Grow (loop_faults P.faults P.Door.faults K.faults outside.old)
+            (loop_faults P.faults P.Door.faults K.faults outside.new) }
     {
         around.shared.link_opened();
         let to = self.links.loop_of(new.number);
@@ -160,16 +121,22 @@ impl<P: Ready + Drop> EventLoop<P> {
             port.hand_over(around.rt, new);
             return;
         }
-        if !self.adopt::<R>(around.alloc, new) {
+        if !self.adopt::<K, R>(around.alloc, outside, new) {
             around.shared.link_ended();
         }
     }
 
     // The next link at the door, if one may come in now. Notes where it has to wait for another one's end.
-    fn next_in(&mut self, shared: &Shared) -> Result<Option<NewLink<P::Link>>, LoopEnd>
+    fn next_in<K: Clock + Drop>(
+        &mut self,
+        shared: &Shared,
+        outside: &mut Outside<P, K>,
+    ) -> Result<Option<NewLink<P::Link>>, LoopEnd>
         ensures links { self.new.links ≡ self.old.links }
+        ensures cause { CountsLoop result (loop_faults P.faults P.Door.faults K.faults outside.old)
+            (loop_faults P.faults P.Door.faults K.faults outside.new) }
     {
-        let Some(entrance) = &mut self.entrance else {
+        let Some(entrance) = &mut outside.entrance else {
             return Ok(None);
         };
         if entrance.is_done() {
@@ -183,44 +150,53 @@ impl<P: Ready + Drop> EventLoop<P> {
     }
 
     // Lets in whoever stands at the door, as many as one pass takes.
-    fn let_in<W: Wait, K: Clock + Send + Drop, R: Reader>(
+    fn let_in<W: Wait, K: Clock + Drop, R: Reader>(
         &mut self,
-        around: &Around<'_, W, P, K>,
+        around: &Around<'_, W, P>,
+        outside: &mut Outside<P, K>,
     ) -> Result<(), LoopEnd>
         ensures went { GoesOn P.Link.tells R.gives P.Link.given P.Link.taken self.old.links [] self.new.links }
+        ensures cause { CountsLoop result (loop_faults P.faults P.Door.faults K.faults outside.old)
+            (loop_faults P.faults P.Door.faults K.faults outside.new) }
     {
         for _ in 0..ACCEPTS_MAX {
-            let came = self.next_in(around.shared)?;
+            let came = self.next_in(around.shared, outside)?;
             let Some(new) = came else {
                 return Ok(());
             };
-            self.place::<W, K, R>(around, new);
+            self.place::<W, K, R>(around, outside, new);
         }
         self.at_door = true;
         Ok(())
     }
 
     // Asks at the door, where someone may stand there.
-    fn ask_door<W: Wait, K: Clock + Send + Drop, R: Reader>(
+    fn ask_door<W: Wait, K: Clock + Drop, R: Reader>(
         &mut self,
-        around: &Around<'_, W, P, K>,
+        around: &Around<'_, W, P>,
+        outside: &mut Outside<P, K>,
     ) -> Result<(), LoopEnd>
         ensures went { GoesOn P.Link.tells R.gives P.Link.given P.Link.taken self.old.links [] self.new.links }
+        ensures cause { CountsLoop result (loop_faults P.faults P.Door.faults K.faults outside.old)
+            (loop_faults P.faults P.Door.faults K.faults outside.new) }
     {
         if !self.at_door && !self.door_waits && !around.shared.take_retry() {
             return Ok(());
         }
         self.at_door = false;
         self.door_waits = false;
-        self.let_in::<W, K, R>(around)
+        self.let_in::<W, K, R>(around, outside)
     }
 
     // Serves the links that other loops handed over, as many as one pass takes. Answers whether there may be more.
-    fn take_in<W: Wait, K: Clock + Send + Drop, R: Reader>(
+    fn take_in<W: Wait, K: Clock + Drop, R: Reader>(
         &mut self,
-        around: &Around<'_, W, P, K>,
+        around: &Around<'_, W, P>,
+        outside: &mut Outside<P, K>,
     ) -> bool
         ensures went { GoesOn P.Link.tells R.gives P.Link.given P.Link.taken self.old.links [] self.new.links }
+        ensures grow { Grow (loop_faults P.faults P.Door.faults K.faults outside.old)
+            (loop_faults P.faults P.Door.faults K.faults outside.new) }
     {
         let Some(port) = around.ports.get(self.links.number) else {
             return false;
@@ -229,7 +205,7 @@ impl<P: Ready + Drop> EventLoop<P> {
             let Some(new) = port.take(around.rt) else {
                 return false;
             };
-            if !self.adopt::<R>(around.alloc, new) {
+            if !self.adopt::<K, R>(around.alloc, outside, new) {
                 around.shared.link_ended();
             }
         }
@@ -271,9 +247,9 @@ impl<P: Ready + Drop> EventLoop<P> {
     }
 
     // Serves what came on each link, rings for the flusher where a request was given to the broker, and sends what is due.
-    fn serve<W: Wait, K: Clock + Send + Drop, C: Calls, R: Reader>(
+    fn serve<W: Wait, C: Calls, R: Reader>(
         &mut self,
-        around: &Around<'_, W, P, K>,
+        around: &Around<'_, W, P>,
         calls: &mut C,
         reader: &mut R,
         now: u64,
@@ -298,7 +274,7 @@ impl<P: Ready + Drop> EventLoop<P> {
     }
 
     // Whether the loop can go on at once. Where a link waits for a flush turn the end of the next one wakes it.
-    fn goes_on<W: Wait, K: Clock + Send + Drop>(&self, around: &Around<'_, W, P, K>) -> bool {
+    fn goes_on<W: Wait>(&self, around: &Around<'_, W, P>) -> bool {
         let (awaits, has_more) = self.links.outlook();
         if awaits && let Some(port) = around.ports.get(self.links.number) {
             port.await_turn();
@@ -309,8 +285,12 @@ impl<P: Ready + Drop> EventLoop<P> {
     }
 
     // Whether no link comes any more. Links that were handed over before the door was closed are on their way.
-    fn is_last<W: Wait, K: Clock + Send + Drop>(&self, around: &Around<'_, W, P, K>) -> bool {
-        if let Some(entrance) = &self.entrance {
+    fn is_last<W: Wait, K: Clock + Drop>(
+        &self,
+        around: &Around<'_, W, P>,
+        outside: &Outside<P, K>,
+    ) -> bool {
+        if let Some(entrance) = &outside.entrance {
             return entrance.is_done();
         }
         if !around.shared.is_closed() {
@@ -323,71 +303,88 @@ impl<P: Ready + Drop> EventLoop<P> {
     }
 
     // Whether the loop has no link, and gets none any more.
-    fn is_done<W: Wait, K: Clock + Send + Drop>(&self, around: &Around<'_, W, P, K>) -> bool {
-        self.links.is_empty() && self.is_last(around)
+    fn is_done<W: Wait, K: Clock + Drop>(
+        &self,
+        around: &Around<'_, W, P>,
+        outside: &Outside<P, K>,
+    ) -> bool {
+        self.links.is_empty() && self.is_last(around, outside)
     }
 
     // Waits for reports, not at all where the loop can go on at once.
-    fn wait(&mut self, has_more: bool) -> Result<(), LoopEnd>
+    fn wait<K: Clock + Drop>(
+        &mut self,
+        outside: &mut Outside<P, K>,
+        has_more: bool,
+    ) -> Result<(), LoopEnd>
         ensures links { self.new.links ≡ self.old.links }
+        ensures cause { CountsLoop result (loop_faults P.faults P.Door.faults K.faults outside.old)
+            (loop_faults P.faults P.Door.faults K.faults outside.new) }
     {
         let timeout = if has_more { Some(0) } else { None };
-        match self.ready.wait(timeout, &mut self.events) {
-            Ok(()) => Ok(()),
-            Err(fault) => Err(end_of(fault)),
-        }
+        outside.wait(timeout, &mut self.events)
     }
 
     // Waits for reports, not at all where the loop can go on at once, notes them and lets in who came. Answers whether more may have
     // come.
-    fn gather<W: Wait, K: Clock + Send + Drop, R: Reader>(
+    fn gather<W: Wait, K: Clock + Drop, R: Reader>(
         &mut self,
-        around: &Around<'_, W, P, K>,
+        around: &Around<'_, W, P>,
+        outside: &mut Outside<P, K>,
         has_more: bool,
     ) -> Result<bool, LoopEnd>
         ensures went { GoesOn P.Link.tells R.gives P.Link.given P.Link.taken self.old.links [] self.new.links }
+        ensures cause { CountsLoop result (loop_faults P.faults P.Door.faults K.faults outside.old)
+            (loop_faults P.faults P.Door.faults K.faults outside.new) }
     {
-        self.wait(has_more)?;
+        self.wait(outside, has_more)?;
         self.note_reports::<R>();
-        self.ask_door::<W, K, R>(around)?;
-        Ok(self.take_in::<W, K, R>(around))
+        self.ask_door::<W, K, R>(around, outside)?;
+        Ok(self.take_in::<W, K, R>(around, outside))
     }
 
     // One pass: what was reported, what came, and what is due. Answers whether the loop can go on at once.
-    fn pass<W: Wait, K: Clock + Send + Drop, C: Calls, R: Reader>(
+    fn pass<W: Wait, K: Clock + Drop, C: Calls, R: Reader>(
         &mut self,
-        around: &Around<'_, W, P, K>,
+        around: &Around<'_, W, P>,
+        outside: &mut Outside<P, K>,
         calls: &mut C,
         reader: &mut R,
         has_more: bool,
     ) -> Result<bool, LoopEnd>
         ensures went { LeadsBy C.makes calls.old calls.new
             (λ acts. GoesOn P.Link.tells R.gives P.Link.given P.Link.taken self.old.links acts self.new.links) }
+        ensures cause { CountsLoop result (loop_faults P.faults P.Door.faults K.faults outside.old)
+            (loop_faults P.faults P.Door.faults K.faults outside.new) }
     {
-        let more_came = self.gather::<W, K, R>(around, has_more)?;
-        let now = time_now(around)?;
+        let more_came = self.gather::<W, K, R>(around, outside, has_more)?;
+        let now = outside.now()?;
         let failed = self.note_turns(around.shared);
         self.serve(around, calls, reader, now, failed);
         Ok(self.goes_on(around) | more_came)
     }
 
     /// Serves links until the door is done and all of them have ended, or a fault ends it.
-    pub fn run<W: Wait, K: Clock + Send + Drop, C: Calls, R: Reader>(
+    pub fn run<W: Wait, K: Clock + Drop, C: Calls, R: Reader>(
         &mut self,
-        around: &Around<'_, W, P, K>,
+        around: &Around<'_, W, P>,
+        outside: &mut Outside<P, K>,
         calls: &mut C,
         reader: &mut R,
     ) -> LoopEnd
         // Each step is one of a link's pass, or its end.
         ensures went { LeadsBy C.makes calls.old calls.new
             (λ acts. GoesOn P.Link.tells R.gives P.Link.given P.Link.taken self.old.links acts self.new.links) }
+        // It ends by a fault only where the count of what it blames rose.
+        ensures cause { CountsEnd result (loop_faults P.faults P.Door.faults K.faults outside.old)
+            (loop_faults P.faults P.Door.faults K.faults outside.new) }
     {
         let mut has_more = false;
         for _ in around.rt.forever() {
-            if around.shared.is_ending() || self.is_done(around) {
+            if around.shared.is_ending() || self.is_done(around, outside) {
                 return LoopEnd::Done;
             }
-            match self.pass(around, calls, reader, has_more) {
+            match self.pass(around, outside, calls, reader, has_more) {
                 Ok(more) => has_more = more,
                 Err(end) => return end,
             }

@@ -6,10 +6,12 @@ mod entrance;
 mod event_loop;
 mod laws;
 mod links;
+mod outside;
 mod shared;
 
-pub use entrance::Bounds;
+pub use entrance::{Bounds, Entrance};
 pub use event_loop::{Around, EventLoop, LoopEnd};
 pub use laws::{a_loop_is_told_from_its_beginning_on, each_link_of_a_loop_is_answered_in_order};
 pub use links::{Links, Numbered};
+pub use outside::{Outside, watch_door};
 pub use shared::{NewLink, Port, Shared};

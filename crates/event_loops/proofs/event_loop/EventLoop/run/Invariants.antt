@@ -1,3 +1,4 @@
+use Rattle.event_loops.specs.Causes.{Grow, loop_faults}
 use Rattle.event_loops.specs.Tales.{GoesOn, LeadsBy}
 use Rattle.event_loops.proofs.event_loop.EventLoop.run.Given as goal
 
@@ -7,4 +8,6 @@ invariant-loop g l = record {
   finite : (goal.iterator-loop g).is_finite l.iterator';
   went : LeadsBy g.C.Calls.makes l.fn.calls l.calls
       (λ acts. GoesOn g.P.Link.Link.tells g.R.Reader.gives g.P.Link.Link.given g.P.Link.Link.taken l.fn.self.links acts l.self.links);
+  grow : Grow (loop_faults g.P.Ready.faults g.P.Door.Door.faults g.K.Clock.faults l.fn.outside)
+      (loop_faults g.P.Ready.faults g.P.Door.Door.faults g.K.Clock.faults l.outside);
 }
