@@ -1,11 +1,12 @@
 //! The flusher: one write and one sync for all that is pending, as often as something is.
 
-ghost use Rattle.std.specs.Prelude.{◌≡◌, None};
+ghost use Rattle.std.specs.Prelude.{◌≡◌, ◌≤◌, None};
 ghost use Rattle.log_model.specs.Stored.{StaysOutside};
 ghost use Rattle.segment_files.specs.Turn.{IsInside};
 ghost use Rattle.request_acts.specs.Acts.{Acted, place_of, view_of, change_of};
 ghost use Rattle.request_acts.specs.Turning.{IsDispatch};
 ghost use Rattle.serve_story.specs.Served.{AreFlushing};
+ghost use Rattle.serve_threads.specs.Causes.{BlamesDisk};
 
 use broker_events::Calls;
 use event_loops::{Port, Shared};
@@ -59,6 +60,8 @@ fn flush_all<W: Wait, C: Calls, D: Disk, P: Ready>(
     ensures acted { Acted C.makes (view_of D.tells D.state D.faults D.syncs) AreFlushing
         (change_of calls.old (place_of flusher.old.file disk.old)
         calls.new (place_of flusher.new.file disk.new)) }
+    ensures grow { D.faults disk.old ≤ D.faults disk.new }
+    ensures cause { BlamesDisk result (D.faults disk.old) (D.faults disk.new) }
 {
     for _ in rt.forever() {
         let end = flush_turn(alloc, calls, flusher, disk);
@@ -95,6 +98,7 @@ pub(crate) fn keep_flushing<W: Wait, C: Calls, D: Disk, P: Ready>(
     ensures acted { Acted C.makes (view_of D.tells D.state D.faults D.syncs) AreFlushing
         (change_of calls.old (place_of flusher.old.file disk.old)
         calls.new (place_of flusher.new.file disk.new)) }
+    ensures cause { BlamesDisk result (D.faults disk.old) (D.faults disk.new) }
 {
     for _ in rt.forever() {
         // Looked at before the turns, so that these flush what the loops appended to their end.

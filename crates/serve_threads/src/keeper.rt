@@ -1,5 +1,6 @@
 //! The keeper: the two kept files follow what the core has, a few seconds behind it.
 
+ghost use Rattle.std.specs.Prelude.{◌≤◌};
 ghost use Rattle.serve_story.specs.Kept.{KeepsUp};
 
 use broker_core::Owner;
@@ -24,7 +25,8 @@ pub(crate) fn keep_up<W: Wait, C: Owner, E: Keep>(
     calls: &mut C,
     keep: &mut E,
 )
-    ensures { KeepsUp C.sees E.tells calls.old (E.state keep.old) calls.new (E.state keep.new) }
+    ensures kept { KeepsUp C.sees E.tells calls.old (E.state keep.old) calls.new (E.state keep.new) }
+    ensures grow { E.faults keep.old ≤ E.faults keep.new }
 {
     let mut last = None;
     for _ in rt.forever() {

@@ -7,6 +7,8 @@ mod keeper;
 mod loops;
 mod served;
 mod threads;
+mod world;
 
 pub use loops::Loops;
-pub use served::{Devices, Served, serve};
+pub use served::{Devices, Served, Unserved, serve};
+pub use world::World;

@@ -1,31 +1,33 @@
 //! The two loops, and how other threads reach them.
 
-ghost use Rattle.std.specs.Prelude.{◌≡◌, [], IfOk};
+ghost use Rattle.std.specs.Prelude.{◌≡◌, IfErr, IfOk};
 ghost use Rattle.serve_story.specs.Served.{AreLoops};
+ghost use Rattle.serve_threads.specs.Causes.{BlamesMaking, world_faults};
 
-use event_loops::{Bounds, EventLoop, LoopEnd, Port};
-use mq_outside::DiskFault;
+use crate::world::World;
+use event_loops::{Bounds, EventLoop, LoopEnd, Port, watch_door};
+use mq_outside::Clock;
 use mq_peers::Ready;
 use std::alloc::{AllocError, Global};
 
 /// How many loops there are.
 pub(crate) const LOOPS: usize = 2;
 
-/// The loops, and how other threads reach them.
+/// The loops, how other threads reach them, and what is around them.
 #[derive(Drop)]
-pub struct Loops<P: Ready + Drop> {
+pub struct Loops<P: Ready + Drop, K: Clock + Drop> {
     pub(crate) first: EventLoop<P>,
     pub(crate) second: EventLoop<P>,
     pub(crate) ports: Vec<Port<P>>,
+    pub(crate) world: World<P, K>,
+    pub(crate) bounds: Bounds,
 }
 
-// Another of the kind, for the second loop.
-fn twin_of<P: Ready>(ready: &mut P) -> Result<P, LoopEnd> {
-    match ready.twin() {
-        Ok(twin) => Ok(twin),
-        Err(DiskFault::Failed) => Err(LoopEnd::Poll),
-        Err(DiskFault::Memory) => Err(LoopEnd::Memory),
-    }
+// The loops, and how they are reached.
+struct Pair<P: Ready + Drop> {
+    first: EventLoop<P>,
+    second: EventLoop<P>,
+    ports: Vec<Port<P>>,
 }
 
 // How the loops are reached.
@@ -36,33 +38,70 @@ fn ports_of<P: Ready>(alloc: Global, first: &P, second: &P) -> Result<Vec<Port<P
     Ok(ports)
 }
 
-// A loop without links.
-fn loop_of<P: Ready + Drop>(alloc: Global, number: usize, ready: P) -> Result<EventLoop<P>, LoopEnd>
-    ensures { IfOk result (λ it. (it.links.loops ≡ 2) × (it.links.number ≡ number) × (it.links.slots.items ≡ [])) }
+// Both loops, without links.
+fn pair_of<P: Ready + Drop>(alloc: Global, first: &P, second: &P) -> Result<Pair<P>, AllocError>
+    ensures { IfOk result (λ it. AreLoops it.first it.second) }
 {
-    match EventLoop::new(alloc, number, LOOPS, ready) {
-        Ok(made) => Ok(made),
-        Err(AllocError) => Err(LoopEnd::Memory),
-    }
+    let ports = ports_of(alloc, first, second)?;
+    let first = EventLoop::new(alloc, 0, LOOPS)?;
+    let second = EventLoop::new(alloc, 1, LOOPS)?;
+    Ok(Pair {
+        first,
+        second,
+        ports,
+    })
 }
 
-impl<P: Ready + Drop> Loops<P> {
-    /// Two loops, the first of which has the door. The door is open.
-    pub fn new(alloc: Global, ready: P, door: P::Door, bounds: Bounds) -> Result<Loops<P>, LoopEnd>
-        ensures { IfOk result (λ it. AreLoops it.first it.second) }
+impl<P: Ready + Drop, K: Clock + Drop> Loops<P, K> {
+    /// Two loops, the first of which has the door, within these bounds. The door is open. At `Err` it says why there are none, and
+    /// gives the world back.
+    pub fn new(
+        alloc: Global,
+        world: World<P, K>,
+        bounds: Bounds,
+    ) -> Result<Loops<P, K>, (LoopEnd, World<P, K>)>
+        ensures loops { IfOk result (λ it. AreLoops it.first it.second) }
+        ensures counts { IfOk result (λ it. world_faults P.faults P.Door.faults K.faults it.world
+            ≡ world_faults P.faults P.Door.faults K.faults world) }
+        ensures cause { IfErr result (λ it. BlamesMaking it.0 (world_faults P.faults P.Door.faults K.faults world)
+            (world_faults P.faults P.Door.faults K.faults it.1)) }
     {
-        let mut ready = ready;
-        let twin = twin_of(&mut ready)?;
-        let Ok(ports) = ports_of(alloc, &ready, &twin) else {
-            return Err(LoopEnd::Memory);
-        };
-        let mut first = loop_of(alloc, 0, ready)?;
-        first.watch(door, bounds)?;
-        let second = loop_of(alloc, 1, twin)?;
-        Ok(Loops {
+        let mut world = world;
+        if let Err(end) = watch_door(&mut world.ready.0, &mut world.door) {
+            return Err((end, world));
+        }
+        match pair_of(alloc, &world.ready.0, &world.ready.1) {
+            Err(AllocError) => Err((LoopEnd::Memory, world)),
+            Ok(
+                Pair {
+                    first,
+                    second,
+                    ports,
+                },
+            ) => Ok(Loops {
+                first,
+                second,
+                ports,
+                world,
+                bounds,
+            }),
+        }
+    }
+
+    /// What is around the loops, which end here.
+    pub fn leave(self) -> World<P, K>
+        ensures { result ≡ self.world }
+    {
+        let Loops {
             first,
             second,
             ports,
-        })
+            world,
+            bounds: _,
+        } = self;
+        drop(first);
+        drop(second);
+        drop(ports);
+        world
     }
 }

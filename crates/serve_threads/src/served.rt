@@ -1,32 +1,42 @@
 //! The broker over many links, from the core that is opened to the core that is left.
 
-ghost use Rattle.std.specs.Prelude.{◌≡◌, [], ◌∷◌, Some, None, IfSome, IfOk, IfErr};
+ghost use Rattle.std.specs.Prelude.{◌≡◌, ◌≤◌, ℕ, [], ◌∷◌, Some, None, IfSome, IfOk, IfErr};
 ghost use Rattle.log_model.specs.Stored.{StaysOutside};
 ghost use Rattle.segment_files.specs.Turn.{IsInside};
 ghost use Rattle.broker_core.specs.Makes.{shown_of};
 ghost use Rattle.story_lock.specs.Passes.{IsPassOf, HasSeat, HasKey, start_of, seats_of as seats_in, seen_by, mine_of, numbers_of};
 ghost use Rattle.spine.specs.Seen.{shown_by};
 ghost use Rattle.request_acts.specs.Acts.{Place, place_of, view_of};
+ghost use Rattle.event_loops.specs.Causes.{door_faults, loop_faults};
 ghost use Rattle.serve_story.specs.Kept.{PutsAlong};
 ghost use Rattle.serve_story.specs.Served.{AreLoops, AreCut, AreMet, Meets, HasMade, IsLeft};
+ghost use Rattle.serve_threads.specs.Causes.{BlamesDisk, BlamesKeep, BlamesWorld, HasCauses, HasDoor, IsFirstFault};
+ghost use Rattle.serve_threads.specs.Causes.{both_faults, counts_of, world_faults};
 
 use crate::loops::Loops;
 use crate::threads::{Flushing, Keeping, Ran, Worker, run_all};
+use crate::world::World;
 use broker_core::Core;
-use event_loops::{Around, EventLoop, LoopEnd, Shared};
+use event_loops::{Around, EventLoop, LoopEnd, Outside, Shared};
 use group_flush::Flusher;
 use keeper_turns::keep_core;
 use mq_outside::{Clock, Disk, DiskFault, Keep, Reader};
 use mq_peers::Ready;
 use spine::{Pass, Spine, SpinePass};
 use std::alloc::Global;
-use std::sync::{Mutex, Wait};
+use std::sync::Wait;
 use std::thread::Threads;
 use worker_turns::FlushEnd;
 
 /// What is left of a run.
 #[derive(Drop)]
-pub struct Served<D: Disk + Drop, R: Reader + Drop, E: Keep + Drop> {
+pub struct Served<
+    P: Ready + Drop,
+    K: Clock + Drop,
+    D: Disk + Drop,
+    R: Reader + Drop,
+    E: Keep + Drop,
+> {
     /// The core, once all threads have ended.
     pub core: Core,
     pub disk: D,
@@ -39,10 +49,14 @@ pub struct Served<D: Disk + Drop, R: Reader + Drop, E: Keep + Drop> {
     pub end: LoopEnd,
     /// How the last flush turn ended.
     pub last: FlushEnd,
+    /// What was around the loops.
+    pub world: World<P, K>,
 }
 
 // The first of two ends that is a fault.
-fn first_fault(first: LoopEnd, second: LoopEnd) -> LoopEnd {
+fn first_fault(first: LoopEnd, second: LoopEnd) -> LoopEnd
+    ensures { IsFirstFault first second result }
+{
     if first == LoopEnd::Done {
         second
     } else {
@@ -51,7 +65,8 @@ fn first_fault(first: LoopEnd, second: LoopEnd) -> LoopEnd {
 }
 
 // What the threads leave. The pass has each seat number.
-struct Left<D: Disk + Drop, R: Reader + Drop, E: Keep + Drop> {
+struct Left<P: Ready + Drop, K: Clock + Drop, D: Disk + Drop, R: Reader + Drop, E: Keep + Drop> {
+    world: World<P, K>,
     end: LoopEnd,
     last: FlushEnd,
     readers: (R, R),
@@ -68,6 +83,19 @@ pub struct Devices<D: Disk + Drop, R: Reader + Drop, E: Keep + Drop> {
     /// A reader for each loop.
     pub readers: (R, R),
     pub keep: E,
+}
+
+/// What a run was to work with, where there was no memory to begin.
+#[derive(Drop)]
+pub struct Unserved<
+    P: Ready + Drop,
+    K: Clock + Drop,
+    D: Disk + Drop,
+    R: Reader + Drop,
+    E: Keep + Drop,
+> {
+    pub devices: Devices<D, R, E>,
+    pub world: World<P, K>,
 }
 
 // A caller for each thread.
@@ -101,19 +129,24 @@ fn seats_of<'a, W: Wait>(spine: &'a Spine, rt: &'a W, pass: Pass) -> Seats<'a, W
     }
 }
 
-// What a loop leaves: its pass, its reader, and how it ended.
-fn left_of<W: Wait, P: Ready + Drop, R: Reader + Drop>(
-    worker: Worker<P, SpinePass<'_, W>, R>,
-) -> (Pass, R, LoopEnd)
-    ensures { worker.entry.calls.pass ≡ Some result.0 }
+// What a loop leaves: its pass, its reader, what was outside it, and how it ended.
+fn left_of<W: Wait, P: Ready + Drop, K: Clock + Drop, R: Reader + Drop>(
+    worker: Worker<P, K, SpinePass<'_, W>, R>,
+) -> (Pass, R, Outside<P, K>, LoopEnd)
+    ensures pass { worker.entry.calls.pass ≡ Some result.0 }
+    ensures outside { result.2 ≡ worker.entry.outside }
+    ensures end { result.3 ≡ worker.entry.end }
 {
     let Worker {
-        event_loop: _,
+        event_loop,
+        outside,
         calls,
         reader,
         end,
     } = worker;
-    (calls.leave(), reader, end)
+    let left = (calls.leave(), reader, outside, end);
+    drop(event_loop);
+    left
 }
 
 // One pass of four, with the entries and the seat numbers of all.
@@ -133,11 +166,15 @@ fn together<W: Wait>(spine: &Spine, rt: &W, turns: Pass, loops: (Pass, Pass), ke
 }
 
 // What the threads leave, whose passes are one again.
-fn gather<W: Wait, P: Ready + Drop, D: Disk + Drop, R: Reader + Drop, E: Keep + Drop>(
-    spine: &Spine,
-    rt: &W,
-    ran: Ran<P, D, SpinePass<'_, W>, R, E>,
-) -> Left<D, R, E>
+fn gather<
+    W: Wait,
+    P: Ready + Drop,
+    K: Clock + Drop,
+    D: Disk + Drop,
+    R: Reader + Drop,
+    E: Keep + Drop,
+>(spine: &Spine, rt: &W, ran: Ran<P, D, K, SpinePass<'_, W>, R, E>) -> Left<P, K, D, R, E>
+    requires door { HasDoor (door_faults P.Door.faults ran.first.outside.entrance) }
     requires turns { IfSome ran.flushing.calls.pass (λ p. IsPassOf spine.now.story p) }
     requires first { IfSome ran.first.calls.pass (λ p. IsPassOf spine.now.story p) }
     requires second { IfSome ran.second.calls.pass (λ p. IsPassOf spine.now.story p) }
@@ -147,6 +184,11 @@ fn gather<W: Wait, P: Ready + Drop, D: Disk + Drop, R: Reader + Drop, E: Keep + 
         ran.entry.keeping.calls.pass result.pass }
     ensures disk { result.disk ≡ ran.entry.flushing.disk }
     ensures keep { result.keep ≡ ran.entry.keeping.keep }
+    ensures last { result.last ≡ ran.entry.flushing.last }
+    ensures end { IsFirstFault ran.entry.first.end ran.entry.second.end result.end }
+    ensures counts { world_faults P.faults P.Door.faults K.faults result.world ≡ both_faults
+        (loop_faults P.faults P.Door.faults K.faults ran.entry.first.outside)
+        (loop_faults P.faults P.Door.faults K.faults ran.entry.second.outside) }
 {
     let Ran {
         flushing,
@@ -164,11 +206,12 @@ fn gather<W: Wait, P: Ready + Drop, D: Disk + Drop, R: Reader + Drop, E: Keep + 
         calls: keeper,
         keep,
     } = keeping;
-    let (first_pass, first_reader, first_end) = left_of(first);
-    let (second_pass, second_reader, second_end) = left_of(second);
+    let (first_pass, first_reader, near, first_end) = left_of(first);
+    let (second_pass, second_reader, far, second_end) = left_of(second);
     let turns = calls.leave();
     let looks = keeper.leave();
     Left {
+        world: World::join(near, far),
         end: first_fault(first_end, second_end),
         last,
         readers: (first_reader, second_reader),
@@ -187,18 +230,20 @@ fn run_seated<
     R: Reader + Send + Drop,
     E: Keep + Send + Drop,
 >(
-    around: &Around<'_, W, P, K>,
+    around: &Around<'_, W, P>,
     spine: &Spine,
     pass: Pass,
     loops: (EventLoop<P>, EventLoop<P>),
+    outsides: (Outside<P, K>, Outside<P, K>),
     devices: Devices<D, R, E>,
-) -> Left<D, R, E>
+) -> Left<P, K, D, R, E>
 where
     D::Reader: Send,
     requires of { IsPassOf spine.now.story pass }
     requires numbers { numbers_of pass ≡ 0 ∷ 1 ∷ 2 ∷ 3 ∷ [] }
     requires first { (seen_by pass ≡ []) × (mine_of pass ≡ []) }
     requires loops { AreLoops loops.0 loops.1 }
+    requires door { HasDoor (door_faults P.Door.faults outsides.0.entrance) × (door_faults P.Door.faults outsides.1.entrance ≡ None) }
     requires none_out { (shown_of (start_of spine.now.story).core).out ≡ None }
     requires inside { D.tells → IsInside devices.flusher.file.base devices.flusher.file.offset (D.state devices.disk) }
     ensures outside { D.tells → StaysOutside (D.state devices.disk) (D.state result.disk) }
@@ -207,6 +252,10 @@ where
         (place_of devices.flusher.file devices.disk) result.pass result.disk }
     ensures kept { E.tells → PutsAlong (start_of spine.now.story).core (seen_by result.pass)
         (E.state devices.keep) (E.state result.keep) }
+    ensures cause { BlamesWorld result.end (both_faults (loop_faults P.faults P.Door.faults K.faults outsides.0)
+        (loop_faults P.faults P.Door.faults K.faults outsides.1)) (world_faults P.faults P.Door.faults K.faults result.world) }
+    ensures disk_cause { BlamesDisk result.last (D.faults devices.disk) (D.faults result.disk) }
+    ensures keep_grows { E.faults devices.keep ≤ E.faults result.keep }
 {
     let Devices {
         flusher,
@@ -215,6 +264,7 @@ where
         keep,
     } = devices;
     let (first_loop, second_loop) = loops;
+    let (near, far) = outsides;
     let (first_reader, second_reader) = readers;
     let Seats {
         flusher: key,
@@ -224,12 +274,14 @@ where
     } = seats_of(spine, around.rt, pass);
     let first = Worker {
         event_loop: first_loop,
+        outside: near,
         calls: first,
         reader: first_reader,
         end: LoopEnd::Done,
     };
     let second = Worker {
         event_loop: second_loop,
+        outside: far,
         calls: second,
         reader: second_reader,
         end: LoopEnd::Done,
@@ -249,12 +301,14 @@ where
 }
 
 // The core is taken out of the spine, and the kept files are replaced by its texts.
-fn close<W: Wait, P: Ready, D: Disk + Drop, R: Reader + Drop, E: Keep + Drop>(
-    rt: &W,
-    alloc: Global,
-    spine: Spine,
-    left: Left<D, R, E>,
-) -> Served<D, R, E>
+fn close<
+    W: Wait,
+    P: Ready + Drop,
+    K: Clock + Drop,
+    D: Disk + Drop,
+    R: Reader + Drop,
+    E: Keep + Drop,
+>(rt: &W, alloc: Global, spine: Spine, left: Left<P, K, D, R, E>) -> Served<P, K, D, R, E>
     requires of { IsPassOf spine.story left.pass }
     requires seats { seats_in spine.story ≡ 4 }
     ensures disk { result.disk ≡ left.disk }
@@ -263,8 +317,11 @@ fn close<W: Wait, P: Ready, D: Disk + Drop, R: Reader + Drop, E: Keep + Drop>(
         → (E.tells → PutsAlong (start_of spine.story).core (seen_by left.pass) (E.state before) (E.state left.keep))
         → IsLeft P.Link.tells R.gives (view_of D.tells D.state D.faults D.syncs) (start_of spine.story).core place result.disk
         E.tells result.kept (E.state before) (E.state result.keep) result.core }
+    ensures ends { (result.end ≡ left.end) × (result.last ≡ left.last) × (result.world ≡ left.world) }
+    ensures cause { (before : ℕ) → before ≤ E.faults left.keep → BlamesKeep result.kept before (E.faults result.keep) }
 {
     let Left {
+        world,
         end,
         last,
         readers,
@@ -282,6 +339,7 @@ fn close<W: Wait, P: Ready, D: Disk + Drop, R: Reader + Drop, E: Keep + Drop>(
         kept,
         end,
         last,
+        world,
     }
 }
 
@@ -298,10 +356,9 @@ pub fn serve<
     rt: &W,
     alloc: Global,
     core: Core,
-    loops: Loops<P>,
-    clock: K,
+    loops: Loops<P, K>,
     devices: Devices<D, R, E>,
-) -> Result<Served<D, R, E>, Devices<D, R, E>>
+) -> Result<Served<P, K, D, R, E>, Unserved<P, K, D, R, E>>
 where
     D::Reader: Send,
     requires loops { AreLoops loops.first loops.second }
@@ -310,32 +367,45 @@ where
     ensures left { IfOk result (λ it. IsLeft P.Link.tells R.gives (view_of D.tells D.state D.faults D.syncs)
         core (place_of devices.flusher.file devices.disk) it.disk E.tells it.kept (E.state devices.keep) (E.state it.keep) it.core) }
     ensures outside { D.tells → IfOk result (λ it. StaysOutside (D.state devices.disk) (D.state it.disk)) }
-    ensures err { IfErr result (λ back. back ≡ devices) }
+    ensures err { IfErr result (λ back. (back.devices ≡ devices) × (back.world ≡ loops.world)) }
+
+    // A fault that is told is one of a device whose count rose.
+    ensures cause { IfOk result (λ it. HasCauses it.end it.last it.kept
+        (counts_of (D.faults devices.disk) (E.faults devices.keep) (world_faults P.faults P.Door.faults K.faults loops.world))
+        (counts_of (D.faults it.disk) (E.faults it.keep) (world_faults P.faults P.Door.faults K.faults it.world))) }
 {
     let (spine, pass) = match Spine::open(alloc, core, 4) {
         Ok(opened) => opened,
         Err(refused) => {
             // Let go by name, which is proved once a type, and not anew at each end of a scope.
             drop(refused);
-            drop(loops);
-            drop(clock);
-            return Err(devices);
+            return Err(Unserved {
+                devices,
+                world: loops.leave(),
+            });
         }
     };
     let shared = Shared::new();
-    let clock = Mutex::new(clock);
     let Loops {
         first,
         second,
         ports,
+        world,
+        bounds,
     } = loops;
     let around = Around {
         rt: &*rt,
         alloc,
         shared: &shared,
         ports: ports.as_slice(),
-        clock: &clock,
     };
-    let left = run_seated(&around, &spine, pass, (first, second), devices);
-    Ok(close::<W, P, D, R, E>(rt, alloc, spine, left))
+    let left = run_seated(
+        &around,
+        &spine,
+        pass,
+        (first, second),
+        world.part(bounds),
+        devices,
+    );
+    Ok(close(rt, alloc, spine, left))
 }

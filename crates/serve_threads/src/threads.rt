@@ -1,19 +1,21 @@
 //! The threads: each owns what it works with, and gives it back at its end.
 
-ghost use Rattle.std.specs.Prelude.{◌≡◌, ℕ, None};
+ghost use Rattle.std.specs.Prelude.{◌≡◌, ◌≤◌, ℕ, None};
 ghost use denote.Param.Send.{IsSync, IsSend};
 ghost use Rattle.log_model.specs.Stored.{StaysOutside};
 ghost use Rattle.segment_files.specs.Turn.{IsInside};
 ghost use Rattle.session.specs.Serving.{Leads};
 ghost use Rattle.request_acts.specs.Acts.{Acted, place_of, view_of, change_of};
+ghost use Rattle.event_loops.specs.Causes.{CountsEnd, loop_faults};
 ghost use Rattle.serve_story.specs.Kept.{KeepsUp};
 ghost use Rattle.serve_story.specs.Served.{IsLoop, AreFlushing, AreAnswered};
+ghost use Rattle.serve_threads.specs.Causes.{BlamesDisk};
 
 use crate::flusher::keep_flushing;
 use crate::keeper::keep_up;
 use broker_core::Owner;
 use broker_events::Calls;
-use event_loops::{Around, EventLoop, LoopEnd, each_link_of_a_loop_is_answered_in_order};
+use event_loops::{Around, EventLoop, LoopEnd, Outside, each_link_of_a_loop_is_answered_in_order};
 use group_flush::Flusher;
 use mq_outside::{Clock, Disk, Keep, Reader};
 use mq_peers::Ready;
@@ -21,17 +23,18 @@ use std::sync::Wait;
 use std::thread::{Parker, Threads, join};
 use worker_turns::FlushEnd;
 
-/// A loop with what it makes steps by, and what it reads pulls by.
+/// A loop with what is outside it, what it makes steps by, and what it reads pulls by.
 #[derive(Drop)]
-pub(crate) struct Worker<P: Ready + Drop, C: Calls + Drop, R: Reader + Drop> {
+pub(crate) struct Worker<P: Ready + Drop, K: Clock + Drop, C: Calls + Drop, R: Reader + Drop> {
     pub(crate) event_loop: EventLoop<P>,
+    pub(crate) outside: Outside<P, K>,
     pub(crate) calls: C,
     pub(crate) reader: R,
     pub(crate) end: LoopEnd,
 }
 
 // Tells the other threads that a loop has ended. A fault ends the other loops too.
-fn tell_end<W: Wait, P: Ready, K: Clock + Send + Drop>(around: &Around<'_, W, P, K>, end: LoopEnd) {
+fn tell_end<W: Wait, P: Ready>(around: &Around<'_, W, P>, end: LoopEnd) {
     around.shared.close();
     if end != LoopEnd::Done {
         around.shared.end();
@@ -41,23 +44,27 @@ fn tell_end<W: Wait, P: Ready, K: Clock + Send + Drop>(around: &Around<'_, W, P,
     }
 }
 
-impl<P: Ready + Drop, C: Calls + Drop, R: Reader + Drop> Worker<P, C, R> {
+impl<P: Ready + Drop, K: Clock + Drop, C: Calls + Drop, R: Reader + Drop> Worker<P, K, C, R> {
     // Runs the loop to its end.
-    fn run<W: Wait, K: Clock + Send + Drop>(self, around: &Around<'_, W, P, K>) -> Worker<P, C, R>
-        ensures { (number : ℕ) → IsLoop number self.event_loop
+    fn run<W: Wait>(self, around: &Around<'_, W, P>) -> Worker<P, K, C, R>
+        ensures answered { (number : ℕ) → IsLoop number self.event_loop
             → Leads C.makes self.calls result.calls (AreAnswered P.Link.tells R.gives number) }
+        ensures cause { CountsEnd result.end (loop_faults P.faults P.Door.faults K.faults self.outside)
+            (loop_faults P.faults P.Door.faults K.faults result.outside) }
     {
         let Worker {
             mut event_loop,
+            mut outside,
             mut calls,
             mut reader,
             end: _,
         } = self;
-        let end = event_loop.run(around, &mut calls, &mut reader);
+        let end = event_loop.run(around, &mut outside, &mut calls, &mut reader);
         each_link_of_a_loop_is_answered_in_order::<P::Link, R>();
         tell_end(around, end);
         Worker {
             event_loop,
+            outside,
             calls,
             reader,
             end,
@@ -76,10 +83,7 @@ pub(crate) struct Flushing<C: Calls + Drop, D: Disk + Drop> {
 
 impl<C: Calls + Drop, D: Disk + Drop> Flushing<C, D> {
     // Flushes until the loops have ended, and then what is left.
-    fn run<W: Wait, P: Ready + Drop, K: Clock + Send + Drop>(
-        self,
-        around: &Around<'_, W, P, K>,
-    ) -> Flushing<C, D>
+    fn run<W: Wait, P: Ready + Drop>(self, around: &Around<'_, W, P>) -> Flushing<C, D>
         requires key { C.has_key self.calls }
         requires none_out { (C.shown self.calls).out ≡ None }
         requires inside { D.tells → IsInside self.flusher.file.base self.flusher.file.offset (D.state self.disk) }
@@ -87,6 +91,7 @@ impl<C: Calls + Drop, D: Disk + Drop> Flushing<C, D> {
         ensures acted { Acted C.makes (view_of D.tells D.state D.faults D.syncs) AreFlushing
             (change_of self.calls (place_of self.flusher.file self.disk)
             result.calls (place_of result.flusher.file result.disk)) }
+        ensures cause { BlamesDisk result.last (D.faults self.disk) (D.faults result.disk) }
     {
         let Flushing {
             mut calls,
@@ -121,12 +126,13 @@ pub(crate) struct Keeping<C: Owner + Drop, E: Keep + Drop> {
 
 impl<C: Owner + Drop, E: Keep + Drop> Keeping<C, E> {
     // Keeps up until the loops have ended.
-    fn run<W: Wait, P: Ready + Drop, K: Clock + Send + Drop>(
+    fn run<W: Wait, P: Ready + Drop>(
         self,
-        around: &Around<'_, W, P, K>,
+        around: &Around<'_, W, P>,
         bell: &Parker,
     ) -> Keeping<C, E>
         ensures kept { KeepsUp C.sees E.tells self.calls (E.state self.keep) result.calls (E.state result.keep) }
+        ensures grow { E.faults self.keep ≤ E.faults result.keep }
     {
         let Keeping {
             mut calls,
@@ -152,27 +158,35 @@ fn run_loops<
     C: Calls + Send + Drop,
     R: Reader + Send + Drop,
 >(
-    around: &Around<'_, W, P, K>,
+    around: &Around<'_, W, P>,
     bell: &Parker,
-    first: Worker<P, C, R>,
-    second: Worker<P, C, R>,
-) -> (Worker<P, C, R>, Worker<P, C, R>)
+    first: Worker<P, K, C, R>,
+    second: Worker<P, K, C, R>,
+) -> (Worker<P, K, C, R>, Worker<P, K, C, R>)
     requires first { IsLoop 0 first.event_loop }
     requires second { IsLoop 1 second.event_loop }
     ensures first { Leads C.makes first.calls result.0.calls (AreAnswered P.Link.tells R.gives 0) }
     ensures second { Leads C.makes second.calls result.1.calls (AreAnswered P.Link.tells R.gives 1) }
+    ensures first_cause { CountsEnd result.0.end (loop_faults P.faults P.Door.faults K.faults first.outside)
+        (loop_faults P.faults P.Door.faults K.faults result.0.outside) }
+    ensures second_cause { CountsEnd result.1.end (loop_faults P.faults P.Door.faults K.faults second.outside)
+        (loop_faults P.faults P.Door.faults K.faults result.1.outside) }
 {
     let both = join(
         around.rt,
-        move || -> Worker<P, C, R>
+        move || -> Worker<P, K, C, R>
             requires { IsSend P.Link.row × IsSend P.Door.row × IsSend P.Waker.row × IsSync P.Waker.row × IsSend K.row
                 × IsLoop 0 first.event_loop }
-            ensures { Leads C.makes first.calls result.calls (AreAnswered P.Link.tells R.gives 0) }
+            ensures answered { Leads C.makes first.calls result.calls (AreAnswered P.Link.tells R.gives 0) }
+            ensures cause { CountsEnd result.end (loop_faults P.faults P.Door.faults K.faults first.outside)
+                (loop_faults P.faults P.Door.faults K.faults result.outside) }
         { first.run(around) },
-        move || -> Worker<P, C, R>
+        move || -> Worker<P, K, C, R>
             requires { IsSend P.Link.row × IsSend P.Door.row × IsSend P.Waker.row × IsSync P.Waker.row × IsSend K.row
                 × IsLoop 1 second.event_loop }
-            ensures { Leads C.makes second.calls result.calls (AreAnswered P.Link.tells R.gives 1) }
+            ensures answered { Leads C.makes second.calls result.calls (AreAnswered P.Link.tells R.gives 1) }
+            ensures cause { CountsEnd result.end (loop_faults P.faults P.Door.faults K.faults second.outside)
+                (loop_faults P.faults P.Door.faults K.faults result.outside) }
         { second.run(around) },
     );
     around.shared.loops_ended();
@@ -189,28 +203,38 @@ fn run_kept<
     R: Reader + Send + Drop,
     E: Keep + Send + Drop,
 >(
-    around: &Around<'_, W, P, K>,
-    first: Worker<P, C, R>,
-    second: Worker<P, C, R>,
+    around: &Around<'_, W, P>,
+    first: Worker<P, K, C, R>,
+    second: Worker<P, K, C, R>,
     keeping: Keeping<C, E>,
-) -> (Keeping<C, E>, (Worker<P, C, R>, Worker<P, C, R>))
+) -> (Keeping<C, E>, (Worker<P, K, C, R>, Worker<P, K, C, R>))
     requires loops { IsLoop 0 first.event_loop × IsLoop 1 second.event_loop }
     ensures kept { KeepsUp C.sees E.tells keeping.calls (E.state keeping.keep) result.0.calls (E.state result.0.keep) }
+    ensures keep_grows { E.faults keeping.keep ≤ E.faults result.0.keep }
     ensures first { Leads C.makes first.calls result.1.0.calls (AreAnswered P.Link.tells R.gives 0) }
     ensures second { Leads C.makes second.calls result.1.1.calls (AreAnswered P.Link.tells R.gives 1) }
+    ensures first_cause { CountsEnd result.1.0.end (loop_faults P.faults P.Door.faults K.faults first.outside)
+        (loop_faults P.faults P.Door.faults K.faults result.1.0.outside) }
+    ensures second_cause { CountsEnd result.1.1.end (loop_faults P.faults P.Door.faults K.faults second.outside)
+        (loop_faults P.faults P.Door.faults K.faults result.1.1.outside) }
 {
     let bell = Parker::new();
     let rings = &bell;
     join(
         around.rt,
         move || -> Keeping<C, E>
-            ensures { KeepsUp C.sees E.tells keeping.calls (E.state keeping.keep) result.calls (E.state result.keep) }
+            ensures kept { KeepsUp C.sees E.tells keeping.calls (E.state keeping.keep) result.calls (E.state result.keep) }
+            ensures grow { E.faults keeping.keep ≤ E.faults result.keep }
         { keeping.run(around, rings) },
-        move || -> (Worker<P, C, R>, Worker<P, C, R>)
+        move || -> (Worker<P, K, C, R>, Worker<P, K, C, R>)
             requires { IsSync W.row × IsSend P.row × IsSync P.row × IsSend P.Link.row × IsSend P.Door.row × IsSend P.Waker.row
                 × IsSync P.Waker.row × IsSend K.row × IsSend C.row × IsSend R.row × IsLoop 0 first.event_loop × IsLoop 1 second.event_loop }
             ensures first { Leads C.makes first.calls result.0.calls (AreAnswered P.Link.tells R.gives 0) }
             ensures second { Leads C.makes second.calls result.1.calls (AreAnswered P.Link.tells R.gives 1) }
+            ensures first_cause { CountsEnd result.0.end (loop_faults P.faults P.Door.faults K.faults first.outside)
+                (loop_faults P.faults P.Door.faults K.faults result.0.outside) }
+            ensures second_cause { CountsEnd result.1.end (loop_faults P.faults P.Door.faults K.faults second.outside)
+                (loop_faults P.faults P.Door.faults K.faults result.1.outside) }
         { run_loops(around, rings, first, second) },
     )
 }
@@ -220,14 +244,15 @@ fn run_kept<
 pub(crate) struct Ran<
     P: Ready + Drop,
     D: Disk + Drop,
+    K: Clock + Drop,
     C: Owner + Drop,
     R: Reader + Drop,
     E: Keep + Drop,
 > {
     pub(crate) flushing: Flushing<C, D>,
     pub(crate) keeping: Keeping<C, E>,
-    pub(crate) first: Worker<P, C, R>,
-    pub(crate) second: Worker<P, C, R>,
+    pub(crate) first: Worker<P, K, C, R>,
+    pub(crate) second: Worker<P, K, C, R>,
 }
 
 /// Runs both loops, the keeper and the flusher until the loops have ended and what they left is flushed.
@@ -240,12 +265,12 @@ pub(crate) fn run_all<
     R: Reader + Send + Drop,
     E: Keep + Send + Drop,
 >(
-    around: &Around<'_, W, P, K>,
-    first: Worker<P, C, R>,
-    second: Worker<P, C, R>,
+    around: &Around<'_, W, P>,
+    first: Worker<P, K, C, R>,
+    second: Worker<P, K, C, R>,
     flushing: Flushing<C, D>,
     keeping: Keeping<C, E>,
-) -> Ran<P, D, C, R, E>
+) -> Ran<P, D, K, C, R, E>
 where
     D::Reader: Send,
     requires key { C.has_key flushing.calls }
@@ -259,6 +284,12 @@ where
     ensures kept { KeepsUp C.sees E.tells keeping.calls (E.state keeping.keep) result.keeping.calls (E.state result.keeping.keep) }
     ensures first { Leads C.makes first.calls result.first.calls (AreAnswered P.Link.tells R.gives 0) }
     ensures second { Leads C.makes second.calls result.second.calls (AreAnswered P.Link.tells R.gives 1) }
+    ensures first_cause { CountsEnd result.first.end (loop_faults P.faults P.Door.faults K.faults first.outside)
+        (loop_faults P.faults P.Door.faults K.faults result.first.outside) }
+    ensures second_cause { CountsEnd result.second.end (loop_faults P.faults P.Door.faults K.faults second.outside)
+        (loop_faults P.faults P.Door.faults K.faults result.second.outside) }
+    ensures disk_cause { BlamesDisk result.flushing.last (D.faults flushing.disk) (D.faults result.flushing.disk) }
+    ensures keep_grows { E.faults keeping.keep ≤ E.faults result.keeping.keep }
 {
     let (flushing, (keeping, (first, second))) = join(
         around.rt,
@@ -269,14 +300,20 @@ where
             ensures acted { Acted C.makes (view_of D.tells D.state D.faults D.syncs) AreFlushing
                 (change_of flushing.calls (place_of flushing.flusher.file flushing.disk)
                 result.calls (place_of result.flusher.file result.disk)) }
+            ensures cause { BlamesDisk result.last (D.faults flushing.disk) (D.faults result.disk) }
         { flushing.run(around) },
-        move || -> (Keeping<C, E>, (Worker<P, C, R>, Worker<P, C, R>))
+        move || -> (Keeping<C, E>, (Worker<P, K, C, R>, Worker<P, K, C, R>))
             requires { IsSync W.row × IsSend P.row × IsSync P.row × IsSend P.Link.row × IsSend P.Door.row × IsSend P.Waker.row
                 × IsSync P.Waker.row × IsSend K.row × IsSend C.row × IsSend R.row × IsSend E.row
                 × IsLoop 0 first.event_loop × IsLoop 1 second.event_loop }
             ensures kept { KeepsUp C.sees E.tells keeping.calls (E.state keeping.keep) result.0.calls (E.state result.0.keep) }
+            ensures keep_grows { E.faults keeping.keep ≤ E.faults result.0.keep }
             ensures first { Leads C.makes first.calls result.1.0.calls (AreAnswered P.Link.tells R.gives 0) }
             ensures second { Leads C.makes second.calls result.1.1.calls (AreAnswered P.Link.tells R.gives 1) }
+            ensures first_cause { CountsEnd result.1.0.end (loop_faults P.faults P.Door.faults K.faults first.outside)
+                (loop_faults P.faults P.Door.faults K.faults result.1.0.outside) }
+            ensures second_cause { CountsEnd result.1.1.end (loop_faults P.faults P.Door.faults K.faults second.outside)
+                (loop_faults P.faults P.Door.faults K.faults result.1.1.outside) }
         { run_kept(around, first, second, keeping) },
     );
     Ran {

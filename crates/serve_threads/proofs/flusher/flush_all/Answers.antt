@@ -1,6 +1,8 @@
+use Rattle.std.proofs.Common.{arith}
 use Rattle.log_model.proofs.OutsideLemmas.{outside_start, outside_then}
 use Rattle.request_acts.specs.Acts.{place_of}
 use Rattle.serve_story.proofs.Turns.{no_turns, turns_then, ended_turns, dispatch_turns}
+use Rattle.serve_threads.proofs.Counting.{turn_grows, turn_blamed}
 use Rattle.serve_threads.proofs.flusher.flush_all.Goals as goal
 
 pub loop-init : goal.loop-init
@@ -12,6 +14,7 @@ loop-init g c = record {
   inside = c.requires.inside;
   outside = λ tells. outside_start _;
   acted = no_turns g.C.Calls.makes _ _ _;
+  grow = omega arith;
 }
 
 pub returns-then-eq-clause-outside : goal.returns-then-eq-clause-outside
@@ -47,4 +50,17 @@ loop-preserved g c = record {
       (ended_turns g.C.Calls.makes _ c.flush_turn-end.result _ _ _ _ c.flush_turn-end.ensures.ended
       (λ none. let rests = c.flush_turn-end.ensures.rests none in λ i. place_of ((rests.0 i).file) (rests.1 i)) c.flush_turn-end.ensures.placed c.flush_turn-end.ensures.cause)
       (dispatch_turns g.C.Calls.makes _ _ _ _ c.show.ensures.made));
+  grow = omega (arith, c.loop.invariant.grow, turn_grows c.flush_turn-end.result _ _ c.flush_turn-end.ensures.cause);
 }
+
+pub returns-then-eq-clause-grow : goal.returns-then-eq-clause-grow
+returns-then-eq-clause-grow g c = omega (arith, c.loop.invariant.grow, turn_grows c.flush_turn-end.result _ _ c.flush_turn-end.ensures.cause)
+
+pub returns-then-eq-clause-cause : goal.returns-then-eq-clause-cause
+returns-then-eq-clause-cause g c = turn_blamed c.flush_turn-end.result _ _ _ c.loop.invariant.grow c.flush_turn-end.ensures.cause
+
+pub returns-then-ne-clause-grow : goal.returns-then-ne-clause-grow
+returns-then-ne-clause-grow g c = omega (arith, c.loop.invariant.grow, turn_grows c.flush_turn-end.result _ _ c.flush_turn-end.ensures.cause)
+
+pub returns-then-ne-clause-cause : goal.returns-then-ne-clause-cause
+returns-then-ne-clause-cause g c = turn_blamed c.flush_turn-end.result _ _ _ c.loop.invariant.grow c.flush_turn-end.ensures.cause

@@ -1,5 +1,7 @@
+use Rattle.std.proofs.Common.{arith}
 use Rattle.log_model.proofs.OutsideLemmas.{outside_start, outside_then}
 use Rattle.serve_story.proofs.Turns.{no_turns, turns_then}
+use Rattle.serve_threads.proofs.Counting.{disk_blamed}
 use Rattle.serve_threads.proofs.flusher.keep_flushing.Goals as goal
 
 pub loop-init : goal.loop-init
@@ -11,6 +13,7 @@ loop-init g c = record {
   inside = c.requires.inside;
   outside = λ tells. outside_start _;
   acted = no_turns g.C.Calls.makes _ _ _;
+  grow = omega arith;
 }
 
 pub returns-then-over-clause-outside : goal.returns-then-over-clause-outside
@@ -28,4 +31,8 @@ loop-preserved g c = record {
   inside = c.flush_all-end.ensures.inside;
   outside = λ tells. outside_then (c.loop.invariant.outside tells) (c.flush_all-end.ensures.outside tells);
   acted = turns_then g.C.Calls.makes _ _ _ _ _ _ _ c.loop.invariant.acted c.flush_all-end.ensures.acted;
+  grow = omega (arith, c.loop.invariant.grow, c.flush_all-end.ensures.grow);
 }
+
+pub returns-then-over-clause-cause : goal.returns-then-over-clause-cause
+returns-then-over-clause-cause g c = disk_blamed c.flush_all-end.result _ _ _ c.loop.invariant.grow c.flush_all-end.ensures.cause

@@ -1,4 +1,4 @@
-use Rattle.std.proofs.Common.{◌≡◌, None}
+use Rattle.std.proofs.Common.{◌≡◌, ◌≤◌, None}
 use Rattle.log_model.specs.Stored.{StaysOutside}
 use Rattle.segment_files.specs.Turn.{IsInside}
 use Rattle.request_acts.specs.Acts.{Acted, place_of, view_of, change_of}
@@ -15,4 +15,5 @@ invariant-loop g l = record {
   outside : g.D.Disk.tells → StaysOutside (g.D.Disk.state l.initial.disk) (g.D.Disk.state l.disk);
   acted : Acted g.C.Calls.makes (view_of g.D.Disk.tells g.D.Disk.state g.D.Disk.faults g.D.Disk.syncs) AreFlushing
       (change_of l.fn.calls (place_of l.fn.flusher.file l.fn.disk) l.calls (place_of l.flusher.file l.disk));
+  grow : g.D.Disk.faults l.fn.disk ≤ g.D.Disk.faults l.disk;
 }

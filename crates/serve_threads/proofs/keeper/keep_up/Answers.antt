@@ -1,4 +1,6 @@
+use Rattle.std.proofs.Common.{arith}
 use Rattle.serve_story.proofs.Keeping.{keeps_start, keeps_more}
+use Rattle.serve_threads.proofs.Counting.{disk_grows}
 use Rattle.serve_threads.proofs.keeper.keep_up.Goals as goal
 
 pub loop-init : goal.loop-init
@@ -7,6 +9,7 @@ loop-init g c = record {
   finite = tt;
   has = λ tells. tt;
   kept = keeps_start _ _ _ _;
+  grow = omega arith;
 }
 
 pub loop-preserved : goal.loop-preserved
@@ -15,4 +18,5 @@ loop-preserved g c = record {
   finite = tt;
   has = c.keeper_turn.ensures.has;
   kept = keeps_more _ _ _ _ _ _ _ _ _ c.loop.invariant.kept c.keeper_turn.ensures.kept;
+  grow = omega (arith, c.loop.invariant.grow, disk_grows c.keeper_turn.result _ _ c.keeper_turn.ensures.cause);
 }

@@ -1,4 +1,4 @@
-use Rattle.std.proofs.Common.{IfSome}
+use Rattle.std.proofs.Common.{◌≤◌, IfSome}
 use Rattle.config_store.specs.Configs.{KeepsConfig}
 use Rattle.serve_story.specs.Kept.{KeepsUp}
 use Rattle.serve_threads.proofs.keeper.keep_up.Given as goal
@@ -9,4 +9,5 @@ invariant-loop g l = record {
   finite : (goal.iterator-loop g).is_finite l.iterator';
   has : g.E.Keep.tells → IfSome l.last (λ had. KeepsConfig had.offsets.items had.topics.items (g.E.Keep.state l.keep));
   kept : KeepsUp g.C.Owner.sees g.E.Keep.tells l.initial.calls (g.E.Keep.state l.initial.keep) l.calls (g.E.Keep.state l.keep);
+  grow : g.E.Keep.faults l.initial.keep ≤ g.E.Keep.faults l.keep;
 }

@@ -1,11 +1,15 @@
+use Rattle.std.proofs.Common.{sym, subst}
+use Rattle.event_loops.specs.Causes.{door_faults, loop_faults}
 use Rattle.serve_story.proofs.Keys.{some_at}
+use Rattle.serve_threads.specs.Causes.{HasDoor, IsFirstFault}
+use Rattle.serve_threads.proofs.Counting.{world_counts}
 use Rattle.serve_threads.proofs.served.gather.Goals as goal
 
 pub together-requires-clause-turns : goal.together-requires-clause-turns
 together-requires-clause-turns g c = (some_at _ _ _ c.leave-turns.ensures.pass c.requires.turns, c.leave-turns.ensures.of.1)
 
 pub together-requires-clause-loops : goal.together-requires-clause-loops
-together-requires-clause-loops g c = (some_at _ _ _ c.left_of-first_pass.ensures c.requires.first, some_at _ _ _ c.left_of-second_pass.ensures c.requires.second)
+together-requires-clause-loops g c = (some_at _ _ _ c.left_of-first_pass.ensures.pass c.requires.first, some_at _ _ _ c.left_of-second_pass.ensures.pass c.requires.second)
 
 pub together-requires-clause-keeper : goal.together-requires-clause-keeper
 together-requires-clause-keeper g c = some_at _ _ _ c.leave-looks.ensures.pass c.requires.keeper
@@ -16,6 +20,19 @@ returns-clause-met g c = record {
   first = c.left_of-first_pass.result.0;
   second = c.left_of-second_pass.result.0;
   looks = c.leave-looks.result;
-  are = (c.leave-turns.ensures.pass, c.left_of-first_pass.ensures, c.left_of-second_pass.ensures, c.leave-looks.ensures.pass);
+  are = (c.leave-turns.ensures.pass, c.left_of-first_pass.ensures.pass, c.left_of-second_pass.ensures.pass, c.leave-looks.ensures.pass);
   meets = c.together.ensures.meets;
 }
+
+pub join-requires-clause-door : goal.join-requires-clause-door
+join-requires-clause-door g c κs within = subst (λ o. HasDoor (door_faults g.P.Door.Door.faults o.entrance)) (sym c.left_of-first_pass.ensures.outside) c.requires.door
+
+pub returns-clause-end : goal.returns-clause-end
+returns-clause-end g c =
+    subst (λ e. IsFirstFault e c.args.ran.second.end c.first_fault.result) c.left_of-first_pass.ensures.end
+    (subst (λ e. IsFirstFault c.left_of-first_pass.result.3 e c.first_fault.result) c.left_of-second_pass.ensures.end c.first_fault.ensures)
+
+pub returns-clause-counts : goal.returns-clause-counts
+returns-clause-counts g c =
+    world_counts (loop_faults g.P.Ready.faults g.P.Door.Door.faults g.K.Clock.faults) _ _ _ _ _ c.left_of-first_pass.ensures.outside c.left_of-second_pass.ensures.outside
+    c.join.ensures.counts

@@ -1,4 +1,4 @@
-use Rattle.std.proofs.Common.{sym, subst}
+use Rattle.std.proofs.Common.{◌≤◌, sym, subst}
 use Rattle.log_model.specs.Stored.{StaysOutside}
 use Rattle.request_acts.specs.Acts.{place_of, view_of}
 use Rattle.story_lock.specs.Passes.{seen_by, start_of}
@@ -7,6 +7,8 @@ use Rattle.serve_story.specs.Kept.{PutsAlong}
 use Rattle.serve_story.specs.Served.{HasMade}
 use Rattle.serve_story.proofs.Keeping.{keeps_along, puts_longer}
 use Rattle.serve_story.proofs.Parts.{looks_of, made_of, met_last, stays_acting, stays_leading}
+use Rattle.serve_threads.specs.Causes.{BlamesDisk}
+use Rattle.serve_threads.proofs.Counting.{door_stays, loops_blame}
 use Rattle.serve_threads.proofs.served.run_seated.Goals as goal
 
 pub gather-requires-clause-turns : goal.gather-requires-clause-turns
@@ -54,3 +56,19 @@ returns-clause-kept g c = λ told.
     (puts_longer _ (seen_by pass) (seen_by met.looks) _ _ (met_last pass met)
     (subst (λ (v : Spine). PutsAlong (start_of v.story).core (seen_by met.looks) (g.E.Keep.state c.args.devices.keep) (g.E.Keep.state c.run_all-ran.result.keeping.keep)) c.seats_of-key.ensures.keeper
     (keeps_along (λ z. z.pass) (λ z. z.spine.now) (λ (v : Spine). start_of v.story) _ _ _ _ _ met.looks kept met.are.3 told)))
+
+pub gather-requires-clause-door : goal.gather-requires-clause-door
+gather-requires-clause-door g c κs within = door_stays _ _ _ c.run_all-ran.ensures.first_cause c.requires.door.0
+
+pub returns-clause-cause : goal.returns-clause-cause
+returns-clause-cause g c =
+    loops_blame c.gather.result.end _ _ _ _ _ _ _ c.requires.door.1 c.gather.ensures.end c.run_all-ran.ensures.first_cause c.run_all-ran.ensures.second_cause c.gather.ensures.counts
+
+pub returns-clause-disk_cause : goal.returns-clause-disk_cause
+returns-clause-disk_cause g c =
+    subst (λ d. BlamesDisk c.gather.result.last (g.D.Disk.faults c.args.devices.disk) (g.D.Disk.faults d)) (sym c.gather.ensures.disk)
+    (subst (λ e. BlamesDisk e (g.D.Disk.faults c.args.devices.disk) (g.D.Disk.faults c.run_all-ran.result.flushing.disk)) (sym c.gather.ensures.last) c.run_all-ran.ensures.disk_cause)
+
+pub returns-clause-keep_grows : goal.returns-clause-keep_grows
+returns-clause-keep_grows g c =
+    subst (λ k. g.E.Keep.faults c.args.devices.keep ≤ g.E.Keep.faults k) (sym c.gather.ensures.keep) c.run_all-ran.ensures.keep_grows

@@ -1,7 +1,7 @@
 use Rattle.serve_story.proofs.Parts.{answered}
 use Rattle.serve_threads.proofs.threads.Worker.run.Goals as goal
 
-pub returns : goal.returns
-returns g c = λ number begins.
+pub returns-clause-answered : goal.returns-clause-answered
+returns-clause-answered g c = λ number begins.
     answered g.P.Link.Link.tells g.R.Reader.gives g.P.Link.Link.given g.P.Link.Link.taken g.C.Calls.makes number _ _ c.args.self.event_loop.links c.run-end.new.self.links
     c.each_link_of_a_loop_is_answered_in_order.ensures begins c.run-end.ensures.went

@@ -1,0 +1,99 @@
+-- The counts of what is around the threads, over their runs.
+use Rattle.std.proofs.Common.{◌≡◌, inl, inr, ℕ, ◌≤◌, Option, Some, None, Result, Ok, Err, sym, subst, arith}
+use Rattle.mq_outside.specs.Counts.{Rises, CountsDiskFault}
+use Rattle.mq_outside.specs.declared.faults.DiskFault.{DiskFault}
+use Rattle.mq_outside.specs.declared.faults.DiskFault.TheVariants as device
+use Rattle.event_loops.specs.declared.event_loop.LoopEnd.{LoopEnd}
+use Rattle.event_loops.specs.declared.event_loop.LoopEnd.TheVariants.{Done, Clock, Door, Poll, Memory}
+use Rattle.event_loops.specs.Causes.{LoopFaults, GrowsAt, RisesAt, Blames, CountsEnd}
+use Rattle.worker_turns.specs.Turns.{CountsEnd as CountsTurn}
+use Rattle.worker_turns.specs.declared.flush.FlushEnd.{FlushEnd}
+use Rattle.worker_turns.specs.declared.flush.FlushEnd.TheVariants as flush
+use Rattle.serve_threads.specs.Causes.{WorldFaults, BlamesWorld, BlamesDisk, BlamesKeep, HasDoor, IsFirstFault, both_faults, count_in}
+
+-- ---- one device
+
+pub disk_grows : {A : Type 0} (result : Result A DiskFault) (old new : ℕ) → CountsDiskFault result old new → old ≤ new
+disk_grows (Ok done) old new counts = omega (arith, counts)
+disk_grows (Err device.Failed) old new counts = counts.0
+disk_grows (Err device.Memory) old new counts = omega (arith, counts)
+
+pub turn_grows : (end : FlushEnd) (old new : ℕ) → CountsTurn end old new → old ≤ new
+turn_grows flush.Idle old new counts = omega (arith, counts)
+turn_grows flush.Done old new counts = omega (arith, counts)
+turn_grows (flush.Failed count) old new counts = counts.0.0
+turn_grows flush.Misplaced old new counts = omega (arith, counts)
+turn_grows flush.Memory old new counts = omega (arith, counts)
+
+-- a flush turn behind others
+pub turn_blamed : (end : FlushEnd) (old mid new : ℕ) → old ≤ mid → CountsTurn end mid new → BlamesDisk end old new
+turn_blamed flush.Idle old mid new grows counts = tt
+turn_blamed flush.Done old mid new grows counts = tt
+turn_blamed (flush.Failed count) old mid new grows counts = (omega (arith, grows, counts.0.0), omega (arith, grows, counts.0.1))
+turn_blamed flush.Misplaced old mid new grows counts = tt
+turn_blamed flush.Memory old mid new grows counts = tt
+
+pub disk_blamed : (end : FlushEnd) (old mid new : ℕ) → old ≤ mid → BlamesDisk end mid new → BlamesDisk end old new
+disk_blamed flush.Idle old mid new grows blames = tt
+disk_blamed flush.Done old mid new grows blames = tt
+disk_blamed (flush.Failed count) old mid new grows blames = (omega (arith, grows, blames.0), omega (arith, grows, blames.1))
+disk_blamed flush.Misplaced old mid new grows blames = tt
+disk_blamed flush.Memory old mid new grows blames = tt
+
+-- a replacement behind others
+pub keep_blamed : {A : Type 0} (kept : Result A DiskFault) (old mid new : ℕ) → old ≤ mid → CountsDiskFault kept mid new → BlamesKeep kept old new
+keep_blamed (Ok done) old mid new grows counts = tt
+keep_blamed (Err device.Failed) old mid new grows counts = (omega (arith, grows, counts.0), omega (arith, grows, counts.1))
+keep_blamed (Err device.Memory) old mid new grows counts = tt
+
+-- ---- the loops
+
+rises_in : (old new : Option ℕ) → RisesAt old new → Rises (count_in old) (count_in new)
+rises_in None new rises = absurd rises
+rises_in (Some old) None rises = absurd rises
+rises_in (Some old) (Some new) rises = rises
+
+-- what the first loop blames
+first_blames : (end : LoopEnd) (first first_then second second_then : LoopFaults) → Blames end first first_then
+    → BlamesWorld end (both_faults first second) (both_faults first_then second_then)
+first_blames Done first first_then second second_then blames = tt
+first_blames Clock first first_then second second_then blames = inl blames
+first_blames Door first first_then second second_then blames = rises_in first.door first_then.door blames
+first_blames Poll first first_then second second_then blames = inl blames
+first_blames Memory first first_then second second_then blames = tt
+
+-- what the second one does, which has no door
+second_blames : (end : LoopEnd) (first first_then second second_then : LoopFaults) → second.door ≡ None → Blames end second second_then
+    → BlamesWorld end (both_faults first second) (both_faults first_then second_then)
+second_blames Done first first_then second second_then none blames = tt
+second_blames Clock first first_then second second_then none blames = inr blames
+second_blames Door first first_then second second_then none blames = absurd (subst (λ (d : Option ℕ). RisesAt d second_then.door) none blames)
+second_blames Poll first first_then second second_then none blames = inr blames
+second_blames Memory first first_then second second_then none blames = tt
+
+pub loops_blame : (end first_end second_end : LoopEnd) (first first_then second second_then : LoopFaults) (new : WorldFaults) → second.door ≡ None
+    → IsFirstFault first_end second_end end → CountsEnd first_end first first_then → CountsEnd second_end second second_then
+    → new ≡ both_faults first_then second_then → BlamesWorld end (both_faults first second) new
+loops_blame end first_end second_end first first_then second second_then new none (inl is) one other same =
+    subst (λ (w : WorldFaults). BlamesWorld end (both_faults first second) w) (sym same)
+    (subst (λ (e : LoopEnd). BlamesWorld e (both_faults first second) (both_faults first_then second_then)) (sym is.1)
+    (second_blames second_end first first_then second second_then none other.blames))
+loops_blame end first_end second_end first first_then second second_then new none (inr is) one other same =
+    subst (λ (w : WorldFaults). BlamesWorld end (both_faults first second) w) (sym same)
+    (subst (λ (e : LoopEnd). BlamesWorld e (both_faults first second) (both_faults first_then second_then)) (sym is)
+    (first_blames first_end first first_then second second_then one.blames))
+
+-- the counts of the same two loops
+pub world_counts : {O : Type 0} (counts : O → LoopFaults) (world : WorldFaults) (near far first second : O) → near ≡ first → far ≡ second
+    → world ≡ both_faults (counts near) (counts far) → world ≡ both_faults (counts first) (counts second)
+world_counts counts world near far first second same_near same_far is =
+    subst (λ o. world ≡ both_faults (counts o) (counts second)) same_near (subst (λ o. world ≡ both_faults (counts near) (counts o)) same_far is)
+
+-- a door that was there is there still
+still_at : (old new : Option ℕ) → GrowsAt old new → HasDoor old → HasDoor new
+still_at None new grows has = absurd has
+still_at (Some old) None grows has = absurd grows
+still_at (Some old) (Some new) grows has = tt
+
+pub door_stays : (end : LoopEnd) (old new : LoopFaults) → CountsEnd end old new → HasDoor old.door → HasDoor new.door
+door_stays end old new counts has = still_at old.door new.door counts.grow.door has
