@@ -1,3 +1,4 @@
+pub mod Causing
 pub mod Serving
 pub mod Storing
 pub mod Telling

@@ -47,7 +47,7 @@ all_well : (status : Status) (end : LoopEnd) (last : FlushEnd) → StatusTellsEn
 all_well status end flush.Idle tells zero = ((ended_well 0 status end tells zero).0, tt)
 all_well status end flush.Done tells zero = ((ended_well 0 status end tells zero).0, tt)
 all_well status end (flush.Failed count) tells zero = let five = (ended_well 5 status end tells zero).1 in absurd (omega (arith, five))
-all_well status end flush.Misplaced tells zero = let five = (ended_well 5 status end tells zero).1 in absurd (omega (arith, five))
+all_well status end flush.Misplaced tells zero = absurd (omega (arith, tells, zero))
 all_well status end flush.Memory tells zero = absurd (omega (arith, tells, zero))
 
 -- the status behind the last replacement of the kept files
@@ -88,9 +88,9 @@ pub no_reader : (status : Status) (fault : DiskFault) (disk disk_then : ℕ) →
 no_reader status device.Failed disk disk_then tells counts = inl (tells, counts)
 no_reader status device.Memory disk disk_then tells counts = inr (inr tells)
 
-pub no_door : (status : Status) (disk disk_then : ℕ) → (status.code ≡ 10) ⊎ (status.code ≡ 7) → (status.code ≢ 7 → status.name ≡ codes "door") → ShutOut status disk disk_then
-no_door status disk disk_then (inl ten) named = inr (inl (ten, named (λ seven. omega (arith, ten, seven))))
-no_door status disk disk_then (inr seven) named = inr (inr seven)
+pub door_told : (status : Status) → (status.code ≡ 10) ⊎ (status.code ≡ 7) → (status.code ≢ 7 → status.name ≡ codes "door") → TellsDevice status (codes "door")
+door_told status (inl ten) named = inl (ten, named (λ seven. omega (arith, ten, seven)))
+door_told status (inr seven) named = inr seven
 
 pub not_recovered : (tells : Type 0) (segment : ℕ) (files : Files) (status : Status) (fault : RecoverFault) (disk disk_then : ℕ) → StatusTellsFault status fault
     → (tells → OnDamage {A = Unit {0}} (Err fault) (IsDamagedAt (whole segment) files)) → CountsRecoverFault {A = Unit {0}} (Err fault) disk disk_then

@@ -35,13 +35,13 @@ StatusTellsLoops code status loops.Door = TellsDevice status (codes "door")
 StatusTellsLoops code status loops.Poll = TellsDevice status (codes "door")
 StatusTellsLoops code status loops.Memory = status.code ≡ 7
 
--- Why the loops ended and how the last flush turn did tell the status: want of memory in that turn comes before all else, and that it
--- failed is told where nothing else is.
+-- Why the loops ended and how the last flush turn did tell the status: want of memory in that turn, or a batch that begins elsewhere
+-- than where the flusher writes, comes before all else, and that the disk failed is told where nothing else is.
 abbrev pub StatusTellsEnd : Status → LoopEnd → FlushEnd → Type 0
 StatusTellsEnd status end flush.Idle = StatusTellsLoops 0 status end
 StatusTellsEnd status end flush.Done = StatusTellsLoops 0 status end
 StatusTellsEnd status end (flush.Failed count) = StatusTellsLoops 5 status end
-StatusTellsEnd status end flush.Misplaced = StatusTellsLoops 5 status end
+StatusTellsEnd status end flush.Misplaced = status.code ≡ 7
 StatusTellsEnd status end flush.Memory = status.code ≡ 7
 
 -- the last flush turn didn't fail

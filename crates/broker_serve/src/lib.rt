@@ -4,4 +4,4 @@
 mod run;
 mod statuses;
 
-pub use run::{Ended, Store, World, run_serve};
+pub use run::{Ended, Store, run_serve};

@@ -1,6 +1,6 @@
 //! The whole run of `serve`: the words, the opening, the links, and the last flush.
 
-ghost use Rattle.std.specs.Prelude.{◌≡◌, ◌≢◌, ℕ, List, All, Some, None, IfSome, IfNone};
+ghost use Rattle.std.specs.Prelude.{◌≡◌, ◌≢◌, ℕ, List, All, Some, None, IfSome, IfNone, IfOk, IfErr, codes};
 ghost use Rattle.mq_outside.specs.Counts.{CountsDiskFault};
 ghost use Rattle.mq_outside.specs.Disk.{Moves};
 ghost use Rattle.mq_outside.specs.Files.{Same};
@@ -23,8 +23,11 @@ ghost use Rattle.config_store.specs.Texts.{IsKeptTopic};
 ghost use Rattle.group_tables.specs.Offsets.{IsOffset};
 ghost use Rattle.request_acts.specs.Acts.{view_of};
 ghost use Rattle.serve_story.specs.Served.{AreLoops};
+ghost use Rattle.serve_threads.specs.Causes.{HasCauses, ServeFaults as TheFaults, counts_of, world_faults};
+ghost use Rattle.broker_serve.specs.Causes.{BlamesDoor, Causes};
 ghost use Rattle.broker_serve.specs.Serves.{EndsOver, HasServed, PutsAllAlong, ServesLog, ServesStore, StoresOpened, views_of};
-ghost use Rattle.broker_serve.specs.Statuses.{IsDamagedIn, IsDamagedLog, Refused, ShutOut, StatusLeft, Unopened, Unserved};
+ghost use Rattle.broker_serve.specs.Statuses.{IsDamagedIn, IsDamagedLog, Refused, ShutOut, StatusLeft, TellsDevice, Unopened};
+ghost use Rattle.broker_serve.specs.Statuses.{Unserved as UnservedBy};
 
 use crate::statuses::{
     last_status, status_kept, status_of_config, status_of_fault, status_of_making, status_of_reader,
@@ -34,21 +37,13 @@ use broker_events::Setup;
 use config_store::{Config, load_config};
 use event_loops::Bounds;
 use log_opening::{Opened, open_log_with};
-use mq_outside::{Clock, Disk, DiskFault, Keep};
+use mq_outside::{Clock, Disk, DiskFault, Failed, Keep};
 use mq_peers::{Door, Ready};
-use serve_threads::{Devices, Loops, Served, serve};
+use serve_threads::{Devices, Loops, Served, Unserved, World, serve};
 use std::alloc::Global;
 use std::sync::Wait;
 use std::thread::Threads;
 use store_open::{ServeCommand, Status, open_format, read_serve_words};
-
-/// The links that `serve` has, and its clock. The door isn't open.
-#[derive(Drop)]
-pub struct World<P: Ready + Drop, K: Clock + Drop> {
-    pub ready: P,
-    pub door: P::Door,
-    pub clock: K,
-}
 
 /// Where `serve` has its messages, and beside them its format, its offsets and its topics.
 #[derive(Drop)]
@@ -59,24 +54,31 @@ pub struct Store<D: Disk + Drop, E: Keep + Drop> {
 
 /// How a run ended.
 #[derive(Drop)]
-pub struct Ended<D: Disk + Drop, E: Keep + Drop> {
+pub struct Ended<P: Ready + Drop, K: Clock + Drop, D: Disk + Drop, E: Keep + Drop> {
     /// The status, by the table of `store_open`.
     pub status: Status,
     /// The core that is left, where links were served.
     pub core: Option<Core>,
     pub store: Store<D, E>,
+    pub world: World<P, K>,
 }
 
 // A run that ended before links were served.
-fn unserved<D: Disk + Drop, E: Keep + Drop>(store: Store<D, E>, status: Status) -> Ended<D, E>
+fn unserved<P: Ready + Drop, K: Clock + Drop, D: Disk + Drop, E: Keep + Drop>(
+    store: Store<D, E>,
+    world: World<P, K>,
+    status: Status,
+) -> Ended<P, K, D, E>
     ensures status { result.status ≡ status }
     ensures core { result.core ≡ None }
     ensures store { result.store ≡ store }
+    ensures world { result.world ≡ world }
 {
     Ended {
         status,
         core: None,
         store,
+        world,
     }
 }
 
@@ -119,6 +121,7 @@ fn give_back<D: Disk>(disk: D, readers: (D::Reader, D::Reader)) -> D
     ensures outside { D.tells → StaysOutside (D.state disk) (D.state result) }
     ensures stores { D.tells → (S : Geometry) (log : List Entry) (flushed : ℕ) → StoresLog S log flushed (D.state disk)
         → StoresLog S log flushed (D.state result) }
+    ensures faults { D.faults result ≡ D.faults disk }
 {
     let mut disk = disk;
     let (one, two) = readers;
@@ -128,10 +131,10 @@ fn give_back<D: Disk>(disk: D, readers: (D::Reader, D::Reader)) -> D
 }
 
 // The status of a run of which this is left, and the rest of it.
-fn ended_of<D: Disk + Drop, E: Keep + Drop>(
+fn ended_of<P: Ready + Drop, K: Clock + Drop, D: Disk + Drop, E: Keep + Drop>(
     alloc: Global,
-    served: Served<D, D::Reader, E>,
-) -> Ended<D, E>
+    served: Served<P, K, D, D::Reader, E>,
+) -> Ended<P, K, D, E>
     ensures status { (result.status.code ≢ 1) × (result.status.code ≢ 6) × FitsTable result.status }
     ensures tells { StatusLeft result.status served.end served.last served.kept }
     ensures core { result.core ≡ Some served.core }
@@ -139,6 +142,10 @@ fn ended_of<D: Disk + Drop, E: Keep + Drop>(
     ensures outside { D.tells → StaysOutside (D.state served.disk) (D.state result.store.disk) }
     ensures stores { D.tells → (S : Geometry) (log : List Entry) (flushed : ℕ) → StoresLog S log flushed (D.state served.disk)
         → StoresLog S log flushed (D.state result.store.disk) }
+    ensures cause { (before : TheFaults) → HasCauses served.end served.last served.kept before
+        (counts_of (D.faults served.disk) (E.faults served.keep) (world_faults P.faults P.Door.faults K.faults served.world))
+        → Causes result.status before (counts_of (D.faults result.store.disk) (E.faults result.store.keep)
+        (world_faults P.faults P.Door.faults K.faults result.world)) }
 {
     let Served {
         core,
@@ -148,6 +155,7 @@ fn ended_of<D: Disk + Drop, E: Keep + Drop>(
         kept,
         end,
         last,
+        world,
     } = served;
     Ended {
         status: status_kept(alloc, last_status(alloc, end, last), kept),
@@ -156,6 +164,7 @@ fn ended_of<D: Disk + Drop, E: Keep + Drop>(
             disk: give_back(disk, readers),
             keep,
         },
+        world,
     }
 }
 
@@ -170,10 +179,9 @@ fn serve_open<
     rt: &W,
     alloc: Global,
     core: Core,
-    loops: Loops<P>,
-    clock: K,
+    loops: Loops<P, K>,
     devices: Devices<D, D::Reader, E>,
-) -> Ended<D, E>
+) -> Ended<P, K, D, E>
 where
     D::Reader: Send,
     requires loops { AreLoops loops.first loops.second }
@@ -186,9 +194,13 @@ where
     ensures stores { D.tells → IfSome result.core (λ left.
         StoresOpened core devices.flusher.file (D.state devices.disk) left (D.state result.store.disk)) }
     ensures outside { D.tells → StaysOutside (D.state devices.disk) (D.state result.store.disk) }
+    ensures cause { Causes result.status
+        (counts_of (D.faults devices.disk) (E.faults devices.keep) (world_faults P.faults P.Door.faults K.faults loops.world))
+        (counts_of (D.faults result.store.disk) (E.faults result.store.keep) (world_faults P.faults P.Door.faults K.faults result.world)) }
 {
-    match serve(rt, alloc, core, loops, clock, devices) {
-        Err(devices) => {
+    match serve(rt, alloc, core, loops, devices) {
+        Err(refused) => {
+            let Unserved { devices, world } = refused;
             let Devices {
                 flusher: _,
                 disk,
@@ -199,7 +211,7 @@ where
                 disk: give_back(disk, readers),
                 keep,
             };
-            unserved(store, Status::plain(alloc, 7))
+            unserved(store, world, Status::plain(alloc, 7))
         }
         Ok(served) => ended_of(alloc, served),
     }
@@ -216,10 +228,9 @@ fn serve_loops<
     rt: &W,
     alloc: Global,
     opened: Opened,
-    loops: Loops<P>,
-    clock: K,
+    loops: Loops<P, K>,
     store: Store<D, E>,
-) -> Ended<D, E>
+) -> Ended<P, K, D, E>
 where
     D::Reader: Send,
     requires loops { AreLoops loops.first loops.second }
@@ -232,15 +243,17 @@ where
     ensures stores { D.tells → IfSome result.core (λ left.
         StoresOpened opened.core opened.flusher.file (D.state store.disk) left (D.state result.store.disk)) }
     ensures outside { D.tells → StaysOutside (D.state store.disk) (D.state result.store.disk) }
+    ensures cause { Causes result.status
+        (counts_of (D.faults store.disk) (E.faults store.keep) (world_faults P.faults P.Door.faults K.faults loops.world))
+        (counts_of (D.faults result.store.disk) (E.faults result.store.keep) (world_faults P.faults P.Door.faults K.faults result.world)) }
 {
     let Store { mut disk, keep } = store;
     match readers_of(alloc, &mut disk) {
         Err(fault) => {
             // Let go by name, which is proved once a type, and not anew at each end of a scope.
             drop(opened);
-            drop(loops);
-            drop(clock);
-            unserved(Store { disk, keep }, status_of_reader(alloc, fault))
+            let status = status_of_reader(alloc, fault);
+            unserved(Store { disk, keep }, loops.leave(), status)
         }
         Ok(readers) => {
             let Opened { core, flusher } = opened;
@@ -250,8 +263,32 @@ where
                 readers,
                 keep,
             };
-            serve_open(rt, alloc, core, loops, clock, devices)
+            serve_open(rt, alloc, core, loops, devices)
         }
+    }
+}
+
+// Opens the door, and makes the loops. At `Err` the status tells why there are none, and the world comes back.
+fn open_loops<P: Ready + Drop, K: Clock + Drop>(
+    alloc: Global,
+    command: &ServeCommand,
+    world: World<P, K>,
+) -> Result<Loops<P, K>, (Status, World<P, K>)>
+    ensures loops { IfOk result (λ it. AreLoops it.first it.second) }
+    ensures counts { IfOk result (λ it. world_faults P.faults P.Door.faults K.faults it.world
+        ≡ world_faults P.faults P.Door.faults K.faults world) }
+    ensures status { IfErr result (λ it. (it.0.code ≢ 1) × (it.0.code ≢ 6) × FitsTable it.0) }
+    ensures tells { IfErr result (λ it. TellsDevice it.0 (codes "door")) }
+    ensures cause { IfErr result (λ it. BlamesDoor it.0 (world_faults P.faults P.Door.faults K.faults world)
+        (world_faults P.faults P.Door.faults K.faults it.1)) }
+{
+    let mut world = world;
+    match world.door.open(port_of(command)) {
+        Err(Failed) => Err((Status::named(alloc, 10, "door"), world)),
+        Ok(()) => match Loops::new(alloc, world, bounds_of(command)) {
+            Err((end, world)) => Err((status_of_making(alloc, end), world)),
+            Ok(loops) => Ok(loops),
+        },
     }
 }
 
@@ -269,7 +306,7 @@ fn serve_log<
     opened: Opened,
     world: World<P, K>,
     store: Store<D, E>,
-) -> Ended<D, E>
+) -> Ended<P, K, D, E>
 where
     D::Reader: Send,
     requires none_out { (shown_of opened.core).out ≡ None }
@@ -281,27 +318,17 @@ where
     ensures stores { D.tells → IfSome result.core (λ left.
         StoresOpened opened.core opened.flusher.file (D.state store.disk) left (D.state result.store.disk)) }
     ensures outside { D.tells → StaysOutside (D.state store.disk) (D.state result.store.disk) }
+    ensures cause { Causes result.status
+        (counts_of (D.faults store.disk) (E.faults store.keep) (world_faults P.faults P.Door.faults K.faults world))
+        (counts_of (D.faults result.store.disk) (E.faults result.store.keep) (world_faults P.faults P.Door.faults K.faults result.world)) }
 {
-    let World {
-        ready,
-        mut door,
-        clock,
-    } = world;
-    if door.open(port_of(command)).is_err() {
-        // Let go by name, as above.
-        drop(opened);
-        drop(ready);
-        drop(door);
-        drop(clock);
-        return unserved(store, Status::named(alloc, 10, "door"));
-    }
-    match Loops::new(alloc, ready, door, bounds_of(command)) {
-        Err(end) => {
+    match open_loops(alloc, command, world) {
+        Err((status, world)) => {
+            // Let go by name, as above.
             drop(opened);
-            drop(clock);
-            unserved(store, status_of_making(alloc, end))
+            unserved(store, world, status)
         }
-        Ok(loops) => serve_loops(rt, alloc, opened, loops, clock, store),
+        Ok(loops) => serve_loops(rt, alloc, opened, loops, store),
     }
 }
 
@@ -320,7 +347,7 @@ fn serve_config<
     config: Config,
     world: World<P, K>,
     store: Store<D, E>,
-) -> Ended<D, E>
+) -> Ended<P, K, D, E>
 where
     D::Reader: Send,
     requires size { IsSegmentSize segment }
@@ -333,6 +360,9 @@ where
         config.offsets.items config.topics.items result.core result.status (D.state store.disk) (D.state result.store.disk)
         E.tells (E.state store.keep) (E.state result.store.keep) }
     ensures outside { D.tells → StaysOutside (D.state store.disk) (D.state result.store.disk) }
+    ensures cause { Causes result.status
+        (counts_of (D.faults store.disk) (E.faults store.keep) (world_faults P.faults P.Door.faults K.faults world))
+        (counts_of (D.faults result.store.disk) (E.faults result.store.keep) (world_faults P.faults P.Door.faults K.faults result.world)) }
 {
     let setup = Setup {
         segment,
@@ -343,7 +373,7 @@ where
     let offsets = config.offsets.as_slice();
     let topics = config.topics.as_slice();
     match open_log_with(alloc, &mut disk, setup, offsets, topics) {
-        Err(fault) => unserved(Store { disk, keep }, status_of_fault(alloc, fault)),
+        Err(fault) => unserved(Store { disk, keep }, world, status_of_fault(alloc, fault)),
         Ok(opened) => serve_log(rt, alloc, command, opened, world, Store { disk, keep }),
     }
 }
@@ -362,22 +392,25 @@ fn serve_store<
     segment: u32,
     world: World<P, K>,
     store: Store<D, E>,
-) -> Ended<D, E>
+) -> Ended<P, K, D, E>
 where
     D::Reader: Send,
     requires size { IsSegmentSize segment }
     ensures status { (result.status.code ≢ 1) × (result.status.code ≢ 6) × FitsTable result.status }
-    ensures why { IfNone result.core (Unserved
+    ensures why { IfNone result.core (UnservedBy
         (IsDamagedIn D.tells segment (D.state store.disk).reads E.tells (E.state store.keep).reads) result.status
         (D.faults store.disk) (D.faults result.store.disk) (E.faults store.keep) (E.faults result.store.keep)) }
     ensures served { ServesStore (views_of P.Link.tells D.Reader.gives (view_of D.tells D.state D.faults D.syncs)) command.now segment
         result.core result.status (D.state store.disk) (D.state result.store.disk)
         E.tells (E.state store.keep) (E.state result.store.keep) }
     ensures outside { D.tells → StaysOutside (D.state store.disk) (D.state result.store.disk) }
+    ensures cause { Causes result.status
+        (counts_of (D.faults store.disk) (E.faults store.keep) (world_faults P.faults P.Door.faults K.faults world))
+        (counts_of (D.faults result.store.disk) (E.faults result.store.keep) (world_faults P.faults P.Door.faults K.faults result.world)) }
 {
     let Store { disk, mut keep } = store;
     match load_config(alloc, &mut keep) {
-        Err(fault) => unserved(Store { disk, keep }, status_of_config(alloc, fault)),
+        Err(fault) => unserved(Store { disk, keep }, world, status_of_config(alloc, fault)),
         Ok(config) => serve_config(
             rt,
             alloc,
@@ -400,13 +433,19 @@ pub fn run_serve<
     D: Disk + Send + Drop,
     K: Clock + Send + Drop,
     E: Keep + Send + Drop,
->(rt: &W, alloc: Global, words: &[&str], world: World<P, K>, store: Store<D, E>) -> Ended<D, E>
+>(
+    rt: &W,
+    alloc: Global,
+    words: &[&str],
+    world: World<P, K>,
+    store: Store<D, E>,
+) -> Ended<P, K, D, E>
 where
     D::Reader: Send,
     // Status 1 comes exactly where the words are no command, with the place of the first that doesn't fit. No device is asked.
     ensures usage { result.status.code ≡ 1 → IsFirstWrongOfServe (texts_of words.now) result.status.place }
     ensures wrong { ((command : ACommand) → IsServeCommand (texts_of words.now) command → ⊥) → result.status.code ≡ 1 }
-    ensures idle { result.status.code ≡ 1 → result.store ≡ store }
+    ensures idle { result.status.code ≡ 1 → (result.store ≡ store) × (result.world ≡ world) }
 
     // Where links were served, they were served by the core of the log with what the kept files had. The core that is left stands
     // for one history of steps since, each of which is the flusher's, one link's or the keeper's. The disk stores the log of a state
@@ -439,16 +478,19 @@ where
     ensures kept { E.tells → (name : List ℕ) → name ≢ FORMAT → name ≢ OFFSETS → name ≢ TOPICS
         → (E.state result.store.keep).reads name ≡ (E.state store.keep).reads name }
 
-    // The status has a place and a name only where the table names one.
+    // The status has a place and a name only where the table names one. It blames a device only where the count of this one rose.
     ensures table { FitsTable result.status }
+    ensures cause { Causes result.status
+        (counts_of (D.faults store.disk) (E.faults store.keep) (world_faults P.faults P.Door.faults K.faults world))
+        (counts_of (D.faults result.store.disk) (E.faults result.store.keep) (world_faults P.faults P.Door.faults K.faults result.world)) }
 {
     let command = match read_serve_words(words) {
-        Err(place) => return unserved(store, Status::at(alloc, 1, place)),
+        Err(place) => return unserved(store, world, Status::at(alloc, 1, place)),
         Ok(command) => command,
     };
     let Store { mut disk, mut keep } = store;
     match open_format(alloc, &mut disk, &mut keep, &command.sizes) {
-        Err(status) => unserved(Store { disk, keep }, status),
+        Err(status) => unserved(Store { disk, keep }, world, status),
         Ok(sizes) => serve_store(
             rt,
             alloc,

@@ -1,8 +1,9 @@
 //! The statuses of `serve`.
 
-ghost use Rattle.std.specs.Prelude.{◌≡◌, ◌≢◌, codes};
+ghost use Rattle.std.specs.Prelude.{◌≡◌, ◌≢◌};
 ghost use Rattle.store_open.specs.Statuses.{FitsTable};
-ghost use Rattle.broker_serve.specs.Statuses.{StatusKept, StatusTellsEnd, StatusTellsLoops, TellsDevice};
+ghost use Rattle.broker_serve.specs.Causes.{StatusTellsMaking};
+ghost use Rattle.broker_serve.specs.Statuses.{StatusKept, StatusTellsEnd, StatusTellsLoops};
 ghost use Rattle.broker_serve.specs.Statuses.{StatusTellsConfig, StatusTellsFault, StatusTellsReader};
 
 use config_store::ConfigFault;
@@ -54,7 +55,7 @@ pub(crate) fn status_of_reader(alloc: Global, fault: DiskFault) -> Status
 
 // The status of loops that could not be made.
 pub(crate) fn status_of_making(alloc: Global, end: LoopEnd) -> Status
-    ensures tells { TellsDevice result (codes "door") }
+    ensures tells { StatusTellsMaking result end }
     ensures status { (result.code ≢ 1) × (result.code ≢ 6) × FitsTable result }
 {
     match end {
@@ -86,8 +87,8 @@ pub(crate) fn last_status(alloc: Global, end: LoopEnd, last: FlushEnd) -> Status
 {
     match last {
         FlushEnd::Idle | FlushEnd::Done => status_of_loops(alloc, end, 0),
-        FlushEnd::Failed(_) | FlushEnd::Misplaced => status_of_loops(alloc, end, 5),
-        FlushEnd::Memory => Status::plain(alloc, 7),
+        FlushEnd::Failed(_) => status_of_loops(alloc, end, 5),
+        FlushEnd::Misplaced | FlushEnd::Memory => Status::plain(alloc, 7),
     }
 }
 

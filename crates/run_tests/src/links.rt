@@ -5,9 +5,10 @@ ghost use Rattle.mq_outside.specs.MemSource.{HasNoEmptyPiece};
 
 use crate::frames::put_send;
 use broker_core::Core;
-use broker_serve::{Ended, Store, World, run_serve};
+use broker_serve::{Ended, Store, run_serve};
 use mq_outside::{MemClock, MemDisk, MemKeep, MemSink, MemSource, Room};
 use mq_peers::{Calls, Link, MemDoor, MemLink, MemReady};
+use serve_threads::World;
 use std::alloc::{AllocError, Global};
 use std::sync::Wait;
 use std::thread::Threads;
@@ -78,7 +79,7 @@ fn records_in(core: &Core) -> (u64, u64) {
     (counts.records, counts.flushed)
 }
 
-fn left_of(ended: &Ended<MemDisk, MemKeep>) -> Left {
+fn left_of(ended: &Ended<MemReady<MemLink>, MemClock, MemDisk, MemKeep>) -> Left {
     Left {
         code: ended.status.code,
         device: if ended.status.name.as_str() == "door" {
@@ -91,6 +92,11 @@ fn left_of(ended: &Ended<MemDisk, MemKeep>) -> Left {
     }
 }
 
+// A clock at which it is always the same time.
+fn clock(alloc: Global) -> Result<MemClock, AllocError> {
+    MemClock::new(alloc, vec![in alloc; 2000]?, Vec::new(alloc))
+}
+
 /// Serves the links of this door over an empty store.
 pub(crate) fn serve<W: Wait + Threads + Sync>(
     rt: &W,
@@ -99,9 +105,12 @@ pub(crate) fn serve<W: Wait + Threads + Sync>(
     door: MemDoor<MemLink>,
 ) -> Result<Left, AllocError> {
     let world = World {
-        ready: MemReady::new(alloc, u64::MAX),
+        ready: (
+            MemReady::new(alloc, u64::MAX),
+            MemReady::new(alloc, u64::MAX),
+        ),
+        clocks: (clock(alloc)?, clock(alloc)?),
         door,
-        clock: MemClock::new(alloc, vec![in alloc; 2000]?, Vec::new(alloc))?,
     };
     let ended = run_serve(rt, alloc, words, world, store(alloc)?);
     Ok(left_of(&ended))

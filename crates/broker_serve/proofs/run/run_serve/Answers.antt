@@ -1,4 +1,4 @@
-use Rattle.std.proofs.Common.{◌∙◌, inl, inr, [], ap, sym, subst, ℕ, List}
+use Rattle.std.proofs.Common.{◌∙◌, refl, inl, inr, [], ap, sym, subst, ℕ, List}
 use Rattle.std.specs.Prelude.{IfNone}
 use Rattle.log_model.specs.Stored.{StaysOutside}
 use Rattle.log_model.proofs.OutsideLemmas.{outside_start, outside_same, outside_then}
@@ -8,6 +8,8 @@ use Rattle.store_open.proofs.SizeLemmas.{serve_asks_sizes}
 use Rattle.broker_serve.specs.Statuses.{IsDamagedFor, Refused}
 use Rattle.broker_serve.proofs.Serving.{puts_no_format, run_served, run_unserved, store_others}
 use Rattle.broker_serve.proofs.Telling.{why_unserved, why_then, not_formed, refused}
+use Rattle.serve_threads.specs.Causes.{world_faults}
+use Rattle.broker_serve.proofs.Causing.{causes_from, causes_unserved, opening_causes, words_cause}
 use Rattle.broker_serve.proofs.run.run_serve.Goals as goal
 
 pub serve_store-requires-clause-size : goal.serve_store-requires-clause-size
@@ -82,3 +84,19 @@ returns-in-Ok-open_format-clause-why g c =
     why_then _ (refused _ c.in-Ok.command c.in-Ok-open_format.sizes _ _ _ _ _ _ _ c.in-Ok-open_format.ensures.rests c.in-Ok-open_format.ensures.opened.sizes_are
     c.in-Ok-open_format.ensures.puts _ _ _ _ _ _ _ c.in-Ok.ensures.fits c.in-Ok-open_format.ensures.disk_still c.in-Ok-open_format.ensures.keep_still)
     c.serve_store.ensures.why
+
+-- ---- which device is blamed
+
+pub returns-in-Err-clause-cause : goal.returns-in-Err-clause-cause
+returns-in-Err-clause-cause g c =
+    causes_unserved (λ s. g.D.Disk.faults s.disk) (λ s. g.E.Keep.faults s.keep) (world_faults g.P.Ready.faults g.P.Door.Door.faults g.K.Clock.faults) _ c.at.result c.unserved.result.status _ _ _ _ c.unserved.ensures.status c.unserved.ensures.store c.unserved.ensures.world
+    (words_cause c.at.result _ _ c.at.ensures.code)
+
+pub returns-in-Err-open_format-clause-cause : goal.returns-in-Err-open_format-clause-cause
+returns-in-Err-open_format-clause-cause g c =
+    causes_unserved (λ s. g.D.Disk.faults s.disk) (λ s. g.E.Keep.faults s.keep) (world_faults g.P.Ready.faults g.P.Door.Door.faults g.K.Clock.faults) _ c.in-Err-open_format.status c.unserved-in-Err-open_format.result.status _ _ _ _ c.unserved-in-Err-open_format.ensures.status c.unserved-in-Err-open_format.ensures.store c.unserved-in-Err-open_format.ensures.world
+    (opening_causes c.in-Err-open_format.status _ _ c.in-Err-open_format.ensures.cause)
+
+pub returns-in-Ok-open_format-clause-cause : goal.returns-in-Ok-open_format-clause-cause
+returns-in-Ok-open_format-clause-cause g c =
+    causes_from c.serve_store.result.status _ _ _ _ _ _ _ c.in-Ok-open_format.ensures.disk_still c.in-Ok-open_format.ensures.keep_still refl c.serve_store.ensures.cause

@@ -1,4 +1,4 @@
-use Rattle.std.proofs.Common.{sym, ap, subst}
+use Rattle.std.proofs.Common.{refl, sym, ap, subst}
 use Rattle.mq_outside.specs.Disk.{Rests}
 use Rattle.mq_outside.proofs.Moments.{rests_start}
 use Rattle.log_model.specs.Stored.{StaysOutside}
@@ -7,6 +7,8 @@ use Rattle.broker_serve.specs.Statuses.{IsDamagedLog, Unopened}
 use Rattle.broker_serve.proofs.Serving.{log_unserved, log_served_with}
 use Rattle.broker_serve.proofs.Storing.{stores_each}
 use Rattle.broker_serve.proofs.Telling.{why_unserved, why_then, not_recovered, shut_out}
+use Rattle.serve_threads.specs.Causes.{world_faults}
+use Rattle.broker_serve.proofs.Causing.{causes_from, causes_unserved, log_causes}
 use Rattle.broker_serve.proofs.run.serve_config.Goals as goal
 
 pub returns-in-Err-clause-served : goal.returns-in-Err-clause-served
@@ -38,3 +40,11 @@ pub returns-clause-why : goal.returns-clause-why
 returns-clause-why g c =
     let damaged = IsDamagedLog g.D.Disk.tells c.args.segment (g.D.Disk.state c.args.store.disk).reads in
     why_then _ (shut_out damaged c.serve_log.result.status _ _ _ c.in-Ok.ensures.cause) c.serve_log.ensures.why
+
+pub returns-in-Err-clause-cause : goal.returns-in-Err-clause-cause
+returns-in-Err-clause-cause g c =
+    causes_unserved (λ s. g.D.Disk.faults s.disk) (λ s. g.E.Keep.faults s.keep) (world_faults g.P.Ready.faults g.P.Door.Door.faults g.K.Clock.faults) _ c.status_of_fault.result c.unserved.result.status _ _ _ _ c.unserved.ensures.status c.unserved.ensures.store c.unserved.ensures.world
+    (log_causes c.status_of_fault.result _ _ _ c.status_of_fault.ensures.tells c.in-Err.ensures.cause)
+
+pub returns-clause-cause : goal.returns-clause-cause
+returns-clause-cause g c = causes_from c.serve_log.result.status _ _ _ _ _ _ _ c.in-Ok.ensures.cause refl refl c.serve_log.ensures.cause

@@ -1,4 +1,4 @@
-use Rattle.std.proofs.Common.{sym, ap, subst}
+use Rattle.std.proofs.Common.{refl, sym, ap, subst}
 use Rattle.mq_outside.specs.Disk.{Rests}
 use Rattle.mq_outside.proofs.Moments.{rests_start}
 use Rattle.log_model.specs.Stored.{StaysOutside}
@@ -7,6 +7,8 @@ use Rattle.broker_serve.specs.Statuses.{ShutOut}
 use Rattle.broker_serve.proofs.Serving.{ends_unserved}
 use Rattle.broker_serve.proofs.Storing.{none_of, stores_before}
 use Rattle.broker_serve.proofs.Telling.{why_unserved, why_then, no_reader, out_of_memory}
+use Rattle.serve_threads.specs.Causes.{world_faults}
+use Rattle.broker_serve.proofs.Causing.{causes_from, causes_unserved, reader_causes}
 use Rattle.broker_serve.proofs.run.serve_loops.Goals as goal
 
 pub returns-in-Err-clause-ends : goal.returns-in-Err-clause-ends
@@ -30,7 +32,15 @@ returns-in-Ok-clause-stores g c = λ tells. stores_before _ _ _ _ _ c.serve_open
 pub returns-in-Err-clause-why : goal.returns-in-Err-clause-why
 returns-in-Err-clause-why g c =
     why_unserved (λ s store. ShutOut s (g.D.Disk.faults c.args.store.disk) (g.D.Disk.faults store.disk)) _ _ _ _ _
-    c.unserved.ensures.core c.unserved.ensures.status c.unserved.ensures.store (no_reader c.status_of_reader.result _ _ _ c.status_of_reader.ensures.tells c.in-Err.ensures.cause)
+    c.unserved.ensures.core c.unserved.ensures.status c.unserved.ensures.store (no_reader c.status_of_reader-status.result _ _ _ c.status_of_reader-status.ensures.tells c.in-Err.ensures.cause)
 
 pub returns-in-Ok-clause-why : goal.returns-in-Ok-clause-why
 returns-in-Ok-clause-why g c = why_then _ (out_of_memory c.serve_open.result.status _ _) c.serve_open.ensures.why
+
+pub returns-in-Err-clause-cause : goal.returns-in-Err-clause-cause
+returns-in-Err-clause-cause g c =
+    causes_unserved (λ s. g.D.Disk.faults s.disk) (λ s. g.E.Keep.faults s.keep) (world_faults g.P.Ready.faults g.P.Door.Door.faults g.K.Clock.faults) _ c.status_of_reader-status.result c.unserved.result.status _ _ _ _ c.unserved.ensures.status c.unserved.ensures.store c.unserved.ensures.world
+    (reader_causes c.status_of_reader-status.result _ _ _ c.status_of_reader-status.ensures.tells c.in-Err.ensures.cause)
+
+pub returns-in-Ok-clause-cause : goal.returns-in-Ok-clause-cause
+returns-in-Ok-clause-cause g c = causes_from c.serve_open.result.status _ _ _ _ _ _ _ c.in-Ok.ensures.cause refl refl c.serve_open.ensures.cause

@@ -9,17 +9,18 @@ use Rattle.broker_serve.specs.Serves.{StoresOpened}
 use Rattle.broker_serve.proofs.Serving.{ends_unserved, ends_served}
 use Rattle.broker_serve.proofs.Storing.{none_of, some_of, stores_opened}
 use Rattle.broker_serve.proofs.Telling.{why_unserved, why_served}
+use Rattle.broker_serve.proofs.Causing.{causes_seven}
 use Rattle.broker_serve.proofs.run.serve_open.Goals as goal
 
 pub returns-in-Err-clause-ends : goal.returns-in-Err-clause-ends
 returns-in-Err-clause-ends g c =
-    let same = ap (λ s. s.keep) c.unserved.ensures.store ∙ ap (λ d. d.keep) c.in-Err.ensures.err in
+    let same = ap (λ s. s.keep) c.unserved.ensures.store ∙ ap (λ d. d.keep) c.in-Err.ensures.err.0 in
     ends_unserved _ _ _ _ _ _ _ _ c.unserved.ensures.core (subst (λ k. Rests (g.E.Keep.state c.args.devices.keep) (g.E.Keep.state k)) (sym same) (rests_start _))
 
 pub returns-in-Err-clause-outside : goal.returns-in-Err-clause-outside
 returns-in-Err-clause-outside g c = λ tells.
     subst (λ d. StaysOutside (g.D.Disk.state c.args.devices.disk) (g.D.Disk.state d)) (sym (ap (λ s. s.disk) c.unserved.ensures.store))
-    (subst (λ d. StaysOutside (g.D.Disk.state d) (g.D.Disk.state c.give_back.result)) (ap (λ d. d.disk) c.in-Err.ensures.err) (c.give_back.ensures.outside tells))
+    (subst (λ d. StaysOutside (g.D.Disk.state d) (g.D.Disk.state c.give_back.result)) (ap (λ d. d.disk) c.in-Err.ensures.err.0) (c.give_back.ensures.outside tells))
 
 pub returns-in-Ok-clause-ends : goal.returns-in-Ok-clause-ends
 returns-in-Ok-clause-ends g c =
@@ -51,3 +52,9 @@ returns-in-Err-clause-why g c =
 
 pub returns-in-Ok-clause-why : goal.returns-in-Ok-clause-why
 returns-in-Ok-clause-why g c = why_served _ _ _ c.ended_of.ensures.core
+
+pub returns-in-Err-clause-cause : goal.returns-in-Err-clause-cause
+returns-in-Err-clause-cause g c = causes_seven c.plain.result c.unserved.result.status _ _ c.unserved.ensures.status c.plain.ensures.code
+
+pub returns-in-Ok-clause-cause : goal.returns-in-Ok-clause-cause
+returns-in-Ok-clause-cause g c = c.ended_of.ensures.cause _ c.in-Ok.ensures.cause

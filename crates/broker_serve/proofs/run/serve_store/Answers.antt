@@ -1,10 +1,12 @@
-use Rattle.std.proofs.Common.{sym, ap, subst}
+use Rattle.std.proofs.Common.{refl, sym, ap, subst}
 use Rattle.mq_outside.specs.Disk.{Rests}
 use Rattle.log_model.specs.Stored.{StaysOutside}
 use Rattle.log_model.proofs.OutsideLemmas.{outside_start}
 use Rattle.broker_serve.specs.Statuses.{IsDamagedIn, Unserved}
 use Rattle.broker_serve.proofs.Serving.{store_unserved, store_served}
 use Rattle.broker_serve.proofs.Telling.{why_unserved, why_then, not_loaded, not_opened}
+use Rattle.serve_threads.specs.Causes.{world_faults}
+use Rattle.broker_serve.proofs.Causing.{causes_from, causes_unserved, config_causes}
 use Rattle.broker_serve.proofs.run.serve_store.Goals as goal
 
 pub returns-in-Err-clause-served : goal.returns-in-Err-clause-served
@@ -30,3 +32,11 @@ returns-in-Err-clause-why g c =
 
 pub returns-in-Ok-clause-why : goal.returns-in-Ok-clause-why
 returns-in-Ok-clause-why g c = why_then _ (not_opened _ _ _ _ _ _ _ _ _ _) c.serve_config.ensures.why
+
+pub returns-in-Err-clause-cause : goal.returns-in-Err-clause-cause
+returns-in-Err-clause-cause g c =
+    causes_unserved (λ s. g.D.Disk.faults s.disk) (λ s. g.E.Keep.faults s.keep) (world_faults g.P.Ready.faults g.P.Door.Door.faults g.K.Clock.faults) _ c.status_of_config.result c.unserved.result.status _ _ _ _ c.unserved.ensures.status c.unserved.ensures.store c.unserved.ensures.world
+    (config_causes c.status_of_config.result _ _ _ c.status_of_config.ensures.tells c.in-Err.ensures.cause)
+
+pub returns-in-Ok-clause-cause : goal.returns-in-Ok-clause-cause
+returns-in-Ok-clause-cause g c = causes_from c.serve_config.result.status _ _ _ _ _ _ _ refl c.in-Ok.ensures.cause refl c.serve_config.ensures.cause
