@@ -3,10 +3,11 @@
 //! nothing else is printed.
 #![tactic(auto)]
 
-use broker_run::run_pipe;
-use broker_serve::{Store, World, run_serve};
+use broker_serve::Store;
 use mq_outside::{FolderDisk, FolderKeep, MachineClock, StdSink, StdSource};
 use mq_peers::{TcpDoor, TcpReady};
+use program_run::{Streams, run};
+use serve_threads::World;
 use std::alloc::{AllocError, Global};
 use std::process::ExitCode;
 use std::sync::Wait;
@@ -35,31 +36,8 @@ fn words_of(rt: HostRuntime, alloc: Global) -> Result<Vec<String>, AllocError> {
     Ok(words)
 }
 
-// Serves standard input over the real devices, and answers the exit status.
-fn serve_standard_streams(
-    rt: HostRuntime,
-    alloc: Global,
-    words: &[&str],
-) -> Result<u8, AllocError> {
-    let mut source = StdSource::new(rt);
-    let mut sink = StdSink::new(rt);
-    let mut disk = FolderDisk::new(rt, String::from_str(alloc, STORE)?);
-    let mut keep = FolderKeep::new(rt, String::from_str(alloc, STORE)?);
-    let mut clock = MachineClock::new(rt);
-    let status = run_pipe(
-        alloc,
-        words,
-        &mut source,
-        &mut sink,
-        &mut disk,
-        &mut keep,
-        &mut clock,
-    );
-    Ok(status.code)
-}
-
-// Serves links over TCP, and answers the exit status.
-fn serve_links<W: Wait + Threads + Sync>(
+// Runs over the real devices, as the words say, and answers the exit status.
+fn run_words<W: Wait + Threads + Sync>(
     threads: &W,
     rt: HostRuntime,
     alloc: Global,
@@ -68,20 +46,32 @@ fn serve_links<W: Wait + Threads + Sync>(
     let Ok(ready) = TcpReady::new(rt, alloc) else {
         return Ok(NO_DEVICE);
     };
+    let Ok(other) = TcpReady::new(rt, alloc) else {
+        return Ok(NO_DEVICE);
+    };
     let store = Store {
         disk: FolderDisk::new(rt, String::from_str(alloc, STORE)?),
         keep: FolderKeep::new(rt, String::from_str(alloc, STORE)?),
     };
     let world = World {
-        ready,
+        ready: (ready, other),
+        clocks: (MachineClock::new(rt), MachineClock::new(rt)),
         door: TcpDoor::new(rt),
-        clock: MachineClock::new(rt),
     };
-    Ok(run_serve(threads, alloc, words, world, store).status.code)
+    let streams = Streams {
+        source: StdSource::new(rt),
+        sink: StdSink::new(rt),
+    };
+    Ok(
+        run(threads, alloc, words, streams, world, store)
+            .ended
+            .status
+            .code,
+    )
 }
 
-// Runs as the words say, and answers the exit status.
-fn run_words<W: Wait + Threads + Sync>(
+// Takes the words, and runs as they say.
+fn run_program<W: Wait + Threads + Sync>(
     threads: &W,
     rt: HostRuntime,
     alloc: Global,
@@ -91,16 +81,12 @@ fn run_words<W: Wait + Threads + Sync>(
     for word in &words {
         texts.push(word.as_str())?;
     }
-    if texts.first().is_some_and(|word| *word == "serve") {
-        serve_links(threads, rt, alloc, texts.as_slice())
-    } else {
-        serve_standard_streams(rt, alloc, texts.as_slice())
-    }
+    run_words(threads, rt, alloc, texts.as_slice())
 }
 
 fn main(rt: HostRuntime) -> ExitCode {
     let alloc = rt.alloc();
-    match run_words(&rt, rt, alloc) {
+    match run_program(&rt, rt, alloc) {
         Ok(code) => ExitCode::from(code),
         Err(_) => ExitCode::from(NO_MEMORY),
     }
