@@ -6,8 +6,18 @@ mod devices;
 #[cfg(test)]
 mod frames;
 #[cfg(test)]
+mod held_disk;
+#[cfg(test)]
+mod journal;
+#[cfg(test)]
 mod links;
 #[cfg(test)]
+mod peer;
+#[cfg(test)]
+mod peer_runs;
+#[cfg(test)]
 mod pipe_runs;
+#[cfg(test)]
+mod replies;
 #[cfg(test)]
 mod serve_runs;

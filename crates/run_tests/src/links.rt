@@ -6,7 +6,7 @@ ghost use Rattle.mq_outside.specs.MemSource.{HasNoEmptyPiece};
 use crate::frames::put_send;
 use broker_core::Core;
 use broker_serve::{Ended, Store, run_serve};
-use mq_outside::{MemClock, MemDisk, MemKeep, MemSink, MemSource, Room};
+use mq_outside::{Disk, MemClock, MemDisk, MemKeep, MemSink, MemSource, Room};
 use mq_peers::{Calls, Link, MemDoor, MemLink, MemReady};
 use serve_threads::World;
 use std::alloc::{AllocError, Global};
@@ -62,16 +62,14 @@ pub(crate) fn door(alloc: Global, fails: Calls, room: u64) -> Result<MemDoor<Mem
     Ok(door)
 }
 
-fn store(alloc: Global) -> Result<Store<MemDisk, MemKeep>, AllocError> {
+/// An empty disk.
+pub(crate) fn disk(alloc: Global) -> Result<MemDisk, AllocError> {
     let room = Room {
         bytes: 8192,
         files: 4,
         calls: 64,
     };
-    Ok(Store {
-        disk: MemDisk::new(alloc, Vec::new(alloc), room, Vec::new(alloc))?,
-        keep: MemKeep::new(alloc, Vec::new(alloc), Vec::new(alloc))?,
-    })
+    MemDisk::new(alloc, Vec::new(alloc), room, Vec::new(alloc))
 }
 
 fn records_in(core: &Core) -> (u64, u64) {
@@ -79,7 +77,11 @@ fn records_in(core: &Core) -> (u64, u64) {
     (counts.records, counts.flushed)
 }
 
-fn left_of(ended: &Ended<MemReady<MemLink>, MemClock, MemDisk, MemKeep>) -> Left {
+/// What is left of a run whose disk has this one below.
+pub(crate) fn left_of<L: Link + Drop, D: Disk + Drop>(
+    ended: &Ended<MemReady<L>, MemClock, D, MemKeep>,
+    disk: &MemDisk,
+) -> Left {
     Left {
         code: ended.status.code,
         device: if ended.status.name.as_str() == "door" {
@@ -88,13 +90,36 @@ fn left_of(ended: &Ended<MemReady<MemLink>, MemClock, MemDisk, MemKeep>) -> Left
             ""
         },
         records: ended.core.as_ref().map(|core| records_in(core)),
-        log: ended.store.disk.bytes(LOG).unwrap_or(&[]).len(),
+        log: disk.bytes(LOG).unwrap_or(&[]).len(),
     }
 }
 
 // A clock at which it is always the same time.
 fn clock(alloc: Global) -> Result<MemClock, AllocError> {
     MemClock::new(alloc, vec![in alloc; 2000]?, Vec::new(alloc))
+}
+
+/// Serves the links of this door over this disk and an empty keep.
+pub(crate) fn serve_over<W: Wait + Threads + Sync, L: Link + Send + Sync + Drop, D: Disk + Send + Drop>(
+    rt: &W,
+    alloc: Global,
+    words: &[&str],
+    door: MemDoor<L>,
+    disk: D,
+) -> Result<Ended<MemReady<L>, MemClock, D, MemKeep>, AllocError>
+where
+    D::Reader: Send,
+{
+    let world = World {
+        ready: (
+            MemReady::new(alloc, u64::MAX),
+            MemReady::new(alloc, u64::MAX),
+        ),
+        clocks: (clock(alloc)?, clock(alloc)?),
+        door,
+    };
+    let keep = MemKeep::new(alloc, Vec::new(alloc), Vec::new(alloc))?;
+    Ok(run_serve(rt, alloc, words, world, Store { disk, keep }))
 }
 
 /// Serves the links of this door over an empty store.
@@ -104,14 +129,6 @@ pub(crate) fn serve<W: Wait + Threads + Sync>(
     words: &[&str],
     door: MemDoor<MemLink>,
 ) -> Result<Left, AllocError> {
-    let world = World {
-        ready: (
-            MemReady::new(alloc, u64::MAX),
-            MemReady::new(alloc, u64::MAX),
-        ),
-        clocks: (clock(alloc)?, clock(alloc)?),
-        door,
-    };
-    let ended = run_serve(rt, alloc, words, world, store(alloc)?);
-    Ok(left_of(&ended))
+    let ended = serve_over(rt, alloc, words, door, disk(alloc)?)?;
+    Ok(left_of(&ended, &ended.store.disk))
 }

@@ -2,6 +2,7 @@
 
 use crate::devices::{Calls, Ended, Failing, NOTHING, serve};
 use crate::frames::{put_pull, put_send};
+use crate::replies::end_of;
 use std::alloc::{AllocError, Global};
 use std::test::Fail;
 
@@ -32,16 +33,6 @@ fn two_sends_and_a_pull(alloc: Global) -> Result<Vec<u8>, AllocError> {
     put_send(&mut bytes, 2)?;
     put_pull(&mut bytes)?;
     Ok(bytes)
-}
-
-// Where the text ends that stands behind this place, or 0 where it doesn't.
-fn end_of(written: &[u8], from: usize, text: &[u8]) -> usize {
-    for at in from..written.len() {
-        if written[at..].starts_with(text) {
-            return at.saturating_add(text.len());
-        }
-    }
-    0
 }
 
 #[test]

@@ -1,0 +1,184 @@
+//! A peer that says its next request once it took the reply to the one before.
+
+ghost use Rattle.std.specs.Prelude.{◌≡◌, ◌≤◌, ◌<◌, ◌∷◌, [], length, IfOk, IfSome};
+ghost use Rattle.mq_peers.specs.Passing.{IfBytes};
+
+use crate::journal::{Journal, LOOKS, Note};
+use crate::replies::{Reply, reply_in};
+use mq_outside::Failed;
+use mq_peers::{Incoming, Link};
+use std::sync::Wait;
+use std::time::Clock;
+
+/// What a peer says, and when.
+#[derive(Drop)]
+pub(crate) struct Script {
+    /// The peer's number.
+    pub(crate) number: u8,
+    /// It says nothing before this was noted.
+    pub(crate) after: Option<Note>,
+    /// What it says first.
+    pub(crate) first: Vec<u8>,
+    /// What it says each time that it took a reply.
+    pub(crate) again: Vec<u8>,
+    /// It ends its side once it took this reply.
+    pub(crate) last: Reply,
+    /// Where this is something it takes no reply, and is gone once this was noted.
+    pub(crate) gone: Option<Note>,
+}
+
+// A peer but for its count of failures.
+#[derive(Drop)]
+struct Saying<'a, W: Wait + Clock> {
+    journal: &'a Journal<'a, W>,
+    script: Script,
+    // How often it looks for what it waits for, before it ends.
+    looks: u32,
+    // Whether it waits for a reply, has said anything, and has all that it wanted.
+    waits: bool,
+    began: bool,
+    done: bool,
+}
+
+// Copies all of the piece, and answers how many bytes it has; 0 where there is no room for it.
+fn copy(piece: &[u8], out: &mut [u8]) -> usize
+    ensures { result ≤ length out.old }
+{
+    let len = piece.len();
+    if out.len() < len {
+        return 0;
+    }
+    out[..len].copy_from_slice(piece);
+    len
+}
+
+impl<'a, W: Wait + Clock> Saying<'a, W> {
+    // Counts a look and rests. False where it has looked too often.
+    fn look(&mut self) -> bool {
+        if self.looks == 0 {
+            self.journal.note(Note::Missed);
+            return false;
+        }
+        self.looks -= 1;
+        self.journal.rest();
+        true
+    }
+
+    // Whether what it begins after was noted.
+    fn may_begin(&self) -> bool {
+        match self.script.after {
+            Some(after) => self.journal.has(after),
+            None => true,
+        }
+    }
+
+    // What it says now, or nothing.
+    fn piece(&self) -> &[u8] {
+        if self.waits || !self.may_begin() {
+            &[]
+        } else if self.began {
+            &self.script.again
+        } else {
+            &self.script.first
+        }
+    }
+
+    // Says what it has to say now.
+    fn say(&mut self, out: &mut [u8]) -> Incoming
+        ensures within { IfBytes (Ok result) (λ n. n ≤ length out.old) }
+        ensures some { IfBytes (Ok result) (λ n. 0 < n) }
+    {
+        if self.done || !self.look() {
+            return Incoming::End;
+        }
+        match copy(self.piece(), out) {
+            0 => Incoming::NotNow,
+            n => {
+                self.waits = true;
+                self.began = true;
+                Incoming::Bytes(n)
+            }
+        }
+    }
+
+    // Takes a reply.
+    fn take(&mut self, frame: &[u8]) {
+        let reply = reply_in(frame);
+        self.journal.note(Note::Took(self.script.number, reply));
+        self.waits = false;
+        if reply == self.script.last {
+            self.journal.note(Note::Done(self.script.number));
+            self.done = true;
+        }
+    }
+
+    // Takes no reply. False where it is gone.
+    fn refuse(&mut self, gone: Note) -> bool {
+        self.journal.note(Note::Full(self.script.number));
+        !self.journal.has(gone) && self.look()
+    }
+}
+
+/// A peer over a link in memory. It waits for no more than 20,000 looks, and then ends.
+#[derive(Drop)]
+pub(crate) struct Peer<'a, W: Wait + Clock> {
+    saying: Saying<'a, W>,
+    faults: u64,
+}
+
+impl<'a, W: Wait + Clock> Peer<'a, W> {
+    /// A peer that has said and taken nothing.
+    pub(crate) fn new(journal: &'a Journal<'a, W>, script: Script) -> Peer<'a, W>
+        ensures { result.faults ≡ 0 }
+    {
+        Peer {
+            saying: Saying {
+                journal,
+                script,
+                looks: LOOKS,
+                waits: false,
+                began: false,
+                done: false,
+            },
+            faults: 0,
+        }
+    }
+}
+
+impl<'a, W: Wait + Clock> Link for Peer<'a, W> {
+    ghost tells = { ⊥ };
+
+    ghost given = { λ _. [] };
+
+    ghost left = { λ _. [] };
+
+    ghost taken = { λ _. [] };
+
+    ghost peer = { λ _. 127 ∷ 0 ∷ 0 ∷ 1 ∷ 0 ∷ 0 ∷ 0 ∷ 9 ∷ [] };
+
+    ghost faults = { λ s. s.faults };
+
+    fn read(&mut self, out: &mut [u8]) -> Result<Incoming, Failed> {
+        Ok(self.saying.say(out))
+    }
+
+    fn write(&mut self, piece: &[u8]) -> Result<Option<usize>, Failed> {
+        let Some(gone) = self.saying.script.gone else {
+            self.saying.take(piece);
+            return Ok(Some(piece.len()));
+        };
+        if self.saying.refuse(gone) {
+            return Ok(None);
+        }
+        self.faults = self.faults.saturating_add(1);
+        Err(Failed)
+    }
+
+    fn done(&mut self) {}
+
+    fn close(&mut self) {}
+
+    fn peer(&self) -> [u8; 8] {
+        [127, 0, 0, 1, 0, 0, 0, 9]
+    }
+}
