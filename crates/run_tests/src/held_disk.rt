@@ -46,8 +46,8 @@ pub(crate) struct HeldDisk<'a, D: Disk + Drop, W: Wait + Clock> {
 }
 
 impl<'a, D: Disk + Drop, W: Wait + Clock> HeldDisk<'a, D, W> {
-    /// A disk whose first sync behind a write is noted and held until this is noted, but not for longer than 20,000 looks; where there
-    /// is nothing to wait for no sync is held.
+    /// A disk whose first sync behind a write is noted and held until this is noted, but for no more than `LOOKS` looks; where there is
+    /// nothing to wait for no sync is held.
     pub(crate) fn new(
         disk: D,
         journal: &'a Journal<'a, W>,

@@ -6,8 +6,8 @@ use std::sync::{Mutex, Wait};
 use std::thread;
 use std::time::{Clock, Duration};
 
-/// So often a device looks for what it waits for, with a rest between.
-pub(crate) const LOOKS: u32 = 20_000;
+/// So often a device looks for what it waits for, with a rest between. It takes a few tens of looks where others go on.
+pub(crate) const LOOKS: u32 = 5_000;
 
 const REST_MILLIS: u64 = 1;
 

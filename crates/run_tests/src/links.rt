@@ -100,7 +100,11 @@ fn clock(alloc: Global) -> Result<MemClock, AllocError> {
 }
 
 /// Serves the links of this door over this disk and an empty keep.
-pub(crate) fn serve_over<W: Wait + Threads + Sync, L: Link + Send + Sync + Drop, D: Disk + Send + Drop>(
+pub(crate) fn serve_over<
+    W: Wait + Threads + Sync,
+    L: Link + Send + Sync + Drop,
+    D: Disk + Send + Drop,
+>(
     rt: &W,
     alloc: Global,
     words: &[&str],

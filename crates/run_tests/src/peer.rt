@@ -1,7 +1,6 @@
 //! A peer that says its next request once it took the reply to the one before.
 
-ghost use Rattle.std.specs.Prelude.{◌≡◌, ◌≤◌, ◌<◌, ◌∷◌, [], length, IfOk, IfSome};
-ghost use Rattle.mq_peers.specs.Passing.{IfBytes};
+ghost use Rattle.std.specs.Prelude.{◌≡◌, ◌≤◌, ◌∷◌, [], length, IfSome};
 
 use crate::journal::{Journal, LOOKS, Note};
 use crate::replies::{Reply, reply_in};
@@ -83,22 +82,19 @@ impl<'a, W: Wait + Clock> Saying<'a, W> {
         }
     }
 
-    // Says what it has to say now.
-    fn say(&mut self, out: &mut [u8]) -> Incoming
-        ensures within { IfBytes (Ok result) (λ n. n ≤ length out.old) }
-        ensures some { IfBytes (Ok result) (λ n. 0 < n) }
+    // Says what it has to say now, of so many bytes, which may be none. `None` where it has ended.
+    fn say(&mut self, out: &mut [u8]) -> Option<usize>
+        ensures { IfSome result (λ n. n ≤ length out.old) }
     {
         if self.done || !self.look() {
-            return Incoming::End;
+            return None;
         }
-        match copy(self.piece(), out) {
-            0 => Incoming::NotNow,
-            n => {
-                self.waits = true;
-                self.began = true;
-                Incoming::Bytes(n)
-            }
+        let said = copy(self.piece(), out);
+        if said > 0 {
+            self.waits = true;
+            self.began = true;
         }
+        Some(said)
     }
 
     // Takes a reply.
@@ -119,7 +115,7 @@ impl<'a, W: Wait + Clock> Saying<'a, W> {
     }
 }
 
-/// A peer over a link in memory. It waits for no more than 20,000 looks, and then ends.
+/// A peer over a link in memory. It waits for no more than `LOOKS` looks, and then ends.
 #[derive(Drop)]
 pub(crate) struct Peer<'a, W: Wait + Clock> {
     saying: Saying<'a, W>,
@@ -159,7 +155,11 @@ impl<'a, W: Wait + Clock> Link for Peer<'a, W> {
     ghost faults = { λ s. s.faults };
 
     fn read(&mut self, out: &mut [u8]) -> Result<Incoming, Failed> {
-        Ok(self.saying.say(out))
+        match self.saying.say(out) {
+            None => Ok(Incoming::End),
+            Some(0) => Ok(Incoming::NotNow),
+            Some(n) => Ok(Incoming::Bytes(n)),
+        }
     }
 
     fn write(&mut self, piece: &[u8]) -> Result<Option<usize>, Failed> {
