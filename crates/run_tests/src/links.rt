@@ -78,7 +78,7 @@ fn records_in(core: &Core) -> (u64, u64) {
 }
 
 /// What is left of a run whose disk has this one below.
-pub(crate) fn left_of<L: Link + Drop, D: Disk + Drop>(
+pub(crate) fn left_of<L: Link + Send + Drop, D: Disk + Drop>(
     ended: &Ended<MemReady<L>, MemClock, D, MemKeep>,
     disk: &MemDisk,
 ) -> Left {
