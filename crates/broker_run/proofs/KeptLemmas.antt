@@ -1,5 +1,5 @@
 -- What a run leaves of the kept files, and which status tells it.
-use Rattle.std.proofs.Common.{◌≡◌, ◌≢◌, ◌⊎◌, inl, inr, ◌∙◌, sym, ap, subst, arith, ℕ, ◌<◌, List, [], ◌∷◌, All, Option, Some, None, Result, Ok, Err}
+use Rattle.std.proofs.Common.{◌≡◌, ◌≢◌, ◌⊎◌, inl, inr, ◌∙◌, sym, ap, subst, arith, codes, ℕ, ◌<◌, List, [], ◌∷◌, All, Option, Some, None, Result, Ok, Err}
 use Rattle.mq_outside.specs.Counts.{Rises, CountsDiskFault}
 use Rattle.mq_outside.specs.Disk.{DiskState, Rests}
 use Rattle.mq_outside.specs.Files.{Files, OldOrNew, At}
@@ -27,7 +27,8 @@ use Rattle.request_stream.specs.declared.stop.Halt.{Halt}
 use Rattle.request_stream.specs.declared.stop.Halt.TheVariants.{BadFrame, Read, Stopped}
 use Rattle.request_stream.specs.declared.stop.Stop.TheVariants as stops
 use Rattle.keeper_turns.specs.Turns.{HasKept}
-use Rattle.broker_run.specs.Promise.{StatusOf, StatusKept, StatusAfter, StatusTellsConfig, AllWell, TellsKeep, AllFaults, Causes, Seen, before, behind, KeepSeen, ReplacesAll, PutsAll, CanBeKept, KeepsOpen, KeepsState, Misread, CountsStatus, CountsEnd}
+use Rattle.end_statuses.specs.Statuses.{StatusKept, StatusTellsConfig, TellsDevice}
+use Rattle.broker_run.specs.Promise.{StatusOf, StatusAfter, AllWell, AllFaults, Causes, Seen, before, behind, KeepSeen, ReplacesAll, PutsAll, CanBeKept, KeepsOpen, KeepsState, Misread, CountsStatus, CountsEnd}
 use Rattle.broker_run.proofs.CauseLemmas.{quiet}
 use Rattle.request_stream.specs.Telling.{fault_counts}
 
@@ -74,7 +75,7 @@ module _ (status : Status) (source source_then sink sink_then disk disk_then clo
     known = inr (inr (inr (inr (inr (inl is)))));
   }
 
-  keep_end : Rises keep keep_then → TellsKeep status → CountsEnd status (fault_counts source source_then) (fault_counts sink sink_then) (fault_counts disk disk_then) (fault_counts clock clock_then) (fault_counts keep keep_then)
+  keep_end : Rises keep keep_then → TellsDevice status (codes "keep") → CountsEnd status (fault_counts source source_then) (fault_counts sink sink_then) (fault_counts disk disk_then) (fault_counts clock clock_then) (fault_counts keep keep_then)
   keep_end rises (inl it) =
       let ten = it.0 in
       record {
@@ -129,7 +130,7 @@ ends_kept status inner keep s (Err keeper.Failed) has tells cause formed = recor
   ends = record { done = λ told memory failed. absurd (failed cause); well = λ told zero. absurd (never status inner tells zero) };
 }
   where
-    never : (status inner : Status) → ((inner.code ≡ 0) × TellsKeep status) ⊎ ((inner.code ≢ 0) × (status ≡ inner)) → status.code ≡ 0 → ⊥
+    never : (status inner : Status) → ((inner.code ≡ 0) × TellsDevice status (codes "keep")) ⊎ ((inner.code ≢ 0) × (status ≡ inner)) → status.code ≡ 0 → ⊥
     never status inner (inl (zero, inl (ten, named))) none = omega (arith, ten, none)
     never status inner (inl (zero, inr seven)) none = omega (arith, seven, none)
     never status inner (inr (some, same)) none = some (sym (ap (λ (s : Status). s.code) same) ∙ none)

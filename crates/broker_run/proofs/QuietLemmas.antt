@@ -21,7 +21,8 @@ use Rattle.request_stream.specs.declared.stop.Stop.TheVariants as stops
 use Rattle.mq_outside.specs.declared.faults.DiskFault.{DiskFault}
 use Rattle.mq_outside.specs.declared.faults.DiskFault.TheVariants as keeper
 use Rattle.config_store.specs.Faults.{IsBadText}
-use Rattle.broker_run.specs.Promise.{Seen, KeepSeen, AllFaults, Causes, StatusTells, StatusOf, StatusAfter, TellsKeep, StatusTellsFault, before, Served, Refused, Misread, Unrecovered, IsNotServed, Call, IsQuiet, EndsWell}
+use Rattle.end_statuses.specs.Statuses.{TellsDevice, StatusTellsFault}
+use Rattle.broker_run.specs.Promise.{Seen, KeepSeen, AllFaults, Causes, StatusTells, StatusOf, StatusAfter, before, Served, Refused, Misread, Unrecovered, IsNotServed, Call, IsQuiet, EndsWell}
 
 -- ---- bytes that are whole frames
 
@@ -79,7 +80,7 @@ module _ {D : Type 0} (words : List (List ℕ)) (status : Status) (seen : Seen D
   quiet_status ended (Err broken.Misplaced) good tells = absurd tells
 
   -- nor for the kept files
-  quiet_kept : TellsKeep status → EndsWell status
+  quiet_kept : TellsDevice status (codes "keep") → EndsWell status
   quiet_kept (inl ten) = absurd (no_device ten.0)
   quiet_kept (inr seven) = inr seven
 

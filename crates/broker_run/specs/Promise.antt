@@ -15,13 +15,13 @@ use Rattle.log_model.specs.Segments.{AreSegmentFiles}
 use Rattle.log_model.specs.Store.{Keeps, IsDamagedAt, IsHonest, StoresLog, KeepsIfHonest}
 use Rattle.log_model.specs.Stored.{HasFirst, FlushTurn, KeepsAtLeast, stored, turned_by, turned_in, Stored}
 use Rattle.log_recovery.specs.declared.fault.RecoverFault.{RecoverFault}
-use Rattle.log_recovery.specs.declared.fault.RecoverFault.TheVariants.{Damaged, Failed as DiskFailed, Memory as NoMemory}
 use Rattle.segment_files.specs.Turn.{IsReady, growing}
 use Rattle.store_open.specs.Words.{IsCommand}
 use Rattle.store_open.specs.Openings.{FORMAT, AreSizesOf, IsForeign, IsOpened, PutsOnly, own_format}
 use Rattle.store_open.specs.declared.format.Sizes.{Sizes}
 use Rattle.store_open.specs.declared.words.Command.{Command}
 use Rattle.store_open.specs.declared.status.Status.{Status}
+use Rattle.end_statuses.specs.Statuses.{TellsDevice, StatusTellsFault}
 use Rattle.broker_model.specs.State.{State, Saved}
 use Rattle.broker_model.specs.Tables.{OffsetRow, TopicRow}
 use Rattle.broker_model.specs.Events as model
@@ -35,8 +35,6 @@ use Rattle.broker_core.specs.Loads.{whole_log}
 use Rattle.broker_core.specs.Represents.{setup_of}
 use Rattle.config_store.specs.Configs.{OFFSETS, TOPICS, HasConfig, KeepsConfig, PutsConfig}
 use Rattle.config_store.specs.Faults.{IsBadText}
-use Rattle.config_store.specs.declared.config.ConfigFault.{ConfigFault}
-use Rattle.config_store.specs.declared.config.ConfigFault.TheVariants.{BadText, Failed as KeepFailed, Memory as NoMemoryHere}
 use Rattle.config_store.specs.Texts.{IsKeptTopic, offsets_text_of, topics_text_of}
 use Rattle.group_tables.specs.Offsets.{IsOffset}
 use Rattle.log_opening.specs.Opens.{OpensWith, saved_as}
@@ -78,17 +76,6 @@ StatusOf status ended (Err broken.Misplaced) = ⊥
 
 -- ---- the status once the kept files were replaced, or not
 
--- a status that tells that the keep failed, or that there was no memory to tell it
-abbrev pub TellsKeep : Status → Type 0
-TellsKeep status = ((status.code ≡ 10) × (status.name ≡ codes "keep")) ⊎ (status.code ≡ 7)
-
--- the status that is told where the kept files were replaced or not, and would be told of all before: want of memory comes before
--- all else, and that the keep failed is told where nothing else is
-abbrev pub StatusKept : {A : Type 0} → Status → Status → Result A DiskFault → Type 0
-StatusKept status else_told (Ok done) = status ≡ else_told
-StatusKept status else_told (Err keeper.Memory) = status.code ≡ 7
-StatusKept status else_told (Err keeper.Failed) = ((else_told.code ≡ 0) × TellsKeep status) ⊎ ((else_told.code ≢ 0) × (status ≡ else_told))
-
 -- the source ended, and nothing is pending
 abbrev pub AllWell : {A : Type 0} → Result A Halt → Result (Option ℕ) Broken → Type 0
 AllWell (Ok done) (Ok None) = Unit {0}
@@ -101,19 +88,7 @@ abbrev pub StatusAfter : {A B : Type 0} → Status → Result A Halt → Result 
 StatusAfter status ended last (Ok done) = StatusOf status ended last
 StatusAfter status ended last (Err keeper.Memory) = status.code ≡ 7
 StatusAfter status ended last (Err keeper.Failed) =
-    (AllWell ended last × TellsKeep status) ⊎ (StatusOf status ended last × (status.code ≢ 0))
-
--- the status that tells why the log was not recovered
-abbrev pub StatusTellsFault : Status → RecoverFault → Type 0
-StatusTellsFault status (Damaged place name) = (status.code ≡ 8) × (status.place ≡ place) × (status.name ≡ name)
-StatusTellsFault status DiskFailed = status.code ≡ 5
-StatusTellsFault status NoMemory = status.code ≡ 7
-
--- the status that tells why the kept files were not loaded, or that there was no memory to tell it
-abbrev pub StatusTellsConfig : Status → ConfigFault → Type 0
-StatusTellsConfig status (BadText name) = ((status.code ≡ 8) × (status.place ≡ 0) × (status.name ≡ name.now)) ⊎ (status.code ≡ 7)
-StatusTellsConfig status KeepFailed = TellsKeep status
-StatusTellsConfig status NoMemoryHere = status.code ≡ 7
+    (AllWell ended last × TellsDevice status (codes "keep")) ⊎ (StatusOf status ended last × (status.code ≢ 0))
 
 -- ---- the run of the model
 

@@ -11,44 +11,16 @@ ghost use Rattle.store_open.specs.Openings.{FORMAT, IsForeign};
 ghost use Rattle.store_open.specs.Statuses.{FitsTable};
 ghost use Rattle.config_store.specs.Configs.{OFFSETS, TOPICS};
 ghost use Rattle.request_acts.specs.Acts.{view_of};
-ghost use Rattle.broker_run.specs.Promise.{StatusTellsFault, StatusTellsConfig, Call, Causes, IsQuiet, EndsWell};
+ghost use Rattle.broker_run.specs.Promise.{Call, Causes, IsQuiet, EndsWell};
 
 use crate::serving::serve_log;
 use broker_events::Setup;
-use config_store::{ConfigFault, load_config};
+use config_store::load_config;
+use end_statuses::{status_of_config, status_of_fault};
 use log_opening::open_log_with;
-use log_recovery::RecoverFault;
-use mq_bytes::Text;
 use mq_outside::{Clock, Disk, DiskFault, Keep, Sink, Source};
 use std::alloc::Global;
 use store_open::{Status, open_format, read_words};
-
-// The status of a log that could not be recovered.
-fn status_of_fault(alloc: Global, fault: RecoverFault) -> Status
-    ensures tells { StatusTellsFault result fault }
-    ensures table { FitsTable result }
-{
-    match fault {
-        RecoverFault::Damaged(place, name) => Status::damaged(place, name),
-        RecoverFault::Failed => Status::plain(alloc, 5),
-        RecoverFault::Memory => Status::plain(alloc, 7),
-    }
-}
-
-// The status of kept files that could not be loaded.
-fn status_of_config(alloc: Global, fault: ConfigFault) -> Status
-    ensures tells { StatusTellsConfig result fault }
-    ensures table { FitsTable result }
-{
-    match fault {
-        ConfigFault::BadText(name) => match String::from_str(alloc, name) {
-            Ok(name) => Status::damaged(0, Text::of(name)),
-            Err(_) => Status::plain(alloc, 7),
-        },
-        ConfigFault::Failed => Status::named(alloc, 10, "keep"),
-        ConfigFault::Memory => Status::plain(alloc, 7),
-    }
-}
 
 /// Serves the requests of the source, one after another: each record is synced before its reply is written, and pulls are read
 /// from the log's files. Consumers resume at the offsets of the kept files, which are replaced at the end. The words are those of

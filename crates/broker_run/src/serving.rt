@@ -12,17 +12,18 @@ ghost use Rattle.request_acts.specs.Acts.{IsFree, place_of, view_of};
 ghost use Rattle.request_stream.specs.Serving.{sides_of, point_of};
 ghost use Rattle.request_stream.specs.Piping.{source_of};
 ghost use Rattle.broker_run.specs.Closing.{ServesToEnd, CountsRun, ReadsPlaced, FlushesPlaced, ending_of};
-ghost use Rattle.broker_run.specs.Promise.{StatusOf, StatusTells, StatusKept, ServedOver, CountsEnd};
+ghost use Rattle.broker_run.specs.Promise.{StatusOf, StatusTells, ServedOver, CountsEnd};
 ghost use Rattle.broker_events.specs.declared.event.Setup.{Setup as TheSetup};
 ghost use Rattle.request_stream.specs.Telling.{fault_counts};
 
 use crate::ended::Ended;
 use broker_core::Alone;
 use broker_events::Calls;
+use end_statuses::status_kept;
 use group_flush::Flusher;
 use keeper_turns::keep_core;
 use log_opening::Opened;
-use mq_outside::{Clock, Disk, DiskFault, Keep, Sink, Source};
+use mq_outside::{Clock, Disk, Keep, Sink, Source};
 use request_acts::{Broken, flush_all};
 use request_stream::{Halt, Stop, serve_source};
 use std::alloc::Global;
@@ -101,26 +102,6 @@ fn status_of(alloc: Global, ended: Ended) -> Status
         Err(Broken::Memory) => Status::plain(alloc, 7),
         Err(Broken::Misplaced) => unreachable!(),
         Ok(last) => status_of_reading(alloc, ended.reading, last),
-    }
-}
-
-// The status behind the replacement of the kept files: want of memory comes before all else, and that the keep failed is told
-// where nothing else is.
-fn status_kept(alloc: Global, status: Status, kept: Result<(), DiskFault>) -> Status
-    requires table { FitsTable status }
-    ensures tells { StatusKept result status kept }
-    ensures table { FitsTable result }
-{
-    match kept {
-        Ok(()) => status,
-        Err(DiskFault::Memory) => Status::plain(alloc, 7),
-        Err(DiskFault::Failed) => {
-            if status.code == 0 {
-                Status::named(alloc, 10, "keep")
-            } else {
-                status
-            }
-        }
     }
 }
 

@@ -18,7 +18,8 @@ use Rattle.store_open.specs.Openings.{OpeningCause}
 use Rattle.store_open.specs.declared.status.Status.{Status}
 use Rattle.serve_threads.specs.Causes.{WorldFaults, ServeFaults, BlamesWorld, BlamesDisk, BlamesMaking, HasCauses, counts_of}
 use Rattle.broker_serve.specs.Causes.{BlamesDoor, Causes, StatusTellsMaking}
-use Rattle.broker_serve.specs.Statuses.{TellsDevice, StatusTellsLoops, StatusTellsEnd, StatusLeft, StatusTellsFault, StatusTellsConfig, StatusTellsReader}
+use Rattle.end_statuses.specs.Statuses.{TellsDevice, StatusTellsFault, StatusTellsConfig}
+use Rattle.broker_serve.specs.Statuses.{StatusTellsLoops, StatusTellsEnd, StatusLeft, StatusTellsReader}
 
 module _ (status : Status) (old new : ServeFaults) where
   pub seven_causes : status.code ≡ 7 → Causes status old new

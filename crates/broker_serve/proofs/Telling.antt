@@ -24,8 +24,9 @@ use Rattle.store_open.specs.ServeWords.{IsServeCommand}
 use Rattle.store_open.specs.declared.format.Sizes.{Sizes}
 use Rattle.store_open.specs.declared.serve_words.ServeCommand.{ServeCommand}
 use Rattle.store_open.specs.declared.status.Status.{Status}
-use Rattle.broker_serve.specs.Statuses.{TellsDevice, StatusTellsLoops, StatusTellsEnd, AllWell, StatusKept, StatusLeft}
-use Rattle.broker_serve.specs.Statuses.{StatusTellsFault, StatusTellsConfig, StatusTellsReader, ShutOut, Unopened, Unserved, IsDamagedLog, IsDamagedIn, IsDamagedFor, Refused}
+use Rattle.end_statuses.specs.Statuses.{TellsDevice, StatusKept, StatusTellsFault, StatusTellsConfig}
+use Rattle.broker_serve.specs.Statuses.{StatusTellsLoops, StatusTellsEnd, AllWell, StatusLeft}
+use Rattle.broker_serve.specs.Statuses.{StatusTellsReader, ShutOut, Unopened, Unserved, IsDamagedLog, IsDamagedIn, IsDamagedFor, Refused}
 
 -- ---- links were served
 

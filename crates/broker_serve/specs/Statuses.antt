@@ -6,11 +6,7 @@ use Rattle.mq_outside.specs.declared.faults.DiskFault.{DiskFault}
 use Rattle.mq_outside.specs.declared.faults.DiskFault.TheVariants as device
 use Rattle.log_model.specs.Bases.{whole}
 use Rattle.log_model.specs.Store.{IsDamagedAt}
-use Rattle.log_recovery.specs.declared.fault.RecoverFault.{RecoverFault}
-use Rattle.log_recovery.specs.declared.fault.RecoverFault.TheVariants as recovery
 use Rattle.config_store.specs.Faults.{IsBadText}
-use Rattle.config_store.specs.declared.config.ConfigFault.{ConfigFault}
-use Rattle.config_store.specs.declared.config.ConfigFault.TheVariants as config
 use Rattle.worker_turns.specs.declared.flush.FlushEnd.{FlushEnd}
 use Rattle.worker_turns.specs.declared.flush.FlushEnd.TheVariants as flush
 use Rattle.event_loops.specs.declared.event_loop.LoopEnd.{LoopEnd}
@@ -20,10 +16,7 @@ use Rattle.store_open.specs.ServeWords.{IsServeCommand}
 use Rattle.store_open.specs.declared.format.Sizes.{Sizes}
 use Rattle.store_open.specs.declared.serve_words.ServeCommand.{ServeCommand}
 use Rattle.store_open.specs.declared.status.Status.{Status}
-
--- a status that tells that this device failed, or that there was no memory to tell it
-abbrev pub TellsDevice : Status → List ℕ → Type 0
-TellsDevice status name = ((status.code ≡ 10) × (status.name ≡ name)) ⊎ (status.code ≡ 7)
+use Rattle.end_statuses.specs.Statuses.{TellsDevice}
 
 -- ---- links were served
 
@@ -56,14 +49,6 @@ IsFlushed flush.Memory = ⊥
 abbrev pub AllWell : LoopEnd → FlushEnd → Type 0
 AllWell end last = (end ≡ loops.Done) × IsFlushed last
 
--- The status that is told where the kept files were replaced or not, and would be told of all before: want of memory comes before all
--- else, and that the keep failed is told where nothing else is.
-abbrev pub StatusKept : {A : Type 0} → Status → Status → Result A DiskFault → Type 0
-StatusKept status else_told (Ok done) = status ≡ else_told
-StatusKept status else_told (Err device.Memory) = status.code ≡ 7
-StatusKept status else_told (Err device.Failed) =
-    ((else_told.code ≡ 0) × TellsDevice status (codes "keep")) ⊎ ((else_told.code ≢ 0) × (status ≡ else_told))
-
 -- why the loops ended, how the last flush turn did and the replacement of the kept files tell the status
 abbrev pub StatusLeft : {A : Type 0} → Status → LoopEnd → FlushEnd → Result A DiskFault → Type 0
 StatusLeft status end last (Ok done) = StatusTellsEnd status end last
@@ -72,19 +57,6 @@ StatusLeft status end last (Err device.Failed) =
     (AllWell end last × TellsDevice status (codes "keep")) ⊎ (StatusTellsEnd status end last × (status.code ≢ 0))
 
 -- ---- no links were served
-
--- the status tells why the log was not recovered
-abbrev pub StatusTellsFault : Status → RecoverFault → Type 0
-StatusTellsFault status (recovery.Damaged place name) = (status.code ≡ 8) × (status.place ≡ place) × (status.name ≡ name)
-StatusTellsFault status recovery.Failed = status.code ≡ 5
-StatusTellsFault status recovery.Memory = status.code ≡ 7
-
--- the status tells why the kept files were not loaded, or that there was no memory to tell it
-abbrev pub StatusTellsConfig : Status → ConfigFault → Type 0
-StatusTellsConfig status (config.BadText name) =
-    ((status.code ≡ 8) × (status.place ≡ 0) × (status.name ≡ name.now)) ⊎ (status.code ≡ 7)
-StatusTellsConfig status config.Failed = TellsDevice status (codes "keep")
-StatusTellsConfig status config.Memory = status.code ≡ 7
 
 -- the status tells why there is no reader
 abbrev pub StatusTellsReader : Status → DiskFault → Type 0

@@ -26,15 +26,15 @@ ghost use Rattle.serve_story.specs.Served.{AreLoops};
 ghost use Rattle.serve_threads.specs.Causes.{HasCauses, ServeFaults as TheFaults, counts_of, world_faults};
 ghost use Rattle.broker_serve.specs.Causes.{BlamesDoor, Causes};
 ghost use Rattle.broker_serve.specs.Serves.{EndsOver, HasServed, PutsAllAlong, ServesLog, ServesStore, StoresOpened, views_of};
-ghost use Rattle.broker_serve.specs.Statuses.{IsDamagedIn, IsDamagedLog, Refused, ShutOut, StatusLeft, TellsDevice, Unopened};
+ghost use Rattle.end_statuses.specs.Statuses.{TellsDevice};
+ghost use Rattle.broker_serve.specs.Statuses.{IsDamagedIn, IsDamagedLog, Refused, ShutOut, StatusLeft, Unopened};
 ghost use Rattle.broker_serve.specs.Statuses.{Unserved as UnservedBy};
 
-use crate::statuses::{
-    last_status, status_kept, status_of_config, status_of_fault, status_of_making, status_of_reader,
-};
+use crate::statuses::{last_status, status_of_making, status_of_reader};
 use broker_core::Core;
 use broker_events::Setup;
 use config_store::{Config, load_config};
+use end_statuses::{status_kept, status_of_config, status_of_fault};
 use event_loops::Bounds;
 use log_opening::{Opened, open_log_with};
 use mq_outside::{Clock, Disk, DiskFault, Failed, Keep};
