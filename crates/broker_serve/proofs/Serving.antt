@@ -24,7 +24,7 @@ use Rattle.store_open.specs.declared.format.AskedSizes.{AskedSizes}
 use Rattle.store_open.specs.declared.format.Sizes.{Sizes}
 use Rattle.store_open.specs.declared.serve_words.ServeCommand.{ServeCommand}
 use Rattle.store_open.specs.declared.status.Status.{Status}
-use Rattle.broker_serve.specs.Serves.{EndsOver, HasServed, PutsAllAlong, PutsAllBy, ReplacesAllBy, ServesLog, ServesStore, StoresOurs, Views, setup_by}
+use Rattle.broker_serve.specs.Serves.{EndsOver, HasServed, PutsAllAlong, PutsAllBy, ReplacesAllBy, ServesLog, ServesStore, StoresOurs, Views, keep_over, setup_by}
 use Rattle.worker_turns.specs.declared.flush.FlushEnd.{FlushEnd}
 use Rattle.event_loops.specs.declared.event_loop.LoopEnd.{LoopEnd}
 use Rattle.broker_serve.specs.Statuses.{StatusLeft}
@@ -35,14 +35,14 @@ use Rattle.broker_serve.proofs.Telling.{zero_kept}
 
 module _ {D : Type 0} (views : Views D) where
   pub ends_unserved : (start : Parts) (file : LastFile) (left : Option Parts) (status : Status) (told : Type 0) (old new : DiskState) → left ≡ None → Rests old new
-      → EndsOver views start file left status told old new
-  ends_unserved start file left status told old new none rests = subst (λ o. EndsOver views start file o status told old new) (sym none) (λ tells. rests)
+      → EndsOver views start file left status (keep_over told old new)
+  ends_unserved start file left status told old new none rests = subst (λ o. EndsOver views start file o status (keep_over told old new)) (sym none) (λ tells. rests)
 
   pub ends_served : (start : Parts) (file : LastFile) (left : Option Parts) (status : Status) (told : Type 0) (old new : DiskState) (core : Parts) (stopped : LoopEnd) (last : FlushEnd)
       (kept : Result (Unit {0}) DiskFault) (began ended : D) → left ≡ Some core → StatusLeft status stopped last kept → IsLeft views.links views.gives views.disk start (place_of file began) ended told kept old new core
-      → EndsOver views start file left status told old new
+      → EndsOver views start file left status (keep_over told old new)
   ends_served start file left status told old new core stopped last kept began ended some tells is =
-      subst (λ o. EndsOver views start file o status told old new) (sym some) (record { stopped = stopped; last = last; kept = kept; tells = tells; began = began; ended = ended; left = is })
+      subst (λ o. EndsOver views start file o status (keep_over told old new)) (sym some) (record { stopped = stopped; last = last; kept = kept; tells = tells; began = began; ended = ended; left = is })
 
 module _ {D : Type 0} (views : Views D) (command : ServeCommand) (segment : ℕ) (status : Status) (disk : DiskState) (told : Type 0) where
   pub log_unserved : (offsets : List OffsetRow) (topics : List TopicRow) (left : Option Parts) (disk_then old new : DiskState) → left ≡ None → (told → Rests old new)
@@ -53,7 +53,7 @@ module _ {D : Type 0} (views : Views D) (command : ServeCommand) (segment : ℕ)
   log_served : (offsets : List OffsetRow) (topics : List TopicRow) (left : Option Parts) (disk_then old new : DiskState) (opened : Opened)
       → OpensLogWith (setup_by command segment) (saved_as offsets topics) opened
       → (views.disk.tells → OpensKeptWith (setup_by command segment) (saved_as offsets topics) disk.reads opened)
-      → (views.disk.tells → IfSome left (λ core. StoresOurs segment disk core disk_then)) → EndsOver views opened.core opened.flusher.file left status told old new
+      → (views.disk.tells → IfSome left (λ core. StoresOurs segment disk core disk_then)) → EndsOver views opened.core opened.flusher.file left status (keep_over told old new)
       → ServesLog views command segment offsets topics left status disk disk_then told old new
   log_served offsets topics None disk_then old new opened over kept stores ends = record { still = λ is. ends; served = tt }
   log_served offsets topics (Some core) disk_then old new opened over kept stores ends = record { still = λ is. absurd (cc is); served = (opened, over, kept, stores, ends) }
@@ -62,7 +62,7 @@ module _ {D : Type 0} (views : Views D) (command : ServeCommand) (segment : ℕ)
   pub log_served_with : (offsets given_offsets : List OffsetRow) (topics given_topics : List TopicRow) (left : Option Parts) (disk_then old new : DiskState) (opened : Opened)
       → given_offsets ≡ offsets → given_topics ≡ topics → OpensLogWith (setup_by command segment) (saved_as given_offsets given_topics) opened
       → (views.disk.tells → OpensKeptWith (setup_by command segment) (saved_as given_offsets given_topics) disk.reads opened)
-      → (views.disk.tells → IfSome left (λ core. StoresOurs segment disk core disk_then)) → EndsOver views opened.core opened.flusher.file left status told old new
+      → (views.disk.tells → IfSome left (λ core. StoresOurs segment disk core disk_then)) → EndsOver views opened.core opened.flusher.file left status (keep_over told old new)
       → ServesLog views command segment offsets topics left status disk disk_then told old new
   log_served_with offsets given_offsets topics given_topics left disk_then old new opened offsets_are topics_are over kept stores ends =
       subst (λ (o : List OffsetRow). ServesLog views command segment o topics left status disk disk_then told old new) offsets_are

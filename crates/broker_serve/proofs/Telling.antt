@@ -24,9 +24,10 @@ use Rattle.store_open.specs.ServeWords.{IsServeCommand}
 use Rattle.store_open.specs.declared.format.Sizes.{Sizes}
 use Rattle.store_open.specs.declared.serve_words.ServeCommand.{ServeCommand}
 use Rattle.store_open.specs.declared.status.Status.{Status}
+use Rattle.serve_threads.specs.Causes.{WorldFaults, counts_of}
 use Rattle.end_statuses.specs.Statuses.{TellsDevice, StatusKept, StatusTellsFault, StatusTellsConfig}
 use Rattle.broker_serve.specs.Statuses.{StatusTellsLoops, StatusTellsEnd, AllWell, StatusLeft}
-use Rattle.broker_serve.specs.Statuses.{StatusTellsReader, ShutOut, Unopened, Unserved, IsDamagedLog, IsDamagedIn, IsDamagedFor, Refused}
+use Rattle.broker_serve.specs.Statuses.{StatusTellsReader, ShutOut, Unopened, Unserved, IsDamagedLog, IsDamagedIn, IsDamagedFor, Refused, store_told}
 
 -- ---- links were served
 
@@ -107,7 +108,7 @@ shut_out damaged status disk opened disk_then same is = inr (subst (λ (n : ℕ)
 
 pub not_loaded : (tells : Type 0) (segment : ℕ) (files : Files) (keeps : Type 0) (texts : Files) (status : Status) (fault : ConfigFault) (disk disk_then keep keep_then : ℕ)
     → StatusTellsConfig status fault → (keeps → OnBadText {A = Unit {0}} (Err fault) (IsBadText texts)) → CountsConfigFault {A = Unit {0}} (Err fault) keep keep_then
-    → Unserved (IsDamagedIn tells segment files keeps texts) status disk disk_then keep keep_then
+    → Unserved (IsDamagedIn segment (store_told tells files keeps texts)) status disk disk_then keep keep_then
 not_loaded tells segment files keeps texts status (config.BadText name) disk disk_then keep keep_then (inl told) bad counts =
     inr (inl (told.0, inr (told.1, λ it. subst (λ (n : List ℕ). IsBadText texts n) (sym told.2) (bad it))))
 not_loaded tells segment files keeps texts status (config.BadText name) disk disk_then keep keep_then (inr seven) bad counts = inr (inr (out_of_memory status disk disk_then seven))
@@ -117,7 +118,7 @@ not_loaded tells segment files keeps texts status config.Memory disk disk_then k
 
 -- seen from before the kept files were loaded
 pub not_opened : (tells : Type 0) (segment : ℕ) (files : Files) (keeps : Type 0) (texts : Files) (status : Status) (disk disk_then keep keep_then : ℕ)
-    → Unopened (IsDamagedLog tells segment files) status disk disk_then → Unserved (IsDamagedIn tells segment files keeps texts) status disk disk_then keep keep_then
+    → Unopened (IsDamagedLog tells segment files) status disk disk_then → Unserved (IsDamagedIn segment (store_told tells files keeps texts)) status disk disk_then keep keep_then
 not_opened tells segment files keeps texts status disk disk_then keep keep_then (inl damaged) = inr (inl (damaged.0, inl damaged.1))
 not_opened tells segment files keeps texts status disk disk_then keep keep_then (inr shut) = inr (inr shut)
 
@@ -142,25 +143,25 @@ bad_before format old opened name puts (inr it) = inr (record {
 
 module _ (words : List (List ℕ)) (command : ServeCommand) (sizes : Sizes) (tells keeps : Type 0) (format : List ℕ) (disk disk_opened keep keep_opened : DiskState)
     (same : tells → Moves Same disk disk_opened) (sizes_are : keeps → AreSizesOf (keep.reads FORMAT) command.sizes sizes) (puts : keeps → PutsOnly format keep keep_opened) where
-  damaged_for : (place : ℕ) (name : List ℕ) → IsDamagedIn tells sizes.segment disk_opened.reads keeps keep_opened.reads place name → IsDamagedFor command tells disk.reads keeps keep.reads place name
+  damaged_for : (place : ℕ) (name : List ℕ) → IsDamagedIn sizes.segment (store_told tells disk_opened.reads keeps keep_opened.reads) place name → IsDamagedFor command (store_told tells disk.reads keeps keep.reads) place name
   damaged_for place name (inl log) = (sizes, sizes_are, inl (λ it. subst (λ (f : Files). IsDamagedAt (whole sizes.segment) f place name) (same it).reads (log it)))
   damaged_for place name (inr text) = (sizes, sizes_are, inr (text.0, λ it. bad_before format keep keep_opened name (puts it) (text.1 it)))
 
-  before_opening : (status : Status) (d d_then k k_then : ℕ) → Unserved (IsDamagedIn tells sizes.segment disk_opened.reads keeps keep_opened.reads) status d d_then k k_then
-      → Unserved (IsDamagedFor command tells disk.reads keeps keep.reads) status d d_then k k_then
+  before_opening : (status : Status) (d d_then k k_then : ℕ) → Unserved (IsDamagedIn sizes.segment (store_told tells disk_opened.reads keeps keep_opened.reads)) status d d_then k k_then
+      → Unserved (IsDamagedFor command (store_told tells disk.reads keeps keep.reads)) status d d_then k k_then
   before_opening status d d_then k k_then (inl kept) = inl kept
   before_opening status d d_then k k_then (inr (inl damaged)) = inr (inl (damaged.0, damaged_for status.place status.name damaged.1))
   before_opening status d d_then k k_then (inr (inr shut)) = inr (inr shut)
 
   -- seen from before the store was opened
-  pub refused : (status : Status) (d d_opened d_then k k_opened k_then : ℕ) → IsServeCommand words command → d_opened ≡ d → k_opened ≡ k
-      → Unserved (IsDamagedIn tells sizes.segment disk_opened.reads keeps keep_opened.reads) status d_opened d_then k_opened k_then
-      → Refused words tells disk.reads keeps keep.reads status d d_then k k_then
-  refused status d d_opened d_then k k_opened k_then asked same_disk same_keep is =
+  pub refused : (status : Status) (d d_opened d_then k k_opened k_then : ℕ) (world world_then : WorldFaults) → IsServeCommand words command → d_opened ≡ d → k_opened ≡ k
+      → Unserved (IsDamagedIn sizes.segment (store_told tells disk_opened.reads keeps keep_opened.reads)) status d_opened d_then k_opened k_then
+      → Refused words (store_told tells disk.reads keeps keep.reads) status (counts_of d k world) (counts_of d_then k_then world_then)
+  refused status d d_opened d_then k k_opened k_then world world_then asked same_disk same_keep is =
       inr (
         command,
         asked,
-        inr (subst (λ (n : ℕ). Unserved (IsDamagedFor command tells disk.reads keeps keep.reads) status n d_then k k_then) same_disk
-            (subst (λ (n : ℕ). Unserved (IsDamagedFor command tells disk.reads keeps keep.reads) status d_opened d_then n k_then) same_keep
+        inr (subst (λ (n : ℕ). Unserved (IsDamagedFor command (store_told tells disk.reads keeps keep.reads)) status n d_then k k_then) same_disk
+            (subst (λ (n : ℕ). Unserved (IsDamagedFor command (store_told tells disk.reads keeps keep.reads)) status d_opened d_then n k_then) same_keep
             (before_opening status d_opened d_then k_opened k_then is))),
       )

@@ -105,22 +105,31 @@ pub record Views (D : Type 0) : Type 1 where
 abbrev pub views_of : {D : Type 0} → Type 0 → Giving → DiskView D → Views D
 views_of links gives disk = record { links = links; gives = gives; disk = disk }
 
+-- a keep over a run: that it tells its texts, and it before the run and behind it
+pub record KeepOver : Type 1 where
+  pub tells : Type 0
+  pub old : DiskState
+  pub new : DiskState
+
+abbrev pub keep_over : Type 0 → DiskState → DiskState → KeepOver
+keep_over tells old new = record { tells = tells; old = old; new = new }
+
 -- Links were served from the first core on, and this is left. Why the loops ended, how the last flush turn did and the last
 -- replacement of the kept files tell the status.
-pub record LeavesCore {D : Type 0} (views : Views D) (start : Parts) (file : LastFile) (core : Parts) (status : Status) (told : Type 0)
-    (old new : DiskState) : Type 0 where
+pub record LeavesCore {D : Type 0} (views : Views D) (start : Parts) (file : LastFile) (core : Parts) (status : Status)
+    (keep : KeepOver) : Type 0 where
   pub stopped : LoopEnd
   pub last : FlushEnd
   pub kept : Result (Unit {0}) DiskFault
   pub tells : StatusLeft status stopped last kept
   pub began : D
   pub ended : D
-  pub left : IsLeft views.links views.gives views.disk start (place_of file began) ended told kept old new core
+  pub left : IsLeft views.links views.gives views.disk start (place_of file began) ended keep.tells kept keep.old keep.new core
 
 -- the same where links were served; else the keep stays
-abbrev pub EndsOver : {D : Type 0} → Views D → Parts → LastFile → Option Parts → Status → Type 0 → DiskState → DiskState → Type 0
-EndsOver views start file None status told old new = told → Rests old new
-EndsOver views start file (Some core) status told old new = LeavesCore views start file core status told old new
+abbrev pub EndsOver : {D : Type 0} → Views D → Parts → LastFile → Option Parts → Status → KeepOver → Type 0
+EndsOver views start file None status keep = keep.tells → Rests keep.old keep.new
+EndsOver views start file (Some core) status keep = LeavesCore views start file core status keep
 
 -- A log was opened as these words and the store's format say, with what the kept files had, and the core stands for one history
 -- since, of which each entry is the flusher's, one of the loops' or the keeper's. Where the disk tells its files, it is the log that
@@ -158,7 +167,7 @@ pub record ServesLog {D : Type 0} (views : Views D) (command : ServeCommand) (se
   pub served : IfSome core (λ left. (opened : Opened) × OpensLogWith (setup_by command segment) (saved_as offsets topics) opened
       × (views.disk.tells → OpensKeptWith (setup_by command segment) (saved_as offsets topics) disk.reads opened)
       × (views.disk.tells → StoresOurs segment disk left disk_then)
-      × LeavesCore views opened.core opened.flusher.file left status told old new)
+      × LeavesCore views opened.core opened.flusher.file left status (keep_over told old new))
 
 -- the same from a keep whose format stands
 pub record ServesStore {D : Type 0} (views : Views D) (command : ServeCommand) (segment : ℕ) (core : Option Parts) (status : Status)

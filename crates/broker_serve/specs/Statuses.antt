@@ -16,6 +16,7 @@ use Rattle.store_open.specs.ServeWords.{IsServeCommand}
 use Rattle.store_open.specs.declared.format.Sizes.{Sizes}
 use Rattle.store_open.specs.declared.serve_words.ServeCommand.{ServeCommand}
 use Rattle.store_open.specs.declared.status.Status.{Status}
+use Rattle.serve_threads.specs.Causes.{ServeFaults}
 use Rattle.end_statuses.specs.Statuses.{TellsDevice}
 
 -- ---- links were served
@@ -80,19 +81,29 @@ Unserved damaged status disk disk_then keep keep_then =
 abbrev pub IsDamagedLog : Type 0 → ℕ → Files → ℕ → List ℕ → Type 0
 IsDamagedLog disk segment files place name = disk → IsDamagedAt (whole segment) files place name
 
--- so are they, or, where the keep tells its texts, the kept file of this name isn't of its form
-abbrev pub IsDamagedIn : Type 0 → ℕ → Files → Type 0 → Files → ℕ → List ℕ → Type 0
-IsDamagedIn disk segment files keep texts place name =
-    IsDamagedLog disk segment files place name ⊎ ((place ≡ 0) × (keep → IsBadText texts name))
+-- a store as it is told: whether the disk tells its files, and these; whether the keep tells its texts, and these
+pub record StoreTold : Type 1 where
+  pub disk : Type 0
+  pub files : Files
+  pub keep : Type 0
+  pub texts : Files
+
+abbrev pub store_told : Type 0 → Files → Type 0 → Files → StoreTold
+store_told disk files keep texts = record { disk = disk; files = files; keep = keep; texts = texts }
+
+-- the log of this store is so damaged, or, where the keep tells its texts, the kept file of this name isn't of its form
+abbrev pub IsDamagedIn : ℕ → StoreTold → ℕ → List ℕ → Type 0
+IsDamagedIn segment store place name =
+    IsDamagedLog store.disk segment store.files place name ⊎ ((place ≡ 0) × (store.keep → IsBadText store.texts name))
 
 -- the same of a store of the sizes that these words ask for, or that its format says
-abbrev pub IsDamagedFor : ServeCommand → Type 0 → Files → Type 0 → Files → ℕ → List ℕ → Type 0
-IsDamagedFor command disk files keep texts place name =
-    (sizes : Sizes) × (keep → AreSizesOf (texts FORMAT) command.sizes sizes) × IsDamagedIn disk sizes.segment files keep texts place name
+abbrev pub IsDamagedFor : ServeCommand → StoreTold → ℕ → List ℕ → Type 0
+IsDamagedFor command store place name =
+    (sizes : Sizes) × (store.keep → AreSizesOf (store.texts FORMAT) command.sizes sizes) × IsDamagedIn sizes.segment store place name
 
--- No links were served: the words don't fit, or the store is another's, or it is damaged, or a device failed, or there was no memory.
--- The numbers are the counts of the disk's and of the keep's failures, before and behind.
-abbrev pub Refused : List (List ℕ) → Type 0 → Files → Type 0 → Files → Status → ℕ → ℕ → ℕ → ℕ → Type 0
-Refused words disk files keep texts status faults faults_then keep_faults keep_faults_then =
+-- No links were served: the arguments don't fit, or the store is another's, or it is damaged, or a device failed, by its count, or
+-- there was no memory.
+abbrev pub Refused : List (List ℕ) → StoreTold → Status → ServeFaults → ServeFaults → Type 0
+Refused words store status old new =
     (status.code ≡ 1) ⊎ ((command : ServeCommand) × IsServeCommand words command
-    × ((status.code ≡ 6) ⊎ Unserved (IsDamagedFor command disk files keep texts) status faults faults_then keep_faults keep_faults_then))
+    × ((status.code ≡ 6) ⊎ Unserved (IsDamagedFor command store) status old.disk new.disk old.keep new.keep))

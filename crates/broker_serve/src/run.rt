@@ -25,9 +25,9 @@ ghost use Rattle.request_acts.specs.Acts.{view_of};
 ghost use Rattle.serve_story.specs.Served.{AreLoops};
 ghost use Rattle.serve_threads.specs.Causes.{HasCauses, ServeFaults as TheFaults, counts_of, world_faults};
 ghost use Rattle.broker_serve.specs.Causes.{BlamesDoor, Causes};
-ghost use Rattle.broker_serve.specs.Serves.{EndsOver, HasServed, PutsAllAlong, ServesLog, ServesStore, StoresOpened, views_of};
+ghost use Rattle.broker_serve.specs.Serves.{EndsOver, HasServed, PutsAllAlong, ServesLog, ServesStore, StoresOpened, keep_over, views_of};
 ghost use Rattle.end_statuses.specs.Statuses.{TellsDevice};
-ghost use Rattle.broker_serve.specs.Statuses.{IsDamagedIn, IsDamagedLog, Refused, ShutOut, StatusLeft, Unopened};
+ghost use Rattle.broker_serve.specs.Statuses.{IsDamagedIn, IsDamagedLog, Refused, ShutOut, StatusLeft, Unopened, store_told};
 ghost use Rattle.broker_serve.specs.Statuses.{Unserved as UnservedBy};
 
 use crate::statuses::{last_status, status_of_making, status_of_reader};
@@ -190,7 +190,7 @@ where
     ensures status { (result.status.code ≢ 1) × (result.status.code ≢ 6) × FitsTable result.status }
     ensures why { IfNone result.core (result.status.code ≡ 7) }
     ensures ends { EndsOver (views_of P.Link.tells D.Reader.gives (view_of D.tells D.state D.faults D.syncs)) core devices.flusher.file
-        result.core result.status E.tells (E.state devices.keep) (E.state result.store.keep) }
+        result.core result.status (keep_over E.tells (E.state devices.keep) (E.state result.store.keep)) }
     ensures stores { D.tells → IfSome result.core (λ left.
         StoresOpened core devices.flusher.file (D.state devices.disk) left (D.state result.store.disk)) }
     ensures outside { D.tells → StaysOutside (D.state devices.disk) (D.state result.store.disk) }
@@ -239,7 +239,7 @@ where
     ensures status { (result.status.code ≢ 1) × (result.status.code ≢ 6) × FitsTable result.status }
     ensures why { IfNone result.core (ShutOut result.status (D.faults store.disk) (D.faults result.store.disk)) }
     ensures ends { EndsOver (views_of P.Link.tells D.Reader.gives (view_of D.tells D.state D.faults D.syncs)) opened.core
-        opened.flusher.file result.core result.status E.tells (E.state store.keep) (E.state result.store.keep) }
+        opened.flusher.file result.core result.status (keep_over E.tells (E.state store.keep) (E.state result.store.keep)) }
     ensures stores { D.tells → IfSome result.core (λ left.
         StoresOpened opened.core opened.flusher.file (D.state store.disk) left (D.state result.store.disk)) }
     ensures outside { D.tells → StaysOutside (D.state store.disk) (D.state result.store.disk) }
@@ -314,7 +314,7 @@ where
     ensures status { (result.status.code ≢ 1) × (result.status.code ≢ 6) × FitsTable result.status }
     ensures why { IfNone result.core (ShutOut result.status (D.faults store.disk) (D.faults result.store.disk)) }
     ensures ends { EndsOver (views_of P.Link.tells D.Reader.gives (view_of D.tells D.state D.faults D.syncs)) opened.core
-        opened.flusher.file result.core result.status E.tells (E.state store.keep) (E.state result.store.keep) }
+        opened.flusher.file result.core result.status (keep_over E.tells (E.state store.keep) (E.state result.store.keep)) }
     ensures stores { D.tells → IfSome result.core (λ left.
         StoresOpened opened.core opened.flusher.file (D.state store.disk) left (D.state result.store.disk)) }
     ensures outside { D.tells → StaysOutside (D.state store.disk) (D.state result.store.disk) }
@@ -398,7 +398,7 @@ where
     requires size { IsSegmentSize segment }
     ensures status { (result.status.code ≢ 1) × (result.status.code ≢ 6) × FitsTable result.status }
     ensures why { IfNone result.core (UnservedBy
-        (IsDamagedIn D.tells segment (D.state store.disk).reads E.tells (E.state store.keep).reads) result.status
+        (IsDamagedIn segment (store_told D.tells (D.state store.disk).reads E.tells (E.state store.keep).reads)) result.status
         (D.faults store.disk) (D.faults result.store.disk) (E.faults store.keep) (E.faults result.store.keep)) }
     ensures served { ServesStore (views_of P.Link.tells D.Reader.gives (view_of D.tells D.state D.faults D.syncs)) command.now segment
         result.core result.status (D.state store.disk) (D.state result.store.disk)
@@ -461,9 +461,11 @@ where
     ensures unserved { E.tells → IfNone result.core ((text : List ℕ) × PutsOnly text (E.state store.keep) (E.state result.store.keep)) }
 
     // Then the status tells why: the words, another's store, damage, a device that failed, or want of memory.
-    ensures why { IfNone result.core (Refused (texts_of words.now) D.tells (D.state store.disk).reads
-        E.tells (E.state store.keep).reads result.status
-        (D.faults store.disk) (D.faults result.store.disk) (E.faults store.keep) (E.faults result.store.keep)) }
+    ensures why { IfNone result.core (Refused (texts_of words.now)
+        (store_told D.tells (D.state store.disk).reads E.tells (E.state store.keep).reads) result.status
+        (counts_of (D.faults store.disk) (E.faults store.keep) (world_faults P.faults P.Door.faults K.faults world))
+        (counts_of (D.faults result.store.disk) (E.faults result.store.keep)
+        (world_faults P.faults P.Door.faults K.faults result.world))) }
 
     // Status 6 comes where the store is another's, with the name of what shows it. The keep stays as it is.
     ensures foreign { D.tells → E.tells → result.status.code ≡ 6 → (command : ACommand) × IsServeCommand (texts_of words.now) command

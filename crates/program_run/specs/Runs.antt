@@ -18,7 +18,7 @@ use Rattle.broker_run.specs.Promise.{AllFaults, Call, EndsWell, IsQuiet, KeepSee
 use Rattle.serve_threads.specs.Causes.{ServeFaults}
 use Rattle.broker_serve.specs.Causes.{Causes}
 use Rattle.broker_serve.specs.Serves.{HasServed, PutsAllAlong, Views}
-use Rattle.broker_serve.specs.Statuses.{Refused}
+use Rattle.broker_serve.specs.Statuses.{Refused, store_told}
 
 -- the words ask for links: the first of them is `serve`
 abbrev pub AsksLinks : List (List ℕ) → Type 0
@@ -67,8 +67,8 @@ pub record Serves {D : Type 0} (words : List (List ℕ)) (status : Status) (core
       seen.tells seen.keep.reads (λ start history. PutsAllAlong (own_format (seen.keep.reads FORMAT) command.sizes) start history
       seen.keep seen.keep_then) seen.keep_then left)
   pub unserved : seen.tells → IfNone core ((text : List ℕ) × PutsOnly text seen.keep seen.keep_then)
-  pub why : IfNone core (Refused words seen.views.disk.tells (seen.views.disk.state seen.old).reads seen.tells seen.keep.reads status
-      old.disk new.disk old.keep new.keep)
+  pub why : IfNone core (Refused words
+      (store_told seen.views.disk.tells (seen.views.disk.state seen.old).reads seen.tells seen.keep.reads) status old new)
   pub foreign : seen.views.disk.tells → seen.tells → status.code ≡ 6 → (command : ServeCommand) × IsServeCommand words command
       × IsForeign (seen.views.disk.state seen.old).reads (seen.keep.reads FORMAT) command.sizes status.name
   pub theirs : seen.tells → status.code ≡ 6 → Moves Same seen.keep seen.keep_then

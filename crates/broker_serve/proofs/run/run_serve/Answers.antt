@@ -5,10 +5,10 @@ use Rattle.log_model.proofs.OutsideLemmas.{outside_start, outside_same, outside_
 use Rattle.store_open.specs.Openings.{FORMAT, PutsOnly, own_format}
 use Rattle.store_open.specs.Words.{texts_of}
 use Rattle.store_open.proofs.SizeLemmas.{serve_asks_sizes}
-use Rattle.broker_serve.specs.Statuses.{IsDamagedFor, Refused}
+use Rattle.broker_serve.specs.Statuses.{IsDamagedFor, Refused, store_told}
 use Rattle.broker_serve.proofs.Serving.{puts_no_format, run_served, run_unserved, store_others}
 use Rattle.broker_serve.proofs.Telling.{why_unserved, why_then, not_formed, refused}
-use Rattle.serve_threads.specs.Causes.{world_faults}
+use Rattle.serve_threads.specs.Causes.{counts_of, world_faults}
 use Rattle.broker_serve.proofs.Causing.{causes_from, causes_unserved, opening_causes, words_cause}
 use Rattle.broker_serve.proofs.run.run_serve.Goals as goal
 
@@ -65,24 +65,28 @@ returns-in-Ok-open_format-clause-kept g c = λ told name not_format not_offsets 
 pub returns-in-Err-clause-why : goal.returns-in-Err-clause-why
 returns-in-Err-clause-why g c =
     let before = c.args.store in
-    why_unserved (λ s store. Refused (texts_of c.args.words.now) g.D.Disk.tells (g.D.Disk.state before.disk).reads g.E.Keep.tells (g.E.Keep.state before.keep).reads s
-    (g.D.Disk.faults before.disk) (g.D.Disk.faults store.disk) (g.E.Keep.faults before.keep) (g.E.Keep.faults store.keep)) _ _ _ _ _
+    let told = store_told g.D.Disk.tells (g.D.Disk.state before.disk).reads g.E.Keep.tells (g.E.Keep.state before.keep).reads in
+    let counts = world_faults g.P.Ready.faults g.P.Door.Door.faults g.K.Clock.faults in
+    why_unserved (λ s store. Refused (texts_of c.args.words.now) told s (counts_of (g.D.Disk.faults before.disk) (g.E.Keep.faults before.keep) (counts c.args.world))
+    (counts_of (g.D.Disk.faults store.disk) (g.E.Keep.faults store.keep) (counts c.unserved.result.world))) _ _ _ _ _
     c.unserved.ensures.core c.unserved.ensures.status c.unserved.ensures.store (inl c.at.ensures.code)
 
 pub returns-in-Err-open_format-clause-why : goal.returns-in-Err-open_format-clause-why
 returns-in-Err-open_format-clause-why g c =
     let before = c.args.store in
     let ended = c.unserved-in-Err-open_format in
-    let damaged = IsDamagedFor c.in-Ok.command g.D.Disk.tells (g.D.Disk.state before.disk).reads g.E.Keep.tells (g.E.Keep.state before.keep).reads in
-    why_unserved (λ s store. Refused (texts_of c.args.words.now) g.D.Disk.tells (g.D.Disk.state before.disk).reads g.E.Keep.tells (g.E.Keep.state before.keep).reads s
-    (g.D.Disk.faults before.disk) (g.D.Disk.faults store.disk) (g.E.Keep.faults before.keep) (g.E.Keep.faults store.keep)) _ _ _ _ _
+    let told = store_told g.D.Disk.tells (g.D.Disk.state before.disk).reads g.E.Keep.tells (g.E.Keep.state before.keep).reads in
+    let counts = world_faults g.P.Ready.faults g.P.Door.Door.faults g.K.Clock.faults in
+    why_unserved (λ s store. Refused (texts_of c.args.words.now) told s (counts_of (g.D.Disk.faults before.disk) (g.E.Keep.faults before.keep) (counts c.args.world))
+    (counts_of (g.D.Disk.faults store.disk) (g.E.Keep.faults store.keep) (counts ended.result.world))) _ _ _ _ _
     ended.ensures.core ended.ensures.status ended.ensures.store
-    (inr (c.in-Ok.command, c.in-Ok.ensures.fits, not_formed damaged c.in-Err-open_format.status _ _ _ _ c.in-Err-open_format.ensures.cause))
+    (inr (c.in-Ok.command, c.in-Ok.ensures.fits, not_formed (IsDamagedFor c.in-Ok.command told) c.in-Err-open_format.status _ _ _ _ c.in-Err-open_format.ensures.cause))
 
 pub returns-in-Ok-open_format-clause-why : goal.returns-in-Ok-open_format-clause-why
 returns-in-Ok-open_format-clause-why g c =
+    let counts = world_faults g.P.Ready.faults g.P.Door.Door.faults g.K.Clock.faults in
     why_then _ (refused _ c.in-Ok.command c.in-Ok-open_format.sizes _ _ _ _ _ _ _ c.in-Ok-open_format.ensures.rests c.in-Ok-open_format.ensures.opened.sizes_are
-    c.in-Ok-open_format.ensures.puts _ _ _ _ _ _ _ c.in-Ok.ensures.fits c.in-Ok-open_format.ensures.disk_still c.in-Ok-open_format.ensures.keep_still)
+    c.in-Ok-open_format.ensures.puts _ _ _ _ _ _ _ (counts c.args.world) (counts c.serve_store.result.world) c.in-Ok.ensures.fits c.in-Ok-open_format.ensures.disk_still c.in-Ok-open_format.ensures.keep_still)
     c.serve_store.ensures.why
 
 -- ---- which device is blamed

@@ -2,7 +2,7 @@ use Rattle.std.proofs.Common.{refl, sym, ap, subst}
 use Rattle.mq_outside.specs.Disk.{Rests}
 use Rattle.log_model.specs.Stored.{StaysOutside}
 use Rattle.log_model.proofs.OutsideLemmas.{outside_start}
-use Rattle.broker_serve.specs.Statuses.{IsDamagedIn, Unserved}
+use Rattle.broker_serve.specs.Statuses.{IsDamagedIn, Unserved, store_told}
 use Rattle.broker_serve.proofs.Serving.{store_unserved, store_served}
 use Rattle.broker_serve.proofs.Telling.{why_unserved, why_then, not_loaded, not_opened}
 use Rattle.serve_threads.specs.Causes.{world_faults}
@@ -25,7 +25,7 @@ returns-in-Ok-clause-served g c =
 pub returns-in-Err-clause-why : goal.returns-in-Err-clause-why
 returns-in-Err-clause-why g c =
     let before = c.args.store in
-    let damaged = IsDamagedIn g.D.Disk.tells c.args.segment (g.D.Disk.state before.disk).reads g.E.Keep.tells (g.E.Keep.state before.keep).reads in
+    let damaged = IsDamagedIn c.args.segment (store_told g.D.Disk.tells (g.D.Disk.state before.disk).reads g.E.Keep.tells (g.E.Keep.state before.keep).reads) in
     why_unserved (λ s store. Unserved damaged s (g.D.Disk.faults before.disk) (g.D.Disk.faults store.disk) (g.E.Keep.faults before.keep) (g.E.Keep.faults store.keep)) _ _ _ _ _
     c.unserved.ensures.core c.unserved.ensures.status c.unserved.ensures.store
     (not_loaded _ _ _ _ _ _ _ _ _ _ _ c.status_of_config.ensures.tells c.in-Err.ensures.bad c.in-Err.ensures.cause)
