@@ -6,6 +6,7 @@ use Rattle.mq_outside.specs.Disk.{DiskState, Moves, Rests}
 use Rattle.mq_outside.specs.declared.faults.DiskFault.{DiskFault}
 use Rattle.mq_outside.proofs.Moments.{at_start, at_end, weaker, chained, throughout_rests, rests_then}
 use Rattle.broker_model.specs.Tables.{OffsetRow, TopicRow}
+use Rattle.broker_events.specs.declared.event.Setup.{Setup}
 use Rattle.broker_core.specs.declared.parts.Parts.{Parts}
 use Rattle.config_store.specs.Configs.{OFFSETS, TOPICS, HasConfig, HasOffsets, HasTopics}
 use Rattle.config_store.specs.Texts.{offsets_text_of, topics_text_of}
@@ -24,7 +25,7 @@ use Rattle.store_open.specs.declared.format.AskedSizes.{AskedSizes}
 use Rattle.store_open.specs.declared.format.Sizes.{Sizes}
 use Rattle.store_open.specs.declared.serve_words.ServeCommand.{ServeCommand}
 use Rattle.store_open.specs.declared.status.Status.{Status}
-use Rattle.broker_serve.specs.Serves.{EndsOver, HasServed, PutsAllAlong, PutsAllBy, ReplacesAllBy, ServesLog, ServesStore, StoresOurs, Views, keep_over, setup_by}
+use Rattle.broker_serve.specs.Serves.{EndsOver, HasServed, PutsAllAlong, PutsAllBy, ReplacesAllBy, ServesLog, ServesStore, StoresOurs, Views, keep_over, setup_by, store_over}
 use Rattle.worker_turns.specs.declared.flush.FlushEnd.{FlushEnd}
 use Rattle.event_loops.specs.declared.event_loop.LoopEnd.{LoopEnd}
 use Rattle.broker_serve.specs.Statuses.{StatusLeft}
@@ -44,38 +45,38 @@ module _ {D : Type 0} (views : Views D) where
   ends_served start file left status told old new core stopped last kept began ended some tells is =
       subst (λ o. EndsOver views start file o status (keep_over told old new)) (sym some) (record { stopped = stopped; last = last; kept = kept; tells = tells; began = began; ended = ended; left = is })
 
-module _ {D : Type 0} (views : Views D) (command : ServeCommand) (segment : ℕ) (status : Status) (disk : DiskState) (told : Type 0) where
+module _ {D : Type 0} (views : Views D) (setup : Setup) (status : Status) (disk : DiskState) (told : Type 0) where
   pub log_unserved : (offsets : List OffsetRow) (topics : List TopicRow) (left : Option Parts) (disk_then old new : DiskState) → left ≡ None → (told → Rests old new)
-      → ServesLog views command segment offsets topics left status disk disk_then told old new
+      → ServesLog views setup (saved_as offsets topics) left status (store_over disk disk_then (keep_over told old new))
   log_unserved offsets topics left disk_then old new none rests =
-      subst (λ o. ServesLog views command segment offsets topics o status disk disk_then told old new) (sym none) (record { still = λ is. rests; served = tt })
+      subst (λ o. ServesLog views setup (saved_as offsets topics) o status (store_over disk disk_then (keep_over told old new))) (sym none) (record { still = λ is. rests; served = tt })
 
   log_served : (offsets : List OffsetRow) (topics : List TopicRow) (left : Option Parts) (disk_then old new : DiskState) (opened : Opened)
-      → OpensLogWith (setup_by command segment) (saved_as offsets topics) opened
-      → (views.disk.tells → OpensKeptWith (setup_by command segment) (saved_as offsets topics) disk.reads opened)
-      → (views.disk.tells → IfSome left (λ core. StoresOurs segment disk core disk_then)) → EndsOver views opened.core opened.flusher.file left status (keep_over told old new)
-      → ServesLog views command segment offsets topics left status disk disk_then told old new
+      → OpensLogWith setup (saved_as offsets topics) opened
+      → (views.disk.tells → OpensKeptWith setup (saved_as offsets topics) disk.reads opened)
+      → (views.disk.tells → IfSome left (λ core. StoresOurs setup.segment disk core disk_then)) → EndsOver views opened.core opened.flusher.file left status (keep_over told old new)
+      → ServesLog views setup (saved_as offsets topics) left status (store_over disk disk_then (keep_over told old new))
   log_served offsets topics None disk_then old new opened over kept stores ends = record { still = λ is. ends; served = tt }
   log_served offsets topics (Some core) disk_then old new opened over kept stores ends = record { still = λ is. absurd (cc is); served = (opened, over, kept, stores, ends) }
 
   -- the same with the rows as they were given
   pub log_served_with : (offsets given_offsets : List OffsetRow) (topics given_topics : List TopicRow) (left : Option Parts) (disk_then old new : DiskState) (opened : Opened)
-      → given_offsets ≡ offsets → given_topics ≡ topics → OpensLogWith (setup_by command segment) (saved_as given_offsets given_topics) opened
-      → (views.disk.tells → OpensKeptWith (setup_by command segment) (saved_as given_offsets given_topics) disk.reads opened)
-      → (views.disk.tells → IfSome left (λ core. StoresOurs segment disk core disk_then)) → EndsOver views opened.core opened.flusher.file left status (keep_over told old new)
-      → ServesLog views command segment offsets topics left status disk disk_then told old new
+      → given_offsets ≡ offsets → given_topics ≡ topics → OpensLogWith setup (saved_as given_offsets given_topics) opened
+      → (views.disk.tells → OpensKeptWith setup (saved_as given_offsets given_topics) disk.reads opened)
+      → (views.disk.tells → IfSome left (λ core. StoresOurs setup.segment disk core disk_then)) → EndsOver views opened.core opened.flusher.file left status (keep_over told old new)
+      → ServesLog views setup (saved_as offsets topics) left status (store_over disk disk_then (keep_over told old new))
   log_served_with offsets given_offsets topics given_topics left disk_then old new opened offsets_are topics_are over kept stores ends =
-      subst (λ (o : List OffsetRow). ServesLog views command segment o topics left status disk disk_then told old new) offsets_are
-      (subst (λ (t : List TopicRow). ServesLog views command segment given_offsets t left status disk disk_then told old new) topics_are
+      subst (λ (o : List OffsetRow). ServesLog views setup (saved_as o topics) left status (store_over disk disk_then (keep_over told old new))) offsets_are
+      (subst (λ (t : List TopicRow). ServesLog views setup (saved_as given_offsets t) left status (store_over disk disk_then (keep_over told old new))) topics_are
       (log_served given_offsets given_topics left disk_then old new opened over kept stores ends))
 
-  pub store_unserved : (left : Option Parts) (disk_then old new : DiskState) → left ≡ None → (told → Rests old new) → ServesStore views command segment left status disk disk_then told old new
+  pub store_unserved : (left : Option Parts) (disk_then old new : DiskState) → left ≡ None → (told → Rests old new) → ServesStore views setup left status (store_over disk disk_then (keep_over told old new))
   store_unserved left disk_then old new none rests =
-      subst (λ o. ServesStore views command segment o status disk disk_then told old new) (sym none) (record { still = λ is. rests; served = tt })
+      subst (λ o. ServesStore views setup o status (store_over disk disk_then (keep_over told old new))) (sym none) (record { still = λ is. rests; served = tt })
 
   -- with what was loaded, which changed nothing
   pub store_served : (left : Option Parts) (offsets : List OffsetRow) (topics : List TopicRow) (disk_then old loaded new : DiskState) → (told → Rests old loaded) → (told → HasConfig old.reads offsets topics)
-      → ServesLog views command segment offsets topics left status disk disk_then told loaded new → ServesStore views command segment left status disk disk_then told old new
+      → ServesLog views setup (saved_as offsets topics) left status (store_over disk disk_then (keep_over told loaded new)) → ServesStore views setup left status (store_over disk disk_then (keep_over told old new))
   store_served None offsets topics disk_then old loaded new rests config it = record { still = λ is t. rests_then (rests t) (it.still refl t); served = tt }
   store_served (Some core) offsets topics disk_then old loaded new rests config it =
       let opened = it.served.0 in
@@ -112,7 +113,7 @@ module _ {D : Type 0} (views : Views D) (command : ServeCommand) (segment : ℕ)
       }
 
   -- no other text of the keep changed
-  pub store_others : (left : Option Parts) (disk_then old new : DiskState) → ServesStore views command segment left status disk disk_then told old new → told
+  pub store_others : (left : Option Parts) (disk_then old new : DiskState) → ServesStore views setup left status (store_over disk disk_then (keep_over told old new)) → told
       → (name : List ℕ) → name ≢ OFFSETS → name ≢ TOPICS → new.reads name ≡ old.reads name
   store_others None disk_then old new it tells_it name not_offsets not_topics = ap (λ (f : Files). f name) (it.still refl tells_it).same
   store_others (Some core) disk_then old new it tells_it name not_offsets not_topics = (it.served.put tells_it).reads.others name not_offsets not_topics
@@ -186,9 +187,9 @@ config_before format old opened offsets topics puts has = record {
 -- a run over a store that was opened so
 pub run_served : {D : Type 0} (views : Views D) (left : Option Parts) (words : List (List ℕ)) (command : ServeCommand) (sizes : Sizes) (status : Status) (disk before disk_then : DiskState) (told : Type 0)
     (old opened new : DiskState) → (views.disk.tells → Moves Same before disk) → IsServeCommand words command → IsOpened command.sizes sizes views.disk.tells before.reads told old opened
-    → (told → PutsOnly (own_format (old.reads FORMAT) command.sizes) old opened) → ServesStore views command sizes.segment left status disk disk_then told opened new
+    → (told → PutsOnly (own_format (old.reads FORMAT) command.sizes) old opened) → ServesStore views (setup_by command sizes.segment) left status (store_over disk disk_then (keep_over told opened new))
     → IfSome left (λ core. (c : ServeCommand) × (s : Sizes) × (IsServeCommand words c × IsOpened c.sizes s views.disk.tells before.reads told old new)
-    × HasServed views c s.segment status before disk_then told old.reads (λ start history. PutsAllAlong (own_format (old.reads FORMAT) c.sizes) start history old new) new core)
+    × HasServed views (setup_by c s.segment) status (store_over before disk_then (keep_over told old new)) (λ start history. PutsAllAlong (own_format (old.reads FORMAT) c.sizes) start history old new) core)
 run_served views None words command sizes status disk before disk_then told old opened new same asked is puts it = tt
 run_served views (Some core) words command sizes status disk before disk_then told old opened new same asked is puts it =
     let run = it.served in
@@ -222,7 +223,7 @@ run_served views (Some core) words command sizes status disk before disk_then to
     )
 
 -- where no links were served
-pub run_unserved : {D : Type 0} (views : Views D) (left : Option Parts) (command : ServeCommand) (segment : ℕ) (status : Status) (disk disk_then : DiskState) (told : Type 0) (format : List ℕ) (old opened new : DiskState)
-    → (told → PutsOnly format old opened) → ServesStore views command segment left status disk disk_then told opened new → told → IfNone left ((text : List ℕ) × PutsOnly text old new)
-run_unserved views None command segment status disk disk_then told format old opened new puts it t = (format, puts_still format old opened new (puts t) (it.still refl t))
-run_unserved views (Some core) command segment status disk disk_then told format old opened new puts it t = tt
+pub run_unserved : {D : Type 0} (views : Views D) (left : Option Parts) (setup : Setup) (status : Status) (disk disk_then : DiskState) (told : Type 0) (format : List ℕ) (old opened new : DiskState)
+    → (told → PutsOnly format old opened) → ServesStore views setup left status (store_over disk disk_then (keep_over told opened new)) → told → IfNone left ((text : List ℕ) × PutsOnly text old new)
+run_unserved views None setup status disk disk_then told format old opened new puts it t = (format, puts_still format old opened new (puts t) (it.still refl t))
+run_unserved views (Some core) setup status disk disk_then told format old opened new puts it t = tt

@@ -1,5 +1,6 @@
 -- What a run of `serve` leaves.
-use Rattle.std.specs.Prelude.{◌≡◌, ◌≢◌, ◌⊎◌, ℕ, ◌≤◌, ◌++◌, List, length, take, Option, Some, None, IfSome, OnOk, Result}
+use Rattle.std.specs.Prelude.{◌≡◌, ◌≢◌, ◌⊎◌, ℕ, ◌≤◌, ◌++◌, List, length, take}
+use Rattle.std.specs.Prelude.{Option, Some, None, IfSome, OnOk, Result}
 use Rattle.mq_outside.specs.Files.{Files, OldOrNew}
 use Rattle.mq_outside.specs.Readings.{Giving}
 use Rattle.mq_outside.specs.Disk.{DiskState, IsCrashImage, Rests, Throughout}
@@ -114,6 +115,15 @@ pub record KeepOver : Type 1 where
 abbrev pub keep_over : Type 0 → DiskState → DiskState → KeepOver
 keep_over tells old new = record { tells = tells; old = old; new = new }
 
+-- a store over a run: the disk before the run and behind it, and the keep
+pub record StoreOver : Type 1 where
+  pub disk : DiskState
+  pub disk_then : DiskState
+  pub keep : KeepOver
+
+abbrev pub store_over : DiskState → DiskState → KeepOver → StoreOver
+store_over disk disk_then keep = record { disk = disk; disk_then = disk_then; keep = keep }
+
 -- Links were served from the first core on, and this is left. Why the loops ended, how the last flush turn did and the last
 -- replacement of the kept files tell the status.
 pub record LeavesCore {D : Type 0} (views : Views D) (start : Parts) (file : LastFile) (core : Parts) (status : Status)
@@ -131,47 +141,44 @@ abbrev pub EndsOver : {D : Type 0} → Views D → Parts → LastFile → Option
 EndsOver views start file None status keep = keep.tells → Rests keep.old keep.new
 EndsOver views start file (Some core) status keep = LeavesCore views start file core status keep
 
--- A log was opened as these words and the store's format say, with what the kept files had, and the core stands for one history
--- since, of which each entry is the flusher's, one of the loops' or the keeper's. Where the disk tells its files, it is the log that
--- recovery keeps of them; and a log that it stored and was read of honestly it stores still, with what was flushed since. What was put
--- into the kept files is told along this history. Why the loops ended, how the last flush turn did and the last replacement of the kept
--- files tell the status. Where that replacement ended Ok, as it did with status 0, both have the texts of the core, and keep them
--- through a crash.
-pub record HasServed {D : Type 0} (views : Views D) (command : ServeCommand) (segment : ℕ) (status : Status) (disk disk_then : DiskState)
-    (told : Type 0) (texts : Files) (puts : Parts → List (Event × Option Said) → Type 0) (left : DiskState) (core : Parts) : Type 0 where
+-- A log was opened by this setup with what the kept files had, and the core stands for one history since, of which each entry is the
+-- flusher's, one of the loops' or the keeper's. Where the disk tells its files, it is the log that recovery keeps of them; and a log
+-- that it stored and was read of honestly it stores still, with what was flushed since. What was put into the kept files is told along
+-- this history. Why the loops ended, how the last flush turn did and the last replacement of the kept files tell the status. Where that
+-- replacement ended Ok, as it did with status 0, both have the texts of the core, and keep them through a crash.
+pub record HasServed {D : Type 0} (views : Views D) (setup : Setup) (status : Status) (store : StoreOver)
+    (puts : Parts → List (Event × Option Said) → Type 0) (core : Parts) : Type 0 where
   pub offsets : List OffsetRow
   pub topics : List TopicRow
-  pub config : told → HasConfig texts offsets topics
+  pub config : store.keep.tells → HasConfig store.keep.old.reads offsets topics
   pub opened : Opened
-  pub over : OpensLogWith (setup_by command segment) (saved_as offsets topics) opened
-  pub kept : views.disk.tells → OpensKeptWith (setup_by command segment) (saved_as offsets topics) disk.reads opened
+  pub over : OpensLogWith setup (saved_as offsets topics) opened
+  pub kept : views.disk.tells → OpensKeptWith setup (saved_as offsets topics) store.disk.reads opened
   pub history : List (Event × Option Said)
   pub stands : Stands opened.core history core
   pub began : D
   pub ended : D
   pub made : IsMadeBy views.links views.gives views.disk opened.core (place_of opened.flusher.file began) history core ended
-  pub stores : views.disk.tells → StoresOurs segment disk core disk_then
-  pub put : told → puts opened.core history
+  pub stores : views.disk.tells → StoresOurs setup.segment store.disk core store.disk_then
+  pub put : store.keep.tells → puts opened.core history
   pub stopped : LoopEnd
   pub last : FlushEnd
   pub replaced : Result (Unit {0}) DiskFault
   pub tells : StatusLeft status stopped last replaced
-  pub done : told → OnOk replaced (KeepsBy (IsOffsetsOf core) (IsTopicsOf core) left)
-  pub ends : told → status.code ≡ 0 → KeepsBy (IsOffsetsOf core) (IsTopicsOf core) left
+  pub done : store.keep.tells → OnOk replaced (KeepsBy (IsOffsetsOf core) (IsTopicsOf core) store.keep.new)
+  pub ends : store.keep.tells → status.code ≡ 0 → KeepsBy (IsOffsetsOf core) (IsTopicsOf core) store.keep.new
 
--- the same with these rows, which were loaded
-pub record ServesLog {D : Type 0} (views : Views D) (command : ServeCommand) (segment : ℕ) (offsets : List OffsetRow)
-    (topics : List TopicRow) (core : Option Parts) (status : Status) (disk disk_then : DiskState) (told : Type 0) (old new : DiskState)
-    : Type 0 where
-  pub still : core ≡ None → told → Rests old new
-  pub served : IfSome core (λ left. (opened : Opened) × OpensLogWith (setup_by command segment) (saved_as offsets topics) opened
-      × (views.disk.tells → OpensKeptWith (setup_by command segment) (saved_as offsets topics) disk.reads opened)
-      × (views.disk.tells → StoresOurs segment disk left disk_then)
-      × LeavesCore views opened.core opened.flusher.file left status (keep_over told old new))
+-- the same with what was kept, once that was loaded
+pub record ServesLog {D : Type 0} (views : Views D) (setup : Setup) (saved : Saved) (core : Option Parts) (status : Status)
+    (store : StoreOver) : Type 0 where
+  pub still : core ≡ None → store.keep.tells → Rests store.keep.old store.keep.new
+  pub served : IfSome core (λ left. (opened : Opened) × OpensLogWith setup saved opened
+      × (views.disk.tells → OpensKeptWith setup saved store.disk.reads opened)
+      × (views.disk.tells → StoresOurs setup.segment store.disk left store.disk_then)
+      × LeavesCore views opened.core opened.flusher.file left status store.keep)
 
 -- the same from a keep whose format stands
-pub record ServesStore {D : Type 0} (views : Views D) (command : ServeCommand) (segment : ℕ) (core : Option Parts) (status : Status)
-    (disk disk_then : DiskState) (told : Type 0) (old new : DiskState) : Type 0 where
-  pub still : core ≡ None → told → Rests old new
-  pub served : IfSome core (HasServed views command segment status disk disk_then told old.reads
-      (λ start history. PutsAlong start history old new) new)
+pub record ServesStore {D : Type 0} (views : Views D) (setup : Setup) (core : Option Parts) (status : Status) (store : StoreOver)
+    : Type 0 where
+  pub still : core ≡ None → store.keep.tells → Rests store.keep.old store.keep.new
+  pub served : IfSome core (HasServed views setup status store (λ start history. PutsAlong start history store.keep.old store.keep.new))

@@ -21,11 +21,13 @@ ghost use Rattle.store_open.specs.declared.serve_words.ServeCommand.{ServeComman
 ghost use Rattle.config_store.specs.Configs.{OFFSETS, TOPICS};
 ghost use Rattle.config_store.specs.Texts.{IsKeptTopic};
 ghost use Rattle.group_tables.specs.Offsets.{IsOffset};
+ghost use Rattle.log_opening.specs.Opens.{saved_as};
 ghost use Rattle.request_acts.specs.Acts.{view_of};
 ghost use Rattle.serve_story.specs.Served.{AreLoops};
 ghost use Rattle.serve_threads.specs.Causes.{HasCauses, ServeFaults as TheFaults, counts_of, world_faults};
 ghost use Rattle.broker_serve.specs.Causes.{BlamesDoor, Causes};
-ghost use Rattle.broker_serve.specs.Serves.{EndsOver, HasServed, PutsAllAlong, ServesLog, ServesStore, StoresOpened, keep_over, views_of};
+ghost use Rattle.broker_serve.specs.Serves.{EndsOver, HasServed, PutsAllAlong, ServesLog, ServesStore, StoresOpened};
+ghost use Rattle.broker_serve.specs.Serves.{keep_over, setup_by, store_over, views_of};
 ghost use Rattle.end_statuses.specs.Statuses.{TellsDevice};
 ghost use Rattle.broker_serve.specs.Statuses.{IsDamagedIn, IsDamagedLog, Refused, ShutOut, StatusLeft, Unopened, store_told};
 ghost use Rattle.broker_serve.specs.Statuses.{Unserved as UnservedBy};
@@ -356,9 +358,9 @@ where
     ensures status { (result.status.code ≢ 1) × (result.status.code ≢ 6) × FitsTable result.status }
     ensures why { IfNone result.core (Unopened (IsDamagedLog D.tells segment (D.state store.disk).reads) result.status
         (D.faults store.disk) (D.faults result.store.disk)) }
-    ensures served { ServesLog (views_of P.Link.tells D.Reader.gives (view_of D.tells D.state D.faults D.syncs)) command.now segment
-        config.offsets.items config.topics.items result.core result.status (D.state store.disk) (D.state result.store.disk)
-        E.tells (E.state store.keep) (E.state result.store.keep) }
+    ensures served { ServesLog (views_of P.Link.tells D.Reader.gives (view_of D.tells D.state D.faults D.syncs))
+        (setup_by command.now segment) (saved_as config.offsets.items config.topics.items) result.core result.status
+        (store_over (D.state store.disk) (D.state result.store.disk) (keep_over E.tells (E.state store.keep) (E.state result.store.keep))) }
     ensures outside { D.tells → StaysOutside (D.state store.disk) (D.state result.store.disk) }
     ensures cause { Causes result.status
         (counts_of (D.faults store.disk) (E.faults store.keep) (world_faults P.faults P.Door.faults K.faults world))
@@ -400,9 +402,9 @@ where
     ensures why { IfNone result.core (UnservedBy
         (IsDamagedIn segment (store_told D.tells (D.state store.disk).reads E.tells (E.state store.keep).reads)) result.status
         (D.faults store.disk) (D.faults result.store.disk) (E.faults store.keep) (E.faults result.store.keep)) }
-    ensures served { ServesStore (views_of P.Link.tells D.Reader.gives (view_of D.tells D.state D.faults D.syncs)) command.now segment
-        result.core result.status (D.state store.disk) (D.state result.store.disk)
-        E.tells (E.state store.keep) (E.state result.store.keep) }
+    ensures served { ServesStore (views_of P.Link.tells D.Reader.gives (view_of D.tells D.state D.faults D.syncs))
+        (setup_by command.now segment) result.core result.status (store_over (D.state store.disk) (D.state result.store.disk)
+        (keep_over E.tells (E.state store.keep) (E.state result.store.keep))) }
     ensures outside { D.tells → StaysOutside (D.state store.disk) (D.state result.store.disk) }
     ensures cause { Causes result.status
         (counts_of (D.faults store.disk) (E.faults store.keep) (world_faults P.faults P.Door.faults K.faults world))
@@ -452,13 +454,15 @@ where
     // that this core represents, and the kept files have texts of states of this history.
     ensures served { IfSome result.core (λ core. (command : ACommand) × (sizes : TheSizes) × (IsServeCommand (texts_of words.now) command
         × IsOpened command.sizes sizes D.tells (D.state store.disk).reads E.tells (E.state store.keep) (E.state result.store.keep))
-        × HasServed (views_of P.Link.tells D.Reader.gives (view_of D.tells D.state D.faults D.syncs)) command sizes.segment
-        result.status (D.state store.disk) (D.state result.store.disk) E.tells (E.state store.keep).reads
+        × HasServed (views_of P.Link.tells D.Reader.gives (view_of D.tells D.state D.faults D.syncs))
+        (setup_by command sizes.segment) result.status (store_over (D.state store.disk) (D.state result.store.disk)
+        (keep_over E.tells (E.state store.keep) (E.state result.store.keep)))
         (λ start history. PutsAllAlong (own_format ((E.state store.keep).reads FORMAT) command.sizes) start history
-        (E.state store.keep) (E.state result.store.keep)) (E.state result.store.keep) core) }
+        (E.state store.keep) (E.state result.store.keep)) core) }
 
     // Else of the keep only the format of a new store was written.
-    ensures unserved { E.tells → IfNone result.core ((text : List ℕ) × PutsOnly text (E.state store.keep) (E.state result.store.keep)) }
+    ensures unserved { E.tells → IfNone result.core ((text : List ℕ)
+        × PutsOnly text (E.state store.keep) (E.state result.store.keep)) }
 
     // Then the status tells why: the words, another's store, damage, a device that failed, or want of memory.
     ensures why { IfNone result.core (Refused (texts_of words.now)
@@ -468,7 +472,8 @@ where
         (world_faults P.faults P.Door.faults K.faults result.world))) }
 
     // Status 6 comes where the store is another's, with the name of what shows it. The keep stays as it is.
-    ensures foreign { D.tells → E.tells → result.status.code ≡ 6 → (command : ACommand) × IsServeCommand (texts_of words.now) command
+    ensures foreign { D.tells → E.tells → result.status.code ≡ 6 → (command : ACommand)
+        × IsServeCommand (texts_of words.now) command
         × IsForeign (D.state store.disk).reads ((E.state store.keep).reads FORMAT) command.sizes result.status.name }
     ensures theirs { E.tells → result.status.code ≡ 6 → Moves Same (E.state store.keep) (E.state result.store.keep) }
 

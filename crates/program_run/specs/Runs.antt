@@ -17,7 +17,7 @@ use Rattle.broker_run.specs.Promise as pipe
 use Rattle.broker_run.specs.Promise.{AllFaults, Call, EndsWell, IsQuiet, KeepSeen, Seen, before, behind}
 use Rattle.serve_threads.specs.Causes.{ServeFaults}
 use Rattle.broker_serve.specs.Causes.{Causes}
-use Rattle.broker_serve.specs.Serves.{HasServed, PutsAllAlong, Views}
+use Rattle.broker_serve.specs.Serves.{HasServed, PutsAllAlong, Views, keep_over, setup_by, store_over}
 use Rattle.broker_serve.specs.Statuses.{Refused, store_told}
 
 -- the words ask for links: the first of them is `serve`
@@ -63,9 +63,9 @@ pub record Serves {D : Type 0} (words : List (List ℕ)) (status : Status) (core
   pub wrong : ((command : ServeCommand) → IsServeCommand words command → ⊥) → status.code ≡ 1
   pub served : IfSome core (λ left. (command : ServeCommand) × (sizes : Sizes) × (IsServeCommand words command
       × IsOpened command.sizes sizes seen.views.disk.tells (seen.views.disk.state seen.old).reads seen.tells seen.keep seen.keep_then)
-      × HasServed seen.views command sizes.segment status (seen.views.disk.state seen.old) (seen.views.disk.state seen.new)
-      seen.tells seen.keep.reads (λ start history. PutsAllAlong (own_format (seen.keep.reads FORMAT) command.sizes) start history
-      seen.keep seen.keep_then) seen.keep_then left)
+      × HasServed seen.views (setup_by command sizes.segment) status
+      (store_over (seen.views.disk.state seen.old) (seen.views.disk.state seen.new) (keep_over seen.tells seen.keep seen.keep_then))
+      (λ start history. PutsAllAlong (own_format (seen.keep.reads FORMAT) command.sizes) start history seen.keep seen.keep_then) left)
   pub unserved : seen.tells → IfNone core ((text : List ℕ) × PutsOnly text seen.keep seen.keep_then)
   pub why : IfNone core (Refused words
       (store_told seen.views.disk.tells (seen.views.disk.state seen.old).reads seen.tells seen.keep.reads) status old new)

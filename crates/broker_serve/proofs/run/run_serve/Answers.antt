@@ -46,7 +46,7 @@ returns-in-Ok-open_format-clause-served g c =
     c.in-Ok-open_format.ensures.puts c.serve_store.ensures.served
 
 pub returns-in-Ok-open_format-clause-unserved : goal.returns-in-Ok-open_format-clause-unserved
-returns-in-Ok-open_format-clause-unserved g c = run_unserved _ _ _ _ _ _ _ _ _ _ _ _ c.in-Ok-open_format.ensures.puts c.serve_store.ensures.served
+returns-in-Ok-open_format-clause-unserved g c = run_unserved _ _ _ _ _ _ _ _ _ _ _ c.in-Ok-open_format.ensures.puts c.serve_store.ensures.served
 
 pub returns-in-Ok-open_format-clause-outside : goal.returns-in-Ok-open_format-clause-outside
 returns-in-Ok-open_format-clause-outside g c = λ tells.
@@ -54,11 +54,11 @@ returns-in-Ok-open_format-clause-outside g c = λ tells.
 
 pub returns-in-Ok-open_format-clause-stands : goal.returns-in-Ok-open_format-clause-stands
 returns-in-Ok-open_format-clause-stands g c = λ told text stood.
-    store_others _ _ _ _ _ _ _ _ _ _ c.serve_store.ensures.served told FORMAT (λ e. absurd (cc e)) (λ e. absurd (cc e)) ∙ c.in-Ok-open_format.ensures.stands told text stood
+    store_others _ _ _ _ _ _ _ _ _ c.serve_store.ensures.served told FORMAT (λ e. absurd (cc e)) (λ e. absurd (cc e)) ∙ c.in-Ok-open_format.ensures.stands told text stood
 
 pub returns-in-Ok-open_format-clause-kept : goal.returns-in-Ok-open_format-clause-kept
 returns-in-Ok-open_format-clause-kept g c = λ told name not_format not_offsets not_topics.
-    store_others _ _ _ _ _ _ _ _ _ _ c.serve_store.ensures.served told name not_offsets not_topics ∙ c.in-Ok-open_format.ensures.others told name not_format
+    store_others _ _ _ _ _ _ _ _ _ c.serve_store.ensures.served told name not_offsets not_topics ∙ c.in-Ok-open_format.ensures.others told name not_format
 
 -- ---- why no links were served
 

@@ -13,7 +13,7 @@ use Rattle.broker_serve.proofs.run.serve_config.Goals as goal
 
 pub returns-in-Err-clause-served : goal.returns-in-Err-clause-served
 returns-in-Err-clause-served g c =
-    log_unserved _ _ _ _ _ _ _ _ _ _ _ _ c.unserved.ensures.core
+    log_unserved _ _ _ _ _ _ _ _ _ _ _ c.unserved.ensures.core
     (λ told. subst (λ k. Rests (g.E.Keep.state c.args.store.keep) (g.E.Keep.state k)) (sym (ap (λ s. s.keep) c.unserved.ensures.store)) (rests_start _))
 
 pub returns-in-Err-clause-outside : goal.returns-in-Err-clause-outside
@@ -22,7 +22,7 @@ returns-in-Err-clause-outside g c = λ tells.
 
 pub returns-clause-served : goal.returns-clause-served
 returns-clause-served g c =
-    log_served_with _ _ _ _ _ _ _ c.as_slice-offsets.result.now _ c.as_slice-topics.result.now _ _ _ _ c.in-Ok.opened
+    log_served_with _ _ _ _ _ _ c.as_slice-offsets.result.now _ c.as_slice-topics.result.now _ _ _ _ c.in-Ok.opened
     c.as_slice-offsets.ensures.value c.as_slice-topics.ensures.value c.in-Ok.ensures.represents c.in-Ok.ensures.kept
     (λ tells. stores_each _ _ _ _ c.in-Ok.opened _ c.serve_log.result.core (c.in-Ok.ensures.ours tells) (c.serve_log.ensures.stores tells)) c.serve_log.ensures.ends
 

@@ -11,7 +11,7 @@ use Rattle.broker_serve.proofs.run.serve_store.Goals as goal
 
 pub returns-in-Err-clause-served : goal.returns-in-Err-clause-served
 returns-in-Err-clause-served g c =
-    store_unserved _ _ _ _ _ _ _ _ _ _ c.unserved.ensures.core
+    store_unserved _ _ _ _ _ _ _ _ _ c.unserved.ensures.core
     (λ told. subst (λ k. Rests (g.E.Keep.state c.args.store.keep) (g.E.Keep.state k)) (sym (ap (λ s. s.keep) c.unserved.ensures.store)) (c.load_config.ensures.rests told))
 
 pub returns-in-Err-clause-outside : goal.returns-in-Err-clause-outside
@@ -20,7 +20,7 @@ returns-in-Err-clause-outside g c = λ tells.
 
 pub returns-in-Ok-clause-served : goal.returns-in-Ok-clause-served
 returns-in-Ok-clause-served g c =
-    store_served _ _ _ _ _ _ _ _ _ _ _ _ _ c.in-Ok.ensures.rests c.in-Ok.ensures.read c.serve_config.ensures.served
+    store_served _ _ _ _ _ _ _ _ _ _ _ _ c.in-Ok.ensures.rests c.in-Ok.ensures.read c.serve_config.ensures.served
 
 pub returns-in-Err-clause-why : goal.returns-in-Err-clause-why
 returns-in-Err-clause-why g c =
