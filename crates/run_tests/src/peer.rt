@@ -20,8 +20,10 @@ pub(crate) struct Script {
     pub(crate) first: Vec<u8>,
     /// What it says each time that it took a reply.
     pub(crate) again: Vec<u8>,
-    /// It ends its side once it took this reply.
+    /// It says nothing more once it took this reply, and ends its side.
     pub(crate) last: Reply,
+    /// Where this is something it ends its side no sooner than this was noted.
+    pub(crate) stays: Option<Note>,
     /// Where this is something it takes no reply, and is gone once this was noted.
     pub(crate) gone: Option<Note>,
 }
@@ -63,17 +65,17 @@ impl<'a, W: Wait + Clock> Saying<'a, W> {
         true
     }
 
-    // Whether what it begins after was noted.
-    fn may_begin(&self) -> bool {
-        match self.script.after {
-            Some(after) => self.journal.has(after),
+    // Whether this was noted, where it is something.
+    fn has(&self, note: Option<Note>) -> bool {
+        match note {
+            Some(note) => self.journal.has(note),
             None => true,
         }
     }
 
     // What it says now, or nothing.
     fn piece(&self) -> &[u8] {
-        if self.waits || !self.may_begin() {
+        if self.waits || self.done || !self.has(self.script.after) {
             &[]
         } else if self.began {
             &self.script.again
@@ -86,7 +88,8 @@ impl<'a, W: Wait + Clock> Saying<'a, W> {
     fn say(&mut self, out: &mut [u8]) -> Option<usize>
         ensures { IfSome result (λ n. n ≤ length out.old) }
     {
-        if self.done || !self.look() {
+        let is_over = self.done && self.has(self.script.stays);
+        if is_over || !self.look() {
             return None;
         }
         let said = copy(self.piece(), out);
