@@ -1,4 +1,4 @@
-//! Tests of calls of `pipe` and of `serve`, over devices in memory.
+//! Tests of calls of `pipe` and of `serve`, over devices in memory, and one over TCP.
 #![tactic(auto)]
 
 #[cfg(test)]
@@ -21,3 +21,5 @@ mod pipe_runs;
 mod replies;
 #[cfg(test)]
 mod serve_runs;
+#[cfg(test)]
+mod tcp_runs;

@@ -72,7 +72,8 @@ pub(crate) fn disk(alloc: Global) -> Result<MemDisk, AllocError> {
     MemDisk::new(alloc, Vec::new(alloc), room, Vec::new(alloc))
 }
 
-fn records_in(core: &Core) -> (u64, u64) {
+/// How many records a core has, and how many of them are on the disk.
+pub(crate) fn records_in(core: &Core) -> (u64, u64) {
     let counts = core.counts();
     (counts.records, counts.flushed)
 }
