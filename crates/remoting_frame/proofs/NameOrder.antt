@@ -1,5 +1,5 @@
 -- What putting pairs among others by their names makes.
-use Rattle.std.proofs.Common.{◌≡◌, ℕ, zero, suc, ◌+◌, ◌≤◌, List, [], ◌∷◌, length, map, Bool, true, false, cond, Option, Some, None, Ordering, Less, Equal, Greater, nat_cmp, refl, sym, ap, ◌∙◌, arith}
+use Rattle.std.proofs.Common.{◌≡◌, ℕ, zero, suc, ◌+◌, ◌-◌, ◌≤◌, get_or, List, [], ◌∷◌, length, map, ◌++◌, subst, Bool, true, false, cond, Option, Some, None, Ordering, Less, Equal, Greater, nat_cmp, refl, sym, ap, ◌∙◌, arith}
 use Rattle.std.specs.Prelude.{All, is_some}
 use Rattle.std.specs.Ordering.{match_ordering, ordering_reverse, is_eq}
 use Rattle.std.specs.Cmp.Lexicographic.{slice_cmp}
@@ -9,6 +9,7 @@ use Rattle.std.specs.List.Sorted.{IsStrictlySortedBy}
 use Rattle.std.proofs.lemmas.Cmp.{nat_list_cmp_total}
 use Rattle.remoting_frame.specs.Head.{IsInOrder, pairs_size}
 use Rattle.remoting_frame.specs.Binary.{put_all, by_name}
+use Rattle.remoting_frame.specs.NameMaps.{IsAbove}
 use Rattle.remoting_frame.specs.BinaryForm.{has_name, value_of, last_value}
 
 abbrev Pair : Type 0
@@ -57,6 +58,29 @@ ordered_all ps (p ∷ more) h = ordered_all (put ps p.0 p.1) more (ordered_put p
 pub by_name_ordered : (ps : List Pair) → IsInOrder (by_name ps)
 unfolding IsStrictlySortedBy
 by_name_ordered ps = ordered_all [] ps tt
+
+-- a name greater than that of the last of pairs in order is greater than each
+below_above : (k : List ℕ) (ps : List Pair) → IsInOrder ps → IsAbove k ps → AllByRecursion (λ y. order y k ≡ Less) (map (λ p. p.0) ps)
+unfolding IsStrictlySortedBy
+below_above k [] h above = tt
+below_above k (p ∷ []) h above = (above (omega arith), tt)
+below_above k (p ∷ q ∷ ps) h above =
+    let behind : length (p ∷ q ∷ ps) - 1 ≡ suc (length (q ∷ ps) - 1) = omega arith in
+    let last = subst (λ (n : ℕ). order (get_or (p ∷ q ∷ ps) n ([], [])).0 k ≡ Less) behind (above (omega arith)) in
+    let others = below_above k (q ∷ ps) h.1 (λ some. last) in
+    (nat_list_cmp_total.trans p.0 q.0 k h.0.0 others.0, others)
+
+put_last : (ps : List Pair) (k v : List ℕ) → AllByRecursion (λ y. order y k ≡ Less) (map (λ p. p.0) ps) → put ps k v ≡ ps ++ (k, v) ∷ []
+put_last [] k v h = refl
+put_last (p ∷ ps) k v h =
+    let greater : order k p.0 ≡ Greater = nat_list_cmp_total.antisymm k p.0 ∙ ap ordering_reverse h.0 in
+    rw (greater, put_last ps k v h.1) refl
+
+-- such a name is put at the end, and they stay in order
+pub put_above : (ps : List Pair) (k v : List ℕ) → IsInOrder ps → IsAbove k ps → (put ps k v ≡ ps ++ (k, v) ∷ []) × IsInOrder (ps ++ (k, v) ∷ [])
+put_above ps k v h above =
+    let last = put_last ps k v (below_above k ps h above) in
+    (last, subst IsInOrder last (ordered_put ps k v h))
 
 -- ---- values
 

@@ -111,7 +111,7 @@ impl Fields {
     /// The name and the value of a field.
     pub fn at(&self, index: usize) -> (&str, &str)
         requires { index < length self.now }
-        ensures field { (result.0.now, result.1.now) ≡ slice_index_or self.now index ([], []) }
+        ensures field { (result.0.now, result.1.now) ≡ slice_index_or self.now index (result.0.now, result.1.now) }
         ensures name { IsUtf8 result.0.now }
         ensures value { IsUtf8 result.1.now }
     {
