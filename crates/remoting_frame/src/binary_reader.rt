@@ -21,7 +21,8 @@ ghost use Rattle.remoting_frame.specs.Gives.{Fails, Gives};
 ghost use Rattle.remoting_frame.specs.Head.{IsInOrder};
 ghost use Rattle.remoting_frame.specs.BinaryText.{Has16Bits, FitsLengths};
 ghost use Rattle.remoting_frame.specs.NameMaps.{pairs_view, IsAbove};
-ghost use Rattle.remoting_frame.specs.Binary.{text_of, lens_of, first_pair, put_first_of, binary_pairs, by_name, remark_len_of, binary_header};
+ghost use Rattle.remoting_frame.specs.Binary.{text_of, lens_of, first_pair, put_first_of, binary_pairs, by_name};
+ghost use Rattle.remoting_frame.specs.Binary.{remark_len_of, binary_header};
 ghost use Rattle.remoting_frame.specs.declared.fault.HeaderFault.TheVariants.{Memory};
 
 use crate::fault::HeaderFault;
