@@ -1,5 +1,5 @@
 -- What the readers of a binary header give.
-use Rattle.std.proofs.Common.{◌≡◌, ℕ, zero, suc, ◌+◌, ◌-◌, ◌<◌, ◌≤◌, List, [], ◌∷◌, length, map, ◌++◌, subst, take, drop, Bool, true, false, cond, Option, Some, None, option_map, String, Global, ℤ, string_bytes, string_cmp, nat_cmp, Ordering, Less, Equal, Greater, refl, sym, ap, ◌∙◌, arith, length-drop}
+use Rattle.std.proofs.Common.{◌≡◌, ℕ, zero, suc, ◌+◌, ◌-◌, ◌<◌, ◌≤◌, List, [], ◌∷◌, length, map, subst, take, drop, Bool, true, false, cond, Option, Some, None, option_map, String, Global, ℤ, string_bytes, string_cmp, nat_cmp, Ordering, Less, Equal, Greater, refl, sym, ap, ◌∙◌, arith, length-drop}
 use Rattle.std.specs.Ordering.{match_ordering}
 use Rattle.std.specs.Cmp.Lexicographic.{slice_cmp}
 use Rattle.std.specs.BTreeMap.{insert_entry}
@@ -12,8 +12,8 @@ use Rattle.std.proofs.lemmas.Str.{IsUtf8-from_is_utf8, is_utf8-from_IsUtf8}
 use Rattle.std.proofs.lemmas.Option.{same_Some}
 use Rattle.remoting_frame.specs.Gives.{◌>>=◌}
 use Rattle.remoting_frame.specs.Head.{IsInOrder}
-use Rattle.remoting_frame.specs.NameMaps.{pairs_view, IsAbove}
-use Rattle.remoting_frame.proofs.NameOrder.{put_above}
+use Rattle.remoting_frame.specs.NameMaps.{pairs_view}
+use Rattle.remoting_frame.proofs.NameOrder.{ordered_put}
 use Rattle.remoting_frame.specs.Binary.{number_at, text_of, remark_len_of, binary_header, by_name, lens_of, first_pair, put_first_of, pairs_within, binary_pairs, put_pair, put_all}
 
 abbrev pub Pair : Type 0
@@ -140,12 +140,11 @@ pairs_step pairs (b ∷ bytes) next some e =
     moved ∙ sym (ap (option_map (put_all pairs)) whole ∙ put_behind pairs x.0 (binary_pairs x.1))
 
 -- a step of the loop that needs no map
-pub ascending_step : (pairs new : List Pair) (bytes name value rest : List ℕ) → 0 < length bytes → first_pair bytes ≡ Some ((name, value), rest) → IsInOrder pairs → IsAbove name pairs → new ≡ pairs ++ (name, value) ∷ []
+pub put_step : (pairs new : List Pair) (bytes name value rest : List ℕ) → 0 < length bytes → first_pair bytes ≡ Some ((name, value), rest) → IsInOrder pairs → new ≡ put_pair pairs (name, value)
     → (with_pairs new rest ≡ with_pairs pairs bytes) × IsInOrder new
-ascending_step pairs new bytes name value rest some first order above e =
-    let put = put_above pairs name value order above in
-    let next : put_first_of pairs bytes ≡ Some (new, rest) = rw (first, put.0, e) refl in
-    (pairs_step pairs bytes (new, rest) some next, subst IsInOrder (sym e) put.1)
+put_step pairs new bytes name value rest some first order e =
+    let next : put_first_of pairs bytes ≡ Some (new, rest) = rw (first, e) refl in
+    (pairs_step pairs bytes (new, rest) some next, subst IsInOrder (sym e) (ordered_put pairs name value order))
 
 -- what no bytes are
 pub pairs_end : (pairs : List Pair) (bytes : List ℕ) → length bytes ≡ 0 → with_pairs pairs bytes ≡ Some pairs

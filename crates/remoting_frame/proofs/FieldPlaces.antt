@@ -3,8 +3,8 @@ use Rattle.std.proofs.Common.{◌≡◌, ℕ, ◌+◌, ◌-◌, ◌≤◌, List,
 use Rattle.std.specs.Prelude.{All}
 use Rattle.std.specs.Str.{IsUtf8, IsCharBoundary}
 use Rattle.std.proofs.lemmas.Bool.{cases_lt}
-use Rattle.std.proofs.lemmas.List.{drop-append-le, take-append-le, drop_at, take_at, take_all, get_or_append_left, map_push}
-use Rattle.std.proofs.lemmas.List.Elements.{All-push, All-weaker, All-head, All-tail}
+use Rattle.std.proofs.lemmas.List.{drop-append-le, take-append-le, drop_at, take_at, take_all, get_or_append_left, map_push, map-append, take-map, drop-map}
+use Rattle.std.proofs.lemmas.List.Elements.{All-append, All-cons, All-drop, All-push, All-take, All-weaker, All-head, All-tail}
 use Rattle.std.proofs.lemmas.Str.{IsUtf8-append, IsCharBoundary-at_seam, IsCharBoundary-end}
 use Rattle.remoting_frame.specs.Fields.{part, field_at, fields_at, IsPlace, place_behind}
 use Rattle.remoting_frame.specs.declared.fields.Place.{Place}
@@ -35,7 +35,7 @@ part-append : (text more : List ℕ) (from to : ℕ) → from ≤ to → to ≤ 
 part-append text more from to le within =
     ap (λ (l : List ℕ). take (to - from) l) (drop-append-le from text more (omega arith)) ∙ take-append-le (to - from) (drop from text) more (omega (arith, length-drop from text))
 
-fields-append : (text more : List ℕ) (places : List Place) → All (IsPlace text) places → fields_at (text ++ more) places ≡ fields_at text places
+pub fields-append : (text more : List ℕ) (places : List Place) → All (IsPlace text) places → fields_at (text ++ more) places ≡ fields_at text places
 fields-append text more [] all = refl
 fields-append text more (p ∷ places) all =
     let is = All-head (IsPlace text) p places all in
@@ -69,12 +69,30 @@ module _ (text name value : List ℕ) where
       let back = drop_at (text ++ name) value (n + k) (length-append text name) in
       rw (front, sym (append_assoc text name value), back, take_at name value (n + k - n) long, take_all (n + k + length value - (n + k)) value wide) refl
 
+  pub all_kept : (places : List Place) → IsUtf8 name → IsUtf8 value → All (IsPlace text) places → All (IsPlace (text ++ (name ++ value))) places
+  all_kept places name_utf8 value_utf8 all =
+      let utf8 = IsUtf8-append name value name_utf8 value_utf8 in
+      All-weaker (IsPlace text) (IsPlace (text ++ (name ++ value))) (λ q at. place-append text (name ++ value) q utf8 at) places all
+
   pub all_pushed : (places : List Place) (p : Place) → p ≡ place_behind (length text) name value → IsUtf8 name → IsUtf8 value → All (IsPlace text) places → All (IsPlace (text ++ (name ++ value))) (places ++ p ∷ [])
   all_pushed places p is name_utf8 value_utf8 all =
-      let utf8 = IsUtf8-append name value name_utf8 value_utf8 in
-      let kept = All-weaker (IsPlace text) (IsPlace (text ++ (name ++ value))) (λ q at. place-append text (name ++ value) q utf8 at) places all in
+      let kept = all_kept places name_utf8 value_utf8 all in
       All-push (IsPlace (text ++ (name ++ value))) places p kept (subst (IsPlace (text ++ (name ++ value))) (sym is) (place_new name_utf8 value_utf8))
 
   pub fields_pushed : (places : List Place) (p : Place) → p ≡ place_behind (length text) name value → All (IsPlace text) places → fields_at (text ++ (name ++ value)) (places ++ p ∷ []) ≡ fields_at text places ++ (name, value) ∷ []
   fields_pushed places p is all =
       map_push (field_at (text ++ (name ++ value))) places p ∙ rw (fields-append text (name ++ value) places all, is, field_new) refl
+
+  -- among others
+  pub all_put : (places : List Place) (from to : ℕ) (p : Place) → p ≡ place_behind (length text) name value → IsUtf8 name → IsUtf8 value → All (IsPlace text) places → All (IsPlace (text ++ (name ++ value))) (take from places ++ p ∷ drop to places)
+  all_put places from to p is name_utf8 value_utf8 all =
+      let more = text ++ (name ++ value) in
+      let kept = all_kept places name_utf8 value_utf8 all in
+      let one = subst (IsPlace more) (sym is) (place_new name_utf8 value_utf8) in
+      All-append (IsPlace more) (take from places) (p ∷ drop to places) (All-take (IsPlace more) from places kept) (All-cons (IsPlace more) p (drop to places) one (All-drop (IsPlace more) to places kept))
+
+  pub fields_put : (places : List Place) (from to : ℕ) (p : Place) → p ≡ place_behind (length text) name value → All (IsPlace text) places → fields_at (text ++ (name ++ value)) (take from places ++ p ∷ drop to places) ≡ take from (fields_at text places) ++ (name, value) ∷ drop to (fields_at text places)
+  fields_put places from to p is all =
+      let f = field_at (text ++ (name ++ value)) in
+      let same = fields-append text (name ++ value) places all in
+      map-append f (take from places) (p ∷ drop to places) ∙ rw (sym (take-map f from places), sym (drop-map f to places), same, is, field_new) refl

@@ -14,13 +14,14 @@
 //!
 //! Names and values are UTF-8. Of a name that comes twice the last value counts, but each pair has to be well formed.
 //!
-//! Pairs whose names ascend are put one behind the other as they are read. Where a name doesn't, a map sorts them.
+//! Each pair is put at the place of its name as it is read. Where there are many, and their names don't ascend, a map sorts
+//! them.
 
 ghost use Rattle.std.specs.Prelude.{◌≡◌, ℕ, List, [], ◌+◌, ◌<◌, ◌≤◌, length, string_bytes, option_map, Some, IsTrue, IfOk, IfErr, IfSome};
 ghost use Rattle.remoting_frame.specs.Gives.{Fails, Gives};
 ghost use Rattle.remoting_frame.specs.Head.{IsInOrder};
 ghost use Rattle.remoting_frame.specs.BinaryText.{Has16Bits, FitsLengths};
-ghost use Rattle.remoting_frame.specs.NameMaps.{pairs_view, IsAbove};
+ghost use Rattle.remoting_frame.specs.NameMaps.{pairs_view};
 ghost use Rattle.remoting_frame.specs.Binary.{text_of, lens_of, first_pair, put_first_of, binary_pairs, by_name};
 ghost use Rattle.remoting_frame.specs.Binary.{remark_len_of, binary_header};
 ghost use Rattle.remoting_frame.specs.declared.fault.HeaderFault.TheVariants.{Memory};
@@ -35,6 +36,10 @@ use std::collections::BTreeMap;
 
 // For how many pairs room is taken at first, which is enough for most headers.
 const FEW: usize = 16;
+
+// From how many pairs on a pair is only put behind the others. Pairs in any order would take time that grows with the square
+// of their number if each were put among all before it.
+const MANY: usize = 64;
 
 fn str_in(bytes: &[u8]) -> Option<&str>
     ensures { option_map (λ text. text.now) result ≡ text_of bytes.now }
@@ -91,20 +96,18 @@ fn first_of<'a>(bytes: &'a [u8]) -> Option<(&'a str, &'a str, &'a [u8])>
     Some((name, value, &bytes[6 + name_len + value_len..]))
 }
 
-// Whether the name is greater than that of the last pair.
-fn is_above(name: &str, pairs: &Fields) -> bool
-    ensures { IsTrue result → IsAbove name.now pairs.now }
-{
+// Whether a pair of this name is put without moving many others: there are few, or all have names below it.
+fn moves_few(name: &str, pairs: &Fields) -> bool {
     let count = pairs.len();
-    if count == 0 {
+    if count < MANY {
         return true;
     }
     let (last, _) = pairs.at(count - 1);
     last < name
 }
 
-// Appends the pairs as long as each name is greater than the one before. Whether that was so to the end.
-fn push_ascending(bytes: &[u8], pairs: &mut Fields) -> Result<bool, HeaderFault>
+// Puts the pairs as long as each moves few others. Whether that was so to the end.
+fn put_pairs(bytes: &[u8], pairs: &mut Fields) -> Result<bool, HeaderFault>
     requires { pairs.old ≡ [] }
     ensures all { IfOk result (λ all. IsTrue all → option_map by_name (binary_pairs bytes.now) ≡ Some pairs.new) }
     ensures ordered { IfOk result (λ all. IsTrue all → IsInOrder pairs.new) }
@@ -115,10 +118,10 @@ fn push_ascending(bytes: &[u8], pairs: &mut Fields) -> Result<bool, HeaderFault>
         let Some((name, value, behind)) = first_of(rest) else {
             return Err(HeaderFault::Bad);
         };
-        if !is_above(name, pairs) {
+        if !moves_few(name, pairs) {
             return Ok(false);
         }
-        pairs.push(name, value)?;
+        pairs.put(name, value)?;
         rest = behind;
     }
     Ok(true)
@@ -187,7 +190,7 @@ fn pairs_from(alloc: Global, bytes: &[u8]) -> Result<Fields, HeaderFault>
 {
     let few = usize::min(bytes.len() / 6, FEW);
     let mut pairs = Fields::with_room(alloc, few, bytes.len())?;
-    if push_ascending(bytes, &mut pairs)? {
+    if put_pairs(bytes, &mut pairs)? {
         return Ok(pairs);
     }
     sorted_from(alloc, bytes)

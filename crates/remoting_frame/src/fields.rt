@@ -1,11 +1,14 @@
 //! The fields of a header. Their names and values stand in one text, each value behind its name, so that many fields
 //! take two pieces of memory.
 
-ghost use Rattle.std.specs.Prelude.{◌≡◌, ◌<◌, ◌++◌, ◌∷◌, [], length, string_bytes, slice_index_or, OnOk, OnErr, IfOk, IfSome};
+ghost use Rattle.std.specs.Prelude.{◌≡◌, ℕ, List, ◌+◌, ◌<◌, ◌≤◌, ◌++◌, ◌∷◌, [], length, take, drop, string_bytes, slice_index_or, OnOk, OnErr, IfOk, IfSome};
 ghost use Rattle.std.specs.Str.{IsUtf8};
 ghost use Rattle.remoting_frame.specs.Fields.{place_behind};
+ghost use Rattle.remoting_frame.specs.Head.{IsInOrder};
+ghost use Rattle.remoting_frame.specs.Binary.{put_pair};
 
 use std::alloc::{AllocError, Global};
+use std::cmp::Ordering;
 use std::marker::Model;
 
 // How many bytes the names and values have together at most: places have 32 bits.
@@ -19,7 +22,8 @@ struct Place {
     end: u32,
 }
 
-/// The fields of a header: names with their values, in the order in which they were put.
+/// The fields of a header: names with their values, in the order in which they were pushed, or in that of their names where
+/// they were put.
 #[derive(Drop)]
 pub struct Fields {
     text: String,
@@ -67,6 +71,25 @@ fn push_both(text: &mut String, name: &str, value: &str) -> Result<(), AllocErro
     Ok(())
 }
 
+// Puts a place instead of those from one index up to another, of which there is one at most.
+fn put_place(
+    places: &mut Vec<Place>,
+    from: usize,
+    to: usize,
+    place: Place,
+) -> Result<(), AllocError>
+    requires { (from ≤ to) × (to ≤ from + 1) × (to ≤ length places.old.items) }
+    ensures ok { OnOk result (places.new.items ≡ take from places.old.items ++ place ∷ drop to places.old.items) }
+    ensures err { OnErr result (places.new.items ≡ places.old.items) }
+{
+    if from < to {
+        places[from] = place;
+        return Ok(());
+    }
+    places.insert(from, place)?;
+    Ok(())
+}
+
 impl Fields {
     /// No fields, and no memory.
     pub fn new(alloc: Global) -> Fields
@@ -98,6 +121,44 @@ impl Fields {
         self.places.reserve(1)?;
         push_both(&mut self.text, name, value)?;
         self.places.push_reserved(place);
+        Ok(())
+    }
+
+    // Instead of which fields one of this name is put, where they are in order: those from one index up to another. It is
+    // looked for from the end, as names mostly ascend.
+    fn spot_of(&self, name: &str) -> (usize, usize)
+        requires { IsInOrder self.now }
+        ensures within { (result.0 ≤ result.1) × (result.1 ≤ result.0 + 1) × (result.1 ≤ length self.now) }
+        ensures spot { (value : List ℕ) →
+            put_pair self.now (name.now, value) ≡ take result.0 self.now ++ (name.now, value) ∷ drop result.1 self.now }
+    {
+        let mut at = self.len();
+        while at > 0 {
+            let (before, _) = self.at(at - 1);
+            match name.cmp(before) {
+                Ordering::Less => at -= 1,
+                Ordering::Equal => return (at - 1, at),
+                Ordering::Greater => return (at, at),
+            }
+        }
+        (0, 0)
+    }
+
+    /// Puts a field at the place that its name has among names in byte order, or gives the field of this name the value.
+    /// Names and values of more than 4,294,967,295 bytes together, those that were replaced among them, are refused as if
+    /// memory ran out.
+    pub(crate) fn put(&mut self, name: &str, value: &str) -> Result<(), AllocError>
+        requires { IsInOrder self.old }
+        ensures ok { OnOk result (self.new ≡ put_pair self.old (name.now, value.now)) }
+        ensures err { OnErr result (self.new ≡ self.old) }
+    {
+        let Some(place) = place_from(self.text.len(), name, value) else {
+            return Err(AllocError);
+        };
+        let (from, to) = self.spot_of(name);
+        self.places.reserve(1)?;
+        push_both(&mut self.text, name, value)?;
+        put_place(&mut self.places, from, to, place)?;
         Ok(())
     }
 
