@@ -19,7 +19,7 @@ use Rattle.log_opening.specs.Opens.{OpensLogWith, OpensKeptWith, saved_as}
 use Rattle.log_opening.specs.declared.opening.Opened.{Opened}
 use Rattle.serve_story.specs.Kept.{IsTextAlong}
 use Rattle.serve_story.specs.Served.{IsLeft}
-use Rattle.store_open.specs.Openings.{FORMAT, IsImageWith, IsOpened, PutsOnly, own_format}
+use Rattle.store_open.specs.Openings.{FORMAT, IsImageWith, StoreTold, IsOpened, PutsOnly, own_format, store_told}
 use Rattle.store_open.specs.ServeWords.{IsServeCommand}
 use Rattle.store_open.specs.declared.format.AskedSizes.{AskedSizes}
 use Rattle.store_open.specs.declared.format.Sizes.{Sizes}
@@ -165,9 +165,9 @@ puts_no_format text keep = record { reads = same keep.reads; at_each = at_start 
     same files = record { here = inl refl; others = λ other apart. refl }
 
 -- the format stands, and stays so
-opened_kept : (P Q : List ℕ → Type 0) (asked : AskedSizes) (sizes : Sizes) (disk : Type 0) (files : Files) (keep : Type 0) (old opened new : DiskState) → (keep → PutsBy P Q opened new)
-    → IsOpened asked sizes disk files keep old opened → IsOpened asked sizes disk files keep old new
-opened_kept P Q asked sizes disk files keep old opened new puts is = record {
+opened_kept : (P Q : List ℕ → Type 0) (asked : AskedSizes) (sizes : Sizes) (store : StoreTold) (opened new : DiskState) → (store.keep → PutsBy P Q opened new)
+    → IsOpened asked sizes store opened → IsOpened asked sizes store new
+opened_kept P Q asked sizes store opened new puts is = record {
   sizes_are = is.sizes_are;
   own = is.own;
   stands = λ told. (puts told).reads.others FORMAT (λ e. absurd (cc e)) (λ e. absurd (cc e)) ∙ is.stands told;
@@ -186,9 +186,9 @@ config_before format old opened offsets topics puts has = record {
 
 -- a run over a store that was opened so
 pub run_served : {D : Type 0} (views : Views D) (left : Option Parts) (words : List (List ℕ)) (command : ServeCommand) (sizes : Sizes) (status : Status) (disk before disk_then : DiskState) (told : Type 0)
-    (old opened new : DiskState) → (views.disk.tells → Moves Same before disk) → IsServeCommand words command → IsOpened command.sizes sizes views.disk.tells before.reads told old opened
+    (old opened new : DiskState) → (views.disk.tells → Moves Same before disk) → IsServeCommand words command → IsOpened command.sizes sizes (store_told views.disk.tells before.reads told old.reads) opened
     → (told → PutsOnly (own_format (old.reads FORMAT) command.sizes) old opened) → ServesStore views (setup_by command sizes.segment) left status (store_over disk disk_then (keep_over told opened new))
-    → IfSome left (λ core. (c : ServeCommand) × (s : Sizes) × (IsServeCommand words c × IsOpened c.sizes s views.disk.tells before.reads told old new)
+    → IfSome left (λ core. (c : ServeCommand) × (s : Sizes) × (IsServeCommand words c × IsOpened c.sizes s (store_told views.disk.tells before.reads told old.reads) new)
     × HasServed views (setup_by c s.segment) status (store_over before disk_then (keep_over told old new)) (λ start history. PutsAllAlong (own_format (old.reads FORMAT) c.sizes) start history old new) core)
 run_served views None words command sizes status disk before disk_then told old opened new same asked is puts it = tt
 run_served views (Some core) words command sizes status disk before disk_then told old opened new same asked is puts it =
@@ -198,7 +198,7 @@ run_served views (Some core) words command sizes status disk before disk_then to
     let format = own_format (old.reads FORMAT) command.sizes in (
       command,
       sizes,
-      (asked, opened_kept P Q command.sizes sizes views.disk.tells before.reads told old opened new run.put is),
+      (asked, opened_kept P Q command.sizes sizes (store_told views.disk.tells before.reads told old.reads) opened new run.put is),
       record {
         offsets = run.offsets;
         topics = run.topics;

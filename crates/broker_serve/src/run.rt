@@ -12,7 +12,7 @@ ghost use Rattle.log_model.specs.Stored.{Stored, StaysOutside};
 ghost use Rattle.segment_files.specs.Turn.{IsInside, IsReady, growing};
 ghost use Rattle.segment_files.specs.declared.last_file.LastFile.{LastFile};
 ghost use Rattle.broker_core.specs.Makes.{shown_of};
-ghost use Rattle.store_open.specs.Openings.{FORMAT, IsForeign, IsOpened, PutsOnly, own_format};
+ghost use Rattle.store_open.specs.Openings.{FORMAT, IsForeign, IsOpened, PutsOnly, own_format, store_told};
 ghost use Rattle.store_open.specs.Words.{texts_of};
 ghost use Rattle.store_open.specs.ServeWords.{IsServeCommand, IsFirstWrongOfServe};
 ghost use Rattle.store_open.specs.Statuses.{FitsTable};
@@ -29,7 +29,7 @@ ghost use Rattle.broker_serve.specs.Causes.{BlamesDoor, Causes};
 ghost use Rattle.broker_serve.specs.Serves.{EndsOver, HasServed, PutsAllAlong, ServesLog, ServesStore, StoresOpened};
 ghost use Rattle.broker_serve.specs.Serves.{keep_over, setup_by, store_over, views_of};
 ghost use Rattle.end_statuses.specs.Statuses.{TellsDevice};
-ghost use Rattle.broker_serve.specs.Statuses.{IsDamagedIn, IsDamagedLog, Refused, ShutOut, StatusLeft, Unopened, store_told};
+ghost use Rattle.broker_serve.specs.Statuses.{IsDamagedIn, IsDamagedLog, Refused, ShutOut, StatusLeft, Unopened};
 ghost use Rattle.broker_serve.specs.Statuses.{Unserved as UnservedBy};
 
 use crate::statuses::{last_status, status_of_making, status_of_reader};
@@ -453,7 +453,8 @@ where
     // for one history of steps since, each of which is the flusher's, one link's or the keeper's. The disk stores the log of a state
     // that this core represents, and the kept files have texts of states of this history.
     ensures served { IfSome result.core (λ core. (command : ACommand) × (sizes : TheSizes) × (IsServeCommand (texts_of words.now) command
-        × IsOpened command.sizes sizes D.tells (D.state store.disk).reads E.tells (E.state store.keep) (E.state result.store.keep))
+        × IsOpened command.sizes sizes
+        (store_told D.tells (D.state store.disk).reads E.tells (E.state store.keep).reads) (E.state result.store.keep))
         × HasServed (views_of P.Link.tells D.Reader.gives (view_of D.tells D.state D.faults D.syncs))
         (setup_by command sizes.segment) result.status (store_over (D.state store.disk) (D.state result.store.disk)
         (keep_over E.tells (E.state store.keep) (E.state result.store.keep)))

@@ -5,7 +5,7 @@ use Rattle.mq_outside.specs.Files.{Same}
 use Rattle.log_model.specs.Stored.{StaysOutside}
 use Rattle.broker_core.specs.declared.parts.Parts.{Parts}
 use Rattle.config_store.specs.Configs.{OFFSETS, TOPICS}
-use Rattle.store_open.specs.Openings.{FORMAT, IsForeign, IsOpened, PutsOnly, own_format}
+use Rattle.store_open.specs.Openings.{FORMAT, IsForeign, IsOpened, PutsOnly, own_format, store_told}
 use Rattle.store_open.specs.Statuses.{FitsTable}
 use Rattle.store_open.specs.Words.{IsCommand, IsFirstWrong}
 use Rattle.store_open.specs.ServeWords.{IsServeCommand, IsFirstWrongOfServe}
@@ -18,7 +18,7 @@ use Rattle.broker_run.specs.Promise.{AllFaults, Call, EndsWell, IsQuiet, KeepSee
 use Rattle.serve_threads.specs.Causes.{ServeFaults}
 use Rattle.broker_serve.specs.Causes.{Causes}
 use Rattle.broker_serve.specs.Serves.{HasServed, PutsAllAlong, Views, keep_over, setup_by, store_over}
-use Rattle.broker_serve.specs.Statuses.{Refused, store_told}
+use Rattle.broker_serve.specs.Statuses.{Refused}
 
 -- the words ask for links: the first of them is `serve`
 abbrev pub AsksLinks : List (List ℕ) → Type 0
@@ -62,7 +62,8 @@ pub record Serves {D : Type 0} (words : List (List ℕ)) (status : Status) (core
   pub usage : status.code ≡ 1 → IsFirstWrongOfServe words status.place
   pub wrong : ((command : ServeCommand) → IsServeCommand words command → ⊥) → status.code ≡ 1
   pub served : IfSome core (λ left. (command : ServeCommand) × (sizes : Sizes) × (IsServeCommand words command
-      × IsOpened command.sizes sizes seen.views.disk.tells (seen.views.disk.state seen.old).reads seen.tells seen.keep seen.keep_then)
+      × IsOpened command.sizes sizes
+      (store_told seen.views.disk.tells (seen.views.disk.state seen.old).reads seen.tells seen.keep.reads) seen.keep_then)
       × HasServed seen.views (setup_by command sizes.segment) status
       (store_over (seen.views.disk.state seen.old) (seen.views.disk.state seen.new) (keep_over seen.tells seen.keep seen.keep_then))
       (λ start history. PutsAllAlong (own_format (seen.keep.reads FORMAT) command.sizes) start history seen.keep seen.keep_then) left)
