@@ -9,7 +9,7 @@ use Rattle.broker_core.specs.Owner.{plain_look}
 use Rattle.broker_core.specs.declared.parts.Parts.{Parts}
 use Rattle.session.specs.Owing.{Steps}
 use Rattle.session.specs.Serving.{Made, Leads}
-use Rattle.event_loops.specs.Tales.{Act, steps_of, made_for, loop_of, IsTale, IsAnsweredInOrder, LeadsBy, GoesOn}
+use Rattle.event_loops.specs.Tales.{Act, steps_of, made_for, loop_of, IsTale, IsAnsweredInOrder, LinkView, loop_numbers, LeadsBy, GoesOn}
 use Rattle.event_loops.specs.declared.links.Links.{Links}
 use Rattle.event_loops.proofs.Told.{told_none}
 use Rattle.story_lock.specs.declared.chronicle.Chronicle.{Ghosts}
@@ -37,12 +37,12 @@ use Rattle.serve_story.proofs.SharedStory.{leads_on}
 -- ---- what a loop made
 
 -- what a loop did from its beginning on is what it made for each of its links
-pub answered : {L C : Type 0} (tells : Type 0) (gives : Giving) (given taken : L → List ℕ) (makes : Steps C) (number : ℕ) (x y : C) (old new : Links L)
-    → ((link : ℕ) (made : Made) → IsTale tells gives link made → IsAnsweredInOrder tells gives link made)
-    → (old.loops ≡ 2) × (old.number ≡ number) × (old.slots.items ≡ []) → LeadsBy makes x y (λ acts. GoesOn tells gives given taken old acts new)
-    → Leads makes x y (AreAnswered tells gives number)
-answered {L} tells gives given taken makes number x y old new law begins went =
-    let told = went.so.keeps [] (told_none tells gives given taken old.loops old.number old.newest old.slots.items begins.2) in
+pub answered : {L C : Type 0} (view : LinkView L) (gives : Giving) (makes : Steps C) (number : ℕ) (x y : C) (old new : Links L)
+    → ((link : ℕ) (made : Made) → IsTale view.tells gives link made → IsAnsweredInOrder view.tells gives link made)
+    → (old.loops ≡ 2) × (old.number ≡ number) × (old.slots.items ≡ []) → LeadsBy makes x y (λ acts. GoesOn view gives old acts new)
+    → Leads makes x y (AreAnswered view.tells gives number)
+answered {L} view gives makes number x y old new law begins went =
+    let told = went.so.keeps [] (told_none view gives (loop_numbers old) old.slots.items begins.2) in
     let loops : new.loops ≡ 2 = went.so.same.0 ∙ begins.0 in
     let is : new.number ≡ number = went.so.same.1 ∙ begins.1 in record {
       made = steps_of went.acts;
