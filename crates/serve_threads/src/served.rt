@@ -260,12 +260,11 @@ where
     let Devices {
         flusher,
         disk,
-        readers,
+        readers: (first_reader, second_reader),
         keep,
     } = devices;
     let (first_loop, second_loop) = loops;
     let (near, far) = outsides;
-    let (first_reader, second_reader) = readers;
     let Seats {
         flusher: key,
         first,
