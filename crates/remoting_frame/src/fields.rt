@@ -1,7 +1,8 @@
 //! The fields of a header. Their names and values stand in one text, each value behind its name, so that many fields
 //! take two pieces of memory.
 
-ghost use Rattle.std.specs.Prelude.{◌≡◌, ℕ, List, ◌+◌, ◌<◌, ◌≤◌, ◌++◌, ◌∷◌, [], length, take, drop, string_bytes, slice_index_or, OnOk, OnErr, IfOk, IfSome};
+ghost use Rattle.std.specs.Prelude.{◌≡◌, ℕ, List, ◌+◌, ◌<◌, ◌≤◌, ◌++◌, ◌∷◌, [], length, take, drop, string_bytes};
+ghost use Rattle.std.specs.Prelude.{slice_index_or, OnOk, OnErr, IfOk, IfSome};
 ghost use Rattle.std.specs.Str.{IsUtf8};
 ghost use Rattle.remoting_frame.specs.Fields.{place_behind};
 ghost use Rattle.remoting_frame.specs.Head.{IsInOrder};
