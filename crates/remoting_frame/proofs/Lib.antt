@@ -12,4 +12,3 @@ pub mod FrontLaws
 pub mod FrameTexts
 pub mod FaultLaws
 pub mod StreamLaws
-pub mod FieldPlaces

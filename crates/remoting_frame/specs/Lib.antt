@@ -1,5 +1,4 @@
 pub mod Head
-pub mod Fields
 pub mod Gives
 pub mod Json
 pub mod Written

@@ -5,7 +5,6 @@ mod binary_reader;
 mod binary_writer;
 mod cutter;
 mod fault;
-mod fields;
 mod frame;
 mod front;
 mod front_reader;
@@ -19,7 +18,6 @@ mod streams;
 
 pub use cutter::Cutter;
 pub use fault::{FrameFault, HeaderFault};
-pub use fields::Fields;
 pub use frame::{Form, Frame};
 pub use header::Header;
 pub use spellings::{

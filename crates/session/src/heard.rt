@@ -38,16 +38,15 @@ fn is_one_way(header: &Header) -> bool
 }
 
 /// The request of a frame.
-pub(crate) fn hear(alloc: Global, frame: Frame) -> Heard
-    ensures { IsHeard result frame }
+pub(crate) fn hear(alloc: Global, frame: &Frame) -> Heard
+    ensures { IsHeard result frame.now }
 {
-    let (form, code, opaque) = (frame.form, frame.header.code, frame.header.opaque);
-    let one_way = is_one_way(&frame.header);
+    let request = Request::read(alloc, frame);
     Heard {
-        form,
-        code,
-        opaque,
-        one_way,
-        request: Request::read(alloc, frame),
+        form: frame.form,
+        code: frame.header.code,
+        opaque: frame.header.opaque,
+        one_way: is_one_way(&frame.header),
+        request,
     }
 }

@@ -72,7 +72,9 @@ impl Talk {
                 Ok(Some(frame)) => frame,
             };
             if !is_response(&frame.header) {
-                return Ok(Some(hear(alloc, frame)));
+                let heard = hear(alloc, &frame);
+                drop(frame);
+                return Ok(Some(heard));
             }
             drop(frame);
         }

@@ -47,7 +47,9 @@ fn frame(alloc: Global) -> Option<Frame> {
 
 fn request(alloc: Global) -> Option<Request> {
     let frame = frame(alloc)?;
-    Request::read(alloc, frame).ok()
+    let request = Request::read(alloc, &frame).ok();
+    drop(frame);
+    request
 }
 
 /// The message, which each caller sends.
