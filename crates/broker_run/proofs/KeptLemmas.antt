@@ -17,7 +17,7 @@ use Rattle.config_store.specs.Faults.{IsBadText, OnBadText, CountsConfigFault}
 use Rattle.config_store.specs.declared.config.ConfigFault.{ConfigFault}
 use Rattle.config_store.specs.declared.config.ConfigFault.TheVariants.{BadText, Failed as KeepFailed, Memory as NoMemoryHere}
 use Rattle.config_store.specs.Texts.{IsKeptTopic, offsets_text_of, topics_text_of}
-use Rattle.store_open.specs.Openings.{FORMAT, PutsOnly, IsOpened, format_after}
+use Rattle.store_open.specs.Openings.{FORMAT, StoreTold, PutsOnly, IsOpened, format_after}
 use Rattle.store_open.specs.declared.format.Sizes.{Sizes}
 use Rattle.store_open.specs.declared.format.AskedSizes.{AskedSizes}
 use Rattle.store_open.specs.declared.status.Status.{Status}
@@ -177,20 +177,20 @@ puts_all format offsets topics old opened new puts replaced =
 -- ---- the opening
 
 -- the format stands, and stays so
-pub opened_still : (asked : AskedSizes) (sizes : Sizes) (disk : Type 0) (files : Files) (keep : Type 0) (old opened loaded : DiskState) → (keep → Rests opened loaded)
-    → IsOpened asked sizes disk files keep old opened → IsOpened asked sizes disk files keep old loaded
-opened_still asked sizes disk files keep old opened loaded rests is = record {
+pub opened_still : (asked : AskedSizes) (sizes : Sizes) (store : StoreTold) (opened loaded : DiskState) → (store.keep → Rests opened loaded)
+    → IsOpened asked sizes store opened → IsOpened asked sizes store loaded
+opened_still asked sizes store opened loaded rests is = record {
   sizes_are = is.sizes_are;
   own = is.own;
-  stands = λ told. subst (λ (f : Files). f FORMAT ≡ Some (format_after (old.reads FORMAT) sizes)) (sym (rests told).same) (is.stands told);
+  stands = λ told. subst (λ (f : Files). f FORMAT ≡ Some (format_after (store.texts FORMAT) sizes)) (sym (rests told).same) (is.stands told);
   stays = λ told after image.
       let rest = rests told in
       is.stays told after (rest.quiet.each loaded.moment after rest.quiet.later (omega arith) image) ∙ ap (λ (f : Files). f FORMAT) (sym rest.same);
 }
 
-pub opened_kept : (asked : AskedSizes) (sizes : Sizes) (disk : Type 0) (files : Files) (keep : Type 0) (offsets topics : List ℕ) (old opened new : DiskState) → (keep → PutsConfig offsets topics opened new)
-    → IsOpened asked sizes disk files keep old opened → IsOpened asked sizes disk files keep old new
-opened_kept asked sizes disk files keep offsets topics old opened new puts is = record {
+pub opened_kept : (asked : AskedSizes) (sizes : Sizes) (store : StoreTold) (offsets topics : List ℕ) (opened new : DiskState) → (store.keep → PutsConfig offsets topics opened new)
+    → IsOpened asked sizes store opened → IsOpened asked sizes store new
+opened_kept asked sizes store offsets topics opened new puts is = record {
   sizes_are = is.sizes_are;
   own = is.own;
   stands = λ told. (puts told).reads.others FORMAT (λ e. absurd (cc e)) (λ e. absurd (cc e)) ∙ is.stands told;

@@ -35,7 +35,7 @@ use Rattle.request_stream.specs.Piping.{RanBy, acts_in}
 use Rattle.log_recovery.specs.Recovered.{OnDamage, StaysFlushed}
 use Rattle.log_recovery.specs.declared.fault.RecoverFault.{RecoverFault}
 use Rattle.log_recovery.specs.declared.fault.RecoverFault.TheVariants.{Damaged, Failed as DiskFailed, Memory as NoMemory}
-use Rattle.store_open.specs.Openings.{IsOpened}
+use Rattle.store_open.specs.Openings.{IsOpened, store_told}
 use Rattle.broker_run.specs.Closing.{ServesToEnd, ReadsPlaced, FlushesPlaced, ending_of, ended_as}
 use Rattle.flush_story.specs.Story.{Reaches}
 use Rattle.flush_story.specs.Keeping.{IsPlacedFor, flushed_in, geometry_of, log_in, IsOpenFor, AreExact, Keeps}
@@ -398,7 +398,7 @@ both_told DiskFailed P Q p q = tt
 both_told NoMemory P Q p q = tt
 
 pub unrecovered : {D : Type 0} (command : Command) (status : Status) (seen : Seen D) (keep : KeepSeen) (first mid after : DiskState) (fault : RecoverFault) (sizes : Sizes)
-    → StatusTellsFault status fault → IsOpened command.sizes sizes seen.disk.tells (before seen).reads keep.tells keep.old keep.new
+    → StatusTellsFault status fault → IsOpened command.sizes sizes (store_told seen.disk.tells (before seen).reads keep.tells keep.old.reads) keep.new
     → (seen.disk.tells → Moves Same (before seen) first) → (seen.disk.tells → Moves Same first mid)
     → (seen.disk.tells → OnDamage {A = Opened} (Err fault) (IsDamagedAt (whole sizes.segment) mid.reads)) → (seen.disk.tells → OnDamage {A = Opened} (Err fault) (λ place name. Rests mid after))
     → (seen.disk.tells → StaysFlushed (whole sizes.segment) mid after) → (seen.disk.tells → Moves Same after (behind seen))

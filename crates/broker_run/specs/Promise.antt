@@ -17,7 +17,7 @@ use Rattle.log_model.specs.Stored.{HasFirst, FlushTurn, KeepsAtLeast, stored, tu
 use Rattle.log_recovery.specs.declared.fault.RecoverFault.{RecoverFault}
 use Rattle.segment_files.specs.Turn.{IsReady, growing}
 use Rattle.store_open.specs.Words.{IsCommand}
-use Rattle.store_open.specs.Openings.{FORMAT, AreSizesOf, IsForeign, IsOpened, PutsOnly, own_format}
+use Rattle.store_open.specs.Openings.{FORMAT, AreSizesOf, IsForeign, IsOpened, PutsOnly, own_format, store_told}
 use Rattle.store_open.specs.declared.format.Sizes.{Sizes}
 use Rattle.store_open.specs.declared.words.Command.{Command}
 use Rattle.store_open.specs.declared.status.Status.{Status}
@@ -283,7 +283,7 @@ pub record Served {D : Type 0} (command : Command) (status : Status) (seen : See
   pub replaced : Result (Unit {0}) DiskFault
   pub tells : StatusAfter status ended last replaced
   pub sizes : Sizes
-  pub opened_as : IsOpened command.sizes sizes seen.disk.tells (before seen).reads keep.tells keep.old keep.new
+  pub opened_as : IsOpened command.sizes sizes (store_told seen.disk.tells (before seen).reads keep.tells keep.old.reads) keep.new
   pub offsets : List OffsetRow
   pub topics : List TopicRow
   pub config : keep.tells → HasConfig keep.old.reads offsets topics
@@ -313,7 +313,7 @@ pub record Unrecovered {D : Type 0} (command : Command) (status : Status) (seen 
   pub fault : RecoverFault
   pub tells : StatusTellsFault status fault
   pub sizes : Sizes
-  pub opened_as : IsOpened command.sizes sizes seen.disk.tells (before seen).reads keep.tells keep.old keep.new
+  pub opened_as : IsOpened command.sizes sizes (store_told seen.disk.tells (before seen).reads keep.tells keep.old.reads) keep.new
   pub damaged : seen.disk.tells → status.code ≡ 8
       → IsDamagedAt (whole sizes.segment) (before seen).reads status.place status.name × Rests (before seen) (behind seen)
   pub stores : seen.disk.tells → (stored : List Entry) (flushed : ℕ) → StoresLog (whole sizes.segment) stored flushed (before seen)

@@ -13,19 +13,18 @@ use Rattle.config_store.specs.Texts.{offsets_text_of, topics_text_of}
 use Rattle.keeper_turns.specs.Puts.{HasSuch, ReplacesBy, PutsBy, KeepsBy}
 use Rattle.keeper_turns.specs.Turns.{IsOffsetsOf, IsTopicsOf}
 use Rattle.keeper_turns.proofs.PutLemmas.{puts_rested}
-use Rattle.segment_files.specs.declared.last_file.LastFile.{LastFile}
-use Rattle.request_acts.specs.Acts.{place_of}
+use Rattle.request_acts.specs.Acts.{Place, change_of, place_of}
 use Rattle.log_opening.specs.Opens.{OpensLogWith, OpensKeptWith, saved_as}
 use Rattle.log_opening.specs.declared.opening.Opened.{Opened}
-use Rattle.serve_story.specs.Kept.{IsTextAlong}
-use Rattle.serve_story.specs.Served.{IsLeft}
-use Rattle.store_open.specs.Openings.{FORMAT, IsImageWith, IsOpened, PutsOnly, own_format}
+use Rattle.serve_story.specs.Kept.{IsTextAlong, keep_over}
+use Rattle.serve_story.specs.Served.{IsLeft, Views}
+use Rattle.store_open.specs.Openings.{FORMAT, IsImageWith, StoreTold, IsOpened, PutsOnly, own_format, store_told}
 use Rattle.store_open.specs.ServeWords.{IsServeCommand}
 use Rattle.store_open.specs.declared.format.AskedSizes.{AskedSizes}
 use Rattle.store_open.specs.declared.format.Sizes.{Sizes}
 use Rattle.store_open.specs.declared.serve_words.ServeCommand.{ServeCommand}
 use Rattle.store_open.specs.declared.status.Status.{Status}
-use Rattle.broker_serve.specs.Serves.{EndsOver, HasServed, PutsAllAlong, PutsAllBy, ReplacesAllBy, ServesLog, ServesStore, StoresOurs, Views, keep_over, setup_by, store_over}
+use Rattle.broker_serve.specs.Serves.{EndsOver, HasServed, PutsAllAlong, PutsAllBy, ReplacesAllBy, ServesLog, ServesStore, StoresOurs, run_over, setup_by}
 use Rattle.worker_turns.specs.declared.flush.FlushEnd.{FlushEnd}
 use Rattle.event_loops.specs.declared.event_loop.LoopEnd.{LoopEnd}
 use Rattle.broker_serve.specs.Statuses.{StatusLeft}
@@ -35,27 +34,27 @@ use Rattle.broker_serve.proofs.Telling.{zero_kept}
 -- ---- links that were served, or not
 
 module _ {D : Type 0} (views : Views D) where
-  pub ends_unserved : (start : Parts) (file : LastFile) (left : Option Parts) (status : Status) (told : Type 0) (old new : DiskState) → left ≡ None → Rests old new
-      → EndsOver views start file left status (keep_over told old new)
-  ends_unserved start file left status told old new none rests = subst (λ o. EndsOver views start file o status (keep_over told old new)) (sym none) (λ tells. rests)
+  pub ends_unserved : (opened : Opened) (left : Option Parts) (status : Status) (told : Type 0) (old new : DiskState) → left ≡ None → Rests old new
+      → EndsOver views opened left status (keep_over told old new)
+  ends_unserved opened left status told old new none rests = subst (λ o. EndsOver views opened o status (keep_over told old new)) (sym none) (λ tells. rests)
 
-  pub ends_served : (start : Parts) (file : LastFile) (left : Option Parts) (status : Status) (told : Type 0) (old new : DiskState) (core : Parts) (stopped : LoopEnd) (last : FlushEnd)
-      (kept : Result (Unit {0}) DiskFault) (began ended : D) → left ≡ Some core → StatusLeft status stopped last kept → IsLeft views.links views.gives views.disk start (place_of file began) ended told kept old new core
-      → EndsOver views start file left status (keep_over told old new)
-  ends_served start file left status told old new core stopped last kept began ended some tells is =
-      subst (λ o. EndsOver views start file o status (keep_over told old new)) (sym some) (record { stopped = stopped; last = last; kept = kept; tells = tells; began = began; ended = ended; left = is })
+  pub ends_served : (opened : Opened) (left : Option Parts) (status : Status) (told : Type 0) (old new : DiskState) (core : Parts) (stopped : LoopEnd) (last : FlushEnd)
+      (kept : Result (Unit {0}) DiskFault) (began : D) (ended : Place D) → left ≡ Some core → StatusLeft status stopped last kept
+      → IsLeft views (change_of opened.core (place_of opened.flusher.file began) core ended) (keep_over told old new) kept → EndsOver views opened left status (keep_over told old new)
+  ends_served opened left status told old new core stopped last kept began ended some tells is =
+      subst (λ o. EndsOver views opened o status (keep_over told old new)) (sym some) (record { stopped = stopped; last = last; kept = kept; tells = tells; began = began; ended = ended; left = is })
 
 module _ {D : Type 0} (views : Views D) (setup : Setup) (status : Status) (disk : DiskState) (told : Type 0) where
   pub log_unserved : (offsets : List OffsetRow) (topics : List TopicRow) (left : Option Parts) (disk_then old new : DiskState) → left ≡ None → (told → Rests old new)
-      → ServesLog views setup (saved_as offsets topics) left status (store_over disk disk_then (keep_over told old new))
+      → ServesLog views setup (saved_as offsets topics) left (run_over status disk disk_then (keep_over told old new))
   log_unserved offsets topics left disk_then old new none rests =
-      subst (λ o. ServesLog views setup (saved_as offsets topics) o status (store_over disk disk_then (keep_over told old new))) (sym none) (record { still = λ is. rests; served = tt })
+      subst (λ o. ServesLog views setup (saved_as offsets topics) o (run_over status disk disk_then (keep_over told old new))) (sym none) (record { still = λ is. rests; served = tt })
 
   log_served : (offsets : List OffsetRow) (topics : List TopicRow) (left : Option Parts) (disk_then old new : DiskState) (opened : Opened)
       → OpensLogWith setup (saved_as offsets topics) opened
       → (views.disk.tells → OpensKeptWith setup (saved_as offsets topics) disk.reads opened)
-      → (views.disk.tells → IfSome left (λ core. StoresOurs setup.segment disk core disk_then)) → EndsOver views opened.core opened.flusher.file left status (keep_over told old new)
-      → ServesLog views setup (saved_as offsets topics) left status (store_over disk disk_then (keep_over told old new))
+      → (views.disk.tells → IfSome left (λ core. StoresOurs setup.segment disk core disk_then)) → EndsOver views opened left status (keep_over told old new)
+      → ServesLog views setup (saved_as offsets topics) left (run_over status disk disk_then (keep_over told old new))
   log_served offsets topics None disk_then old new opened over kept stores ends = record { still = λ is. ends; served = tt }
   log_served offsets topics (Some core) disk_then old new opened over kept stores ends = record { still = λ is. absurd (cc is); served = (opened, over, kept, stores, ends) }
 
@@ -63,20 +62,20 @@ module _ {D : Type 0} (views : Views D) (setup : Setup) (status : Status) (disk 
   pub log_served_with : (offsets given_offsets : List OffsetRow) (topics given_topics : List TopicRow) (left : Option Parts) (disk_then old new : DiskState) (opened : Opened)
       → given_offsets ≡ offsets → given_topics ≡ topics → OpensLogWith setup (saved_as given_offsets given_topics) opened
       → (views.disk.tells → OpensKeptWith setup (saved_as given_offsets given_topics) disk.reads opened)
-      → (views.disk.tells → IfSome left (λ core. StoresOurs setup.segment disk core disk_then)) → EndsOver views opened.core opened.flusher.file left status (keep_over told old new)
-      → ServesLog views setup (saved_as offsets topics) left status (store_over disk disk_then (keep_over told old new))
+      → (views.disk.tells → IfSome left (λ core. StoresOurs setup.segment disk core disk_then)) → EndsOver views opened left status (keep_over told old new)
+      → ServesLog views setup (saved_as offsets topics) left (run_over status disk disk_then (keep_over told old new))
   log_served_with offsets given_offsets topics given_topics left disk_then old new opened offsets_are topics_are over kept stores ends =
-      subst (λ (o : List OffsetRow). ServesLog views setup (saved_as o topics) left status (store_over disk disk_then (keep_over told old new))) offsets_are
-      (subst (λ (t : List TopicRow). ServesLog views setup (saved_as given_offsets t) left status (store_over disk disk_then (keep_over told old new))) topics_are
+      subst (λ (o : List OffsetRow). ServesLog views setup (saved_as o topics) left (run_over status disk disk_then (keep_over told old new))) offsets_are
+      (subst (λ (t : List TopicRow). ServesLog views setup (saved_as given_offsets t) left (run_over status disk disk_then (keep_over told old new))) topics_are
       (log_served given_offsets given_topics left disk_then old new opened over kept stores ends))
 
-  pub store_unserved : (left : Option Parts) (disk_then old new : DiskState) → left ≡ None → (told → Rests old new) → ServesStore views setup left status (store_over disk disk_then (keep_over told old new))
+  pub store_unserved : (left : Option Parts) (disk_then old new : DiskState) → left ≡ None → (told → Rests old new) → ServesStore views setup left (run_over status disk disk_then (keep_over told old new))
   store_unserved left disk_then old new none rests =
-      subst (λ o. ServesStore views setup o status (store_over disk disk_then (keep_over told old new))) (sym none) (record { still = λ is. rests; served = tt })
+      subst (λ o. ServesStore views setup o (run_over status disk disk_then (keep_over told old new))) (sym none) (record { still = λ is. rests; served = tt })
 
   -- with what was loaded, which changed nothing
   pub store_served : (left : Option Parts) (offsets : List OffsetRow) (topics : List TopicRow) (disk_then old loaded new : DiskState) → (told → Rests old loaded) → (told → HasConfig old.reads offsets topics)
-      → ServesLog views setup (saved_as offsets topics) left status (store_over disk disk_then (keep_over told loaded new)) → ServesStore views setup left status (store_over disk disk_then (keep_over told old new))
+      → ServesLog views setup (saved_as offsets topics) left (run_over status disk disk_then (keep_over told loaded new)) → ServesStore views setup left (run_over status disk disk_then (keep_over told old new))
   store_served None offsets topics disk_then old loaded new rests config it = record { still = λ is t. rests_then (rests t) (it.still refl t); served = tt }
   store_served (Some core) offsets topics disk_then old loaded new rests config it =
       let opened = it.served.0 in
@@ -113,7 +112,7 @@ module _ {D : Type 0} (views : Views D) (setup : Setup) (status : Status) (disk 
       }
 
   -- no other text of the keep changed
-  pub store_others : (left : Option Parts) (disk_then old new : DiskState) → ServesStore views setup left status (store_over disk disk_then (keep_over told old new)) → told
+  pub store_others : (left : Option Parts) (disk_then old new : DiskState) → ServesStore views setup left (run_over status disk disk_then (keep_over told old new)) → told
       → (name : List ℕ) → name ≢ OFFSETS → name ≢ TOPICS → new.reads name ≡ old.reads name
   store_others None disk_then old new it tells_it name not_offsets not_topics = ap (λ (f : Files). f name) (it.still refl tells_it).same
   store_others (Some core) disk_then old new it tells_it name not_offsets not_topics = (it.served.put tells_it).reads.others name not_offsets not_topics
@@ -165,9 +164,9 @@ puts_no_format text keep = record { reads = same keep.reads; at_each = at_start 
     same files = record { here = inl refl; others = λ other apart. refl }
 
 -- the format stands, and stays so
-opened_kept : (P Q : List ℕ → Type 0) (asked : AskedSizes) (sizes : Sizes) (disk : Type 0) (files : Files) (keep : Type 0) (old opened new : DiskState) → (keep → PutsBy P Q opened new)
-    → IsOpened asked sizes disk files keep old opened → IsOpened asked sizes disk files keep old new
-opened_kept P Q asked sizes disk files keep old opened new puts is = record {
+opened_kept : (P Q : List ℕ → Type 0) (asked : AskedSizes) (sizes : Sizes) (store : StoreTold) (opened new : DiskState) → (store.keep → PutsBy P Q opened new)
+    → IsOpened asked sizes store opened → IsOpened asked sizes store new
+opened_kept P Q asked sizes store opened new puts is = record {
   sizes_are = is.sizes_are;
   own = is.own;
   stands = λ told. (puts told).reads.others FORMAT (λ e. absurd (cc e)) (λ e. absurd (cc e)) ∙ is.stands told;
@@ -186,10 +185,10 @@ config_before format old opened offsets topics puts has = record {
 
 -- a run over a store that was opened so
 pub run_served : {D : Type 0} (views : Views D) (left : Option Parts) (words : List (List ℕ)) (command : ServeCommand) (sizes : Sizes) (status : Status) (disk before disk_then : DiskState) (told : Type 0)
-    (old opened new : DiskState) → (views.disk.tells → Moves Same before disk) → IsServeCommand words command → IsOpened command.sizes sizes views.disk.tells before.reads told old opened
-    → (told → PutsOnly (own_format (old.reads FORMAT) command.sizes) old opened) → ServesStore views (setup_by command sizes.segment) left status (store_over disk disk_then (keep_over told opened new))
-    → IfSome left (λ core. (c : ServeCommand) × (s : Sizes) × (IsServeCommand words c × IsOpened c.sizes s views.disk.tells before.reads told old new)
-    × HasServed views (setup_by c s.segment) status (store_over before disk_then (keep_over told old new)) (λ start history. PutsAllAlong (own_format (old.reads FORMAT) c.sizes) start history old new) core)
+    (old opened new : DiskState) → (views.disk.tells → Moves Same before disk) → IsServeCommand words command → IsOpened command.sizes sizes (store_told views.disk.tells before.reads told old.reads) opened
+    → (told → PutsOnly (own_format (old.reads FORMAT) command.sizes) old opened) → ServesStore views (setup_by command sizes.segment) left (run_over status disk disk_then (keep_over told opened new))
+    → IfSome left (λ core. (c : ServeCommand) × (s : Sizes) × (IsServeCommand words c × IsOpened c.sizes s (store_told views.disk.tells before.reads told old.reads) new)
+    × HasServed views (setup_by c s.segment) (run_over status before disk_then (keep_over told old new)) (λ start history. PutsAllAlong (own_format (old.reads FORMAT) c.sizes) start history old new) core)
 run_served views None words command sizes status disk before disk_then told old opened new same asked is puts it = tt
 run_served views (Some core) words command sizes status disk before disk_then told old opened new same asked is puts it =
     let run = it.served in
@@ -198,7 +197,7 @@ run_served views (Some core) words command sizes status disk before disk_then to
     let format = own_format (old.reads FORMAT) command.sizes in (
       command,
       sizes,
-      (asked, opened_kept P Q command.sizes sizes views.disk.tells before.reads told old opened new run.put is),
+      (asked, opened_kept P Q command.sizes sizes (store_told views.disk.tells before.reads told old.reads) opened new run.put is),
       record {
         offsets = run.offsets;
         topics = run.topics;
@@ -224,6 +223,6 @@ run_served views (Some core) words command sizes status disk before disk_then to
 
 -- where no links were served
 pub run_unserved : {D : Type 0} (views : Views D) (left : Option Parts) (setup : Setup) (status : Status) (disk disk_then : DiskState) (told : Type 0) (format : List ℕ) (old opened new : DiskState)
-    → (told → PutsOnly format old opened) → ServesStore views setup left status (store_over disk disk_then (keep_over told opened new)) → told → IfNone left ((text : List ℕ) × PutsOnly text old new)
+    → (told → PutsOnly format old opened) → ServesStore views setup left (run_over status disk disk_then (keep_over told opened new)) → told → IfNone left ((text : List ℕ) × PutsOnly text old new)
 run_unserved views None setup status disk disk_then told format old opened new puts it t = (format, puts_still format old opened new (puts t) (it.still refl t))
 run_unserved views (Some core) setup status disk disk_then told format old opened new puts it t = tt

@@ -2,7 +2,6 @@
 use Rattle.std.proofs.Common.{◌≡◌, ℕ, List, Option, Some, None, IfSome, length, take, length-take, sym, ap, subst, arith}
 use Rattle.mq_outside.specs.Files.{Files, Same}
 use Rattle.mq_outside.specs.Disk.{DiskState, Moves}
-use Rattle.mq_outside.specs.Readings.{Giving}
 use Rattle.mq_outside.proofs.Moments.{each_same}
 use Rattle.record_codec.specs.Entry.{Entry}
 use Rattle.log_model.specs.Bases.{Geometry, geometry, whole}
@@ -25,8 +24,8 @@ use Rattle.flush_story.proofs.Keeps.{keeps_stores}
 use Rattle.log_opening.specs.Opens.{OpensOursWith}
 use Rattle.log_opening.specs.declared.opening.Opened.{Opened}
 use Rattle.session.specs.Serving.{Made}
-use Rattle.request_acts.specs.Acts.{DiskView, place_of}
-use Rattle.serve_story.specs.Served.{IsMadeBy}
+use Rattle.request_acts.specs.Acts.{Place, change_of, place_of}
+use Rattle.serve_story.specs.Served.{IsMadeBy, Views}
 use Rattle.broker_serve.specs.Serves.{StoresOn, StoresOpened, StoresOurs}
 
 -- ---- calls that change nothing
@@ -58,13 +57,14 @@ open_for setup saved records at ready =
     record { behind = 0; few = omega arith; ready = subst (λ (n : ℕ). IsReady (stored (whole setup.segment) records n) 0 at) none ready }
 
 -- what the turns of a history flushed is stored, and stays where the disk is given back
-pub stores_opened : {D : Type 0} (links : Type 0) (gives : Giving) (view : DiskView D) (start : Parts) (file : LastFile) (began : D) (history : Made) (core : Parts) (ended : D) (new : DiskState)
-    → IsMadeBy links gives view start (place_of file began) history core ended → view.tells
-    → ((S : Geometry) (log : List Entry) (flushed : ℕ) → StoresLog S log flushed (view.state ended) → StoresLog S log flushed new) → StoresOpened start file (view.state began) core new
-stores_opened links gives view start file began history core ended new made told back setup saved records represents ready =
+pub stores_opened : {D : Type 0} (views : Views D) (start : Parts) (file : LastFile) (began : D) (history : Made) (core : Parts) (ended : Place D) (new : DiskState)
+    → IsMadeBy views history (change_of start (place_of file began) core ended) → views.disk.tells
+    → ((S : Geometry) (log : List Entry) (flushed : ℕ) → StoresLog S log flushed (views.disk.state ended.disk) → StoresLog S log flushed new)
+    → StoresOpened start file (views.disk.state began) core new
+stores_opened views start file began history core ended new made told back setup saved records represents ready =
     let s = first_state setup saved records in
     let leads = made.leads s represents in
-    let kept = leads.keeps told (open_for setup saved records (growing file (view.state began)) ready) in
+    let kept = leads.keeps told (open_for setup saved records (growing file (views.disk.state began)) ready) in
     let all : flushed_in s ≡ length records = omega arith in
     let S : geometry_of leads.reached ≡ whole setup.segment = λ i. geometry ((kept.grows.setup i).segment) ((kept.grows.log i).base) in
     record {
@@ -74,8 +74,8 @@ stores_opened links gives view start file began history core ended new made told
       begins = ap (λ l. l.records) kept.grows.log;
       flushed = omega (arith, kept.flushed, all);
       stores = back (whole setup.segment) leads.reached.log.records (flushed_in leads.reached)
-          (subst (λ (G : Geometry). StoresLog G leads.reached.log.records (flushed_in leads.reached) (view.state ended)) S
-          (keeps_stores s leads.reached (stories.turns_of leads.story) (view.state began) (growing made.file (view.state ended)) kept));
+          (subst (λ (G : Geometry). StoresLog G leads.reached.log.records (flushed_in leads.reached) (views.disk.state ended.disk)) S
+          (keeps_stores s leads.reached (stories.turns_of leads.story) (views.disk.state began) (growing ended.file (views.disk.state ended.disk)) kept));
     }
 
 -- a log of ours that was opened is stored

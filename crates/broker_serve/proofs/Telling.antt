@@ -19,7 +19,7 @@ use Rattle.worker_turns.specs.declared.flush.FlushEnd.{FlushEnd}
 use Rattle.worker_turns.specs.declared.flush.FlushEnd.TheVariants as flush
 use Rattle.event_loops.specs.declared.event_loop.LoopEnd.{LoopEnd}
 use Rattle.event_loops.specs.declared.event_loop.LoopEnd.TheVariants as loops
-use Rattle.store_open.specs.Openings.{FORMAT, AreSizesOf, OpeningCause, PutsOnly}
+use Rattle.store_open.specs.Openings.{FORMAT, AreSizesOf, OpeningCause, PutsOnly, store_told}
 use Rattle.store_open.specs.ServeWords.{IsServeCommand}
 use Rattle.store_open.specs.declared.format.Sizes.{Sizes}
 use Rattle.store_open.specs.declared.serve_words.ServeCommand.{ServeCommand}
@@ -27,7 +27,7 @@ use Rattle.store_open.specs.declared.status.Status.{Status}
 use Rattle.serve_threads.specs.Causes.{WorldFaults, counts_of}
 use Rattle.end_statuses.specs.Statuses.{TellsDevice, StatusKept, StatusTellsFault, StatusTellsConfig}
 use Rattle.broker_serve.specs.Statuses.{StatusTellsLoops, StatusTellsEnd, AllWell, StatusLeft}
-use Rattle.broker_serve.specs.Statuses.{StatusTellsReader, ShutOut, Unopened, Unserved, IsDamagedLog, IsDamagedIn, IsDamagedFor, Refused, store_told}
+use Rattle.broker_serve.specs.Statuses.{StatusTellsReader, ShutOut, Unopened, Unserved, IsDamagedLog, IsDamagedIn, IsDamagedFor, Refused}
 
 -- ---- links were served
 

@@ -2,7 +2,6 @@
 use Rattle.std.specs.Prelude.{◌≡◌, ◌≢◌, ◌⊎◌, ℕ, ◌≤◌, ◌++◌, List, length, take}
 use Rattle.std.specs.Prelude.{Option, Some, None, IfSome, OnOk, Result}
 use Rattle.mq_outside.specs.Files.{Files, OldOrNew}
-use Rattle.mq_outside.specs.Readings.{Giving}
 use Rattle.mq_outside.specs.Disk.{DiskState, IsCrashImage, Rests, Throughout}
 use Rattle.mq_outside.specs.declared.faults.DiskFault.{DiskFault}
 use Rattle.record_codec.specs.Entry.{Entry}
@@ -27,10 +26,10 @@ use Rattle.keeper_turns.specs.Puts.{HasSuch, KeepsBy}
 use Rattle.keeper_turns.specs.Turns.{IsOffsetsOf, IsTopicsOf}
 use Rattle.log_opening.specs.Opens.{OpensLogWith, OpensKeptWith, saved_as}
 use Rattle.log_opening.specs.declared.opening.Opened.{Opened}
-use Rattle.request_acts.specs.Acts.{DiskView, place_of}
+use Rattle.request_acts.specs.Acts.{Place, change_of, place_of}
 use Rattle.spine.specs.Stands.{Stands}
-use Rattle.serve_story.specs.Kept.{IsTextAlong, PutsAlong}
-use Rattle.serve_story.specs.Served.{IsLeft, IsMadeBy}
+use Rattle.serve_story.specs.Kept.{IsTextAlong, KeepOver, PutsAlong}
+use Rattle.serve_story.specs.Served.{IsLeft, IsMadeBy, Views}
 use Rattle.store_open.specs.Openings.{FORMAT}
 use Rattle.store_open.specs.declared.serve_words.ServeCommand.{ServeCommand}
 use Rattle.store_open.specs.declared.status.Status.{Status}
@@ -97,88 +96,68 @@ StoresOpened start file old core new = (setup : Setup) (saved : Saved) (records 
 
 -- ---- a run
 
--- how a run sees its links, what its readers give, and its disk
-pub record Views (D : Type 0) : Type 1 where
-  pub links : Type 0
-  pub gives : Giving
-  pub disk : DiskView D
-
-abbrev pub views_of : {D : Type 0} → Type 0 → Giving → DiskView D → Views D
-views_of links gives disk = record { links = links; gives = gives; disk = disk }
-
--- a keep over a run: that it tells its texts, and it before the run and behind it
-pub record KeepOver : Type 1 where
-  pub tells : Type 0
-  pub old : DiskState
-  pub new : DiskState
-
-abbrev pub keep_over : Type 0 → DiskState → DiskState → KeepOver
-keep_over tells old new = record { tells = tells; old = old; new = new }
-
--- a store over a run: the disk before the run and behind it, and the keep
-pub record StoreOver : Type 1 where
+-- a run over a store: its status, the disk before the run and behind it, and the keep
+pub record RunOver : Type 1 where
+  pub status : Status
   pub disk : DiskState
   pub disk_then : DiskState
   pub keep : KeepOver
 
-abbrev pub store_over : DiskState → DiskState → KeepOver → StoreOver
-store_over disk disk_then keep = record { disk = disk; disk_then = disk_then; keep = keep }
+abbrev pub run_over : Status → DiskState → DiskState → KeepOver → RunOver
+run_over status disk disk_then keep = record { status = status; disk = disk; disk_then = disk_then; keep = keep }
 
--- Links were served from the first core on, and this is left. Why the loops ended, how the last flush turn did and the last
+-- Links were served over this open log, and this core is left. Why the loops ended, how the last flush turn did and the last
 -- replacement of the kept files tell the status.
-pub record LeavesCore {D : Type 0} (views : Views D) (start : Parts) (file : LastFile) (core : Parts) (status : Status)
-    (keep : KeepOver) : Type 0 where
+pub record LeavesCore {D : Type 0} (views : Views D) (opened : Opened) (core : Parts) (status : Status) (keep : KeepOver) : Type 0 where
   pub stopped : LoopEnd
   pub last : FlushEnd
   pub kept : Result (Unit {0}) DiskFault
   pub tells : StatusLeft status stopped last kept
   pub began : D
-  pub ended : D
-  pub left : IsLeft views.links views.gives views.disk start (place_of file began) ended keep.tells kept keep.old keep.new core
+  pub ended : Place D
+  pub left : IsLeft views (change_of opened.core (place_of opened.flusher.file began) core ended) keep kept
 
 -- the same where links were served; else the keep stays
-abbrev pub EndsOver : {D : Type 0} → Views D → Parts → LastFile → Option Parts → Status → KeepOver → Type 0
-EndsOver views start file None status keep = keep.tells → Rests keep.old keep.new
-EndsOver views start file (Some core) status keep = LeavesCore views start file core status keep
+abbrev pub EndsOver : {D : Type 0} → Views D → Opened → Option Parts → Status → KeepOver → Type 0
+EndsOver views opened None status keep = keep.tells → Rests keep.old keep.new
+EndsOver views opened (Some core) status keep = LeavesCore views opened core status keep
 
 -- A log was opened by this setup with what the kept files had, and the core stands for one history since, of which each entry is the
 -- flusher's, one of the loops' or the keeper's. Where the disk tells its files, it is the log that recovery keeps of them; and a log
 -- that it stored and was read of honestly it stores still, with what was flushed since. What was put into the kept files is told along
 -- this history. Why the loops ended, how the last flush turn did and the last replacement of the kept files tell the status. Where that
 -- replacement ended Ok, as it did with status 0, both have the texts of the core, and keep them through a crash.
-pub record HasServed {D : Type 0} (views : Views D) (setup : Setup) (status : Status) (store : StoreOver)
+pub record HasServed {D : Type 0} (views : Views D) (setup : Setup) (run : RunOver)
     (puts : Parts → List (Event × Option Said) → Type 0) (core : Parts) : Type 0 where
   pub offsets : List OffsetRow
   pub topics : List TopicRow
-  pub config : store.keep.tells → HasConfig store.keep.old.reads offsets topics
+  pub config : run.keep.tells → HasConfig run.keep.old.reads offsets topics
   pub opened : Opened
   pub over : OpensLogWith setup (saved_as offsets topics) opened
-  pub kept : views.disk.tells → OpensKeptWith setup (saved_as offsets topics) store.disk.reads opened
+  pub kept : views.disk.tells → OpensKeptWith setup (saved_as offsets topics) run.disk.reads opened
   pub history : List (Event × Option Said)
   pub stands : Stands opened.core history core
   pub began : D
-  pub ended : D
-  pub made : IsMadeBy views.links views.gives views.disk opened.core (place_of opened.flusher.file began) history core ended
-  pub stores : views.disk.tells → StoresOurs setup.segment store.disk core store.disk_then
-  pub put : store.keep.tells → puts opened.core history
+  pub ended : Place D
+  pub made : IsMadeBy views history (change_of opened.core (place_of opened.flusher.file began) core ended)
+  pub stores : views.disk.tells → StoresOurs setup.segment run.disk core run.disk_then
+  pub put : run.keep.tells → puts opened.core history
   pub stopped : LoopEnd
   pub last : FlushEnd
   pub replaced : Result (Unit {0}) DiskFault
-  pub tells : StatusLeft status stopped last replaced
-  pub done : store.keep.tells → OnOk replaced (KeepsBy (IsOffsetsOf core) (IsTopicsOf core) store.keep.new)
-  pub ends : store.keep.tells → status.code ≡ 0 → KeepsBy (IsOffsetsOf core) (IsTopicsOf core) store.keep.new
+  pub tells : StatusLeft run.status stopped last replaced
+  pub done : run.keep.tells → OnOk replaced (KeepsBy (IsOffsetsOf core) (IsTopicsOf core) run.keep.new)
+  pub ends : run.keep.tells → run.status.code ≡ 0 → KeepsBy (IsOffsetsOf core) (IsTopicsOf core) run.keep.new
 
 -- the same with what was kept, once that was loaded
-pub record ServesLog {D : Type 0} (views : Views D) (setup : Setup) (saved : Saved) (core : Option Parts) (status : Status)
-    (store : StoreOver) : Type 0 where
-  pub still : core ≡ None → store.keep.tells → Rests store.keep.old store.keep.new
+pub record ServesLog {D : Type 0} (views : Views D) (setup : Setup) (saved : Saved) (core : Option Parts) (run : RunOver) : Type 0 where
+  pub still : core ≡ None → run.keep.tells → Rests run.keep.old run.keep.new
   pub served : IfSome core (λ left. (opened : Opened) × OpensLogWith setup saved opened
-      × (views.disk.tells → OpensKeptWith setup saved store.disk.reads opened)
-      × (views.disk.tells → StoresOurs setup.segment store.disk left store.disk_then)
-      × LeavesCore views opened.core opened.flusher.file left status store.keep)
+      × (views.disk.tells → OpensKeptWith setup saved run.disk.reads opened)
+      × (views.disk.tells → StoresOurs setup.segment run.disk left run.disk_then)
+      × LeavesCore views opened left run.status run.keep)
 
 -- the same from a keep whose format stands
-pub record ServesStore {D : Type 0} (views : Views D) (setup : Setup) (core : Option Parts) (status : Status) (store : StoreOver)
-    : Type 0 where
-  pub still : core ≡ None → store.keep.tells → Rests store.keep.old store.keep.new
-  pub served : IfSome core (HasServed views setup status store (λ start history. PutsAlong start history store.keep.old store.keep.new))
+pub record ServesStore {D : Type 0} (views : Views D) (setup : Setup) (core : Option Parts) (run : RunOver) : Type 0 where
+  pub still : core ≡ None → run.keep.tells → Rests run.keep.old run.keep.new
+  pub served : IfSome core (HasServed views setup run (λ start history. PutsAlong start history run.keep.old run.keep.new))

@@ -11,7 +11,7 @@ use Rattle.worker_turns.specs.declared.flush.FlushEnd.{FlushEnd}
 use Rattle.worker_turns.specs.declared.flush.FlushEnd.TheVariants as flush
 use Rattle.event_loops.specs.declared.event_loop.LoopEnd.{LoopEnd}
 use Rattle.event_loops.specs.declared.event_loop.LoopEnd.TheVariants as loops
-use Rattle.store_open.specs.Openings.{FORMAT, AreSizesOf}
+use Rattle.store_open.specs.Openings.{FORMAT, StoreTold, AreSizesOf}
 use Rattle.store_open.specs.ServeWords.{IsServeCommand}
 use Rattle.store_open.specs.declared.format.Sizes.{Sizes}
 use Rattle.store_open.specs.declared.serve_words.ServeCommand.{ServeCommand}
@@ -80,16 +80,6 @@ Unserved damaged status disk disk_then keep keep_then =
 -- where the disk tells them, these files are damaged at this place, in this one of them
 abbrev pub IsDamagedLog : Type 0 → ℕ → Files → ℕ → List ℕ → Type 0
 IsDamagedLog disk segment files place name = disk → IsDamagedAt (whole segment) files place name
-
--- a store as it is told: whether the disk tells its files, and these; whether the keep tells its texts, and these
-pub record StoreTold : Type 1 where
-  pub disk : Type 0
-  pub files : Files
-  pub keep : Type 0
-  pub texts : Files
-
-abbrev pub store_told : Type 0 → Files → Type 0 → Files → StoreTold
-store_told disk files keep texts = record { disk = disk; files = files; keep = keep; texts = texts }
 
 -- the log of this store is so damaged, or, where the keep tells its texts, the kept file of this name isn't of its form
 abbrev pub IsDamagedIn : ℕ → StoreTold → ℕ → List ℕ → Type 0

@@ -12,7 +12,7 @@ ghost use Rattle.log_model.specs.Stored.{Stored, StaysOutside};
 ghost use Rattle.segment_files.specs.Turn.{IsInside, IsReady, growing};
 ghost use Rattle.segment_files.specs.declared.last_file.LastFile.{LastFile};
 ghost use Rattle.broker_core.specs.Makes.{shown_of};
-ghost use Rattle.store_open.specs.Openings.{FORMAT, IsForeign, IsOpened, PutsOnly, own_format};
+ghost use Rattle.store_open.specs.Openings.{FORMAT, IsForeign, IsOpened, PutsOnly, own_format, store_told};
 ghost use Rattle.store_open.specs.Words.{texts_of};
 ghost use Rattle.store_open.specs.ServeWords.{IsServeCommand, IsFirstWrongOfServe};
 ghost use Rattle.store_open.specs.Statuses.{FitsTable};
@@ -23,13 +23,14 @@ ghost use Rattle.config_store.specs.Texts.{IsKeptTopic};
 ghost use Rattle.group_tables.specs.Offsets.{IsOffset};
 ghost use Rattle.log_opening.specs.Opens.{saved_as};
 ghost use Rattle.request_acts.specs.Acts.{view_of};
-ghost use Rattle.serve_story.specs.Served.{AreLoops};
+ghost use Rattle.serve_story.specs.Kept.{keep_over};
+ghost use Rattle.serve_story.specs.Served.{AreLoops, views_of};
 ghost use Rattle.serve_threads.specs.Causes.{HasCauses, ServeFaults as TheFaults, counts_of, world_faults};
 ghost use Rattle.broker_serve.specs.Causes.{BlamesDoor, Causes};
 ghost use Rattle.broker_serve.specs.Serves.{EndsOver, HasServed, PutsAllAlong, ServesLog, ServesStore, StoresOpened};
-ghost use Rattle.broker_serve.specs.Serves.{keep_over, setup_by, store_over, views_of};
+ghost use Rattle.broker_serve.specs.Serves.{run_over, setup_by};
 ghost use Rattle.end_statuses.specs.Statuses.{TellsDevice};
-ghost use Rattle.broker_serve.specs.Statuses.{IsDamagedIn, IsDamagedLog, Refused, ShutOut, StatusLeft, Unopened, store_told};
+ghost use Rattle.broker_serve.specs.Statuses.{IsDamagedIn, IsDamagedLog, Refused, ShutOut, StatusLeft, Unopened};
 ghost use Rattle.broker_serve.specs.Statuses.{Unserved as UnservedBy};
 
 use crate::statuses::{last_status, status_of_making, status_of_reader};
@@ -191,8 +192,9 @@ where
     requires inside { D.tells → IsInside devices.flusher.file.base devices.flusher.file.offset (D.state devices.disk) }
     ensures status { (result.status.code ≢ 1) × (result.status.code ≢ 6) × FitsTable result.status }
     ensures why { IfNone result.core (result.status.code ≡ 7) }
-    ensures ends { EndsOver (views_of P.Link.tells D.Reader.gives (view_of D.tells D.state D.faults D.syncs)) core devices.flusher.file
-        result.core result.status (keep_over E.tells (E.state devices.keep) (E.state result.store.keep)) }
+    ensures ends { EndsOver (views_of P.Link.tells D.Reader.gives (view_of D.tells D.state D.faults D.syncs))
+        (record { core = core; flusher = devices.flusher }) result.core result.status
+        (keep_over E.tells (E.state devices.keep) (E.state result.store.keep)) }
     ensures stores { D.tells → IfSome result.core (λ left.
         StoresOpened core devices.flusher.file (D.state devices.disk) left (D.state result.store.disk)) }
     ensures outside { D.tells → StaysOutside (D.state devices.disk) (D.state result.store.disk) }
@@ -240,8 +242,8 @@ where
     requires inside { D.tells → IsInside opened.flusher.file.base opened.flusher.file.offset (D.state store.disk) }
     ensures status { (result.status.code ≢ 1) × (result.status.code ≢ 6) × FitsTable result.status }
     ensures why { IfNone result.core (ShutOut result.status (D.faults store.disk) (D.faults result.store.disk)) }
-    ensures ends { EndsOver (views_of P.Link.tells D.Reader.gives (view_of D.tells D.state D.faults D.syncs)) opened.core
-        opened.flusher.file result.core result.status (keep_over E.tells (E.state store.keep) (E.state result.store.keep)) }
+    ensures ends { EndsOver (views_of P.Link.tells D.Reader.gives (view_of D.tells D.state D.faults D.syncs)) opened
+        result.core result.status (keep_over E.tells (E.state store.keep) (E.state result.store.keep)) }
     ensures stores { D.tells → IfSome result.core (λ left.
         StoresOpened opened.core opened.flusher.file (D.state store.disk) left (D.state result.store.disk)) }
     ensures outside { D.tells → StaysOutside (D.state store.disk) (D.state result.store.disk) }
@@ -315,8 +317,8 @@ where
     requires inside { D.tells → IsInside opened.flusher.file.base opened.flusher.file.offset (D.state store.disk) }
     ensures status { (result.status.code ≢ 1) × (result.status.code ≢ 6) × FitsTable result.status }
     ensures why { IfNone result.core (ShutOut result.status (D.faults store.disk) (D.faults result.store.disk)) }
-    ensures ends { EndsOver (views_of P.Link.tells D.Reader.gives (view_of D.tells D.state D.faults D.syncs)) opened.core
-        opened.flusher.file result.core result.status (keep_over E.tells (E.state store.keep) (E.state result.store.keep)) }
+    ensures ends { EndsOver (views_of P.Link.tells D.Reader.gives (view_of D.tells D.state D.faults D.syncs)) opened
+        result.core result.status (keep_over E.tells (E.state store.keep) (E.state result.store.keep)) }
     ensures stores { D.tells → IfSome result.core (λ left.
         StoresOpened opened.core opened.flusher.file (D.state store.disk) left (D.state result.store.disk)) }
     ensures outside { D.tells → StaysOutside (D.state store.disk) (D.state result.store.disk) }
@@ -359,8 +361,9 @@ where
     ensures why { IfNone result.core (Unopened (IsDamagedLog D.tells segment (D.state store.disk).reads) result.status
         (D.faults store.disk) (D.faults result.store.disk)) }
     ensures served { ServesLog (views_of P.Link.tells D.Reader.gives (view_of D.tells D.state D.faults D.syncs))
-        (setup_by command.now segment) (saved_as config.offsets.items config.topics.items) result.core result.status
-        (store_over (D.state store.disk) (D.state result.store.disk) (keep_over E.tells (E.state store.keep) (E.state result.store.keep))) }
+        (setup_by command.now segment) (saved_as config.offsets.items config.topics.items) result.core
+        (run_over result.status (D.state store.disk) (D.state result.store.disk)
+        (keep_over E.tells (E.state store.keep) (E.state result.store.keep))) }
     ensures outside { D.tells → StaysOutside (D.state store.disk) (D.state result.store.disk) }
     ensures cause { Causes result.status
         (counts_of (D.faults store.disk) (E.faults store.keep) (world_faults P.faults P.Door.faults K.faults world))
@@ -403,7 +406,7 @@ where
         (IsDamagedIn segment (store_told D.tells (D.state store.disk).reads E.tells (E.state store.keep).reads)) result.status
         (D.faults store.disk) (D.faults result.store.disk) (E.faults store.keep) (E.faults result.store.keep)) }
     ensures served { ServesStore (views_of P.Link.tells D.Reader.gives (view_of D.tells D.state D.faults D.syncs))
-        (setup_by command.now segment) result.core result.status (store_over (D.state store.disk) (D.state result.store.disk)
+        (setup_by command.now segment) result.core (run_over result.status (D.state store.disk) (D.state result.store.disk)
         (keep_over E.tells (E.state store.keep) (E.state result.store.keep))) }
     ensures outside { D.tells → StaysOutside (D.state store.disk) (D.state result.store.disk) }
     ensures cause { Causes result.status
@@ -453,9 +456,10 @@ where
     // for one history of steps since, each of which is the flusher's, one link's or the keeper's. The disk stores the log of a state
     // that this core represents, and the kept files have texts of states of this history.
     ensures served { IfSome result.core (λ core. (command : ACommand) × (sizes : TheSizes) × (IsServeCommand (texts_of words.now) command
-        × IsOpened command.sizes sizes D.tells (D.state store.disk).reads E.tells (E.state store.keep) (E.state result.store.keep))
+        × IsOpened command.sizes sizes
+        (store_told D.tells (D.state store.disk).reads E.tells (E.state store.keep).reads) (E.state result.store.keep))
         × HasServed (views_of P.Link.tells D.Reader.gives (view_of D.tells D.state D.faults D.syncs))
-        (setup_by command sizes.segment) result.status (store_over (D.state store.disk) (D.state result.store.disk)
+        (setup_by command sizes.segment) (run_over result.status (D.state store.disk) (D.state result.store.disk)
         (keep_over E.tells (E.state store.keep) (E.state result.store.keep)))
         (λ start history. PutsAllAlong (own_format ((E.state store.keep).reads FORMAT) command.sizes) start history
         (E.state store.keep) (E.state result.store.keep)) core) }

@@ -13,7 +13,7 @@ use std::test::Fail;
 use worker_turns::FlushEnd;
 
 // The request of a frame comes, if it is one.
-fn asks(alloc: Global, now: u64, link: u32, frame: &Frame) -> Option<Event> {
+fn asks(alloc: Global, now: u64, link: u32, frame: Frame) -> Option<Event> {
     match Request::read(alloc, frame) {
         Ok(request) => Some(Event::Basic(slow_broker::Event::Asks {
             link,
@@ -27,7 +27,7 @@ fn asks(alloc: Global, now: u64, link: u32, frame: &Frame) -> Option<Event> {
 
 fn request(alloc: Global, now: u64, asked: &Asked) -> Result<Option<Event>, AllocError> {
     match frame_of(alloc, asked)? {
-        Some(frame) => Ok(asks(alloc, now, asked.link, &frame)),
+        Some(frame) => Ok(asks(alloc, now, asked.link, frame)),
         None => Ok(None),
     }
 }

@@ -69,38 +69,58 @@ pub record IsAnsweredInOrder (tells : Type 0) (gives : Giving) (number : ℕ) (m
 abbrev pub loop_of : ℕ → ℕ → ℕ
 loop_of loops link = link % max loops 1
 
+-- what is seen of links of this type: that they tell what they gave and took, and what that is
+pub record LinkView (L : Type 0) : Type 1 where
+  pub tells : Type 0
+  pub given : L → List ℕ
+  pub taken : L → List ℕ
+
+abbrev pub link_view : {L : Type 0} → Type 0 → (L → List ℕ) → (L → List ℕ) → LinkView L
+link_view tells given taken = record { tells = tells; given = given; taken = taken }
+
 -- a link of a loop, as it is seen
-abbrev pub seen_in : {L : Type 0} → (L → List ℕ) → (L → List ℕ) → Numbered L → Seen
-seen_in given taken numbered = seen_of given taken numbered.linked
+abbrev pub seen_in : {L : Type 0} → LinkView L → Numbered L → Seen
+seen_in view numbered = seen_of view.given view.taken numbered.linked
+
+-- the numbers of a loop: how many loops there are, which of them it is, and the greatest that a link of it had
+pub record LoopNumbers : Type 0 where
+  pub loops : ℕ
+  pub number : ℕ
+  pub newest : ℕ
+
+abbrev pub loop_numbers : {L : Type 0} → Links L → LoopNumbers
+loop_numbers links = record { loops = links.loops; number = links.number; newest = links.newest }
+
+-- the link in this slot has this number
+abbrev pub HasNumber : {L : Type 0} → List (Option (Numbered L)) → ℕ → ℕ → Type 0
+HasNumber {L} links i link = (at : Numbered L) × (slice_get links i ≡ Some (Some at)) × (at.number ≡ link)
 
 -- What a loop has done for its links by these acts: for each link that it has now, and for each that it ever had, the steps that were
 -- made for it are its tale. There are none for a number that isn't one of its links'.
-pub record IsTold {L : Type 0} (tells : Type 0) (gives : Giving) (given taken : L → List ℕ) (loops number : ℕ) (acts : List Act)
-    (newest : ℕ) (links : List (Option (Numbered L))) : Type 0 where
+pub record IsTold {L : Type 0} (view : LinkView L) (gives : Giving) (loop : LoopNumbers) (acts : List Act)
+    (links : List (Option (Numbered L))) : Type 0 where
   pub present : (i : ℕ) (at : Numbered L) → slice_get links i ≡ Some (Some at)
-      → IsServed tells gives at.number (made_for at.number acts) (seen_in given taken at)
-  pub apart : (i j : ℕ) (at other : Numbered L) → slice_get links i ≡ Some (Some at) → slice_get links j ≡ Some (Some other)
-      → at.number ≡ other.number → i ≡ j
-  pub within : (i : ℕ) (at : Numbered L) → slice_get links i ≡ Some (Some at) → (at.number ≤ newest) × (loop_of loops at.number ≡ number)
-  pub later : (link : ℕ) → newest < link → made_for link acts ≡ []
-  pub each : (link : ℕ) → (made_for link acts ≡ []) ⊎ ((loop_of loops link ≡ number) × IsTale tells gives link (made_for link acts))
+      → IsServed view.tells gives at.number (made_for at.number acts) (seen_in view at)
+  pub apart : (i j link : ℕ) → HasNumber links i link → HasNumber links j link → i ≡ j
+  pub within : (i : ℕ) (at : Numbered L) → slice_get links i ≡ Some (Some at)
+      → (at.number ≤ loop.newest) × (loop_of loop.loops at.number ≡ loop.number)
+  pub later : (link : ℕ) → loop.newest < link → made_for link acts ≡ []
+  pub each : (link : ℕ) → (made_for link acts ≡ [])
+      ⊎ ((loop_of loop.loops link ≡ loop.number) × IsTale view.tells gives link (made_for link acts))
 
 -- what holds of a loop's acts and links still holds after these
-abbrev pub Keeps : {L : Type 0} → Type 0 → Giving → (L → List ℕ) → (L → List ℕ) → List (Option (Numbered L)) → List Act
-    → List (Option (Numbered L)) → Type 0
-Keeps tells gives given taken old acts new = (loops number newest : ℕ) (before : List Act)
-    → IsTold tells gives given taken loops number before newest old
-    → IsTold tells gives given taken loops number (before ++ acts) newest new
+abbrev pub Keeps : {L : Type 0} → LinkView L → Giving → List (Option (Numbered L)) → List Act → List (Option (Numbered L)) → Type 0
+Keeps view gives old acts new = (loop : LoopNumbers) (before : List Act) → IsTold view gives loop before old
+    → IsTold view gives loop (before ++ acts) new
 
 -- what these acts did for one link, or where there is none: a pass, and maybe its end
-abbrev pub Acts : {L : Type 0} → Type 0 → Giving → (L → List ℕ) → (L → List ℕ) → Option (Numbered L) → List Act → Option (Numbered L)
-    → Type 0
-Acts tells gives given taken None acts new = (acts ≡ []) × (new ≡ None)
-Acts tells gives given taken (Some old) acts None = (made : Made) × (after : Seen) × (said : Option Said)
-    × WentOn tells gives (seen_in given taken old) made after
+abbrev pub Acts : {L : Type 0} → LinkView L → Giving → Option (Numbered L) → List Act → Option (Numbered L) → Type 0
+Acts view gives None acts new = (acts ≡ []) × (new ≡ None)
+Acts view gives (Some old) acts None = (made : Made) × (after : Seen) × (said : Option Said)
+    × WentOn view.tells gives (seen_in view old) made after
     × (acts ≡ act old.number made ∷ act old.number ((Leave old.number, said) ∷ []) ∷ [])
-Acts tells gives given taken (Some old) acts (Some new) = (made : Made) × (new.number ≡ old.number)
-    × WentOn tells gives (seen_in given taken old) made (seen_in given taken new) × (acts ≡ act old.number made ∷ [])
+Acts view gives (Some old) acts (Some new) = (made : Made) × (new.number ≡ old.number)
+    × WentOn view.tells gives (seen_in view old) made (seen_in view new) × (acts ≡ act old.number made ∷ [])
 
 -- some acts lead from x to y, and of them this is so
 pub record LeadsBy {C : Type 0} (makes : Steps C) (x y : C) (P : List Act → Type 0) : Type 0 where
@@ -111,18 +131,16 @@ pub record LeadsBy {C : Type 0} (makes : Steps C) (x y : C) (P : List Act → Ty
 -- ---- a loop
 
 -- what a loop has done for its links by these acts
-abbrev pub IsToldOf : {L : Type 0} → Type 0 → Giving → (L → List ℕ) → (L → List ℕ) → List Act → Links L → Type 0
-IsToldOf tells gives given taken acts links =
-    IsTold tells gives given taken links.loops links.number acts links.newest links.slots.items
+abbrev pub IsToldOf : {L : Type 0} → LinkView L → Giving → List Act → Links L → Type 0
+IsToldOf view gives acts links = IsTold view gives (loop_numbers links) acts links.slots.items
 
 -- the loop went on by these acts
-pub record GoesOn {L : Type 0} (tells : Type 0) (gives : Giving) (given taken : L → List ℕ) (old : Links L) (acts : List Act)
-    (new : Links L) : Type 0 where
+pub record GoesOn {L : Type 0} (view : LinkView L) (gives : Giving) (old : Links L) (acts : List Act) (new : Links L) : Type 0 where
   pub same : (new.loops ≡ old.loops) × (new.number ≡ old.number)
-  pub keeps : (before : List Act) → IsToldOf tells gives given taken before old → IsToldOf tells gives given taken (before ++ acts) new
+  pub keeps : (before : List Act) → IsToldOf view gives before old → IsToldOf view gives (before ++ acts) new
 
 -- the same link as before, which is seen as before
-abbrev pub IsSeenAs : {L : Type 0} → (L → List ℕ) → (L → List ℕ) → Option (Numbered L) → Option (Numbered L) → Type 0
-IsSeenAs given taken None new = new ≡ None
-IsSeenAs given taken (Some old) None = ⊥
-IsSeenAs given taken (Some old) (Some new) = (new.number ≡ old.number) × (seen_in given taken new ≡ seen_in given taken old)
+abbrev pub IsSeenAs : {L : Type 0} → LinkView L → Option (Numbered L) → Option (Numbered L) → Type 0
+IsSeenAs view None new = new ≡ None
+IsSeenAs view (Some old) None = ⊥
+IsSeenAs view (Some old) (Some new) = (new.number ≡ old.number) × (seen_in view new ≡ seen_in view old)

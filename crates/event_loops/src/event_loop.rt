@@ -2,7 +2,7 @@
 
 ghost use Rattle.std.specs.Prelude.{◌≡◌, ◌<◌, ◌^◌, [], IfOk, vec_len};
 ghost use Rattle.event_loops.specs.Causes.{CountsEnd, CountsLoop, Grow, loop_faults};
-ghost use Rattle.event_loops.specs.Tales.{GoesOn, LeadsBy};
+ghost use Rattle.event_loops.specs.Tales.{GoesOn, LeadsBy, link_view};
 
 use crate::links::Links;
 use crate::outside::{DOOR, Outside};
@@ -81,7 +81,7 @@ impl<P: Ready + Drop> EventLoop<P> {
         outside: &mut Outside<P, K>,
         new: NewLink<P::Link>,
     ) -> bool
-        ensures went { GoesOn P.Link.tells R.gives P.Link.given P.Link.taken self.old.links [] self.new.links }
+        ensures went { GoesOn (link_view P.Link.tells P.Link.given P.Link.taken) R.gives self.old.links [] self.new.links }
         ensures grow { Grow (loop_faults P.faults P.Door.faults K.faults outside.old)
             (loop_faults P.faults P.Door.faults K.faults outside.new) }
     {
@@ -109,7 +109,7 @@ impl<P: Ready + Drop> EventLoop<P> {
         outside: &mut Outside<P, K>,
         new: NewLink<P::Link>,
     )
-        ensures went { GoesOn P.Link.tells R.gives P.Link.given P.Link.taken self.old.links [] self.new.links }
+        ensures went { GoesOn (link_view P.Link.tells P.Link.given P.Link.taken) R.gives self.old.links [] self.new.links }
         ensures grow { Grow (loop_faults P.faults P.Door.faults K.faults outside.old)
             (loop_faults P.faults P.Door.faults K.faults outside.new) }
     {
@@ -155,7 +155,7 @@ impl<P: Ready + Drop> EventLoop<P> {
         around: &Around<'_, W, P>,
         outside: &mut Outside<P, K>,
     ) -> Result<(), LoopEnd>
-        ensures went { GoesOn P.Link.tells R.gives P.Link.given P.Link.taken self.old.links [] self.new.links }
+        ensures went { GoesOn (link_view P.Link.tells P.Link.given P.Link.taken) R.gives self.old.links [] self.new.links }
         ensures cause { CountsLoop result (loop_faults P.faults P.Door.faults K.faults outside.old)
             (loop_faults P.faults P.Door.faults K.faults outside.new) }
     {
@@ -176,7 +176,7 @@ impl<P: Ready + Drop> EventLoop<P> {
         around: &Around<'_, W, P>,
         outside: &mut Outside<P, K>,
     ) -> Result<(), LoopEnd>
-        ensures went { GoesOn P.Link.tells R.gives P.Link.given P.Link.taken self.old.links [] self.new.links }
+        ensures went { GoesOn (link_view P.Link.tells P.Link.given P.Link.taken) R.gives self.old.links [] self.new.links }
         ensures cause { CountsLoop result (loop_faults P.faults P.Door.faults K.faults outside.old)
             (loop_faults P.faults P.Door.faults K.faults outside.new) }
     {
@@ -194,7 +194,7 @@ impl<P: Ready + Drop> EventLoop<P> {
         around: &Around<'_, W, P>,
         outside: &mut Outside<P, K>,
     ) -> bool
-        ensures went { GoesOn P.Link.tells R.gives P.Link.given P.Link.taken self.old.links [] self.new.links }
+        ensures went { GoesOn (link_view P.Link.tells P.Link.given P.Link.taken) R.gives self.old.links [] self.new.links }
         ensures grow { Grow (loop_faults P.faults P.Door.faults K.faults outside.old)
             (loop_faults P.faults P.Door.faults K.faults outside.new) }
     {
@@ -215,7 +215,7 @@ impl<P: Ready + Drop> EventLoop<P> {
     // Notes what was reported of a link, or of the door.
     fn note_report<R: Reader>(&mut self, event: &Event)
         ensures events { vec_len self.new.events ≡ vec_len self.old.events }
-        ensures went { GoesOn P.Link.tells R.gives P.Link.given P.Link.taken self.old.links [] self.new.links }
+        ensures went { GoesOn (link_view P.Link.tells P.Link.given P.Link.taken) R.gives self.old.links [] self.new.links }
     {
         if event.token == DOOR {
             self.at_door = true;
@@ -226,7 +226,7 @@ impl<P: Ready + Drop> EventLoop<P> {
 
     // Notes what was reported.
     fn note_reports<R: Reader>(&mut self)
-        ensures went { GoesOn P.Link.tells R.gives P.Link.given P.Link.taken self.old.links [] self.new.links }
+        ensures went { GoesOn (link_view P.Link.tells P.Link.given P.Link.taken) R.gives self.old.links [] self.new.links }
     {
         for i in 0..self.events.len() {
             let event = self.events[i];
@@ -257,7 +257,7 @@ impl<P: Ready + Drop> EventLoop<P> {
     )
         requires { now < 2 ^ 62 }
         ensures went { LeadsBy C.makes calls.old calls.new
-            (λ acts. GoesOn P.Link.tells R.gives P.Link.given P.Link.taken self.old.links acts self.new.links) }
+            (λ acts. GoesOn (link_view P.Link.tells P.Link.given P.Link.taken) R.gives self.old.links acts self.new.links) }
     {
         let buffer = self.buffer.as_mut_slice();
         if self
@@ -333,7 +333,7 @@ impl<P: Ready + Drop> EventLoop<P> {
         outside: &mut Outside<P, K>,
         has_more: bool,
     ) -> Result<bool, LoopEnd>
-        ensures went { GoesOn P.Link.tells R.gives P.Link.given P.Link.taken self.old.links [] self.new.links }
+        ensures went { GoesOn (link_view P.Link.tells P.Link.given P.Link.taken) R.gives self.old.links [] self.new.links }
         ensures cause { CountsLoop result (loop_faults P.faults P.Door.faults K.faults outside.old)
             (loop_faults P.faults P.Door.faults K.faults outside.new) }
     {
@@ -353,7 +353,7 @@ impl<P: Ready + Drop> EventLoop<P> {
         has_more: bool,
     ) -> Result<bool, LoopEnd>
         ensures went { LeadsBy C.makes calls.old calls.new
-            (λ acts. GoesOn P.Link.tells R.gives P.Link.given P.Link.taken self.old.links acts self.new.links) }
+            (λ acts. GoesOn (link_view P.Link.tells P.Link.given P.Link.taken) R.gives self.old.links acts self.new.links) }
         ensures cause { CountsLoop result (loop_faults P.faults P.Door.faults K.faults outside.old)
             (loop_faults P.faults P.Door.faults K.faults outside.new) }
     {
@@ -374,7 +374,7 @@ impl<P: Ready + Drop> EventLoop<P> {
     ) -> LoopEnd
         // Each step is one of a link's pass, or its end.
         ensures went { LeadsBy C.makes calls.old calls.new
-            (λ acts. GoesOn P.Link.tells R.gives P.Link.given P.Link.taken self.old.links acts self.new.links) }
+            (λ acts. GoesOn (link_view P.Link.tells P.Link.given P.Link.taken) R.gives self.old.links acts self.new.links) }
         // It ends by a fault only where the count of what it blames rose.
         ensures cause { CountsEnd result (loop_faults P.faults P.Door.faults K.faults outside.old)
             (loop_faults P.faults P.Door.faults K.faults outside.new) }

@@ -2,7 +2,7 @@
 
 ghost use Rattle.std.specs.Prelude.{◌≡◌, ℕ, List, []};
 ghost use Rattle.session.specs.Serving.{Made};
-ghost use Rattle.event_loops.specs.Tales.{Act, GoesOn, IsToldOf, IsTale, IsAnsweredInOrder};
+ghost use Rattle.event_loops.specs.Tales.{Act, GoesOn, IsToldOf, IsTale, IsAnsweredInOrder, link_view};
 ghost use Rattle.event_loops.specs.declared.links.Links.{Links as TheLinks};
 
 use link_service::a_link_is_answered_in_order;
@@ -11,8 +11,9 @@ use mq_peers::Link;
 
 /// What a loop has done that began without links, it has done for its links: for each number the tale of one link, or nothing.
 pub fn a_loop_is_told_from_its_beginning_on<L: Link, R: Reader>()
-    ensures { (old new : TheLinks L) (acts : List Act) → old.slots.items ≡ [] → GoesOn L.tells R.gives L.given L.taken old acts new
-        → IsToldOf L.tells R.gives L.given L.taken acts new }
+    ensures { (old new : TheLinks L) (acts : List Act) → old.slots.items ≡ []
+        → GoesOn (link_view L.tells L.given L.taken) R.gives old acts new
+        → IsToldOf (link_view L.tells L.given L.taken) R.gives acts new }
 {}
 
 /// What a loop made for a link, from its beginning on, is a transcript of the link, and behind it at most its `Leave`.

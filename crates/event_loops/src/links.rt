@@ -3,7 +3,7 @@
 ghost use Rattle.std.specs.Prelude.{◌≡◌, ◌<◌, ◌^◌, [], true, false, slice_get, Option, Some, None, IfSome};
 ghost use Rattle.broker_events.specs.declared.event.Event.TheVariants.{Leave};
 ghost use Rattle.broker_events.specs.declared.said.Said.{Said};
-ghost use Rattle.event_loops.specs.Tales.{Acts, Keeps, LeadsBy, GoesOn, IsSeenAs, loop_of as loop_of_link};
+ghost use Rattle.event_loops.specs.Tales.{Acts, Keeps, LeadsBy, GoesOn, IsSeenAs, link_view, loop_of as loop_of_link};
 
 use crate::shared::Shared;
 use broker_events::{Calls, Event as BrokerEvent};
@@ -35,7 +35,7 @@ pub struct Links<L: Link + Drop> {
 
 // It was reported.
 fn report_one<L: Link + Drop>(slot: &mut Option<Numbered<L>>, event: &Event)
-    ensures { IsSeenAs L.given L.taken slot.old slot.new }
+    ensures { IsSeenAs (link_view L.tells L.given L.taken) slot.old slot.new }
 {
     if let Some(numbered) = slot {
         numbered
@@ -55,7 +55,7 @@ fn hear_one<L: Link + Drop, C: Calls, R: Reader>(
 ) -> bool
     requires { now < 2 ^ 62 }
     ensures went { LeadsBy C.makes calls.old calls.new
-        (λ acts. Acts L.tells R.gives L.given L.taken (Some numbered.old) acts (Some numbered.new)) }
+        (λ acts. Acts (link_view L.tells L.given L.taken) R.gives (Some numbered.old) acts (Some numbered.new)) }
 {
     numbered.linked.hear(alloc, calls, buffer, now, failed)
 }
@@ -70,7 +70,8 @@ fn hear_slot<L: Link + Drop, C: Calls, R: Reader>(
     failed: Option<u64>,
 ) -> bool
     requires { now < 2 ^ 62 }
-    ensures went { LeadsBy C.makes calls.old calls.new (λ acts. Acts L.tells R.gives L.given L.taken slot.old acts slot.new) }
+    ensures went { LeadsBy C.makes calls.old calls.new
+        (λ acts. Acts (link_view L.tells L.given L.taken) R.gives slot.old acts slot.new) }
 {
     match slot {
         Some(numbered) => hear_one::<L, C, R>(alloc, calls, numbered, buffer, now, failed),
@@ -88,7 +89,8 @@ fn hear_each<L: Link + Drop, C: Calls, R: Reader>(
     failed: Option<u64>,
 ) -> bool
     requires { now < 2 ^ 62 }
-    ensures went { LeadsBy C.makes calls.old calls.new (λ acts. Keeps L.tells R.gives L.given L.taken slots.old acts slots.new) }
+    ensures went { LeadsBy C.makes calls.old calls.new
+        (λ acts. Keeps (link_view L.tells L.given L.taken) R.gives slots.old acts slots.new) }
 {
     let mut any = false;
     for i in 0..slots.len() {
@@ -113,9 +115,9 @@ fn reply_one<L: Link + Drop, C: Calls, R: Reader>(
     reader: &mut R,
 ) -> bool
     ensures replied { result ≡ false → LeadsBy C.makes calls.old calls.new
-        (λ acts. Acts L.tells R.gives L.given L.taken (Some numbered.old) acts (Some numbered.new)) }
+        (λ acts. Acts (link_view L.tells L.given L.taken) R.gives (Some numbered.old) acts (Some numbered.new)) }
     ensures left { result ≡ true → LeadsBy C.makes calls.old calls.new
-        (λ acts. Acts L.tells R.gives L.given L.taken (Some numbered.old) acts None) }
+        (λ acts. Acts (link_view L.tells L.given L.taken) R.gives (Some numbered.old) acts None) }
 {
     numbered.linked.reply(alloc, calls, reader);
     if !numbered.linked.has_ended() {
@@ -133,7 +135,8 @@ fn reply_slot<L: Link + Drop, C: Calls, R: Reader>(
     slot: &mut Option<Numbered<L>>,
     reader: &mut R,
 ) -> bool
-    ensures went { LeadsBy C.makes calls.old calls.new (λ acts. Acts L.tells R.gives L.given L.taken slot.old acts slot.new) }
+    ensures went { LeadsBy C.makes calls.old calls.new
+        (λ acts. Acts (link_view L.tells L.given L.taken) R.gives slot.old acts slot.new) }
 {
     let Some(numbered) = slot else {
         return false;
@@ -153,7 +156,8 @@ fn reply_each<L: Link + Drop, C: Calls, R: Reader>(
     slots: &mut [Option<Numbered<L>>],
     reader: &mut R,
 ) -> bool
-    ensures went { LeadsBy C.makes calls.old calls.new (λ acts. Keeps L.tells R.gives L.given L.taken slots.old acts slots.new) }
+    ensures went { LeadsBy C.makes calls.old calls.new
+        (λ acts. Keeps (link_view L.tells L.given L.taken) R.gives slots.old acts slots.new) }
 {
     let mut any = false;
     for i in 0..slots.len() {
@@ -204,7 +208,7 @@ impl<L: Link + Drop> Links<L> {
     // One more slot, if there is memory for it.
     fn add_slot<R: Reader>(&mut self) -> Option<usize>
         ensures free { IfSome result (λ at. slice_get self.new.slots.items at ≡ Some None) }
-        ensures went { GoesOn L.tells R.gives L.given L.taken self.old [] self.new }
+        ensures went { GoesOn (link_view L.tells L.given L.taken) R.gives self.old [] self.new }
         ensures newest { self.new.newest ≡ self.old.newest }
     {
         let at = self.slots.len();
@@ -217,7 +221,7 @@ impl<L: Link + Drop> Links<L> {
     /// A slot for one more link, if there is one.
     pub(crate) fn free_slot<R: Reader>(&mut self) -> Option<usize>
         ensures free { IfSome result (λ at. slice_get self.new.slots.items at ≡ Some None) }
-        ensures went { GoesOn L.tells R.gives L.given L.taken self.old [] self.new }
+        ensures went { GoesOn (link_view L.tells L.given L.taken) R.gives self.old [] self.new }
         ensures newest { self.new.newest ≡ self.old.newest }
     {
         if let Some(at) = free_in(self.slots.as_slice()) {
@@ -236,7 +240,7 @@ impl<L: Link + Drop> Links<L> {
         requires falls { loop_of_link self.old.loops number ≡ self.old.number }
         requires given { L.tells → L.given link ≡ [] }
         requires taken { L.tells → L.taken link ≡ [] }
-        ensures went { GoesOn L.tells R.gives L.given L.taken self.old [] self.new }
+        ensures went { GoesOn (link_view L.tells L.given L.taken) R.gives self.old [] self.new }
     {
         let linked = Linked::new(alloc, number, link);
         self.newest = number;
@@ -245,7 +249,7 @@ impl<L: Link + Drop> Links<L> {
 
     /// The link with this token was reported.
     pub(crate) fn report<R: Reader>(&mut self, event: &Event)
-        ensures went { GoesOn L.tells R.gives L.given L.taken self.old [] self.new }
+        ensures went { GoesOn (link_view L.tells L.given L.taken) R.gives self.old [] self.new }
     {
         let at = event.token as usize;
         if at < self.slots.len() {
@@ -265,7 +269,8 @@ impl<L: Link + Drop> Links<L> {
         failed: Option<u64>,
     ) -> bool
         requires { now < 2 ^ 62 }
-        ensures went { LeadsBy C.makes calls.old calls.new (λ acts. GoesOn L.tells R.gives L.given L.taken self.old acts self.new) }
+        ensures went { LeadsBy C.makes calls.old calls.new
+            (λ acts. GoesOn (link_view L.tells L.given L.taken) R.gives self.old acts self.new) }
     {
         hear_each::<L, C, R>(alloc, calls, self.slots.as_mut_slice(), buffer, now, failed)
     }
@@ -278,7 +283,8 @@ impl<L: Link + Drop> Links<L> {
         calls: &mut C,
         reader: &mut R,
     ) -> bool
-        ensures went { LeadsBy C.makes calls.old calls.new (λ acts. GoesOn L.tells R.gives L.given L.taken self.old acts self.new) }
+        ensures went { LeadsBy C.makes calls.old calls.new
+            (λ acts. GoesOn (link_view L.tells L.given L.taken) R.gives self.old acts self.new) }
     {
         reply_each(alloc, shared, calls, self.slots.as_mut_slice(), reader)
     }

@@ -4,8 +4,8 @@ ghost use Rattle.std.specs.Prelude.{◌≤◌, length, IfOk};
 ghost use Rattle.remoting_frame.specs.Head.{IsShort};
 ghost use Rattle.remoting_frame.specs.BinaryText.{Has16Bits, FitsLengths};
 
-use mq_bytes::{Rows, Text};
-use remoting_frame::{Cutter, Form, Frame, FrameFault, Header, HeaderFault};
+use mq_bytes::Text;
+use remoting_frame::{Cutter, Fields, Form, Frame, FrameFault, Header, HeaderFault};
 use std::alloc::{AllocError, Global};
 use std::test::Fail;
 
@@ -118,7 +118,7 @@ fn refusal(alloc: Global) -> Result<Header, AllocError>
         opaque: 7,
         flag: 1,
         remark,
-        ext: Rows::of(Vec::new(alloc)),
+        ext: Fields::new(alloc),
     })
 }
 

@@ -81,14 +81,14 @@ fn text_of(alloc: Global, read: &Result<Request, RequestFault>) -> Result<String
 }
 
 // What the frame is read as. It alone owns a request: a function that does is proved for each variant.
-fn frame_text(alloc: Global, frame: &Frame) -> Result<String, AllocError> {
+fn frame_text(alloc: Global, frame: Frame) -> Result<String, AllocError> {
     text_of(alloc, &Request::read(alloc, frame))
 }
 
 // What the header and the body are read as.
 fn text_at(alloc: Global, header: &[u8], body: &[u8]) -> Result<String, Fail> {
     let frame = frame_of(alloc, header, body)?;
-    Ok(frame_text(alloc, &frame)?)
+    Ok(frame_text(alloc, frame)?)
 }
 
 // That the header and the body are read as this.

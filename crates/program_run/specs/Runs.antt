@@ -1,11 +1,11 @@
 -- What one run of the program does, by what its words ask for: what `run_pipe` promises, or what `run_serve` does.
 use Rattle.std.specs.Prelude.{◌≡◌, ◌≢◌, ℕ, List, [], ◌∷◌, codes, Option, Some, IfSome, IfNone}
-use Rattle.mq_outside.specs.Disk.{DiskState, Moves}
+use Rattle.mq_outside.specs.Disk.{Moves}
 use Rattle.mq_outside.specs.Files.{Same}
 use Rattle.log_model.specs.Stored.{StaysOutside}
 use Rattle.broker_core.specs.declared.parts.Parts.{Parts}
 use Rattle.config_store.specs.Configs.{OFFSETS, TOPICS}
-use Rattle.store_open.specs.Openings.{FORMAT, IsForeign, IsOpened, PutsOnly, own_format}
+use Rattle.store_open.specs.Openings.{FORMAT, IsForeign, IsOpened, PutsOnly, own_format, store_told}
 use Rattle.store_open.specs.Statuses.{FitsTable}
 use Rattle.store_open.specs.Words.{IsCommand, IsFirstWrong}
 use Rattle.store_open.specs.ServeWords.{IsServeCommand, IsFirstWrongOfServe}
@@ -15,10 +15,12 @@ use Rattle.store_open.specs.declared.serve_words.ServeCommand.{ServeCommand}
 use Rattle.store_open.specs.declared.status.Status.{Status}
 use Rattle.broker_run.specs.Promise as pipe
 use Rattle.broker_run.specs.Promise.{AllFaults, Call, EndsWell, IsQuiet, KeepSeen, Seen, before, behind}
+use Rattle.serve_story.specs.Kept.{KeepOver}
+use Rattle.serve_story.specs.Served.{Views}
 use Rattle.serve_threads.specs.Causes.{ServeFaults}
 use Rattle.broker_serve.specs.Causes.{Causes}
-use Rattle.broker_serve.specs.Serves.{HasServed, PutsAllAlong, Views, keep_over, setup_by, store_over}
-use Rattle.broker_serve.specs.Statuses.{Refused, store_told}
+use Rattle.broker_serve.specs.Serves.{HasServed, PutsAllAlong, run_over, setup_by}
+use Rattle.broker_serve.specs.Statuses.{Refused}
 
 -- the words ask for links: the first of them is `serve`
 abbrev pub AsksLinks : List (List ℕ) → Type 0
@@ -46,35 +48,34 @@ pub record Pipes {D : Type 0} (words : List (List ℕ)) (status : Status) (seen 
 
 -- ---- links
 
--- A run over links: what is seen of it, the disk before it and behind it, that the keep tells its texts, and these before it and
--- behind it.
+-- A run over links: what is seen of it, the disk before it and behind it, the keep, and the core that is left, where links were served.
 pub record ServeSeen (D : Type 0) : Type 1 where
   pub views : Views D
   pub old : D
   pub new : D
-  pub tells : Type 0
-  pub keep : DiskState
-  pub keep_then : DiskState
+  pub keep : KeepOver
+  pub core : Option Parts
 
 -- What a run over links does: each field is the clause of `run_serve` with its name.
-pub record Serves {D : Type 0} (words : List (List ℕ)) (status : Status) (core : Option Parts) (seen : ServeSeen D)
-    (old new : ServeFaults) : Type 0 where
+pub record Serves {D : Type 0} (words : List (List ℕ)) (status : Status) (seen : ServeSeen D) (old new : ServeFaults) : Type 0 where
   pub usage : status.code ≡ 1 → IsFirstWrongOfServe words status.place
   pub wrong : ((command : ServeCommand) → IsServeCommand words command → ⊥) → status.code ≡ 1
-  pub served : IfSome core (λ left. (command : ServeCommand) × (sizes : Sizes) × (IsServeCommand words command
-      × IsOpened command.sizes sizes seen.views.disk.tells (seen.views.disk.state seen.old).reads seen.tells seen.keep seen.keep_then)
-      × HasServed seen.views (setup_by command sizes.segment) status
-      (store_over (seen.views.disk.state seen.old) (seen.views.disk.state seen.new) (keep_over seen.tells seen.keep seen.keep_then))
-      (λ start history. PutsAllAlong (own_format (seen.keep.reads FORMAT) command.sizes) start history seen.keep seen.keep_then) left)
-  pub unserved : seen.tells → IfNone core ((text : List ℕ) × PutsOnly text seen.keep seen.keep_then)
-  pub why : IfNone core (Refused words
-      (store_told seen.views.disk.tells (seen.views.disk.state seen.old).reads seen.tells seen.keep.reads) status old new)
-  pub foreign : seen.views.disk.tells → seen.tells → status.code ≡ 6 → (command : ServeCommand) × IsServeCommand words command
-      × IsForeign (seen.views.disk.state seen.old).reads (seen.keep.reads FORMAT) command.sizes status.name
-  pub theirs : seen.tells → status.code ≡ 6 → Moves Same seen.keep seen.keep_then
+  pub served : IfSome seen.core (λ left. (command : ServeCommand) × (sizes : Sizes) × (IsServeCommand words command
+      × IsOpened command.sizes sizes
+      (store_told seen.views.disk.tells (seen.views.disk.state seen.old).reads seen.keep.tells seen.keep.old.reads) seen.keep.new)
+      × HasServed seen.views (setup_by command sizes.segment)
+      (run_over status (seen.views.disk.state seen.old) (seen.views.disk.state seen.new) seen.keep)
+      (λ start history. PutsAllAlong (own_format (seen.keep.old.reads FORMAT) command.sizes) start history seen.keep.old seen.keep.new)
+      left)
+  pub unserved : seen.keep.tells → IfNone seen.core ((text : List ℕ) × PutsOnly text seen.keep.old seen.keep.new)
+  pub why : IfNone seen.core (Refused words
+      (store_told seen.views.disk.tells (seen.views.disk.state seen.old).reads seen.keep.tells seen.keep.old.reads) status old new)
+  pub foreign : seen.views.disk.tells → seen.keep.tells → status.code ≡ 6 → (command : ServeCommand) × IsServeCommand words command
+      × IsForeign (seen.views.disk.state seen.old).reads (seen.keep.old.reads FORMAT) command.sizes status.name
+  pub theirs : seen.keep.tells → status.code ≡ 6 → Moves Same seen.keep.old seen.keep.new
   pub outside : seen.views.disk.tells → StaysOutside (seen.views.disk.state seen.old) (seen.views.disk.state seen.new)
-  pub stands : seen.tells → (text : List ℕ) → seen.keep.reads FORMAT ≡ Some text → seen.keep_then.reads FORMAT ≡ Some text
-  pub kept : seen.tells → (name : List ℕ) → name ≢ FORMAT → name ≢ OFFSETS → name ≢ TOPICS
-      → seen.keep_then.reads name ≡ seen.keep.reads name
+  pub stands : seen.keep.tells → (text : List ℕ) → seen.keep.old.reads FORMAT ≡ Some text → seen.keep.new.reads FORMAT ≡ Some text
+  pub kept : seen.keep.tells → (name : List ℕ) → name ≢ FORMAT → name ≢ OFFSETS → name ≢ TOPICS
+      → seen.keep.new.reads name ≡ seen.keep.old.reads name
   pub table : FitsTable status
   pub cause : Causes status old new

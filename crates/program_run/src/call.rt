@@ -3,8 +3,9 @@
 ghost use Rattle.std.specs.Prelude.{◌≡◌, true, false, None};
 ghost use Rattle.request_acts.specs.Acts.{view_of};
 ghost use Rattle.store_open.specs.Words.{texts_of};
+ghost use Rattle.serve_story.specs.Kept.{keep_over};
+ghost use Rattle.serve_story.specs.Served.{views_of};
 ghost use Rattle.serve_threads.specs.Causes.{counts_of, world_faults};
-ghost use Rattle.broker_serve.specs.Serves.{views_of};
 ghost use Rattle.program_run.specs.Runs.{AsksLinks, Pipes, Serves};
 
 use broker_run::run_pipe;
@@ -118,14 +119,13 @@ where
         × (result.ended.world.clocks.1 ≡ world.clocks.1) }
 
     // What `run_serve` promises, of the disk, the keep and the world. The streams stay.
-    ensures serve { AsksLinks (texts_of words.now) → Serves (texts_of words.now) result.ended.status result.ended.core
+    ensures serve { AsksLinks (texts_of words.now) → Serves (texts_of words.now) result.ended.status
         (record {
           views = views_of P.Link.tells D.Reader.gives (view_of D.tells D.state D.faults D.syncs);
           old = store.disk;
           new = result.ended.store.disk;
-          tells = E.tells;
-          keep = E.state store.keep;
-          keep_then = E.state result.ended.store.keep;
+          keep = keep_over E.tells (E.state store.keep) (E.state result.ended.store.keep);
+          core = result.ended.core;
         })
         (counts_of (D.faults store.disk) (E.faults store.keep) (world_faults P.faults P.Door.faults K.faults world))
         (counts_of (D.faults result.ended.store.disk) (E.faults result.ended.store.keep)

@@ -1,5 +1,5 @@
 -- What the readers of a binary header give.
-use Rattle.std.proofs.Common.{◌≡◌, ℕ, zero, suc, ◌+◌, ◌-◌, ◌<◌, ◌≤◌, List, [], ◌∷◌, length, map, take, drop, Bool, true, false, cond, Option, Some, None, option_map, String, Global, ℤ, string_bytes, string_cmp, nat_cmp, Ordering, Less, Equal, Greater, refl, sym, ap, ◌∙◌, arith, length-drop}
+use Rattle.std.proofs.Common.{◌≡◌, ℕ, zero, suc, ◌+◌, ◌-◌, ◌<◌, ◌≤◌, List, [], ◌∷◌, length, map, subst, take, drop, Bool, true, false, cond, Option, Some, None, option_map, String, Global, ℤ, string_bytes, string_cmp, nat_cmp, Ordering, Less, Equal, Greater, refl, sym, ap, ◌∙◌, arith, length-drop}
 use Rattle.std.specs.Ordering.{match_ordering}
 use Rattle.std.specs.Cmp.Lexicographic.{slice_cmp}
 use Rattle.std.specs.BTreeMap.{insert_entry}
@@ -9,11 +9,11 @@ use Rattle.std.specs.Map.{keys_of}
 use Rattle.std.specs.Int.{w16, w32, cast_signed}
 use Rattle.std.specs.Str.{IsUtf8, is_utf8}
 use Rattle.std.proofs.lemmas.Str.{IsUtf8-from_is_utf8, is_utf8-from_IsUtf8}
-use Rattle.std.proofs.lemmas.List.{take_rest}
 use Rattle.std.proofs.lemmas.Option.{same_Some}
 use Rattle.remoting_frame.specs.Gives.{◌>>=◌}
 use Rattle.remoting_frame.specs.Head.{IsInOrder}
 use Rattle.remoting_frame.specs.NameMaps.{pairs_view}
+use Rattle.remoting_frame.proofs.NameOrder.{ordered_put}
 use Rattle.remoting_frame.specs.Binary.{number_at, text_of, remark_len_of, binary_header, by_name, lens_of, first_pair, put_first_of, pairs_within, binary_pairs, put_pair, put_all}
 
 abbrev pub Pair : Type 0
@@ -58,6 +58,19 @@ pub pair_of_parts : (bytes : List ℕ) (n v : ℕ) (name value : List ℕ) → l
 unfolding first_pair
 pair_of_parts bytes n v name value lens first second = rw (lens, first, second) refl
 
+-- where there is none
+pub no_lens : (bytes : List ℕ) → lens_of bytes ≡ None → first_pair bytes ≡ None
+unfolding first_pair
+no_lens bytes lens = rw lens refl
+
+pub no_name : (bytes : List ℕ) (n v : ℕ) → lens_of bytes ≡ Some (n, v) → text_of (take n (drop 2 bytes)) ≡ None → first_pair bytes ≡ None
+unfolding first_pair
+no_name bytes n v lens first = rw (lens, first) refl
+
+pub no_value : (bytes : List ℕ) (n v : ℕ) (name : List ℕ) → lens_of bytes ≡ Some (n, v) → text_of (take n (drop 2 bytes)) ≡ Some name → text_of (take v (drop (6 + n) bytes)) ≡ None → first_pair bytes ≡ None
+unfolding first_pair
+no_value bytes n v name lens first second = rw (lens, first, second) refl
+
 -- ---- putting a pair into the map
 
 view-match_ordering : (o : Ordering) (a b c : List NameEntry) → pairs_view (match_ordering o a b c) ≡ match_ordering o (pairs_view a) (pairs_view b) (pairs_view c)
@@ -71,12 +84,9 @@ view-insert_entry (e ∷ es) k v =
     view-match_ordering (string_cmp k e.0) ((k, v) ∷ e ∷ es) ((e.0, v) ∷ es) (e ∷ insert_entry string_cmp es k v)
     ∙ ap (λ (w : List Pair). match_ordering (string_cmp k e.0) ((string_bytes k, string_bytes v) ∷ pairs_view (e ∷ es)) ((string_bytes e.0, string_bytes v) ∷ pairs_view es) ((string_bytes e.0, string_bytes e.1) ∷ w)) (view-insert_entry es k v)
 
-pub put_parts : (es new : List NameEntry) (bytes : List ℕ) (n v : ℕ) (name value : String Global) → lens_of bytes ≡ Some (n, v) → text_of (take n (drop 2 bytes)) ≡ Some (string_bytes name) → text_of (take v (drop (6 + n) bytes)) ≡ Some (string_bytes value)
-    → new ≡ insert_entry string_cmp es name value → put_first_of (pairs_view es) bytes ≡ Some (pairs_view new, take (length bytes - (6 + n + v)) (drop (6 + n + v) bytes))
-put_parts es new bytes n v name value lens first second e =
-    let pair = pair_of_parts bytes n v (string_bytes name) (string_bytes value) lens first second in
-    let put = ap pairs_view e ∙ view-insert_entry es name value in
-    rw (pair, put, take_rest bytes (6 + n + v)) refl
+pub put_is : (es new : List NameEntry) (bytes : List ℕ) (name value : String Global) (rest : List ℕ) → first_pair bytes ≡ Some ((string_bytes name, string_bytes value), rest)
+    → new ≡ insert_entry string_cmp es name value → put_first_of (pairs_view es) bytes ≡ Some (pairs_view new, rest)
+put_is es new bytes name value rest first e = rw (first, ap pairs_view e ∙ view-insert_entry es name value) refl
 
 -- ---- all pairs
 
@@ -128,6 +138,13 @@ pairs_step pairs (b ∷ bytes) next some e =
     let whole : binary_pairs (b ∷ bytes) ≡ option_map (λ others. x.0 ∷ others) (binary_pairs x.1) =
     ap (λ (o : Option (Pair × List ℕ)). o >>= λ first. option_map (λ others. first.0 ∷ others) (pairs_within (length bytes) first.1)) put.1 ∙ ap (option_map (λ others. x.0 ∷ others)) fuel in
     moved ∙ sym (ap (option_map (put_all pairs)) whole ∙ put_behind pairs x.0 (binary_pairs x.1))
+
+-- a step of the loop that needs no map
+pub put_step : (pairs new : List Pair) (bytes name value rest : List ℕ) → 0 < length bytes → first_pair bytes ≡ Some ((name, value), rest) → IsInOrder pairs → new ≡ put_pair pairs (name, value)
+    → (with_pairs new rest ≡ with_pairs pairs bytes) × IsInOrder new
+put_step pairs new bytes name value rest some first order e =
+    let next : put_first_of pairs bytes ≡ Some (new, rest) = rw (first, e) refl in
+    (pairs_step pairs bytes (new, rest) some next, subst IsInOrder (sym e) (ordered_put pairs name value order))
 
 -- what no bytes are
 pub pairs_end : (pairs : List Pair) (bytes : List ℕ) → length bytes ≡ 0 → with_pairs pairs bytes ≡ Some pairs

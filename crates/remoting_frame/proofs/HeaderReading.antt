@@ -1,5 +1,5 @@
 -- What the readers of a JSON header give.
-use Rattle.std.proofs.Common.{◌≡◌, ℕ, ◌<◌, ◌++◌, ◌∷◌, [], List, length, Bool, true, false, cond, Option, Some, None, ◌⊎◌, inl, inr, map, string_bytes, string_cmp, nat_cmp, Less, subst, refl, sym, ap, append_assoc, arith}
+use Rattle.std.proofs.Common.{◌≡◌, ℕ, ◌<◌, ◌++◌, ◌∷◌, [], List, length, Bool, true, false, cond, Option, Some, None, option_map, ◌∙◌, ◌⊎◌, inl, inr, map, string_bytes, string_cmp, nat_cmp, Less, subst, refl, sym, ap, append_assoc, arith}
 use Rattle.std.specs.Str.{IsUtf8, is_utf8}
 use Rattle.std.proofs.lemmas.Str.{IsUtf8-from_is_utf8, is_utf8-from_IsUtf8}
 use Rattle.std.proofs.lemmas.Option.{same_Some}
@@ -14,7 +14,7 @@ use Rattle.remoting_frame.specs.Head.{IsInOrder}
 use Rattle.serde_json.specs.Data.{Data, null, boolean, number, string, array, object, Members, member}
 use Rattle.serde_json.specs.Read.{read}
 use Rattle.remoting_frame.specs.Gives.{◌>>=◌}
-use Rattle.remoting_frame.specs.Json.{data_of, pairs_of}
+use Rattle.remoting_frame.specs.Json.{data_of, pair_of, pairs_of}
 
 pub data_is : (bytes : List ℕ) (d : Data) → IsUtf8 bytes → read bytes ≡ Some d → data_of bytes ≡ Some d
 unfolding data_of
@@ -41,6 +41,14 @@ with_front front o = o >>= λ others. Some (front ++ others)
 regroup : (front first : List (List ℕ × List ℕ)) (o : Option (List (List ℕ × List ℕ))) → with_front front (o >>= λ others. Some (first ++ others)) ≡ with_front (front ++ first) o
 regroup front first (Some others) = ap Some (sym (append_assoc front first others))
 regroup front first None = refl
+
+step_at : (front new : List (List ℕ × List ℕ)) (o rest : Option (List (List ℕ × List ℕ))) → option_map (λ first. front ++ first) o ≡ Some new → with_front new rest ≡ with_front front (o >>= λ first. rest >>= λ others. Some (first ++ others))
+step_at front new (Some first) rest e = ap (λ (w : List (List ℕ × List ℕ)). with_front w rest) (sym (same_Some (front ++ first) new e)) ∙ sym (regroup front first rest)
+step_at front new None rest e = absurd cc
+
+-- one member more
+pub front_step : (front new : List (List ℕ × List ℕ)) (k : List ℕ) (d : Data) (ms : Members) → option_map (λ first. front ++ first) (pair_of k d) ≡ Some new → with_front new (pairs_of ms) ≡ with_front front (pairs_of (member k d ms))
+front_step front new k d ms e = step_at front new (pair_of k d) (pairs_of ms) e
 
 -- ---- in order
 

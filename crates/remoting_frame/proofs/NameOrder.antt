@@ -1,5 +1,5 @@
 -- What putting pairs among others by their names makes.
-use Rattle.std.proofs.Common.{◌≡◌, ℕ, zero, suc, ◌+◌, ◌≤◌, List, [], ◌∷◌, length, map, Bool, true, false, cond, Option, Some, None, Ordering, Less, Equal, Greater, nat_cmp, refl, sym, ap, ◌∙◌, arith}
+use Rattle.std.proofs.Common.{◌≡◌, ℕ, zero, suc, ◌+◌, ◌-◌, ◌<◌, ◌≤◌, get_or, take, drop, List, [], ◌∷◌, length, map, ◌++◌, subst, Bool, true, false, cond, Option, Some, None, Ordering, Less, Equal, Greater, nat_cmp, refl, sym, ap, ◌∙◌, arith}
 use Rattle.std.specs.Prelude.{All, is_some}
 use Rattle.std.specs.Ordering.{match_ordering, ordering_reverse, is_eq}
 use Rattle.std.specs.Cmp.Lexicographic.{slice_cmp}
@@ -7,6 +7,8 @@ use Rattle.std.specs.BTreeMap.{insert_entry}
 use Rattle.std.specs.List.{AllByRecursion}
 use Rattle.std.specs.List.Sorted.{IsStrictlySortedBy}
 use Rattle.std.proofs.lemmas.Cmp.{nat_list_cmp_total}
+use Rattle.std.proofs.lemmas.List.{get_or_read_under}
+use Rattle.std.proofs.lemmas.Map.Lookups.{exact_bytes}
 use Rattle.remoting_frame.specs.Head.{IsInOrder, pairs_size}
 use Rattle.remoting_frame.specs.Binary.{put_all, by_name}
 use Rattle.remoting_frame.specs.BinaryForm.{has_name, value_of, last_value}
@@ -45,7 +47,7 @@ ordered_at e es k v Less p below h others = ((p, below_through k e.0 es p below)
 ordered_at e es k v Equal p below h others = (below, h)
 ordered_at e es k v Greater p below h others = (below_put e.0 es k v below (nat_list_cmp_total.antisymm e.0 k ∙ ap ordering_reverse p), others)
 
-ordered_put : (ps : List Pair) (k v : List ℕ) → IsInOrder ps → IsInOrder (put ps k v)
+pub ordered_put : (ps : List Pair) (k v : List ℕ) → IsInOrder ps → IsInOrder (put ps k v)
 unfolding IsStrictlySortedBy
 ordered_put [] k v h = (tt, tt)
 ordered_put (e ∷ es) k v h = ordered_at e es k v (order k e.0) refl h.0 h.1 (ordered_put es k v h.1)
@@ -57,6 +59,67 @@ ordered_all ps (p ∷ more) h = ordered_all (put ps p.0 p.1) more (ordered_put p
 pub by_name_ordered : (ps : List Pair) → IsInOrder (by_name ps)
 unfolding IsStrictlySortedBy
 by_name_ordered ps = ordered_all [] ps tt
+
+-- ---- where a pair is put
+
+abbrev name_at : List Pair → ℕ → List ℕ
+name_at ps i = (get_or ps i ([], [])).0
+
+below_get : (x : List ℕ) (ps : List Pair) (i : ℕ) → Below x ps → i < length ps → order x (name_at ps i) ≡ Less
+below_get x [] i h lt = absurd (omega arith)
+below_get x (p ∷ ps) zero h lt = h.0
+below_get x (p ∷ ps) (suc i) h lt = below_get x ps i h.1 (omega arith)
+
+greater : (x k : List ℕ) → order x k ≡ Less → order k x ≡ Greater
+greater x k lt = nat_list_cmp_total.antisymm k x ∙ ap ordering_reverse lt
+
+-- before all, where the first name is greater
+put_front : (ps : List Pair) (k v : List ℕ) → (0 < length ps → order k (name_at ps 0) ≡ Less) → put ps k v ≡ (k, v) ∷ ps
+put_front [] k v above = refl
+put_front (p ∷ ps) k v above = let less : order k p.0 ≡ Less = above (omega arith) in rw less refl
+
+-- behind the last smaller name
+put_behind : (ps : List Pair) (k v : List ℕ) (i : ℕ) → IsInOrder ps → i < length ps → order (name_at ps i) k ≡ Less → (suc i < length ps → order k (name_at ps (suc i)) ≡ Less) → put ps k v ≡ take (suc i) ps ++ (k, v) ∷ drop (suc i) ps
+unfolding IsStrictlySortedBy
+put_behind [] k v i h lt below above = absurd (omega arith)
+put_behind (p ∷ ps) k v zero h lt below above =
+    let first = greater p.0 k below in
+    let others = put_front ps k v (λ some. above (omega arith)) in
+    rw (first, others) refl
+put_behind (p ∷ ps) k v (suc i) h lt below above =
+    let first = greater p.0 k (nat_list_cmp_total.trans p.0 (name_at ps i) k (below_get p.0 ps i h.0 (omega arith)) below) in
+    let others = put_behind ps k v i h.1 (omega arith) below (λ some. above (omega arith)) in
+    rw (first, others) refl
+
+-- in the place of an equal name
+put_same : (ps : List Pair) (k v : List ℕ) (i : ℕ) → IsInOrder ps → i < length ps → order k (name_at ps i) ≡ Equal → put ps k v ≡ take i ps ++ (k, v) ∷ drop (suc i) ps
+unfolding IsStrictlySortedBy
+put_same [] k v i h lt equal = absurd (omega arith)
+put_same (p ∷ ps) k v zero h lt equal = rw equal (ap (λ (n : List ℕ). (n, v) ∷ ps) (sym (exact_bytes k p.0 equal)))
+put_same (p ∷ ps) k v (suc i) h lt equal =
+    let below = subst (λ (n : List ℕ). order p.0 n ≡ Less) (sym (exact_bytes k (name_at ps i) equal)) (below_get p.0 ps i h.0 (omega arith)) in
+    let first = greater p.0 k below in
+    let others = put_same ps k v i h.1 (omega arith) equal in
+    rw (first, others) refl
+
+-- the same of an index that is one further, and a pair that is read there
+module _ (ps : List Pair) (k v : List ℕ) (n : ℕ) (p : Pair) (h : IsInOrder ps) (some : 0 < n) (le : n ≤ length ps) (read : p ≡ get_or ps (n - 1) p) where
+  back : suc (n - 1) ≡ n
+  back = omega arith
+
+  named : p.0 ≡ name_at ps (n - 1)
+  named = ap (λ (q : Pair). q.0) (get_or_read_under ps (n - 1) (length ps) p ([], []) read (omega arith) refl)
+
+  pub put_same_before : order k p.0 ≡ Equal → put ps k v ≡ take (n - 1) ps ++ (k, v) ∷ drop n ps
+  put_same_before equal =
+      let same = subst (λ (m : List ℕ). order k m ≡ Equal) named equal in
+      subst (λ (m : ℕ). put ps k v ≡ take (n - 1) ps ++ (k, v) ∷ drop m ps) back (put_same ps k v (n - 1) h (omega arith) same)
+
+  pub put_behind_before : order k p.0 ≡ Greater → (n < length ps → order k (name_at ps n) ≡ Less) → put ps k v ≡ take n ps ++ (k, v) ∷ drop n ps
+  put_behind_before more above =
+      let below : order (name_at ps (n - 1)) k ≡ Less = subst (λ (m : List ℕ). order m k ≡ Less) named (nat_list_cmp_total.antisymm p.0 k ∙ ap ordering_reverse more) in
+      let next : suc (n - 1) < length ps → order k (name_at ps (suc (n - 1))) ≡ Less = subst (λ (m : ℕ). m < length ps → order k (name_at ps m) ≡ Less) (sym back) above in
+      subst (λ (m : ℕ). put ps k v ≡ take m ps ++ (k, v) ∷ drop m ps) back (put_behind ps k v (n - 1) h (omega arith) below next)
 
 -- ---- values
 

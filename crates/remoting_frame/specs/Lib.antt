@@ -1,4 +1,5 @@
 pub mod Head
+pub mod Fields
 pub mod Gives
 pub mod Json
 pub mod Written

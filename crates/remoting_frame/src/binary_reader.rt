@@ -13,28 +13,49 @@
 //! | 21 + R | E     | pairs           | each: name length 2, name, value length 4 (below 2^31), value |
 //!
 //! Names and values are UTF-8. Of a name that comes twice the last value counts, but each pair has to be well formed.
+//!
+//! Each pair is put at the place of its name as it is read. Where there are many, and their names don't ascend, a map sorts
+//! them.
 
-ghost use Rattle.std.specs.Prelude.{◌≡◌, ℕ, List, ◌+◌, ◌<◌, ◌≤◌, length, string_bytes, option_map, IfOk, IfErr, IfSome};
-ghost use Rattle.remoting_frame.specs.Gives.{Gives};
+ghost use Rattle.std.specs.Prelude.{◌≡◌, ℕ, List, [], ◌+◌, ◌<◌, ◌≤◌, length, string_bytes, option_map, Some, IsTrue, IfOk, IfErr, IfSome};
+ghost use Rattle.remoting_frame.specs.Gives.{Fails, Gives};
 ghost use Rattle.remoting_frame.specs.Head.{IsInOrder};
 ghost use Rattle.remoting_frame.specs.BinaryText.{Has16Bits, FitsLengths};
 ghost use Rattle.remoting_frame.specs.NameMaps.{pairs_view};
-ghost use Rattle.remoting_frame.specs.Binary.{text_of, lens_of, put_first_of, binary_pairs, by_name, remark_len_of, binary_header};
+ghost use Rattle.remoting_frame.specs.Binary.{text_of, lens_of, first_pair, put_first_of, binary_pairs, by_name};
+ghost use Rattle.remoting_frame.specs.Binary.{remark_len_of, binary_header};
 ghost use Rattle.remoting_frame.specs.declared.fault.HeaderFault.TheVariants.{Memory};
 
 use crate::fault::HeaderFault;
+use crate::fields::Fields;
 use crate::header::Header;
 use crate::numbers::{i16_at, i32_at, u16_at, u32_at};
-use mq_bytes::{Rows, Text};
+use mq_bytes::Text;
 use std::alloc::{AllocError, Global};
 use std::collections::BTreeMap;
+
+// For how many pairs room is taken at first, which is enough for most headers.
+const FEW: usize = 16;
+
+// From how many pairs on a pair is only put behind the others. Pairs in any order would take time that grows with the square
+// of their number if each were put among all before it.
+const MANY: usize = 64;
+
+fn str_in(bytes: &[u8]) -> Option<&str>
+    ensures { option_map (λ text. text.now) result ≡ text_of bytes.now }
+{
+    match str::from_utf8(bytes) {
+        Ok(text) => Some(text),
+        Err(_) => None,
+    }
+}
 
 fn text_from(alloc: Global, bytes: &[u8]) -> Result<String, HeaderFault>
     ensures { Gives string_bytes result (text_of bytes.now) }
 {
-    match str::from_utf8(bytes) {
-        Ok(text) => Ok(String::from_str(alloc, text)?),
-        Err(_) => Err(HeaderFault::Bad),
+    match str_in(bytes) {
+        Some(text) => Ok(String::from_str(alloc, text)?),
+        None => Err(HeaderFault::Bad),
     }
 }
 
@@ -58,8 +79,55 @@ fn pair_lens(bytes: &[u8]) -> Option<(usize, usize)>
     Some((name, value))
 }
 
+// The name and the value of the first pair, and the bytes behind it.
+fn first_of<'a>(bytes: &'a [u8]) -> Option<(&'a str, &'a str, &'a [u8])>
+    ensures pair { option_map (λ first. ((first.0.now, first.1.now), first.2.now)) result ≡ first_pair bytes.now }
+    ensures shorter { IfSome result (λ first. length first.2.now < length bytes.now) }
+{
+    let Some((name_len, value_len)) = pair_lens(bytes) else {
+        return None;
+    };
+    let Some(name) = str_in(&bytes[2..2 + name_len]) else {
+        return None;
+    };
+    let Some(value) = str_in(&bytes[6 + name_len..6 + name_len + value_len]) else {
+        return None;
+    };
+    Some((name, value, &bytes[6 + name_len + value_len..]))
+}
+
+// Whether a pair of this name is put without moving many others: there are few, or all have names below it.
+fn moves_few(name: &str, pairs: &Fields) -> bool {
+    let count = pairs.len();
+    if count < MANY {
+        return true;
+    }
+    let (last, _) = pairs.at(count - 1);
+    last < name
+}
+
+// Puts the pairs as long as each moves few others. Whether that was so to the end.
+fn put_pairs(bytes: &[u8], pairs: &mut Fields) -> Result<bool, HeaderFault>
+    requires { pairs.old ≡ [] }
+    ensures all { IfOk result (λ all. IsTrue all → option_map by_name (binary_pairs bytes.now) ≡ Some pairs.new) }
+    ensures ordered { IfOk result (λ all. IsTrue all → IsInOrder pairs.new) }
+    ensures fault { IfErr result (λ fault. Fails fault (option_map by_name (binary_pairs bytes.now))) }
+{
+    let mut rest = bytes;
+    while !rest.is_empty() {
+        let Some((name, value, behind)) = first_of(rest) else {
+            return Err(HeaderFault::Bad);
+        };
+        if !moves_few(name, pairs) {
+            return Ok(false);
+        }
+        pairs.put(name, value)?;
+        rest = behind;
+    }
+    Ok(true)
+}
+
 // Puts the first pair into the map, and hands out the bytes behind it.
-#[tactic(auto, unfolding(crate::specs::Binary::first_pair))]
 fn put_first<'a>(
     alloc: Global,
     map: &mut BTreeMap<String, String>,
@@ -71,13 +139,13 @@ fn put_first<'a>(
       rest.now,
     )) result (put_first_of (pairs_view map.old.entries) bytes.now) }
 {
-    let Some((name_len, value_len)) = pair_lens(bytes) else {
+    let Some((name, value, rest)) = first_of(bytes) else {
         return Err(HeaderFault::Bad);
     };
-    let name = text_from(alloc, &bytes[2..2 + name_len])?;
-    let value = text_from(alloc, &bytes[6 + name_len..6 + name_len + value_len])?;
+    let name = String::from_str(alloc, name)?;
+    let value = String::from_str(alloc, value)?;
     map.insert(name, value)?;
-    Ok(&bytes[6 + name_len + value_len..])
+    Ok(rest)
 }
 
 fn map_from(alloc: Global, bytes: &[u8]) -> Result<BTreeMap<String, String>, HeaderFault>
@@ -91,23 +159,41 @@ fn map_from(alloc: Global, bytes: &[u8]) -> Result<BTreeMap<String, String>, Hea
     Ok(map)
 }
 
-fn rows_of(alloc: Global, map: BTreeMap<String, String>) -> Result<Rows<(Text, Text)>, AllocError>
+// The pairs of a map, which have so many bytes at most.
+fn fields_of(
+    alloc: Global,
+    map: BTreeMap<String, String>,
+    room: usize,
+) -> Result<Fields, AllocError>
     ensures pairs { IfOk result (λ r. r ≡ pairs_view map.entries) }
     ensures ordered { IfOk result IsInOrder }
 {
-    let mut pairs = Vec::with_capacity(alloc, map.len())?;
+    let mut pairs = Fields::with_room(alloc, map.len(), room)?;
     for (name, value) in map {
-        pairs.push((Text::of(name), Text::of(value)))?;
+        pairs.push(name.as_str(), value.as_str())?;
     }
-    Ok(Rows::of(pairs))
+    Ok(pairs)
 }
 
-fn pairs_from(alloc: Global, bytes: &[u8]) -> Result<Rows<(Text, Text)>, HeaderFault>
+// The pairs, which come in any order.
+fn sorted_from(alloc: Global, bytes: &[u8]) -> Result<Fields, HeaderFault>
     ensures pairs { Gives (λ r. r) result (option_map by_name (binary_pairs bytes.now)) }
     ensures ordered { IfOk result IsInOrder }
 {
     let map = map_from(alloc, bytes)?;
-    Ok(rows_of(alloc, map)?)
+    Ok(fields_of(alloc, map, bytes.len())?)
+}
+
+fn pairs_from(alloc: Global, bytes: &[u8]) -> Result<Fields, HeaderFault>
+    ensures pairs { Gives (λ r. r) result (option_map by_name (binary_pairs bytes.now)) }
+    ensures ordered { IfOk result IsInOrder }
+{
+    let few = usize::min(bytes.len() / 6, FEW);
+    let mut pairs = Fields::with_room(alloc, few, bytes.len())?;
+    if put_pairs(bytes, &mut pairs)? {
+        return Ok(pairs);
+    }
+    sorted_from(alloc, bytes)
 }
 
 // How long the remark is, where it fits and the pairs end with the bytes.

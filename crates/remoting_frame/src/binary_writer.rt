@@ -10,18 +10,19 @@ ghost use Rattle.remoting_frame.specs.Appends.{KeepsFront};
 ghost use Rattle.remoting_frame.specs.BinaryText.{Has16Bits, FitsLengths, IsPairOfTexts, AreTexts, sized, pair_text};
 ghost use Rattle.remoting_frame.specs.BinaryText.{pairs_text, sized_pairs, numbers_text, binary_text};
 
+use crate::fields::Fields;
 use crate::header::Header;
-use mq_bytes::Text;
 use std::alloc::AllocError;
 
 /// How many bytes the pairs have with their lengths.
-pub(crate) fn size_of(pairs: &[(Text, Text)]) -> usize
+pub(crate) fn size_of(pairs: &Fields) -> usize
     requires { pairs_size pairs.now < 2 ^ 31 }
     ensures { result ≡ pairs_size pairs.now }
 {
     let mut size = 0;
-    for (name, value) in pairs {
-        size += 6 + name.as_str().len() + value.as_str().len();
+    for index in 0..pairs.len() {
+        let (name, value) = pairs.at(index);
+        size += 6 + name.len() + value.len();
     }
     size
 }
@@ -50,22 +51,23 @@ fn push_pair(name: &str, value: &str, out: &mut Vec<u8>) -> Result<(), AllocErro
     Ok(())
 }
 
-fn push_pairs(pairs: &[(Text, Text)], out: &mut Vec<u8>) -> Result<(), AllocError>
+fn push_pairs(pairs: &Fields, out: &mut Vec<u8>) -> Result<(), AllocError>
     requires size { pairs_size pairs.now < 2 ^ 31 }
     requires names { All (λ p. length p.0 < 2 ^ 16) pairs.now }
     ensures ok { OnOk result (out.new.items ≡ out.old.items ++ pairs_text pairs.now) }
     ensures texts { OnOk result (AllByRecursion IsPairOfTexts pairs.now) }
     ensures err { OnErr result (KeepsFront out.old.items out.new.items) }
 {
-    for (name, value) in pairs {
-        push_pair(name.as_str(), value.as_str(), out)?;
+    for index in 0..pairs.len() {
+        let (name, value) = pairs.at(index);
+        push_pair(name, value, out)?;
     }
     Ok(())
 }
 
 // The pairs behind their length.
 #[tactic(auto, unfolding(crate::specs::BinaryText::sized_pairs))]
-fn push_sized_pairs(pairs: &[(Text, Text)], out: &mut Vec<u8>) -> Result<(), AllocError>
+fn push_sized_pairs(pairs: &Fields, out: &mut Vec<u8>) -> Result<(), AllocError>
     requires size { pairs_size pairs.now < 2 ^ 31 }
     requires names { All (λ p. length p.0 < 2 ^ 16) pairs.now }
     ensures ok { OnOk result (out.new.items ≡ out.old.items ++ sized_pairs pairs.now) }
@@ -111,7 +113,7 @@ pub(crate) fn push_header(header: &Header, out: &mut Vec<u8>) -> Result<(), Allo
 {
     out.extend_from_slice(&numbers(header.code, header.version, header.opaque, header.flag))?;
     push_sized(header.remark.as_str(), out)?;
-    push_sized_pairs(header.ext.as_slice(), out)?;
+    push_sized_pairs(&header.ext, out)?;
     Ok(())
 }
 

@@ -49,7 +49,7 @@ fn push_binary_front(header: &Header, body: u32, out: &mut Vec<u8>) -> Result<()
     ensures texts { OnOk result (AreTexts header.now) }
     ensures err { OnErr result (KeepsFront out.old.items out.new.items) }
 {
-    let header_len = 21 + header.remark.as_str().len() + size_of(header.ext.as_slice());
+    let header_len = 21 + header.remark.as_str().len() + size_of(&header.ext);
     push_words(1, header_len as u32, body, out)?;
     push_header(header, out)?;
     Ok(())

@@ -10,11 +10,12 @@ ghost use Rattle.remoting_frame.specs.declared.fault.HeaderFault.TheVariants.{Me
 use crate::binary_reader::read_binary;
 use crate::binary_writer::write_binary;
 use crate::fault::HeaderFault;
+use crate::fields::Fields;
 use crate::frame::Form;
 use crate::front_writer::{write_binary_front, write_json_front};
 use crate::json_reader::read_json;
 use crate::json_writer::write_json;
-use mq_bytes::{Rows, Text};
+use mq_bytes::Text;
 use std::alloc::{AllocError, Global};
 use std::marker::Model;
 
@@ -34,7 +35,7 @@ pub struct Header {
     /// What went wrong, mostly; an empty remark and none are the same.
     pub remark: Text,
     /// The fields: names with their values.
-    pub ext: Rows<(Text, Text)>,
+    pub ext: Fields,
 }
 
 impl Model for Header {

@@ -21,8 +21,9 @@ ghost use Rattle.remoting_frame.specs.Json.{pairs_of, pairs_or_none, header_of, 
 ghost use Rattle.remoting_frame.specs.declared.fault.HeaderFault.TheVariants.{Memory};
 
 use crate::fault::HeaderFault;
+use crate::fields::Fields;
 use crate::header::Header;
-use mq_bytes::{Rows, Text};
+use mq_bytes::Text;
 use serde_json::{Map, Value};
 use std::alloc::Global;
 
@@ -78,43 +79,43 @@ fn text_or_none(alloc: Global, value: Option<&Value>) -> Result<Text, HeaderFaul
     }
 }
 
-fn push_pair(pairs: &mut Vec<(Text, Text)>, name: String, value: Value) -> Result<(), HeaderFault>
-    ensures { Gives (λ _. pairs.new.items) result (option_map (λ p. pairs.old.items
-        ++ p) (pair_of (string_bytes name) (view value))) }
+fn push_pair(fields: &mut Fields, name: String, value: Value) -> Result<(), HeaderFault>
+    ensures { Gives (λ _. fields.new) result (option_map (λ p. fields.old ++ p) (pair_of (string_bytes name) (view value))) }
 {
     match value {
         Value::Null => Ok(()),
         Value::String(text) => {
-            pairs.push((Text::of(name), Text::of(text)))?;
+            fields.push(name.as_str(), text.as_str())?;
             Ok(())
         }
         _ => Err(HeaderFault::Bad),
     }
 }
 
-fn pairs_in(alloc: Global, map: Map<String, Value>) -> Result<Rows<(Text, Text)>, HeaderFault>
+// The pairs, which have so many bytes at most.
+fn pairs_in(alloc: Global, map: Map<String, Value>, room: usize) -> Result<Fields, HeaderFault>
     ensures pairs { Gives (λ r. r) result (pairs_of (members_view map.entries)) }
     ensures ordered { IfOk result IsInOrder }
 {
-    let mut pairs = Vec::with_capacity(alloc, map.len())?;
+    let mut fields = Fields::with_room(alloc, map.len(), room)?;
     for (name, value) in map {
-        push_pair(&mut pairs, name, value)?;
+        push_pair(&mut fields, name, value)?;
     }
-    Ok(Rows::of(pairs))
+    Ok(fields)
 }
 
-fn no_pairs(alloc: Global) -> Rows<(Text, Text)>
+fn no_pairs(alloc: Global) -> Fields
     ensures none { result ≡ [] }
     ensures ordered { IsInOrder result }
 {
-    Rows::of(Vec::new(alloc))
+    Fields::new(alloc)
 }
 
-// Takes the pairs out of their value, so that no text is copied.
 fn pairs_or_empty(
     alloc: Global,
     value: Option<&mut Value>,
-) -> Result<Rows<(Text, Text)>, HeaderFault>
+    room: usize,
+) -> Result<Fields, HeaderFault>
     ensures ordered { IfOk result IsInOrder }
     ensures pairs { Gives (λ r. r) result (pairs_or_none (option_map (λ v. view v.now) value.entry)) }
 {
@@ -123,13 +124,14 @@ fn pairs_or_empty(
     };
     match value.take() {
         Value::Null => Ok(no_pairs(alloc)),
-        Value::Object(map) => pairs_in(alloc, map),
+        Value::Object(map) => pairs_in(alloc, map, room),
         _ => Err(HeaderFault::Bad),
     }
 }
 
+// The header whose text has so many bytes.
 #[tactic(auto, unfolding(crate::specs::Json::header_of))]
-fn header_from(alloc: Global, value: &mut Value) -> Result<Header, HeaderFault>
+fn header_from(alloc: Global, value: &mut Value, room: usize) -> Result<Header, HeaderFault>
     ensures { Gives (λ h. h) result (header_of (view value.old)) }
 {
     let code = number_of(value.get("code"))?;
@@ -137,7 +139,7 @@ fn header_from(alloc: Global, value: &mut Value) -> Result<Header, HeaderFault>
     let flag = number_or_zero(value.get("flag"))?;
     let version = number_or_zero(value.get("version"))?;
     let remark = text_or_none(alloc, value.get("remark"))?;
-    let ext = pairs_or_empty(alloc, value.get_mut("extFields"))?;
+    let ext = pairs_or_empty(alloc, value.get_mut("extFields"), room)?;
     Ok(Header {
         code,
         version,
@@ -154,5 +156,5 @@ pub(crate) fn read_json(alloc: Global, bytes: &[u8]) -> Result<Header, HeaderFau
     ensures memory { IfErr result (λ e. e ≡ Memory → 0 < length bytes.now) }
 {
     let mut value = value_of(alloc, bytes)?;
-    header_from(alloc, &mut value)
+    header_from(alloc, &mut value, bytes.len())
 }

@@ -11,9 +11,9 @@ ghost use Rattle.remoting_frame.specs.Head.{IsShort};
 ghost use Rattle.remoting_frame.specs.Tokens.{remark_tokens, first_tokens, last_tokens};
 ghost use Rattle.remoting_frame.specs.Written.{texts, json_text};
 
+use crate::fields::Fields;
 use crate::header::Header;
 use json::Writer;
-use mq_bytes::Text;
 use std::alloc::{AllocError, Global};
 
 // How many bytes are asked for at first, which are enough for most headers.
@@ -38,13 +38,14 @@ fn put_text(out: &mut Writer, name: &str, text: &str) -> Result<(), AllocError>
 }
 
 // An object of names with their texts.
-fn put_texts(out: &mut Writer, pairs: &[(Text, Text)]) -> Result<(), AllocError>
+fn put_texts(out: &mut Writer, pairs: &Fields) -> Result<(), AllocError>
     ensures ok { OnOk result (out.new.tokens ≡ out.old.tokens ++ begin_object ∷ members_tokens (members_outline (texts pairs.now))) }
     ensures before { out.new.before ≡ out.old.before }
 {
     out.begin_object()?;
-    for (name, text) in pairs {
-        put_text(out, name.as_str(), text.as_str())?;
+    for index in 0..pairs.len() {
+        let (name, text) = pairs.at(index);
+        put_text(out, name, text)?;
     }
     out.end_object()
 }
@@ -68,7 +69,7 @@ fn put_first(out: &mut Writer, header: &Header) -> Result<(), AllocError>
     out.begin_object()?;
     put_number(out, "code", header.code)?;
     out.key("extFields")?;
-    put_texts(out, header.ext.as_slice())?;
+    put_texts(out, &header.ext)?;
     put_number(out, "flag", header.flag)?;
     put_text(out, "language", "OTHER")?;
     put_number(out, "opaque", header.opaque)

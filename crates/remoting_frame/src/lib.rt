@@ -5,6 +5,7 @@ mod binary_reader;
 mod binary_writer;
 mod cutter;
 mod fault;
+mod fields;
 mod frame;
 mod front;
 mod front_reader;
@@ -18,6 +19,7 @@ mod streams;
 
 pub use cutter::Cutter;
 pub use fault::{FrameFault, HeaderFault};
+pub use fields::Fields;
 pub use frame::{Form, Frame};
 pub use header::Header;
 pub use spellings::{

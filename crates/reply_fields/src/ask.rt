@@ -11,7 +11,7 @@
 //! | `tranStateTableOffset` | the record's queue offset                                 |
 //! | `transactionId`        | the property `UNIQ_KEY`, or else empty                    |
 
-ghost use Rattle.std.specs.Prelude.{◌≡◌, ◌<◌, ◌^◌, ◌++◌, ◌∷◌, [], length, codes, IfOk, OnOk, OnErr, Some, None};
+ghost use Rattle.std.specs.Prelude.{◌≡◌, ◌<◌, ◌^◌, ◌++◌, ◌∷◌, [], length, codes, string_bytes, IfOk, OnOk, OnErr, Some, None};
 ghost use Rattle.std.specs.Str.Parse.{digits_value};
 ghost use Rattle.mq_bytes.specs.Decimal.{digits_of};
 ghost use Rattle.mq_bytes.specs.Ids.{message_id_of};
@@ -25,9 +25,12 @@ ghost use Rattle.reply_fields.specs.Asks.{offset_id as offset_id_of, ask_fields,
 
 use mq_bytes::{Rows, Text, message_id, read_decimal};
 use record_codec::{Draft, Props, Record, SEGMENT_MAX, encode};
-use remoting_frame::{Form, Header};
+use remoting_frame::{Fields, Form, Header};
 use std::alloc::{AllocError, Global};
 use std::marker::Model;
+
+// Room for the names and values of most check-backs.
+const FIELDS_ROOM: usize = 256;
 
 /// A check-back to a link, for a producer group. `view` is the newest record of the half message; it has a legal topic
 /// `REAL_TOPIC` and a decimal `REAL_QID` below 1,024, and can be written with these.
@@ -54,7 +57,8 @@ impl Model for Ask {
 fn real_topic(alloc: Global, props: &Props) -> Result<Text, AllocError>
     ensures { IfOk result (λ topic. topic ≡ real_topic_of props.now) }
 {
-    text(alloc, props.get("REAL_TOPIC").unwrap_or(""))
+    let topic = props.get("REAL_TOPIC").unwrap_or("");
+    Ok(Text::of(String::from_str(alloc, topic)?))
 }
 
 // The number that digits without a leading zero write.
@@ -112,84 +116,79 @@ fn size_of(message: &Draft) -> u32
     }
 }
 
-fn text(alloc: Global, text: &str) -> Result<Text, AllocError>
-    ensures { IfOk result (λ copy. copy ≡ text.now) }
-{
-    Ok(Text::of(String::from_str(alloc, text)?))
-}
-
-fn number(alloc: Global, number: u64) -> Result<Text, AllocError>
-    ensures { IfOk result (λ digits. digits ≡ digits_of number) }
-{
-    Ok(Text::of(format!(in alloc; "{number}")?))
-}
-
-// The sender's own id, or where there is none the one that the broker gave.
-fn id_of(alloc: Global, view: &Record) -> Result<Text, AllocError>
-    ensures { IfOk result (λ id. id ≡ text_or (offset_id_of view.now) (value_of (codes "UNIQ_KEY") view.now.draft.props)) }
-{
-    let id = match view.draft.props.get("UNIQ_KEY") {
-        Some(key) => text(alloc, key)?,
-        None => offset_id(alloc, view)?,
-    };
-    Ok(id)
-}
-
-fn id_at(alloc: Global, host: [u8; 8], place: u64) -> Result<Text, AllocError>
-    ensures id { IfOk result (λ id. id ≡ message_id_of host place) }
-    ensures host { length host ≡ 8 }
-{
-    Ok(Text::of(message_id(alloc, host, place)?))
-}
-
-fn offset_id(alloc: Global, view: &Record) -> Result<Text, AllocError>
-    ensures id { IfOk result (λ id. id ≡ offset_id_of view.now) }
-    ensures host { length view.now.draft.store_host ≡ 8 }
-{
-    let id = id_at(alloc, view.draft.store_host, view.place.offset)?;
-    Ok(id)
-}
-
-fn push_field(
+fn push_number(
     alloc: Global,
-    fields: &mut Vec<(Text, Text)>,
+    fields: &mut Fields,
     name: &str,
-    value: Text,
+    number: u64,
 ) -> Result<(), AllocError>
-    ensures { OnOk result (fields.new.items ≡ fields.old.items ++ (name.now, value) ∷ []) }
+    ensures { OnOk result (fields.new ≡ fields.old ++ (name.now, digits_of number) ∷ []) }
 {
-    fields.push((text(alloc, name)?, value))?;
+    let digits = format!(in alloc; "{number}")?;
+    fields.push(name, digits.as_str())?;
     Ok(())
 }
 
-// Fills an empty vector. It is the caller's, so that no early return here has a vector to drop.
-fn fill_fields(
+fn id_at(alloc: Global, host: [u8; 8], place: u64) -> Result<String, AllocError>
+    ensures id { IfOk result (λ id. string_bytes id ≡ message_id_of host place) }
+    ensures host { length host ≡ 8 }
+{
+    message_id(alloc, host, place)
+}
+
+// Appends the id that the broker gave the record.
+fn push_offset_id(
     alloc: Global,
+    fields: &mut Fields,
+    name: &str,
     view: &Record,
-    fields: &mut Vec<(Text, Text)>,
 ) -> Result<(), AllocError>
-    requires { fields.old.items ≡ [] }
-    ensures fields { OnOk result (fields.new.items ≡ ask_fields view.now) }
+    ensures field { OnOk result (fields.new ≡ fields.old ++ (name.now, offset_id_of view.now) ∷ []) }
+    ensures host { length view.now.draft.store_host ≡ 8 }
+{
+    let id = id_at(alloc, view.draft.store_host, view.place.offset)?;
+    fields.push(name, id.as_str())?;
+    Ok(())
+}
+
+// Appends the sender's own id, or where there is none the one that the broker gave.
+fn push_id(alloc: Global, fields: &mut Fields, name: &str, view: &Record) -> Result<(), AllocError>
+    ensures { OnOk result (fields.new ≡ fields.old ++ (
+      name.now,
+      text_or (offset_id_of view.now) (value_of (codes "UNIQ_KEY")
+          view.now.draft.props),
+    ) ∷ []) }
+{
+    match view.draft.props.get("UNIQ_KEY") {
+        Some(key) => fields.push(name, key),
+        None => push_offset_id(alloc, fields, name, view),
+    }
+}
+
+// Appends to no fields. They are the caller's, so that no early return here has fields to drop.
+fn fill_fields(alloc: Global, view: &Record, fields: &mut Fields) -> Result<(), AllocError>
+    requires { fields.old ≡ [] }
+    ensures fields { OnOk result (fields.new ≡ ask_fields view.now) }
     ensures host { OnOk result (length view.now.draft.store_host ≡ 8) }
 {
     let key = view.draft.props.get("UNIQ_KEY").unwrap_or("");
     let (place, next) = (view.place.offset, view.place.queue_offset);
-    push_field(alloc, fields, "commitLogOffset", number(alloc, place)?)?;
-    push_field(alloc, fields, "msgId", id_of(alloc, view)?)?;
-    push_field(alloc, fields, "offsetMsgId", offset_id(alloc, view)?)?;
-    push_field(alloc, fields, "tranStateTableOffset", number(alloc, next)?)?;
-    push_field(alloc, fields, "transactionId", text(alloc, key)?)?;
+    push_number(alloc, fields, "commitLogOffset", place)?;
+    push_id(alloc, fields, "msgId", view)?;
+    push_offset_id(alloc, fields, "offsetMsgId", view)?;
+    push_number(alloc, fields, "tranStateTableOffset", next)?;
+    fields.push("transactionId", key)?;
     Ok(())
 }
 
-fn fields_of(alloc: Global, view: &Record) -> Result<Rows<(Text, Text)>, AllocError>
+fn fields_of(alloc: Global, view: &Record) -> Result<Fields, AllocError>
     ensures fields { IfOk result (λ fields. fields ≡ ask_fields view.now) }
     ensures ordered { IfOk result IsInOrder }
     ensures host { OnOk result (length view.now.draft.store_host ≡ 8) }
 {
-    let mut fields = Vec::with_capacity(alloc, 5)?;
+    let mut fields = Fields::with_room(alloc, 5, FIELDS_ROOM)?;
     fill_fields(alloc, view, &mut fields)?;
-    Ok(Rows::of(fields))
+    Ok(fields)
 }
 
 fn header_of(alloc: Global, view: &Record, opaque: i32) -> Result<Header, AllocError>

@@ -2,8 +2,12 @@
 
 ghost use Rattle.std.specs.Prelude.{◌≡◌, IfOk};
 
-use mq_bytes::{Rows, Text};
+use mq_bytes::Text;
+use remoting_frame::Fields;
 use std::alloc::{AllocError, Global};
+
+// The room that is taken for each field, whose name and value together mostly have fewer bytes.
+const FIELD_ROOM: usize = 32;
 
 pub(crate) fn copy_of(alloc: Global, text: &Text) -> Result<Text, AllocError>
     ensures { IfOk result (λ copy. copy ≡ text.now) }
@@ -12,15 +16,13 @@ pub(crate) fn copy_of(alloc: Global, text: &Text) -> Result<Text, AllocError>
 }
 
 /// The same names and values.
-pub(crate) fn copies_of(
-    alloc: Global,
-    pairs: &[(Text, Text)],
-) -> Result<Rows<(Text, Text)>, AllocError>
-    ensures { IfOk result (λ copies. copies ≡ pairs.now) }
+pub(crate) fn fields_of(alloc: Global, pairs: &[(Text, Text)]) -> Result<Fields, AllocError>
+    ensures { IfOk result (λ fields. fields ≡ pairs.now) }
 {
-    let mut copies = Vec::with_capacity(alloc, pairs.len())?;
+    let room = pairs.len().saturating_mul(FIELD_ROOM);
+    let mut fields = Fields::with_room(alloc, pairs.len(), room)?;
     for (name, value) in pairs {
-        copies.push((copy_of(alloc, name)?, copy_of(alloc, value)?))?;
+        fields.push(name.as_str(), value.as_str())?;
     }
-    Ok(Rows::of(copies))
+    Ok(fields)
 }

@@ -12,7 +12,7 @@ ghost use Rattle.reply_fields.specs.Replies.{reply_head, AppendsReply};
 ghost use Rattle.reply_fields.specs.Slices.{body_len, kept_count, AppendsBody};
 
 use crate::body::{size_of, write_body};
-use crate::copies::{copies_of, copy_of};
+use crate::copies::{copy_of, fields_of};
 use crate::slice::Slice;
 use mq_bytes::{Rows, Text};
 use mq_outside::{DiskFault, Reader};
@@ -74,7 +74,7 @@ impl Reply {
             opaque,
             flag: 1,
             remark: copy_of(alloc, &self.remark)?,
-            ext: copies_of(alloc, self.ext.as_slice())?,
+            ext: fields_of(alloc, self.ext.as_slice())?,
         })
     }
 

@@ -1,5 +1,6 @@
 -- Requests that are given to the broker.
 use Rattle.std.proofs.Common.{◌≡◌, inl, inr, ℕ, ℤ, ◌++◌, List, [], ◌∷◌, Bool, true, false, Option, Some, None, Result, Ok, Err, IfOk, refl, sym, ap, ◌∙◌, subst, append-nil, append_assoc}
+use Rattle.std.specs.declared.alloc.AllocError.{AllocError}
 use Rattle.request_fields.specs.declared.request.Request.{Request}
 use Rattle.request_fields.specs.declared.fault.RequestFault.{RequestFault}
 use Rattle.reply_fields.specs.Parts.{ReplyParts}
@@ -45,14 +46,14 @@ module _ {C D : Type 0} (makes : Steps C) (view : DiskView D) where
       record { acts = Made event what ∷ []; kind = refl; happened = one_step makes view event what x y p p (request_between event is) (request_takes event what is) made refl }
 
   -- memory ran out for telling what was said
-  pub given_err : {E : Type 0} (x y : C) (p : Place D) (event : Event) (fault : E) → IsRequest event → IsApplied makes x event (Err fault) y
+  pub given_err : (x y : C) (p : Place D) (event : Event) (fault : AllocError) → IsRequest event → IsApplied makes x event (Err fault) y
       → Acted makes view (λ acts. Unit {0}) (change_of x p y p)
   given_err x y p event fault is it =
       acted_any makes view (λ acts. acts ≡ Made event it.what ∷ []) x y p p (step_acted x y p event it.what is it.made)
 
   -- it was answered
-  pub given_owes : {E : Type 0} (x y : C) (p : Place D) (event : Event) (reply : ReplyParts) (awaits : Option Awaits) → IsRequest event
-      → IsApplied {E = E} makes x event (Ok (Owes reply awaits)) y → Acted makes view (IsLastTry event (record { reply = reply; awaits = awaits })) (change_of x p y p)
+  pub given_owes : (x y : C) (p : Place D) (event : Event) (reply : ReplyParts) (awaits : Option Awaits) → IsRequest event
+      → IsApplied makes x event (Ok (Owes reply awaits)) y → Acted makes view (IsLastTry event (record { reply = reply; awaits = awaits })) (change_of x p y p)
   given_owes x y p event reply awaits is it =
       acted_as makes view (λ acts. acts ≡ Made event it.what ∷ []) (IsLastTry event (record { reply = reply; awaits = awaits })) x y p p
       (λ acts are. inl (record { what = it.what; told = it.told; given = are })) (step_acted x y p event it.what is it.made)
@@ -71,8 +72,8 @@ module _ {C D : Type 0} (makes : Steps C) (view : DiskView D) where
   })
   tried event pending (Err fault) first later is room = broke_behind fault first later room
 
-  pub given_full : {E : Type 0} (x y z : C) (p r : Place D) (event : Event) (pending : ℕ) (result : Result (Option Answer) Broken) → IsRequest event
-      → IsApplied {E = E} makes x event (Ok (Full pending)) y → Acted makes view (MakesRoom result) (change_of y p z r) → Acted makes view (IsTry event result) (change_of x p z r)
+  pub given_full : (x y z : C) (p r : Place D) (event : Event) (pending : ℕ) (result : Result (Option Answer) Broken) → IsRequest event
+      → IsApplied makes x event (Ok (Full pending)) y → Acted makes view (MakesRoom result) (change_of y p z r) → Acted makes view (IsTry event result) (change_of x p z r)
   given_full x y z p r event pending result is it room =
       let full = full_said it.what pending it.told in
       acted_then makes view (λ acts. acts ≡ Made event (Some (said.Full pending)) ∷ []) (MakesRoom result) (IsTry event result) x y z p p r

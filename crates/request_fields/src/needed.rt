@@ -20,9 +20,11 @@ use std::alloc::Global;
 pub(crate) fn field<'a>(header: &'a Header, name: &str) -> Option<&'a str>
     ensures { option_map (λ value. value.now) result ≡ value_of name.now header.now.ext }
 {
-    for (key, value) in header.ext.as_slice() {
-        if name == key.as_str() {
-            return Some(value.as_str());
+    let fields = &header.ext;
+    for index in 0..fields.len() {
+        let (key, value) = fields.at(index);
+        if name == key {
+            return Some(value);
         }
     }
     None

@@ -15,8 +15,8 @@ use crate::rows::{
 use crate::send::send;
 use crate::send_fields::SendFields;
 use crate::send_names::{long_names, short_names};
-use mq_bytes::Heartbeat;
-use remoting_frame::Frame;
+use mq_bytes::{Heartbeat, Rows};
+use remoting_frame::{Frame, Header};
 use std::alloc::Global;
 
 /// A request. What each says is within the ranges that its type keeps.
@@ -55,29 +55,38 @@ pub enum Request {
 }
 
 impl Request {
-    /// The request that the frame is, or its first fault.
-    pub fn read(alloc: Global, frame: &Frame) -> Result<Request, RequestFault>
-        ensures { Reads result (request_of frame.now.header frame.now.body) }
+    /// The request that the frame is, or its first fault. A SEND takes the frame's body over.
+    pub fn read(alloc: Global, frame: Frame) -> Result<Request, RequestFault>
+        ensures { Reads result (request_of frame.header frame.body) }
     {
-        let header = &frame.header;
-        match header.code {
-            10 => send(alloc, frame, &long_names()),
-            11 => pull(alloc, header),
-            12 => query(alloc, header),
-            14 => offset_of(alloc, header),
-            15 => set_offset(alloc, header),
-            17 => make_topic(alloc, header),
-            29 => search(alloc, header),
-            30 => max_offset(alloc, header),
-            31 => min_offset(alloc, header),
-            33 => view_by_id(alloc, header),
-            34 => heartbeat(alloc, frame.body.as_slice()),
-            35 => unregister(alloc, header),
-            37 => end_transaction(alloc, header),
-            41 => lock(alloc, frame.body.as_slice()),
-            42 => unlock(alloc, frame.body.as_slice()),
-            310 => send(alloc, frame, &short_names()),
-            code => Err(RequestFault::Unsupported(code)),
-        }
+        let Frame { header, body, .. } = frame;
+        let request = request_in(alloc, &header, body);
+        drop(header);
+        request
+    }
+}
+
+// The request of this header and body, or its first fault.
+fn request_in(alloc: Global, header: &Header, body: Rows<u8>) -> Result<Request, RequestFault>
+    ensures { Reads result (request_of header.now body) }
+{
+    match header.code {
+        10 => send(alloc, header, body, &long_names()),
+        11 => pull(alloc, header),
+        12 => query(alloc, header),
+        14 => offset_of(alloc, header),
+        15 => set_offset(alloc, header),
+        17 => make_topic(alloc, header),
+        29 => search(alloc, header),
+        30 => max_offset(alloc, header),
+        31 => min_offset(alloc, header),
+        33 => view_by_id(alloc, header),
+        34 => heartbeat(alloc, body.as_slice()),
+        35 => unregister(alloc, header),
+        37 => end_transaction(alloc, header),
+        41 => lock(alloc, body.as_slice()),
+        42 => unlock(alloc, body.as_slice()),
+        310 => send(alloc, header, body, &short_names()),
+        code => Err(RequestFault::Unsupported(code)),
     }
 }

@@ -31,7 +31,7 @@ use crate::request::Request;
 use crate::send_fields::SendFields;
 use crate::send_names::SendNames;
 use mq_bytes::Rows;
-use remoting_frame::{Frame, Header};
+use remoting_frame::Header;
 use std::alloc::Global;
 
 // The numbers of a SEND.
@@ -77,19 +77,18 @@ fn numbers_of(
 #[tactic(auto, using(crate::proofs::Later::told_first, crate::proofs::Later::told_later, crate::proofs::Later::none_of_both), unfolding(crate::specs::Rows::send_row, crate::specs::Reading::send_said))]
 pub(crate) fn send(
     alloc: Global,
-    frame: &Frame,
+    header: &Header,
+    body: Rows<u8>,
     names: &SendNames<'_>,
 ) -> Result<Request, RequestFault>
-    ensures { Gives result (first_fault (send_row (names_view names.now)) frame.now.header.ext)
-        (Send (send_said (names_view names.now) frame.now.header.ext frame.now.body)) }
+    ensures { Gives result (first_fault (send_row (names_view names.now)) header.now.ext)
+        (Send (send_said (names_view names.now) header.now.ext body)) }
 {
-    let header = &frame.header;
     let group = needed_name(alloc, header, names.group)?;
     let topic = needed_text(alloc, header, names.topic)?;
     let numbers = numbers_of(alloc, header, names)?;
     let default_topic = optional_text(alloc, header, names.default_topic)?;
     let props = optional_text(alloc, header, names.props)?;
-    let body = Rows::of(Vec::from_slice(alloc, frame.body.as_slice())?);
     Ok(Request::Send(SendFields {
         group,
         topic,

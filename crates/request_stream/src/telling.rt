@@ -2,7 +2,8 @@
 
 ghost use Rattle.std.specs.Prelude.{◌≡◌, ◌++◌, OnOk, OnErr, IfOk, MatchResult};
 ghost use Rattle.mq_outside.specs.Counts.{CountsFailure};
-ghost use Rattle.request_stream.specs.Telling.{Appends, AppendsUnread, Tells, WritesReply, CountsTelling, TookPart, unread as unread_of, fault_counts, sink_of};
+ghost use Rattle.request_stream.specs.Telling.{Appends, AppendsUnread, Tells, WritesReply, CountsTelling, TookPart};
+ghost use Rattle.request_stream.specs.Telling.{unread as unread_of, fault_counts, sink_of};
 
 use crate::stop::Stop;
 use mq_outside::{DiskFault, Failed, Reader, Sink};

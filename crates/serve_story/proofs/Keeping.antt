@@ -1,8 +1,7 @@
 -- What is put into the kept files, from one look to the next, and along the one history.
 use Rattle.std.proofs.Common.{◌≡◌, inl, inr, refl, sym, ap, subst, ◌∙◌, ℕ, List, [], ◌∷◌, ◌++◌, Option, Some, None, IfSome, Result}
 use Rattle.mq_outside.specs.Disk.{DiskState}
-use Rattle.mq_outside.specs.Readings.{Giving}
-use Rattle.request_acts.specs.Acts.{DiskView, Place}
+use Rattle.request_acts.specs.Acts.{Change, Place}
 use Rattle.mq_outside.specs.declared.faults.DiskFault.{DiskFault}
 use Rattle.broker_model.specs.State.{State}
 use Rattle.broker_events.specs.declared.event.Event.{Event}
@@ -21,8 +20,8 @@ use Rattle.story_lock.proofs.Sums.{starts_longer, starts_itself, append_three}
 use Rattle.spine.specs.declared.shared.Shared.{Shared}
 use Rattle.spine.specs.Owner.{Sees}
 use Rattle.spine.specs.Stands.{Stands}
-use Rattle.serve_story.specs.Kept.{Among, SeesAll, KeepsUp, IsTextAlong, PutsAlong}
-use Rattle.serve_story.specs.Served.{IsLeft, IsMadeBy}
+use Rattle.serve_story.specs.Kept.{Among, KeepOver, SeesAll, KeepsUp, IsTextAlong, PutsAlong, keep_over}
+use Rattle.serve_story.specs.Served.{IsLeft, IsMadeBy, Views}
 
 -- ---- one look more
 
@@ -40,11 +39,11 @@ module _ {C : Type 0} (sees : C → Parts → C → Type 0) where
   sees_snoc x [] y core z all saw = subst (λ (w : C). SeesAll sees w (core ∷ []) z) (sym all) (z, saw, refl)
   sees_snoc x (first ∷ cores) y core z all saw = (all.0, all.1, sees_snoc all.0 cores y core z all.2 saw)
 
-  pub keeps_start : (tells : Type 0) (x : C) (keep : DiskState) → KeepsUp sees tells x keep x keep
+  pub keeps_start : (tells : Type 0) (x : C) (keep : DiskState) → KeepsUp sees (keep_over tells keep keep) x x
   keeps_start tells x keep = record { cores = []; seen = refl; puts = λ told. puts_none (Among IsOffsetsOf []) (Among IsTopicsOf []) keep }
 
-  pub keeps_more : {E : Type 0} (tells : Type 0) (x : C) (old : DiskState) (y : C) (mid : DiskState) (z : C) (new : DiskState) (result : Result (Unit {0}) E) → KeepsUp sees tells x old y mid
-      → (core : Parts) × sees y core z × HasKeptOf tells core result mid new → KeepsUp sees tells x old z new
+  pub keeps_more : {E : Type 0} (tells : Type 0) (x : C) (old : DiskState) (y : C) (mid : DiskState) (z : C) (new : DiskState) (result : Result (Unit {0}) E) → KeepsUp sees (keep_over tells old mid) x y
+      → (core : Parts) × sees y core z × HasKeptOf tells core result mid new → KeepsUp sees (keep_over tells old new) x z
   keeps_more tells x old y mid z new result so_far turn =
       let core = turn.0 in
       let cores = so_far.cores in
@@ -126,11 +125,11 @@ module _ {chronicle : Ghosts Shared Event (Option Said)} {C V : Type 0} (pass_of
   among_along Is text_of tells x (core ∷ cores) y q text all there (inr rest) =
       subst (λ v. IsTextAlong text_of (start_at v).core (seen_by q) text) all.1.1 (among_along Is text_of tells all.0 cores y q text all.2 there rest)
 
-  pub keeps_along : (tells : Type 0) (x : C) (old : DiskState) (y : C) (new : DiskState) (q : Pass Shared Event (Option Said) chronicle) → KeepsUp SeesAt tells x old y new → pass_of y ≡ Some q → tells
-      → PutsAlong (start_at (place_of x)).core (seen_by q) old new
-  keeps_along tells x old y new q keeps there told =
+  pub keeps_along : (keep : KeepOver) (x y : C) (q : Pass Shared Event (Option Said) chronicle) → KeepsUp SeesAt keep x y → pass_of y ≡ Some q → keep.tells
+      → PutsAlong (start_at (place_of x)).core (seen_by q) keep.old keep.new
+  keeps_along keep x y q keeps there told =
       puts_weaker (Among IsOffsetsOf keeps.cores) (Among IsTopicsOf keeps.cores)
-      (IsTextAlong (λ s. offsets_text_of s.offsets) (start_at (place_of x)).core (seen_by q)) (IsTextAlong (λ s. topics_text_of s.topics) (start_at (place_of x)).core (seen_by q)) old new
+      (IsTextAlong (λ s. offsets_text_of s.offsets) (start_at (place_of x)).core (seen_by q)) (IsTextAlong (λ s. topics_text_of s.topics) (start_at (place_of x)).core (seen_by q)) keep.old keep.new
       (λ text is. among_along IsOffsetsOf (λ s. offsets_text_of s.offsets) (λ core t it. it) x keeps.cores y q text keeps.seen there is)
       (λ text is. among_along IsTopicsOf (λ s. topics_text_of s.topics) (λ core t it. it) x keeps.cores y q text keeps.seen there is)
       (keeps.puts told)
@@ -138,10 +137,12 @@ module _ {chronicle : Ghosts Shared Event (Option Said)} {C V : Type 0} (pass_of
 -- ---- the end
 
 -- the core that is left stands for the whole history, and its texts were put last
-pub left_at : {D : Type 0} (links : Type 0) (gives : Giving) (view : DiskView D) (place : Place D) (disk : D) (start now : Parts) (history seen : List (Event × Option Said)) (tells : Type 0)
-    (kept : Result (Unit {0}) DiskFault) (old mid new : DiskState) → Stands start history now → IsMadeBy links gives view start place history now disk → StartsWith history seen
-    → (tells → PutsAlong start seen old mid) → HasKeptOf tells now kept mid new → IsLeft links gives view start place disk tells kept old new now
-left_at links gives view place disk start now history seen tells kept old mid new stands made begins puts last =
+pub left_at : {D : Type 0} (views : Views D) (change : Change Parts (Place D)) (history seen : List (Event × Option Said)) (keep : KeepOver) (mid : DiskState) (kept : Result (Unit {0}) DiskFault)
+    → Stands change.calls history change.calls_then → IsMadeBy views history change → StartsWith history seen → (keep.tells → PutsAlong change.calls seen keep.old mid)
+    → HasKeptOf keep.tells change.calls_then kept mid keep.new → IsLeft views change keep kept
+left_at views change history seen keep mid kept stands made begins puts last =
+    let start = change.calls in
+    let now = change.calls_then in
     let offsets = λ (s : State). offsets_text_of s.offsets in
     let topics = λ (s : State). topics_text_of s.topics in
     let whole = starts_itself history history refl in
@@ -149,9 +150,9 @@ left_at links gives view place disk start now history seen tells kept old mid ne
       history = history;
       stands = stands;
       made = made;
-      puts = λ told. puts_then (IsTextAlong offsets start history) (IsTextAlong topics start history) old mid new
-          (puts_longer start history seen old mid begins (puts told))
-          (puts_weaker (IsOffsetsOf now) (IsTopicsOf now) (IsTextAlong offsets start history) (IsTextAlong topics start history) mid new
+      puts = λ told. puts_then (IsTextAlong offsets start history) (IsTextAlong topics start history) keep.old mid keep.new
+          (puts_longer start history seen keep.old mid begins (puts told))
+          (puts_weaker (IsOffsetsOf now) (IsTopicsOf now) (IsTextAlong offsets start history) (IsTextAlong topics start history) mid keep.new
           (λ text is. of_core offsets start now history history text whole stands is) (λ text is. of_core topics start now history history text whole stands is) (last.puts told));
       done = last.done;
     }

@@ -9,7 +9,7 @@ use Rattle.broker_core.specs.Owner.{plain_look}
 use Rattle.broker_core.specs.declared.parts.Parts.{Parts}
 use Rattle.session.specs.Owing.{Steps}
 use Rattle.session.specs.Serving.{Made, Leads}
-use Rattle.event_loops.specs.Tales.{Act, steps_of, made_for, loop_of, IsTale, IsAnsweredInOrder, LeadsBy, GoesOn}
+use Rattle.event_loops.specs.Tales.{Act, steps_of, made_for, loop_of, IsTale, IsAnsweredInOrder, LinkView, loop_numbers, LeadsBy, GoesOn}
 use Rattle.event_loops.specs.declared.links.Links.{Links}
 use Rattle.event_loops.proofs.Told.{told_none}
 use Rattle.story_lock.specs.declared.chronicle.Chronicle.{Ghosts}
@@ -28,7 +28,7 @@ use Rattle.segment_files.specs.declared.last_file.LastFile.{LastFile}
 use Rattle.request_acts.specs.Acts as acts
 use Rattle.request_acts.specs.Acts.{Acted, DiskView, Place, place_of, change_of}
 use Rattle.serve_story.specs.Kept.{SeesAll}
-use Rattle.serve_story.specs.Served.{AreFlushing, Write, AreAnswered, AreLooks, IsMerged, Meets, Cuts, AreCut, AreMet, HasMade, IsMadeBy}
+use Rattle.serve_story.specs.Served.{AreFlushing, Write, AreAnswered, AreLooks, IsMerged, Meets, Cuts, AreCut, AreMet, ByThread, HasMade, IsMadeBy, Views, by_thread}
 use Rattle.serve_story.proofs.Keeping.{SeesAt, starts_then}
 use Rattle.serve_story.proofs.Keys.{cut_numbers}
 use Rattle.serve_story.proofs.Turns.{acts_make, acts_write}
@@ -37,12 +37,12 @@ use Rattle.serve_story.proofs.SharedStory.{leads_on}
 -- ---- what a loop made
 
 -- what a loop did from its beginning on is what it made for each of its links
-pub answered : {L C : Type 0} (tells : Type 0) (gives : Giving) (given taken : L → List ℕ) (makes : Steps C) (number : ℕ) (x y : C) (old new : Links L)
-    → ((link : ℕ) (made : Made) → IsTale tells gives link made → IsAnsweredInOrder tells gives link made)
-    → (old.loops ≡ 2) × (old.number ≡ number) × (old.slots.items ≡ []) → LeadsBy makes x y (λ acts. GoesOn tells gives given taken old acts new)
-    → Leads makes x y (AreAnswered tells gives number)
-answered {L} tells gives given taken makes number x y old new law begins went =
-    let told = went.so.keeps [] (told_none tells gives given taken old.loops old.number old.newest old.slots.items begins.2) in
+pub answered : {L C : Type 0} (view : LinkView L) (gives : Giving) (makes : Steps C) (number : ℕ) (x y : C) (old new : Links L)
+    → ((link : ℕ) (made : Made) → IsTale view.tells gives link made → IsAnsweredInOrder view.tells gives link made)
+    → (old.loops ≡ 2) × (old.number ≡ number) × (old.slots.items ≡ []) → LeadsBy makes x y (λ acts. GoesOn view gives old acts new)
+    → Leads makes x y (AreAnswered view.tells gives number)
+answered {L} view gives makes number x y old new law begins went =
+    let told = went.so.keeps [] (told_none view gives (loop_numbers old) old.slots.items begins.2) in
     let loops : new.loops ≡ 2 = went.so.same.0 ∙ begins.0 in
     let is : new.number ≡ number = went.so.same.1 ∙ begins.1 in record {
       made = steps_of went.acts;
@@ -163,14 +163,14 @@ module _ {chronicle : Ghosts Shared Event (Option Said)} where
       )
 
   -- what the last one had seen begins what the one that is left has seen
-  pub met_last : {one other third last : Option (Pass Shared Event (Option Said) chronicle)} (new : Pass Shared Event (Option Said) chronicle) (are : AreMet one other third last new)
+  pub met_last : {passes : ByThread (Option (Pass Shared Event (Option Said) chronicle))} (new : Pass Shared Event (Option Said) chronicle) (are : AreMet passes new)
       → StartsWith (seen_by new) (seen_by are.looks)
   met_last new are = (joined are.meets.late are.looks new are.meets.at_last).1
 
-  module _ {D : Type 0} (tells : Type 0) (gives : Giving) (view : DiskView D) where
+  module _ {D : Type 0} (views : Views D) where
     met : (p : Place D) (file : LastFile) (disk : D) (whole k a b e kt at bt et new : Pass Shared Event (Option Said) chronicle) → mine_of whole ≡ [] → numbers_of whole ≡ 0 ∷ 1 ∷ 2 ∷ 3 ∷ []
-        → Cuts whole k a b e → GainsTurns view k p kt (place_of file disk) → Gains a (AreAnswered tells gives 0) at → Gains b (AreAnswered tells gives 1) bt
-        → Gains e AreLooks et → Meets kt at bt et new → HasMade tells gives view p new disk
+        → Cuts whole k a b e → GainsTurns views.disk k p kt (place_of file disk) → Gains a (AreAnswered views.links views.gives 0) at → Gains b (AreAnswered views.links views.gives 1) bt
+        → Gains e AreLooks et → Meets kt at bt et new → HasMade views p new disk
     met p file disk whole k a b e kt at bt et new none numbers cuts turns one two three meets =
         let early = joined kt at meets.early meets.first in
         let mid = joined meets.early bt meets.late meets.then in
@@ -227,17 +227,17 @@ module _ {chronicle : Ghosts Shared Event (Option Said)} where
     -- four callers whose passes were cut from one and met again
     pub made_of : {C : Type 0} (pass_of : C → Option (Pass Shared Event (Option Said) chronicle)) (p : Place D) (file : LastFile) (disk : D) (story : Story Shared Event (Option Said))
         (whole new : Pass Shared Event (Option Said) chronicle) (k a b e kt at bt et : C) → mine_of whole ≡ [] → numbers_of whole ≡ 0 ∷ 1 ∷ 2 ∷ 3 ∷ []
-        → AreCut story whole (pass_of k) (pass_of a) (pass_of b) (pass_of e) → AreMet (pass_of kt) (pass_of at) (pass_of bt) (pass_of et) new
-        → Acted (StepsBy pass_of) view AreFlushing (change_of k p kt (place_of file disk)) → Leads (StepsBy pass_of) a at (AreAnswered tells gives 0)
-        → Leads (StepsBy pass_of) b bt (AreAnswered tells gives 1) → Leads (StepsBy pass_of) e et AreLooks → HasMade tells gives view p new disk
+        → AreCut story whole (by_thread (pass_of k) (pass_of a) (pass_of b) (pass_of e)) → AreMet (by_thread (pass_of kt) (pass_of at) (pass_of bt) (pass_of et)) new
+        → Acted (StepsBy pass_of) views.disk AreFlushing (change_of k p kt (place_of file disk)) → Leads (StepsBy pass_of) a at (AreAnswered views.links views.gives 0)
+        → Leads (StepsBy pass_of) b bt (AreAnswered views.links views.gives 1) → Leads (StepsBy pass_of) e et AreLooks → HasMade views p new disk
     made_of pass_of p file disk story whole new k a b e kt at bt et none numbers cut are acted first second looks =
         met p file disk whole cut.turns cut.first cut.second cut.looks are.turns are.first are.second are.looks new none numbers cut.cuts
-        (gains_turns pass_of view k kt p (place_of file disk) cut.turns are.turns cut.are.0 are.are.0 acted)
-        (gains pass_of (AreAnswered tells gives 0) a at cut.first are.first cut.are.1 are.are.1 first)
-        (gains pass_of (AreAnswered tells gives 1) b bt cut.second are.second cut.are.2 are.are.2 second)
+        (gains_turns pass_of views.disk k kt p (place_of file disk) cut.turns are.turns cut.are.0 are.are.0 acted)
+        (gains pass_of (AreAnswered views.links views.gives 0) a at cut.first are.first cut.are.1 are.are.1 first)
+        (gains pass_of (AreAnswered views.links views.gives 1) b bt cut.second are.second cut.are.2 are.are.2 second)
         (gains pass_of AreLooks e et cut.looks are.looks cut.are.3 are.are.3 looks) are.meets
 
-    merged_of : {p : Place D} {disk : D} (pass : Pass Shared Event (Option Said) chronicle) (history : Made) (made : HasMade tells gives view p pass disk) → seen_by pass ≡ history → IsDistinct (mine_of pass)
+    merged_of : {p : Place D} {disk : D} (pass : Pass Shared Event (Option Said) chronicle) (history : Made) (made : HasMade views p pass disk) → seen_by pass ≡ history → IsDistinct (mine_of pass)
         → ((k : ℕ) → k < length history → 0 < times k (mine_of pass)) → IsMerged history (acts.steps_of made.turns) made.first made.second made.looks
     merged_of pass history made whole once all = record {
       turns_at = made.turns_at;
@@ -255,8 +255,8 @@ module _ {chronicle : Ghosts Shared Event (Option Said)} where
 
     -- whose the entries of the history are that the pass had seen, once the core is out
     pub made_by : (old : Place D) (disk : D) (story : Story Shared Event (Option Said)) (pass : Pass Shared Event (Option Said) chronicle) (history : Made) (core : Parts) → seats_of story ≡ 4
-        → HasMade tells gives view old pass disk → StandsFor story pass history core → Stands (start_of story).core history core
-        → IsMadeBy tells gives view (start_of story).core old history core disk
+        → (made : HasMade views old pass disk) → StandsFor story pass history core → Stands (start_of story).core history core
+        → IsMadeBy views history (change_of (start_of story).core old core (place_of made.file disk))
     made_by old disk story pass history core four made finds stands =
         let whole = finds.whole (λ k less. made.seats k (subst (λ (n : ℕ). k < n) four less)) in
         let merged : IsMerged history (acts.steps_of made.turns) made.first made.second made.looks = merged_of pass history made whole.0 finds.distinct whole.1 in
@@ -269,8 +269,7 @@ module _ {chronicle : Ghosts Shared Event (Option Said)} where
           flusher = made.flusher;
           links = made.links;
           keeper = made.keeper;
-          file = made.file;
           write = made.write;
-          leads = leads_on view tells gives (start_of story).core core history made.turns made.first made.second made.looks old (place_of made.file disk) stands merged made.links
-              made.keeper made.write;
+          leads = leads_on views.disk views.links views.gives (change_of (start_of story).core old core (place_of made.file disk)) history made.turns made.first made.second made.looks
+              stands merged made.links made.keeper made.write;
         }

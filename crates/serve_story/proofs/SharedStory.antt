@@ -16,7 +16,7 @@ use Rattle.broker_core.specs.Represents.{Represents}
 use Rattle.broker_core.specs.declared.parts.Parts.{Parts}
 use Rattle.session.specs.Serving.{Made}
 use Rattle.request_acts.specs.Acts as acts
-use Rattle.request_acts.specs.Acts.{Act, Turn, DiskView, Place, growing_at, steps_of, HasWritten, HasMissed, change_of}
+use Rattle.request_acts.specs.Acts.{Act, Change, Turn, DiskView, Place, growing_at, steps_of, HasWritten, HasMissed, change_of}
 use Rattle.flush_story.specs.Story as stories
 use Rattle.flush_story.specs.Story.{StepsAs, Happening, Stepped, Ended, Broke, Story, Reaches, IsBetween, AreBetween, span_of}
 use Rattle.flush_story.proofs.Keeps.{keeps_start, keeps_story}
@@ -232,10 +232,12 @@ module _ {D : Type 0} (view : DiskView D) where
       (λ own. told_own fuel e H own.0 turns s t p q (told_all fuel t q) less own.1 own.2 along write) is
 
   -- the history of the flusher, two loops and the keeper leads on, and every crash leaves what the turns flushed
-  pub leads_on : (tells : Type 0) (gives : Giving) (start now : Parts) (history : Made) (turns : List Act) (first second looks : Made) (old new : Place D) → Stands start history now
-      → IsMerged history (steps_of turns) first second looks → AreAnswered tells gives 0 first × AreAnswered tells gives 1 second → AreLooks looks → Write view turns old new
-      → (s : State) → Represents start s → LeadsOn view history s old now new
-  leads_on tells gives start now history turns first second looks old new stands merged links keeper write s are =
+  pub leads_on : (tells : Type 0) (gives : Giving) (change : Change Parts (Place D)) (history : Made) (turns : List Act) (first second looks : Made)
+      → Stands change.calls history change.calls_then → IsMerged history (steps_of turns) first second looks → AreAnswered tells gives 0 first × AreAnswered tells gives 1 second → AreLooks looks
+      → Write view turns change.place change.place_then → (s : State) → Represents change.calls s → LeadsOn view history change s
+  leads_on tells gives change history turns first second looks stands merged links keeper write s are =
+      let old = change.place in
+      let new = change.place_then in
       let run = stands.runs s are in
       let told = told_all (length history) run.0 new history turns s old (omega arith) (laid tells gives history (steps_of turns) first second looks merged links keeper) run.1 write in
       let low : s.log.base.records ≤ s.flushed = omega (arith, are.state.base, are.state.dispatched) in

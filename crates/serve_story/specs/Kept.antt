@@ -12,6 +12,15 @@ use Rattle.keeper_turns.specs.Turns.{IsOffsetsOf, IsTopicsOf}
 use Rattle.story_lock.specs.Counts.{StartsWith}
 use Rattle.spine.specs.Stands.{Along}
 
+-- a keep over a run: that it tells its texts, and it before the run and behind it
+pub record KeepOver : Type 1 where
+  pub tells : Type 0
+  pub old : DiskState
+  pub new : DiskState
+
+abbrev pub keep_over : Type 0 → DiskState → DiskState → KeepOver
+keep_over tells old new = record { tells = tells; old = old; new = new }
+
 -- ---- by looks at any core
 
 -- the text is such a one of one of these cores
@@ -27,10 +36,10 @@ module _ {C : Type 0} (sees : C → Parts → C → Type 0) where
 
   -- Looks were made, and meanwhile each of the two kept files had its old text or that of a core that was seen, at each moment and
   -- in each crash image. No other text of the keep changed.
-  pub record KeepsUp (tells : Type 0) (x : C) (old : DiskState) (y : C) (new : DiskState) : Type 0 where
+  pub record KeepsUp (keep : KeepOver) (x y : C) : Type 0 where
     pub cores : List Parts
     pub seen : SeesAll x cores y
-    pub puts : tells → PutsBy (Among IsOffsetsOf cores) (Among IsTopicsOf cores) old new
+    pub puts : keep.tells → PutsBy (Among IsOffsetsOf cores) (Among IsTopicsOf cores) keep.old keep.new
 
 -- ---- along one history
 

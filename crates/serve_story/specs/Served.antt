@@ -1,6 +1,5 @@
 -- What the threads of a broker make, and what is left of it.
 use Rattle.std.specs.Prelude.{◌≡◌, ◌⊎◌, ◌<◌, ◌++◌, ℕ, List, [], ◌∷◌, length, Option, Some, Result, OnOk}
-use Rattle.mq_outside.specs.Disk.{DiskState}
 use Rattle.mq_outside.specs.Readings.{Giving}
 use Rattle.mq_outside.specs.declared.faults.DiskFault.{DiskFault}
 use Rattle.log_model.specs.declared.batch.Receipt.{Receipt}
@@ -21,7 +20,7 @@ use Rattle.event_loops.specs.declared.event_loop.EventLoop.{EventLoop}
 use Rattle.spine.specs.declared.shared.Shared.{Shared}
 use Rattle.worker_turns.specs.Turns.{Steps}
 use Rattle.request_acts.specs.Acts as acts
-use Rattle.request_acts.specs.Acts.{Acts, DiskView, Place, place_of, growing_at, change_of}
+use Rattle.request_acts.specs.Acts.{Acts, Change, DiskView, Place, place_of, growing_at, change_of}
 use Rattle.story_lock.specs.declared.chronicle.Chronicle.{Ghosts}
 use Rattle.story_lock.specs.declared.story.Pass.{Pass}
 use Rattle.story_lock.specs.Counts.{times, IsDistinct}
@@ -32,7 +31,16 @@ use Rattle.spine.specs.Passes.{Splits, Joins}
 use Rattle.spine.specs.Stands.{Stands}
 use Rattle.keeper_turns.specs.Puts.{KeepsBy}
 use Rattle.keeper_turns.specs.Turns.{IsOffsetsOf, IsTopicsOf}
-use Rattle.serve_story.specs.Kept.{PutsAlong}
+use Rattle.serve_story.specs.Kept.{KeepOver, PutsAlong}
+
+-- how a run sees its links, what its readers give, and its disk
+pub record Views (D : Type 0) : Type 1 where
+  pub links : Type 0
+  pub gives : Giving
+  pub disk : DiskView D
+
+abbrev pub views_of : {D : Type 0} → Type 0 → Giving → DiskView D → Views D
+views_of links gives disk = record { links = links; gives = gives; disk = disk }
 
 -- ---- the loops
 
@@ -99,6 +107,16 @@ pub record IsMerged (history turns first second looks : Made) : Type 0 where
 
 -- ---- passes
 
+-- one for each thread: the flusher, the two loops and the keeper
+pub record ByThread (X : Type 0) : Type 0 where
+  pub flusher : X
+  pub first : X
+  pub second : X
+  pub keeper : X
+
+abbrev pub by_thread : {X : Type 0} → X → X → X → X → ByThread X
+by_thread flusher first second keeper = record { flusher = flusher; first = first; second = second; keeper = keeper }
+
 module _ {chronicle : Ghosts Shared Event (Option Said)} where
   -- the first pass took over the second, then the third, and then the fourth
   pub record Meets (one other third last new : Pass Shared Event (Option Said) chronicle) : Type 0 where
@@ -118,29 +136,29 @@ module _ {chronicle : Ghosts Shared Event (Option Said)} where
 
   -- four callers of this story have the passes into which the first one was cut
   pub record AreCut (story : TheStory Shared Event (Option Said)) (whole : Pass Shared Event (Option Said) chronicle)
-      (one other third last : Option (Pass Shared Event (Option Said) chronicle)) : Type 0 where
+      (passes : ByThread (Option (Pass Shared Event (Option Said) chronicle))) : Type 0 where
     pub turns : Pass Shared Event (Option Said) chronicle
     pub first : Pass Shared Event (Option Said) chronicle
     pub second : Pass Shared Event (Option Said) chronicle
     pub looks : Pass Shared Event (Option Said) chronicle
-    pub are : (one ≡ Some turns) × (other ≡ Some first) × (third ≡ Some second) × (last ≡ Some looks)
+    pub are : (passes.flusher ≡ Some turns) × (passes.first ≡ Some first) × (passes.second ≡ Some second) × (passes.keeper ≡ Some looks)
     pub of : IsPassOf story turns × IsPassOf story first × IsPassOf story second × IsPassOf story looks
     pub cuts : Cuts whole turns first second looks
 
   -- the passes of four callers are one
-  pub record AreMet (one other third last : Option (Pass Shared Event (Option Said) chronicle))
+  pub record AreMet (passes : ByThread (Option (Pass Shared Event (Option Said) chronicle)))
       (new : Pass Shared Event (Option Said) chronicle) : Type 0 where
     pub turns : Pass Shared Event (Option Said) chronicle
     pub first : Pass Shared Event (Option Said) chronicle
     pub second : Pass Shared Event (Option Said) chronicle
     pub looks : Pass Shared Event (Option Said) chronicle
-    pub are : (one ≡ Some turns) × (other ≡ Some first) × (third ≡ Some second) × (last ≡ Some looks)
+    pub are : (passes.flusher ≡ Some turns) × (passes.first ≡ Some first) × (passes.second ≡ Some second) × (passes.keeper ≡ Some looks)
     pub meets : Meets turns first second looks new
 
   -- The pass has each seat number of four, and its entries are the flusher's, those of the two loops and the keeper's. What the
   -- flusher's turns did to the disk leads from the first place to this disk.
-  pub record HasMade {D : Type 0} (tells : Type 0) (gives : Giving) (view : DiskView D) (old : Place D)
-      (pass : Pass Shared Event (Option Said) chronicle) (disk : D) : Type 0 where
+  pub record HasMade {D : Type 0} (views : Views D) (old : Place D) (pass : Pass Shared Event (Option Said) chronicle) (disk : D)
+      : Type 0 where
     pub turns : List acts.Act
     pub first : Made
     pub second : Made
@@ -155,8 +173,8 @@ module _ {chronicle : Ghosts Shared Event (Option Said)} where
     pub mine : mine_of pass ≡ ((turns_at ++ first_at) ++ second_at) ++ looks_at
     pub flusher : AreFlushing turns
     pub file : LastFile
-    pub write : Write view turns old (place_of file disk)
-    pub links : AreAnswered tells gives 0 first × AreAnswered tells gives 1 second
+    pub write : Write views.disk turns old (place_of file disk)
+    pub links : AreAnswered views.links views.gives 0 first × AreAnswered views.links views.gives 1 second
     pub keeper : AreLooks looks
     pub seats : (k : ℕ) → k < 4 → 0 < times k (numbers_of pass)
 
@@ -165,39 +183,36 @@ module _ {chronicle : Ghosts Shared Event (Option Said)} where
 -- From a state that the first core represented the history leads to one that the second represents. It is a story of the model and of
 -- the disk: where the disk tells what it holds, and stored the first state's log with its flushed number, it stores that of the
 -- second, and at each moment a crash leaves what was flushed by then.
-pub record LeadsOn {D : Type 0} (view : DiskView D) (history : Made) (s : State) (old : Place D) (now : Parts) (new : Place D)
-    : Type 0 where
+pub record LeadsOn {D : Type 0} (view : DiskView D) (history : Made) (change : Change Parts (Place D)) (s : State) : Type 0 where
   pub reached : State
-  pub represents : Represents now reached
+  pub represents : Represents change.calls_then reached
   pub story : List Happening
   pub steps : stories.steps_of story ≡ history
-  pub happens : Story view.tells (growing_at view) story (span_of s old reached new)
-  pub keeps : view.tells → IsOpenFor s (growing_at view old)
-      → Keeps s reached (stories.turns_of story) (view.state old.disk) (growing_at view new)
+  pub happens : Story view.tells (growing_at view) story (span_of s change.place reached change.place_then)
+  pub keeps : view.tells → IsOpenFor s (growing_at view change.place)
+      → Keeps s reached (stories.turns_of story) (view.state change.place.disk) (growing_at view change.place_then)
 
 -- Of this history, which leads from the first core to the second: the entries are the flusher's turns, which wrote what was pending,
 -- what the loops made for each link, and the looks of the keeper.
-pub record IsMadeBy {D : Type 0} (tells : Type 0) (gives : Giving) (view : DiskView D) (start : Parts) (old : Place D) (history : Made)
-    (now : Parts) (disk : D) : Type 0 where
+pub record IsMadeBy {D : Type 0} (views : Views D) (history : Made) (change : Change Parts (Place D)) : Type 0 where
   pub turns : List acts.Act
   pub first : Made
   pub second : Made
   pub looks : Made
   pub merged : IsMerged history (acts.steps_of turns) first second looks
   pub flusher : AreFlushing turns
-  pub links : AreAnswered tells gives 0 first × AreAnswered tells gives 1 second
+  pub links : AreAnswered views.links views.gives 0 first × AreAnswered views.links views.gives 1 second
   pub keeper : AreLooks looks
-  pub file : LastFile
-  pub write : Write view turns old (place_of file disk)
-  pub leads : (s : State) → Represents start s → LeadsOn view history s old now (place_of file disk)
+  pub write : Write views.disk turns change.place change.place_then
+  pub leads : (s : State) → Represents change.calls s → LeadsOn views.disk history change s
 
 -- The second core stands for one history that begins with the first: a run of steps, each with the answer that was said, made by the
 -- threads and by nobody else. Meanwhile each of the two kept files had its old text or that of a state of this history; and where
 -- their last replacement ended Ok, both have the texts of the second core, and keep them through a crash.
-pub record IsLeft {D : Type 0} (links : Type 0) (gives : Giving) (view : DiskView D) (start : Parts) (place : Place D) (disk : D)
-    (tells : Type 0) (kept : Result (Unit {0}) DiskFault) (old new : DiskState) (now : Parts) : Type 0 where
+pub record IsLeft {D : Type 0} (views : Views D) (change : Change Parts (Place D)) (keep : KeepOver)
+    (kept : Result (Unit {0}) DiskFault) : Type 0 where
   pub history : Made
-  pub stands : Stands start history now
-  pub made : IsMadeBy links gives view start place history now disk
-  pub puts : tells → PutsAlong start history old new
-  pub done : tells → OnOk kept (KeepsBy (IsOffsetsOf now) (IsTopicsOf now) new)
+  pub stands : Stands change.calls history change.calls_then
+  pub made : IsMadeBy views history change
+  pub puts : keep.tells → PutsAlong change.calls history keep.old keep.new
+  pub done : keep.tells → OnOk kept (KeepsBy (IsOffsetsOf change.calls_then) (IsTopicsOf change.calls_then) keep.new)

@@ -1,7 +1,7 @@
 //! The keeper: the two kept files follow what the core has, a few seconds behind it.
 
 ghost use Rattle.std.specs.Prelude.{◌≤◌};
-ghost use Rattle.serve_story.specs.Kept.{KeepsUp};
+ghost use Rattle.serve_story.specs.Kept.{KeepsUp, keep_over};
 
 use broker_core::Owner;
 use event_loops::Shared;
@@ -25,7 +25,7 @@ pub(crate) fn keep_up<W: Wait, C: Owner, E: Keep>(
     calls: &mut C,
     keep: &mut E,
 )
-    ensures kept { KeepsUp C.sees E.tells calls.old (E.state keep.old) calls.new (E.state keep.new) }
+    ensures kept { KeepsUp C.sees (keep_over E.tells (E.state keep.old) (E.state keep.new)) calls.old calls.new }
     ensures grow { E.faults keep.old ≤ E.faults keep.new }
 {
     let mut last = None;

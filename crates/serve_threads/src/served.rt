@@ -3,13 +3,14 @@
 ghost use Rattle.std.specs.Prelude.{◌≡◌, ◌≤◌, ℕ, [], ◌∷◌, Some, None, IfSome, IfOk, IfErr};
 ghost use Rattle.log_model.specs.Stored.{StaysOutside};
 ghost use Rattle.segment_files.specs.Turn.{IsInside};
+ghost use Rattle.segment_files.specs.declared.last_file.LastFile.{LastFile};
 ghost use Rattle.broker_core.specs.Makes.{shown_of};
 ghost use Rattle.story_lock.specs.Passes.{IsPassOf, HasSeat, HasKey, start_of, seats_of as seats_in, seen_by, mine_of, numbers_of};
 ghost use Rattle.spine.specs.Seen.{shown_by};
-ghost use Rattle.request_acts.specs.Acts.{Place, place_of, view_of};
+ghost use Rattle.request_acts.specs.Acts.{Place, change_of, place_of, view_of};
 ghost use Rattle.event_loops.specs.Causes.{door_faults, loop_faults};
-ghost use Rattle.serve_story.specs.Kept.{PutsAlong};
-ghost use Rattle.serve_story.specs.Served.{AreLoops, AreCut, AreMet, Meets, HasMade, IsLeft};
+ghost use Rattle.serve_story.specs.Kept.{PutsAlong, keep_over};
+ghost use Rattle.serve_story.specs.Served.{AreLoops, AreCut, AreMet, Meets, HasMade, IsLeft, by_thread, views_of};
 ghost use Rattle.serve_threads.specs.Causes.{BlamesDisk, BlamesKeep, BlamesWorld, HasCauses, HasDoor, IsFirstFault};
 ghost use Rattle.serve_threads.specs.Causes.{both_faults, counts_of, world_faults};
 
@@ -112,7 +113,8 @@ fn seats_of<'a, W: Wait>(spine: &'a Spine, rt: &'a W, pass: Pass) -> Seats<'a, W
     requires numbers { numbers_of pass ≡ 0 ∷ 1 ∷ 2 ∷ 3 ∷ [] }
     requires first { seen_by pass ≡ [] }
     requires none_out { (shown_of (start_of spine.now.story).core).out ≡ None }
-    ensures cut { AreCut spine.now.story pass result.flusher.pass result.first.pass result.second.pass result.keeper.pass }
+    ensures cut { AreCut spine.now.story pass
+        (by_thread result.flusher.pass result.first.pass result.second.pass result.keeper.pass) }
     ensures key { IfSome result.flusher.pass (λ p. HasKey p) }
     ensures none_out { (shown_by result.flusher.pass).out ≡ None }
     ensures keeper { result.keeper.spine.now ≡ spine.now }
@@ -180,8 +182,8 @@ fn gather<
     requires second { IfSome ran.second.calls.pass (λ p. IsPassOf spine.now.story p) }
     requires keeper { IfSome ran.keeping.calls.pass (λ p. IsPassOf spine.now.story p) }
     ensures of { IsPassOf spine.now.story result.pass }
-    ensures met { AreMet ran.entry.flushing.calls.pass ran.entry.first.calls.pass ran.entry.second.calls.pass
-        ran.entry.keeping.calls.pass result.pass }
+    ensures met { AreMet (by_thread ran.entry.flushing.calls.pass ran.entry.first.calls.pass ran.entry.second.calls.pass
+        ran.entry.keeping.calls.pass) result.pass }
     ensures disk { result.disk ≡ ran.entry.flushing.disk }
     ensures keep { result.keep ≡ ran.entry.keeping.keep }
     ensures last { result.last ≡ ran.entry.flushing.last }
@@ -248,7 +250,7 @@ where
     requires inside { D.tells → IsInside devices.flusher.file.base devices.flusher.file.offset (D.state devices.disk) }
     ensures outside { D.tells → StaysOutside (D.state devices.disk) (D.state result.disk) }
     ensures of { IsPassOf spine.now.story result.pass }
-    ensures made { HasMade P.Link.tells R.gives (view_of D.tells D.state D.faults D.syncs)
+    ensures made { HasMade (views_of P.Link.tells R.gives (view_of D.tells D.state D.faults D.syncs))
         (place_of devices.flusher.file devices.disk) result.pass result.disk }
     ensures kept { E.tells → PutsAlong (start_of spine.now.story).core (seen_by result.pass)
         (E.state devices.keep) (E.state result.keep) }
@@ -260,12 +262,11 @@ where
     let Devices {
         flusher,
         disk,
-        readers,
+        readers: (first_reader, second_reader),
         keep,
     } = devices;
     let (first_loop, second_loop) = loops;
     let (near, far) = outsides;
-    let (first_reader, second_reader) = readers;
     let Seats {
         flusher: key,
         first,
@@ -313,10 +314,11 @@ fn close<
     requires seats { seats_in spine.story ≡ 4 }
     ensures disk { result.disk ≡ left.disk }
     ensures left { (place : Place D) (before : E)
-        → HasMade P.Link.tells R.gives (view_of D.tells D.state D.faults D.syncs) place left.pass left.disk
+        → HasMade (views_of P.Link.tells R.gives (view_of D.tells D.state D.faults D.syncs)) place left.pass left.disk
         → (E.tells → PutsAlong (start_of spine.story).core (seen_by left.pass) (E.state before) (E.state left.keep))
-        → IsLeft P.Link.tells R.gives (view_of D.tells D.state D.faults D.syncs) (start_of spine.story).core place result.disk
-        E.tells result.kept (E.state before) (E.state result.keep) result.core }
+        → (file : LastFile) × IsLeft (views_of P.Link.tells R.gives (view_of D.tells D.state D.faults D.syncs))
+        (change_of (start_of spine.story).core place result.core (place_of file result.disk))
+        (keep_over E.tells (E.state before) (E.state result.keep)) result.kept }
     ensures ends { (result.end ≡ left.end) × (result.last ≡ left.last) × (result.world ≡ left.world) }
     ensures cause { (before : ℕ) → before ≤ E.faults left.keep → BlamesKeep result.kept before (E.faults result.keep) }
 {
@@ -364,8 +366,9 @@ where
     requires loops { AreLoops loops.first loops.second }
     requires none_out { (shown_of core).out ≡ None }
     requires inside { D.tells → IsInside devices.flusher.file.base devices.flusher.file.offset (D.state devices.disk) }
-    ensures left { IfOk result (λ it. IsLeft P.Link.tells R.gives (view_of D.tells D.state D.faults D.syncs)
-        core (place_of devices.flusher.file devices.disk) it.disk E.tells it.kept (E.state devices.keep) (E.state it.keep) it.core) }
+    ensures left { IfOk result (λ it. (file : LastFile) × IsLeft (views_of P.Link.tells R.gives (view_of D.tells D.state D.faults D.syncs))
+        (change_of core (place_of devices.flusher.file devices.disk) it.core (place_of file it.disk))
+        (keep_over E.tells (E.state devices.keep) (E.state it.keep)) it.kept) }
     ensures outside { D.tells → IfOk result (λ it. StaysOutside (D.state devices.disk) (D.state it.disk)) }
     ensures err { IfErr result (λ back. (back.devices ≡ devices) × (back.world ≡ loops.world)) }
 

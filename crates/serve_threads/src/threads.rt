@@ -7,7 +7,7 @@ ghost use Rattle.segment_files.specs.Turn.{IsInside};
 ghost use Rattle.session.specs.Serving.{Leads};
 ghost use Rattle.request_acts.specs.Acts.{Acted, place_of, view_of, change_of};
 ghost use Rattle.event_loops.specs.Causes.{CountsEnd, loop_faults};
-ghost use Rattle.serve_story.specs.Kept.{KeepsUp};
+ghost use Rattle.serve_story.specs.Kept.{KeepsUp, keep_over};
 ghost use Rattle.serve_story.specs.Served.{IsLoop, AreFlushing, AreAnswered};
 ghost use Rattle.serve_threads.specs.Causes.{BlamesDisk};
 
@@ -131,7 +131,7 @@ impl<C: Owner + Drop, E: Keep + Drop> Keeping<C, E> {
         around: &Around<'_, W, P>,
         bell: &Parker,
     ) -> Keeping<C, E>
-        ensures kept { KeepsUp C.sees E.tells self.calls (E.state self.keep) result.calls (E.state result.keep) }
+        ensures kept { KeepsUp C.sees (keep_over E.tells (E.state self.keep) (E.state result.keep)) self.calls result.calls }
         ensures grow { E.faults self.keep ≤ E.faults result.keep }
     {
         let Keeping {
@@ -209,7 +209,7 @@ fn run_kept<
     keeping: Keeping<C, E>,
 ) -> (Keeping<C, E>, (Worker<P, K, C, R>, Worker<P, K, C, R>))
     requires loops { IsLoop 0 first.event_loop × IsLoop 1 second.event_loop }
-    ensures kept { KeepsUp C.sees E.tells keeping.calls (E.state keeping.keep) result.0.calls (E.state result.0.keep) }
+    ensures kept { KeepsUp C.sees (keep_over E.tells (E.state keeping.keep) (E.state result.0.keep)) keeping.calls result.0.calls }
     ensures keep_grows { E.faults keeping.keep ≤ E.faults result.0.keep }
     ensures first { Leads C.makes first.calls result.1.0.calls (AreAnswered P.Link.tells R.gives 0) }
     ensures second { Leads C.makes second.calls result.1.1.calls (AreAnswered P.Link.tells R.gives 1) }
@@ -223,7 +223,7 @@ fn run_kept<
     join(
         around.rt,
         move || -> Keeping<C, E>
-            ensures kept { KeepsUp C.sees E.tells keeping.calls (E.state keeping.keep) result.calls (E.state result.keep) }
+            ensures kept { KeepsUp C.sees (keep_over E.tells (E.state keeping.keep) (E.state result.keep)) keeping.calls result.calls }
             ensures grow { E.faults keeping.keep ≤ E.faults result.keep }
         { keeping.run(around, rings) },
         move || -> (Worker<P, K, C, R>, Worker<P, K, C, R>)
@@ -281,7 +281,8 @@ where
     ensures acted { Acted C.makes (view_of D.tells D.state D.faults D.syncs) AreFlushing
         (change_of flushing.calls (place_of flushing.flusher.file flushing.disk)
         result.flushing.calls (place_of result.flushing.flusher.file result.flushing.disk)) }
-    ensures kept { KeepsUp C.sees E.tells keeping.calls (E.state keeping.keep) result.keeping.calls (E.state result.keeping.keep) }
+    ensures kept { KeepsUp C.sees (keep_over E.tells (E.state keeping.keep) (E.state result.keeping.keep)) keeping.calls
+        result.keeping.calls }
     ensures first { Leads C.makes first.calls result.first.calls (AreAnswered P.Link.tells R.gives 0) }
     ensures second { Leads C.makes second.calls result.second.calls (AreAnswered P.Link.tells R.gives 1) }
     ensures first_cause { CountsEnd result.first.end (loop_faults P.faults P.Door.faults K.faults first.outside)
@@ -306,7 +307,7 @@ where
             requires { IsSync W.row × IsSend P.row × IsSync P.row × IsSend P.Link.row × IsSend P.Door.row × IsSend P.Waker.row
                 × IsSync P.Waker.row × IsSend K.row × IsSend C.row × IsSend R.row × IsSend E.row
                 × IsLoop 0 first.event_loop × IsLoop 1 second.event_loop }
-            ensures kept { KeepsUp C.sees E.tells keeping.calls (E.state keeping.keep) result.0.calls (E.state result.0.keep) }
+            ensures kept { KeepsUp C.sees (keep_over E.tells (E.state keeping.keep) (E.state result.0.keep)) keeping.calls result.0.calls }
             ensures keep_grows { E.faults keeping.keep ≤ E.faults result.0.keep }
             ensures first { Leads C.makes first.calls result.1.0.calls (AreAnswered P.Link.tells R.gives 0) }
             ensures second { Leads C.makes second.calls result.1.1.calls (AreAnswered P.Link.tells R.gives 1) }

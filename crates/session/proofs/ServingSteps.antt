@@ -1,12 +1,12 @@
 -- What came of the next request, by what `serve_next` answers.
 use Rattle.std.proofs.Common.{◌≡◌, ℕ, ◌⊎◌, List, [], ◌∷◌, Bool, true, false, Some, None, Ok, Err, inl, inr, refl, sym, ap, ◌∙◌, subst}
-use Rattle.std.specs.Prelude.{Result, ℤ, if◌then◌else◌}
+use Rattle.std.specs.Prelude.{Result, ℤ, if◌then◌else◌, Option}
 use Rattle.request_fields.specs.declared.request.Request.{Request}
 use Rattle.request_fields.specs.declared.fault.RequestFault.{RequestFault}
 use Rattle.request_fields.specs.declared.fault.RequestFault.TheVariants.{Unsupported}
 use Rattle.reply_fields.specs.Refusals.{fault_reply}
 use Rattle.broker_events.specs.Served.{is_served}
-use Rattle.session.specs.Owing.{Steps}
+use Rattle.session.specs.Owing.{Steps, applied_of}
 use Rattle.session.specs.Serving.{KeepsReplies, IsNext, IsRefused, IsAsked, Made, Leads, GivesEvent, Serves, ServesNext, Rests, EndsBy, OwesOne, OwesWhat, HoldsFor, caller_of, heard_from, refusal_in, found_room}
 use Rattle.session.specs.declared.caller.Caller.{Caller}
 use Rattle.session.specs.declared.heard.Heard.{Heard}
@@ -18,9 +18,20 @@ use Rattle.session.specs.declared.serving.Step.{Step}
 use Rattle.session.specs.declared.serving.Step.TheVariants as steps
 use Rattle.session.specs.declared.serving.Halt.{Halt}
 use Rattle.session.specs.declared.serving.Halt.TheVariants as halts
+use Rattle.broker_events.specs.declared.event.Event.{Event}
 use Rattle.broker_events.specs.declared.event.Event.TheVariants as events
+use Rattle.broker_events.specs.declared.said.Said.{Said}
 
 -- ---- what came of a request
+
+-- one step was made with an event
+pub gives_by : {C : Type 0} (makes : Steps C) (x y : C) (event : Event) (what : Option Said) (applied : Applied) (caller : Caller) (old new : Session) (result : Result Step Halt)
+    → makes x event what y → applied_of what ≡ Some applied → OwesWhat applied caller old result new → Leads makes x y (λ made. GivesEvent event caller old made result new)
+gives_by makes x y event what applied caller old new result made told owed = record {
+  made = (event, what) ∷ [];
+  leads = (y, made, refl);
+  so = record { what = what; one = refl; applied = applied; told = told; owed = owed };
+}
 
 -- a request of a kind that is not served
 pub refuses_unserved : (code : ℤ) (request : Request) → is_served request ≡ false → refusal_in code (Ok request) ≡ Some (Unsupported code)
@@ -58,20 +69,20 @@ full_owes (Full pending) caller old new h = (pending, refl)
 
 module _ {C : Type 0} (makes : Steps C) (x y : C) (old mid : Session) (link : ℕ) (host : List ℕ) (now : ℕ) (caller : Caller) (code : ℤ) (request : Request)
     (is_link : link ≡ old.talk.link) (is_host : host ≡ old.talk.host) (served : is_served request ≡ true) (result : Result Step Halt)
-    (gives : GivesEvent makes (events.Request link host now request) caller x old result y mid) where
-  asked : IsAsked old.talk now (heard_from caller code (Ok request)) gives.applied ((events.Request link host now request, gives.what) ∷ [])
-  asked = record { request = request; is = refl; served = served; what = gives.what; told = gives.told; one = cc }
+    (gives : Leads makes x y (λ made. GivesEvent (events.Request link host now request) caller old made result mid)) where
+  asked : IsAsked old.talk now (heard_from caller code (Ok request)) gives.so.applied gives.made
+  asked = record { request = request; is = refl; served = served; what = gives.so.what; told = gives.so.told; one = cc (gives.so.one) }
 
   -- a request that found room, or is lost
   pub serves_room : found_room result ≡ true → mid.held ≡ old.held → Leads makes x y (λ made. Serves now (heard_from caller code (Ok request)) old made result mid)
   serves_room room held = record {
-    made = (events.Request link host now request, gives.what) ∷ [];
-    leads = (y, gives.made, refl);
+    made = gives.made;
+    leads = gives.leads;
     so = record {
-      applied = gives.applied;
+      applied = gives.so.applied;
       comes = inr asked;
-      owed = gives.owed;
-      held = holds_none gives.applied caller (heard_from caller code (Ok request)) result old mid room gives.owed held;
+      owed = gives.so.owed;
+      held = holds_none gives.so.applied caller (heard_from caller code (Ok request)) result old mid room gives.so.owed held;
     };
   }
 
@@ -80,13 +91,13 @@ module _ {C : Type 0} (makes : Steps C) (x y : C) (old mid : Session) (link : �
       → Leads makes x y (λ made. Serves now (heard_from caller code (Ok request)) old made result new)
   serves_full new room held same =
       let full = only_full result room in
-      let owes = full_owes gives.applied caller old mid (subst (λ (r : Result Step Halt). OwesWhat gives.applied caller old r mid) full gives.owed) in
-      let none = subst (λ (a : Applied). OwesWhat a caller old result mid) owes.1 gives.owed in
+      let owes = full_owes gives.so.applied caller old mid (subst (λ (r : Result Step Halt). OwesWhat gives.so.applied caller old r mid) full gives.so.owed) in
+      let none = subst (λ (a : Applied). OwesWhat a caller old result mid) owes.1 gives.so.owed in
       record {
-        made = (events.Request link host now request, gives.what) ∷ [];
-        leads = (y, gives.made, refl);
+        made = gives.made;
+        leads = gives.leads;
         so = record {
-          applied = gives.applied;
+          applied = gives.so.applied;
           comes = inr asked;
           owed = subst (λ (a : Applied). OwesWhat a caller old result new) (sym owes.1) (full, same ∙ none.1);
           held = subst (λ (a : Applied). HoldsFor a (heard_from caller code (Ok request)) old new) (sym owes.1) held;

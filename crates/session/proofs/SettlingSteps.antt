@@ -1,6 +1,7 @@
 -- What became of the front of what is owed.
 use Rattle.std.proofs.Common.{◌≡◌, ℕ, List, [], ◌∷◌, ◌++◌, Option, Some, None, Ok, Err, refl, sym, ap, ◌∙◌, subst, append_assoc, append-nil}
 use Rattle.std.specs.Prelude.{Result, IsErrAnd}
+use Rattle.std.specs.declared.alloc.AllocError.{AllocError}
 use Rattle.mq_outside.specs.Readings.{Giving}
 use Rattle.reply_fields.specs.Parts.{ReplyParts}
 use Rattle.broker_events.specs.declared.said.Awaited.{Awaited}
@@ -153,7 +154,7 @@ module _ {C : Type 0} (makes : Steps C) (gives : Giving) (x y : C) (old mid : Se
   }) (out ∙ kept)
 
 -- what is so at an `Err` is what `settle` does
-pub breaks : {C A E : Type 0} (makes : Steps C) (gives : Giving) (x y : C) (old new : Session) (result : Result A E) (fault : E) → IsErrAnd result (λ e. e ≡ fault)
+pub breaks : {C : Type 0} (makes : Steps C) (gives : Giving) (x y : C) (old new : Session) (result : Result (Unit {0}) AllocError) (fault : AllocError) → IsErrAnd result (λ e. e ≡ fault)
     → Leads makes x y (λ made. IsBroken gives old made new) → Leads makes x y (λ made. SettlesAll gives old made result new)
 breaks makes gives x y old new (Ok done) fault is h = absurd is
 breaks makes gives x y old new (Err other) fault is h = h

@@ -1,5 +1,6 @@
 -- What is owed for a request, and what is written of it.
 use Rattle.std.specs.Prelude.{◌≡◌, ◌⊎◌, ℕ, ◌++◌, List, [], pos, codes, nat_le, if◌then◌else◌, Option, Some, None, Result, Ok, Err}
+use Rattle.std.specs.declared.alloc.AllocError.{AllocError}
 use Rattle.mq_bytes.specs.Decimal.{digits_of}
 use Rattle.mq_outside.specs.Readings.{Giving}
 use Rattle.remoting_frame.specs.Head.{pairs_size}
@@ -50,7 +51,7 @@ IsTold what (Ok applied) = applied_of what ≡ Some applied
 IsTold what (Err fault) = what ≡ None
 
 -- one step was made, and what came of the request is what was said
-pub record IsApplied {C E : Type 0} (makes : Steps C) (x : C) (event : Event) (result : Result Applied E) (y : C) : Type 0 where
+pub record IsApplied {C : Type 0} (makes : Steps C) (x : C) (event : Event) (result : Result Applied AllocError) (y : C) : Type 0 where
   pub what : Option Said
   pub made : makes x event what y
   pub told : IsTold what result

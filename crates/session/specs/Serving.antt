@@ -141,11 +141,11 @@ OwesWhat (Owes reply awaits) caller old result new = OwesOne (record { caller = 
 OwesWhat (Full pending) caller old result new = OwesNone result old new
 
 -- one step was made with this event, and what was said is owed to this caller
-pub record GivesEvent {C : Type 0} (makes : Steps C) (event : Event) (caller : Caller) (x : C) (old : Session) (result : Result Step Halt)
-    (y : C) (new : Session) : Type 0 where
+pub record GivesEvent (event : Event) (caller : Caller) (old : Session) (made : Made) (result : Result Step Halt) (new : Session)
+    : Type 0 where
   pub what : Option Said
+  pub one : made ≡ (event, what) ∷ []
   pub applied : Applied
-  pub made : makes x event what y
   pub told : applied_of what ≡ Some applied
   pub owed : OwesWhat applied caller old result new
 

@@ -2,6 +2,7 @@
 use Rattle.std.specs.Prelude.{◌≡◌, ◌⊎◌, ◌-◌, ◌≤◌, ◌++◌, ◌||◌, ℕ, List, [], ◌∷◌, length, drop, nat_le, Bool, false, is_some}
 use Rattle.std.specs.Prelude.{Option, Some, None, Result, Ok, Err}
 use Rattle.std.specs.Bool.{MatchBool}
+use Rattle.std.specs.declared.alloc.AllocError.{AllocError}
 use Rattle.mq_outside.specs.Readings.{Giving}
 use Rattle.reply_fields.specs.Parts.{ReplyParts}
 use Rattle.broker_events.specs.declared.event.Event.{Event}
@@ -127,7 +128,7 @@ pub record IsBroken (gives : Giving) (old : Session) (made : Made) (new : Sessio
   pub looked : LooksFor lost.awaits last
 
 -- what `settle` does, by what it answers
-abbrev pub SettlesAll : {A E : Type 0} → Giving → Session → Made → Result A E → Session → Type 0
+abbrev pub SettlesAll : Giving → Session → Made → Result (Unit {0}) AllocError → Session → Type 0
 SettlesAll gives old made (Ok done) new = IsSettled gives old made new
 SettlesAll gives old made (Err fault) new = IsBroken gives old made new
 

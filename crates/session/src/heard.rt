@@ -38,15 +38,16 @@ fn is_one_way(header: &Header) -> bool
 }
 
 /// The request of a frame.
-pub(crate) fn hear(alloc: Global, frame: &Frame) -> Heard
-    ensures { IsHeard result frame.now }
+pub(crate) fn hear(alloc: Global, frame: Frame) -> Heard
+    ensures { IsHeard result frame }
 {
-    let request = Request::read(alloc, frame);
+    let (form, code, opaque) = (frame.form, frame.header.code, frame.header.opaque);
+    let one_way = is_one_way(&frame.header);
     Heard {
-        form: frame.form,
-        code: frame.header.code,
-        opaque: frame.header.opaque,
-        one_way: is_one_way(&frame.header),
-        request,
+        form,
+        code,
+        opaque,
+        one_way,
+        request: Request::read(alloc, frame),
     }
 }

@@ -274,7 +274,7 @@ impl Session {
     ) -> Result<Step, Halt>
         requires request { IsRequest event.now }
         requires accepted { Accepts (C.shown calls.old) event.now }
-        ensures gives { GivesEvent C.makes event.now caller calls.old self.old result calls.new self.new }
+        ensures gives { Leads C.makes calls.old calls.new (λ made. GivesEvent event.now caller self.old made result self.new) }
         ensures held { self.new.held ≡ self.old.held }
         ensures talk { self.new.talk ≡ self.old.talk }
         ensures out { KeepsOut self.old self.new }

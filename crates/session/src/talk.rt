@@ -72,9 +72,7 @@ impl Talk {
                 Ok(Some(frame)) => frame,
             };
             if !is_response(&frame.header) {
-                let heard = hear(alloc, &frame);
-                drop(frame);
-                return Ok(Some(heard));
+                return Ok(Some(hear(alloc, frame)));
             }
             drop(frame);
         }

@@ -41,7 +41,7 @@ fn frame_of(alloc: Global, does: Do) -> Result<Option<Frame>, AllocError> {
 }
 
 // The request of a frame comes on link 1, if it is one.
-fn asks(alloc: Global, now: u64, frame: &Frame) -> Option<Event> {
+fn asks(alloc: Global, now: u64, frame: Frame) -> Option<Event> {
     match Request::read(alloc, frame) {
         Ok(request) => Some(Event::Basic(slow_broker::Event::Asks {
             link: 1,
@@ -56,7 +56,7 @@ fn asks(alloc: Global, now: u64, frame: &Frame) -> Option<Event> {
 /// The request that the row makes, at this reading of the clock, if it can be read.
 pub(crate) fn request(alloc: Global, now: u64, does: Do) -> Result<Option<Event>, AllocError> {
     match frame_of(alloc, does)? {
-        Some(frame) => Ok(asks(alloc, now, &frame)),
+        Some(frame) => Ok(asks(alloc, now, frame)),
         None => Ok(None),
     }
 }

@@ -47,9 +47,7 @@ fn frame(alloc: Global) -> Option<Frame> {
 
 fn request(alloc: Global) -> Option<Request> {
     let frame = frame(alloc)?;
-    let request = Request::read(alloc, &frame).ok();
-    drop(frame);
-    request
+    Request::read(alloc, frame).ok()
 }
 
 /// The message, which each caller sends.

@@ -6,7 +6,7 @@ use Rattle.mq_outside.specs.Files.{Files, Lists, HasNoFile}
 use Rattle.mq_outside.specs.Disk.{DiskState, IsDurable}
 use Rattle.store_open.specs.declared.format.Sizes.{Sizes}
 use Rattle.store_open.specs.declared.format.AskedSizes.{AskedSizes}
-use Rattle.store_open.specs.Openings.{FORMAT, IsFirstFile, IsForeign, AreSizesOf, IsOpened, format_after}
+use Rattle.store_open.specs.Openings.{FORMAT, IsFirstFile, IsForeign, StoreTold, AreSizesOf, IsOpened, format_after}
 use Rattle.store_open.specs.Formats.{format_text, new_sizes, IsFormatFor}
 use Rattle.store_open.specs.declared.status.Status.{Status}
 
@@ -46,12 +46,12 @@ foreign_format files (Some stored) text asked status is (inr foreign) six =
     (foreign.1, λ sizes format. foreign.2 sizes (subst (λ (t : List ℕ). IsFormatFor t asked sizes) same format))
 
 -- a store that is new: its format was written
-pub new_opened : (asked : AskedSizes) (sizes : Sizes) (disk : Type 0) (files : Files) (keep : Type 0) (old new : DiskState) → (keep → old.reads FORMAT ≡ None)
-    → sizes ≡ new_sizes asked → (disk → HasNoFile files) → (keep → new.reads FORMAT ≡ Some (format_text sizes)) → (keep → IsDurable FORMAT new)
-    → IsOpened asked sizes disk files keep old new
-new_opened asked sizes disk files keep old new none are empty written durable = record {
+pub new_opened : (asked : AskedSizes) (sizes : Sizes) (store : StoreTold) (keep : DiskState) → (store.keep → store.texts FORMAT ≡ None)
+    → sizes ≡ new_sizes asked → (store.disk → HasNoFile store.files) → (store.keep → keep.reads FORMAT ≡ Some (format_text sizes)) → (store.keep → IsDurable FORMAT keep)
+    → IsOpened asked sizes store keep
+new_opened asked sizes store keep none are empty written durable = record {
   sizes_are = λ told. subst (λ (kept : Option (List ℕ)). AreSizesOf kept asked sizes) (sym (none told)) are;
-  own = λ told kept name foreign. no_first_file files name (empty told) (subst (λ (text : Option (List ℕ)). IsForeign files text asked name) (none kept) foreign);
-  stands = λ told. subst (λ (kept : Option (List ℕ)). new.reads FORMAT ≡ Some (format_after kept sizes)) (sym (none told)) (written told);
+  own = λ told kept name foreign. no_first_file store.files name (empty told) (subst (λ (text : Option (List ℕ)). IsForeign store.files text asked name) (none kept) foreign);
+  stands = λ told. subst (λ (kept : Option (List ℕ)). keep.reads FORMAT ≡ Some (format_after kept sizes)) (sym (none told)) (written told);
   stays = durable;
 }

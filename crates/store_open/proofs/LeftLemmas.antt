@@ -6,9 +6,9 @@ use Rattle.mq_outside.specs.Disk.{DiskState, EachImage, IsCrashImage}
 use Rattle.log_model.specs.Log.{IsSegmentSize}
 use Rattle.store_open.specs.declared.format.Sizes.{Sizes}
 use Rattle.store_open.specs.declared.format.AskedSizes.{AskedSizes}
-use Rattle.store_open.specs.Formats.{format_text, new_sizes, IsSlotCount, IsEntryCount, AreSizes, AreAllowed, IsFormat}
-use Rattle.store_open.specs.Openings.{FORMAT, IsOpened, AreSizesOf, PutsOnly, format_after, own_format}
-use Rattle.store_open.specs.Left.{HasFormat, IsNoneOrFormat, IsNothing, IsStoreOrNothing}
+use Rattle.store_open.specs.Formats.{new_sizes, IsSlotCount, IsEntryCount, AreSizes, AreAllowed, IsFormat}
+use Rattle.store_open.specs.Openings.{FORMAT, StoreTold, IsOpened, AreSizesOf, PutsOnly, format_after, own_format}
+use Rattle.store_open.specs.Left.{HasFormat, IsNoneOrFormat, IsStoreOrNothing}
 
 new_segment : (asked : Option ℕ) → IfSome asked IsSegmentSize → IsSegmentSize (unwrap_or asked 1073741824)
 new_segment None ok = record { low = omega arith; high = omega arith }
@@ -70,14 +70,14 @@ is_format_after asked sizes None ok are = record { is = refl; allowed = subst Ar
 is_format_after asked sizes (Some text) ok are = are.format
 
 -- and once it is open
-pub left_open : (asked : AskedSizes) (sizes : Sizes) (disk : Type 0) (files texts : Files) (tells : Type 0) (keep keep_then keep_left : DiskState) → AreAllowed asked
-    → IsOpened asked sizes disk files tells keep keep_then → tells → IsCrashImage keep_then texts → EachImage (λ image. image ≡ texts) keep_left → HasFormat sizes keep_left
-left_open asked sizes disk files texts tells keep keep_then keep_left ok opened told in_keep keep_is =
+pub left_open : (asked : AskedSizes) (sizes : Sizes) (store : StoreTold) (texts : Files) (keep_then keep_left : DiskState) → AreAllowed asked
+    → IsOpened asked sizes store keep_then → store.keep → IsCrashImage keep_then texts → EachImage (λ image. image ≡ texts) keep_left → HasFormat sizes keep_left
+left_open asked sizes store texts keep_then keep_left ok opened told in_keep keep_is =
     record {
-      text = format_after (keep.reads FORMAT) sizes;
-      is = is_format_after asked sizes (keep.reads FORMAT) ok (opened.sizes_are told);
+      text = format_after (store.texts FORMAT) sizes;
+      is = is_format_after asked sizes (store.texts FORMAT) ok (opened.sizes_are told);
       stays = record {
         at = λ left is_left.
-            subst (λ (t : Files). t FORMAT ≡ Some (format_after (keep.reads FORMAT) sizes)) (sym (keep_is.at left is_left)) (opened.stays told texts in_keep ∙ opened.stands told);
+            subst (λ (t : Files). t FORMAT ≡ Some (format_after (store.texts FORMAT) sizes)) (sym (keep_is.at left is_left)) (opened.stays told texts in_keep ∙ opened.stands told);
       };
     }

@@ -48,14 +48,23 @@ abbrev pub IsForeign : Files → Option (List ℕ) → AskedSizes → List ℕ �
 IsForeign files None asked name = IsFirstFile files name
 IsForeign files (Some text) asked name = (name ≡ FORMAT) × ((sizes : Sizes) → IsFormatFor text asked sizes → ⊥)
 
--- A store that was opened with these sizes: it is not foreign, its format stands, and stays through a crash.
--- What is said of the disk and of the keep is said where these tell what they hold.
-pub record IsOpened (asked : AskedSizes) (sizes : Sizes) (disk : Type 0) (files : Files) (keep : Type 0)
-    (old new : DiskState) : Type 0 where
-  pub sizes_are : keep → AreSizesOf (old.reads FORMAT) asked sizes
-  pub own : disk → keep → (name : List ℕ) → IsForeign files (old.reads FORMAT) asked name → ⊥
-  pub stands : keep → new.reads FORMAT ≡ Some (format_after (old.reads FORMAT) sizes)
-  pub stays : keep → IsDurable FORMAT new
+-- a store as it is told: whether the disk tells its files, and these; whether the keep tells its texts, and these
+pub record StoreTold : Type 1 where
+  pub disk : Type 0
+  pub files : Files
+  pub keep : Type 0
+  pub texts : Files
+
+abbrev pub store_told : Type 0 → Files → Type 0 → Files → StoreTold
+store_told disk files keep texts = record { disk = disk; files = files; keep = keep; texts = texts }
+
+-- This store was opened with these sizes, and the keep is this then: the store is not foreign, its format stands, and stays through a
+-- crash. What is said of the disk and of the keep is said where these tell what they hold.
+pub record IsOpened (asked : AskedSizes) (sizes : Sizes) (store : StoreTold) (keep : DiskState) : Type 0 where
+  pub sizes_are : store.keep → AreSizesOf (store.texts FORMAT) asked sizes
+  pub own : store.disk → store.keep → (name : List ℕ) → IsForeign store.files (store.texts FORMAT) asked name → ⊥
+  pub stands : store.keep → keep.reads FORMAT ≡ Some (format_after (store.texts FORMAT) sizes)
+  pub stays : store.keep → IsDurable FORMAT keep
 
 -- the counts of the disk and of the keep
 abbrev pub OpeningCause : Status → ℕ → ℕ → ℕ → ℕ → Type 0

@@ -4,7 +4,7 @@
 ghost use Rattle.std.specs.Prelude.{◌≡◌, ◌≤◌, ℕ};
 ghost use Rattle.mq_outside.specs.Disk.{EachImage, IsCrashImage};
 ghost use Rattle.mq_outside.specs.Files.{Files};
-ghost use Rattle.store_open.specs.Openings.{FORMAT, IsOpened, PutsOnly, own_format};
+ghost use Rattle.store_open.specs.Openings.{FORMAT, IsOpened, PutsOnly, own_format, store_told};
 ghost use Rattle.store_open.specs.declared.format.AskedSizes.{AskedSizes};
 ghost use Rattle.store_open.specs.declared.format.Sizes.{Sizes};
 ghost use Rattle.store_open.specs.Formats.{AreAllowed};
@@ -32,7 +32,8 @@ pub fn a_cut_off_opening_leaves_a_store<D: Disk, E: Disk, P: Keep, Q: Keep>(
 
     // From then on the keep is as it is at the end, whatever the disk is.
     ensures opened { P.tells → (asked : AskedSizes) (sizes : Sizes) (texts : Files) → AreAllowed asked
-        → IsOpened asked sizes D.tells (D.state before.now).reads P.tells (P.state keep_before.now) (P.state keep_behind.now)
+        → IsOpened asked sizes (store_told D.tells (D.state before.now).reads P.tells (P.state keep_before.now).reads)
+        (P.state keep_behind.now)
         → IsCrashImage (P.state keep_behind.now) texts
         → EachImage (λ image. image ≡ texts) (Q.state keep_crashed.now) → HasFormat sizes (Q.state keep_crashed.now) }
 {}

@@ -9,7 +9,7 @@ ghost use Rattle.mq_outside.specs.Files.{HasNoFile, Same, At, OldOrNew};
 ghost use Rattle.mq_outside.specs.Disk.{IsDurable, Moves};
 ghost use Rattle.store_open.specs.declared.format.Sizes.{Sizes as TheSizes};
 ghost use Rattle.store_open.specs.Formats.{AreAllowed, AreSizes, IsFormatFor};
-ghost use Rattle.store_open.specs.Openings.{FORMAT, IsForeign, IsOpened, OpeningCause, PutsOnly, own_format};
+ghost use Rattle.store_open.specs.Openings.{FORMAT, IsForeign, IsOpened, OpeningCause, PutsOnly, own_format, store_told};
 ghost use Rattle.store_open.specs.Statuses.{FitsTable};
 
 use crate::format::{AskedSizes, Sizes, read_format, write_format};
@@ -75,8 +75,8 @@ pub fn open_format<D: Disk, P: Keep>(
     asked: &AskedSizes,
 ) -> Result<Sizes, Status>
     // The sizes, where they come from, and the format that stands behind the call.
-    ensures opened { IfOk result (λ sizes. IsOpened asked.now sizes D.tells (D.state disk.old).reads P.tells (P.state keep.old)
-        (P.state keep.new)) }
+    ensures opened { IfOk result (λ sizes. IsOpened asked.now sizes
+        (store_told D.tells (D.state disk.old).reads P.tells (P.state keep.old).reads) (P.state keep.new)) }
     ensures allowed { AreAllowed asked.now → IfOk result AreSizes }
     ensures empty { D.tells → P.tells → (P.state keep.old).reads FORMAT ≡ None → OnOk result (HasNoFile (D.state disk.old).reads) }
 

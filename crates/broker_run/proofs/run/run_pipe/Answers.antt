@@ -35,7 +35,7 @@ returns-in-Err-open_log_with-clause-fits g c = λ fits. record {
     untouched = record { given_is = refl; taken_is = refl; readings_is = refl };
     why = inr (inr (unrecovered c.in-Ok.command c.status_of_fault.result _ _ _ _ _
         c.in-Err-open_log_with.fault c.in-Ok-open_format.sizes c.status_of_fault.ensures.tells
-        (opened_still _ _ _ _ _ _ _ _ c.in-Ok-load_config.ensures.rests c.in-Ok-open_format.ensures.opened)
+        (opened_still _ _ _ _ _ c.in-Ok-load_config.ensures.rests c.in-Ok-open_format.ensures.opened)
         c.in-Ok-open_format.ensures.rests c.in-Ok-reader.ensures.moves
         c.in-Err-open_log_with.ensures.damaged c.in-Err-open_log_with.ensures.untouched c.in-Err-open_log_with.ensures.flushed c.take_back.ensures.moves));
     puts = λ told. puts_still _ _ _ _ (c.in-Ok-open_format.ensures.puts told) (c.in-Ok-load_config.ensures.rests told);
@@ -98,8 +98,8 @@ returns-clause-fits g c = λ fits.
         replaced = served.replaced;
         tells = served.tells;
         sizes = sizes;
-        opened_as = opened_kept _ _ _ _ _ (offsets_text_of left.0.offsets) (topics_text_of left.0.topics) _ _ _ (λ told. left.1.puts told)
-            (opened_still _ _ _ _ _ _ _ _ c.in-Ok-load_config.ensures.rests c.in-Ok-open_format.ensures.opened);
+        opened_as = opened_kept _ _ _ (offsets_text_of left.0.offsets) (topics_text_of left.0.topics) _ _ (λ told. left.1.puts told)
+            (opened_still _ _ _ _ _ c.in-Ok-load_config.ensures.rests c.in-Ok-open_format.ensures.opened);
         offsets = offsets;
         topics = topics;
         config = λ told. config_before own _ _ offsets topics (put told)

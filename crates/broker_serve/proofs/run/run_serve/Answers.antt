@@ -2,10 +2,10 @@ use Rattle.std.proofs.Common.{◌∙◌, refl, inl, inr, [], ap, sym, subst, ℕ
 use Rattle.std.specs.Prelude.{IfNone}
 use Rattle.log_model.specs.Stored.{StaysOutside}
 use Rattle.log_model.proofs.OutsideLemmas.{outside_start, outside_same, outside_then}
-use Rattle.store_open.specs.Openings.{FORMAT, PutsOnly, own_format}
+use Rattle.store_open.specs.Openings.{FORMAT, PutsOnly, own_format, store_told}
 use Rattle.store_open.specs.Words.{texts_of}
 use Rattle.store_open.proofs.SizeLemmas.{serve_asks_sizes}
-use Rattle.broker_serve.specs.Statuses.{IsDamagedFor, Refused, store_told}
+use Rattle.broker_serve.specs.Statuses.{IsDamagedFor, Refused}
 use Rattle.broker_serve.proofs.Serving.{puts_no_format, run_served, run_unserved, store_others}
 use Rattle.broker_serve.proofs.Telling.{why_unserved, why_then, not_formed, refused}
 use Rattle.serve_threads.specs.Causes.{counts_of, world_faults}

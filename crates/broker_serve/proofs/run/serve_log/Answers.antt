@@ -13,7 +13,7 @@ use Rattle.broker_serve.proofs.run.serve_log.Goals as goal
 
 pub returns-in-Err-clause-ends : goal.returns-in-Err-clause-ends
 returns-in-Err-clause-ends g c =
-    ends_unserved _ _ _ _ _ _ _ _ c.unserved.ensures.core
+    ends_unserved _ _ _ _ _ _ _ c.unserved.ensures.core
     (subst (λ k. Rests (g.E.Keep.state c.args.store.keep) (g.E.Keep.state k)) (sym (ap (λ s. s.keep) c.unserved.ensures.store)) (rests_start _))
 
 pub returns-in-Err-clause-outside : goal.returns-in-Err-clause-outside

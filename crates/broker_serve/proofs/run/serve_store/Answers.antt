@@ -2,7 +2,8 @@ use Rattle.std.proofs.Common.{refl, sym, ap, subst}
 use Rattle.mq_outside.specs.Disk.{Rests}
 use Rattle.log_model.specs.Stored.{StaysOutside}
 use Rattle.log_model.proofs.OutsideLemmas.{outside_start}
-use Rattle.broker_serve.specs.Statuses.{IsDamagedIn, Unserved, store_told}
+use Rattle.store_open.specs.Openings.{store_told}
+use Rattle.broker_serve.specs.Statuses.{IsDamagedIn, Unserved}
 use Rattle.broker_serve.proofs.Serving.{store_unserved, store_served}
 use Rattle.broker_serve.proofs.Telling.{why_unserved, why_then, not_loaded, not_opened}
 use Rattle.serve_threads.specs.Causes.{world_faults}

@@ -1,7 +1,8 @@
 use Rattle.std.proofs.Common.{[]}
+use Rattle.event_loops.specs.Tales.{link_view, loop_numbers}
 use Rattle.event_loops.proofs.Told.{told_none}
 use Rattle.event_loops.proofs.laws.a_loop_is_told_from_its_beginning_on.Goals as goal
 
 pub returns : goal.returns
 returns g c old new acts none went =
-    went.keeps [] (told_none g.L.Link.tells g.R.Reader.gives g.L.Link.given g.L.Link.taken old.loops old.number old.newest old.slots.items none)
+    went.keeps [] (told_none (link_view g.L.Link.tells g.L.Link.given g.L.Link.taken) g.R.Reader.gives (loop_numbers old) old.slots.items none)

@@ -6,5 +6,5 @@ use Rattle.reply_fields.proofs.ask.fields_of.Goals as goal
 
 pub returns-clause-ordered : goal.returns-clause-ordered
 returns-clause-ordered c =
-    let fields : c.of.result ≡ ask_fields c.args.view.now = search rules in
+    let fields : c.fill_fields.new.fields ≡ ask_fields c.args.view.now = search rules in
     subst IsInOrder (sym fields) (ask_in_order c.args.view.now)

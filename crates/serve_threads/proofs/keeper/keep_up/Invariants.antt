@@ -1,6 +1,6 @@
 use Rattle.std.proofs.Common.{◌≤◌, IfSome}
 use Rattle.config_store.specs.Configs.{KeepsConfig}
-use Rattle.serve_story.specs.Kept.{KeepsUp}
+use Rattle.serve_story.specs.Kept.{KeepsUp, keep_over}
 use Rattle.serve_threads.proofs.keeper.keep_up.Given as goal
 
 abbrev pub invariant-loop : goal.invariant-loop
@@ -8,6 +8,6 @@ invariant-loop g l = record {
   next : (goal.iterator-loop g).can_next l.iterator';
   finite : (goal.iterator-loop g).is_finite l.iterator';
   has : g.E.Keep.tells → IfSome l.last (λ had. KeepsConfig had.offsets.items had.topics.items (g.E.Keep.state l.keep));
-  kept : KeepsUp g.C.Owner.sees g.E.Keep.tells l.initial.calls (g.E.Keep.state l.initial.keep) l.calls (g.E.Keep.state l.keep);
+  kept : KeepsUp g.C.Owner.sees (keep_over g.E.Keep.tells (g.E.Keep.state l.initial.keep) (g.E.Keep.state l.keep)) l.initial.calls l.calls;
   grow : g.E.Keep.faults l.initial.keep ≤ g.E.Keep.faults l.keep;
 }

@@ -1,4 +1,7 @@
-use Rattle.request_acts.specs.Acts.{view_of}
+use Rattle.request_acts.specs.Acts.{change_of, place_of, view_of}
+use Rattle.story_lock.specs.Passes.{start_of}
+use Rattle.serve_story.specs.Kept.{keep_over}
+use Rattle.serve_story.specs.Served.{views_of}
 use Rattle.serve_story.proofs.Keeping.{left_at}
 use Rattle.serve_story.proofs.Parts.{made_by}
 use Rattle.serve_threads.proofs.Counting.{keep_blamed}
@@ -7,12 +10,10 @@ use Rattle.serve_threads.proofs.served.close.Goals as goal
 pub returns-clause-left : goal.returns-clause-left
 returns-clause-left g c = λ place before made puts.
     let found = c.close-core.ensures in
-    let links = g.P.Link.Link.tells in
-    let gives = g.R.Reader.gives in
-    let view = view_of g.D.Disk.tells g.D.Disk.state g.D.Disk.faults g.D.Disk.syncs in
-    left_at links gives view place _ _ _ found.0 _ _ c.keep_core-kept.result _ _ _ found.1.represented
-    (made_by links gives view place _ c.args.spine.story c.args.left.pass found.0 c.close-core.result c.requires.seats made found.1 found.1.represented)
-    found.1.begins puts c.keep_core-kept.ensures.seen
+    let views = views_of g.P.Link.Link.tells g.R.Reader.gives (view_of g.D.Disk.tells g.D.Disk.state g.D.Disk.faults g.D.Disk.syncs) in
+    let by = made_by views place _ c.args.spine.story c.args.left.pass found.0 c.close-core.result c.requires.seats made found.1 found.1.represented in
+    let change = change_of (start_of c.args.spine.story).core place c.close-core.result (place_of made.file c.args.left.disk) in
+    (made.file, left_at views change _ _ (keep_over g.E.Keep.tells (g.E.Keep.state before) _) _ c.keep_core-kept.result found.1.represented by found.1.begins puts c.keep_core-kept.ensures.seen)
 
 pub returns-clause-cause : goal.returns-clause-cause
 returns-clause-cause g c = λ before grows. keep_blamed c.keep_core-kept.result before _ _ grows c.keep_core-kept.ensures.cause

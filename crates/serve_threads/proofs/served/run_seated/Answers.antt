@@ -4,7 +4,7 @@ use Rattle.request_acts.specs.Acts.{place_of, view_of}
 use Rattle.story_lock.specs.Passes.{seen_by, start_of}
 use Rattle.spine.specs.declared.spine.Spine.{Spine}
 use Rattle.serve_story.specs.Kept.{PutsAlong}
-use Rattle.serve_story.specs.Served.{HasMade}
+use Rattle.serve_story.specs.Served.{HasMade, views_of}
 use Rattle.serve_story.proofs.Keeping.{keeps_along, puts_longer}
 use Rattle.serve_story.proofs.Parts.{looks_of, made_of, met_last, stays_acting, stays_leading}
 use Rattle.serve_threads.specs.Causes.{BlamesDisk}
@@ -39,11 +39,11 @@ returns-clause-outside g c = λ tells.
 
 pub returns-clause-made : goal.returns-clause-made
 returns-clause-made g c =
-    let view = view_of g.D.Disk.tells g.D.Disk.state g.D.Disk.faults g.D.Disk.syncs in
+    let views = views_of g.P.Link.Link.tells g.R.Reader.gives (view_of g.D.Disk.tells g.D.Disk.state g.D.Disk.faults g.D.Disk.syncs) in
     let ran = c.run_all-ran in
     let kept = ran.ensures.kept in
-    subst (λ d. HasMade g.P.Link.Link.tells g.R.Reader.gives view (place_of c.args.devices.flusher.file c.args.devices.disk) c.gather.result.pass d) (sym c.gather.ensures.disk)
-    (made_of g.P.Link.Link.tells g.R.Reader.gives view (λ z. z.pass) (place_of c.args.devices.flusher.file c.args.devices.disk) ran.result.flushing.flusher.file ran.result.flushing.disk c.args.spine.now.story c.args.pass c.gather.result.pass _ _ _ _ _ _ _ _
+    subst (λ d. HasMade views (place_of c.args.devices.flusher.file c.args.devices.disk) c.gather.result.pass d) (sym c.gather.ensures.disk)
+    (made_of views (λ z. z.pass) (place_of c.args.devices.flusher.file c.args.devices.disk) ran.result.flushing.flusher.file ran.result.flushing.disk c.args.spine.now.story c.args.pass c.gather.result.pass _ _ _ _ _ _ _ _
     c.requires.first.1 c.requires.numbers c.seats_of-key.ensures.cut c.gather.ensures.met ran.ensures.acted ran.ensures.first ran.ensures.second
     (looks_of (λ z. z.pass) (λ z. z.spine.now) (λ (v : Spine). start_of v.story) _ kept.cores _ kept.seen))
 
@@ -55,7 +55,7 @@ returns-clause-kept g c = λ told.
     subst (λ k. PutsAlong (start_of c.args.spine.now.story).core (seen_by pass) (g.E.Keep.state c.args.devices.keep) (g.E.Keep.state k)) (sym c.gather.ensures.keep)
     (puts_longer _ (seen_by pass) (seen_by met.looks) _ _ (met_last pass met)
     (subst (λ (v : Spine). PutsAlong (start_of v.story).core (seen_by met.looks) (g.E.Keep.state c.args.devices.keep) (g.E.Keep.state c.run_all-ran.result.keeping.keep)) c.seats_of-key.ensures.keeper
-    (keeps_along (λ z. z.pass) (λ z. z.spine.now) (λ (v : Spine). start_of v.story) _ _ _ _ _ met.looks kept met.are.3 told)))
+    (keeps_along (λ z. z.pass) (λ z. z.spine.now) (λ (v : Spine). start_of v.story) _ _ _ met.looks kept met.are.3 told)))
 
 pub gather-requires-clause-door : goal.gather-requires-clause-door
 gather-requires-clause-door g c κs within = door_stays _ _ _ c.run_all-ran.ensures.first_cause c.requires.door.0

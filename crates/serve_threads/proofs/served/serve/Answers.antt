@@ -1,8 +1,10 @@
 use Rattle.std.proofs.Common.{sym, subst}
 use Rattle.log_model.specs.Stored.{StaysOutside}
 use Rattle.broker_core.specs.declared.parts.Parts.{Parts}
-use Rattle.request_acts.specs.Acts.{place_of, view_of}
-use Rattle.serve_story.specs.Served.{IsLeft}
+use Rattle.request_acts.specs.Acts.{change_of, place_of, view_of}
+use Rattle.segment_files.specs.declared.last_file.LastFile.{LastFile}
+use Rattle.serve_story.specs.Kept.{keep_over}
+use Rattle.serve_story.specs.Served.{IsLeft, views_of}
 use Rattle.event_loops.specs.declared.event_loop.LoopEnd.{LoopEnd}
 use Rattle.worker_turns.specs.declared.flush.FlushEnd.{FlushEnd}
 use Rattle.serve_threads.specs.Causes.{WorldFaults, BlamesDisk, BlamesWorld, world_faults}
@@ -13,8 +15,9 @@ returns-clause-left g c =
     let devices = c.args.devices in
     let place = place_of devices.flusher.file devices.disk in
     let left = c.run_seated-left.ensures in
-    subst (λ (core : Parts). IsLeft g.P.Link.Link.tells g.R.Reader.gives (view_of g.D.Disk.tells g.D.Disk.state g.D.Disk.faults g.D.Disk.syncs) core place c.close.result.disk
-    g.E.Keep.tells c.close.result.kept (g.E.Keep.state devices.keep) (g.E.Keep.state c.close.result.keep) c.close.result.core) c.in-Ok.ensures.spine.0
+    let views = views_of g.P.Link.Link.tells g.R.Reader.gives (view_of g.D.Disk.tells g.D.Disk.state g.D.Disk.faults g.D.Disk.syncs) in
+    let keep = keep_over g.E.Keep.tells (g.E.Keep.state devices.keep) (g.E.Keep.state c.close.result.keep) in
+    subst (λ (core : Parts). (file : LastFile) × IsLeft views (change_of core place c.close.result.core (place_of file c.close.result.disk)) keep c.close.result.kept) c.in-Ok.ensures.spine.0
     (c.close.ensures.left place devices.keep left.made left.kept)
 
 pub returns-clause-outside : goal.returns-clause-outside

@@ -7,4 +7,4 @@ returns-clause-unopened g c told asked sizes m files texts ok before puts on_dis
 
 pub returns-clause-opened : goal.returns-clause-opened
 returns-clause-opened g c told asked sizes texts ok opened in_keep keep_is =
-    left_open asked sizes _ _ texts _ _ _ _ ok opened told in_keep keep_is
+    left_open asked sizes _ texts _ _ ok opened told in_keep keep_is

@@ -17,7 +17,7 @@ pub returns-clause-opened : goal.returns-clause-opened
 returns-clause-opened g c =
     let empty = sym c.as_slice-2.ensures.value ∙ c.in_ok-foreign_file.ensures.none in
     let no_name = ap (λ (names : List (String Global)). map (λ name. string_bytes name) names) empty in
-    new_opened c.args.asked.now _ _ _ _ _ _
+    new_opened c.args.asked.now _ _ _
     (λ told. sym (c.in-Ok-load.ensures.bytes told) ∙ ap (λ (o : Option (Vec ℕ Global)). option_map (λ v. v.items) o) c.in_default.is) c.of_new_store-sizes.ensures
     (λ told. none_listed _ (subst (λ (names : List (List ℕ)). Lists (g.D.Disk.state c.args.disk.now).reads names) no_name (c.in-Ok.ensures.names told)))
     (λ told. c.in_ok-put_format-2.ensures.done told ∙ ap Some (c.as_slice-3.ensures.value ∙ c.in-Ok-write_format.ensures)) c.in_ok-put_format-2.ensures.durable

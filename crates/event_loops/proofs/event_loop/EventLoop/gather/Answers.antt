@@ -1,24 +1,25 @@
 use Rattle.event_loops.proofs.Counting.{grow_none, grow_then, passed_on}
+use Rattle.event_loops.specs.Tales.{link_view}
 use Rattle.event_loops.proofs.Told.{goes_from, goes_then, goes_nowhere_to}
 use Rattle.event_loops.proofs.event_loop.EventLoop.gather.Goals as goal
 
 pub returns-in_err-wait : goal.returns-in_err-wait
 returns-in_err-wait g c = record {
-  went = goes_nowhere_to g.P.Link.Link.tells g.R.Reader.gives g.P.Link.Link.given g.P.Link.Link.taken _ _ c.wait.ensures.links;
+  went = goes_nowhere_to (link_view g.P.Link.Link.tells g.P.Link.Link.given g.P.Link.Link.taken) g.R.Reader.gives _ _ c.wait.ensures.links;
   cause = passed_on c.from_residual.result _ _ _ _ c.from_residual.ensures.1 (grow_none _) c.in_err-wait.ensures.cause;
 }
 
 pub returns-in_err-ask_door : goal.returns-in_err-ask_door
 returns-in_err-ask_door g c = record {
-  went = goes_from g.P.Link.Link.tells g.R.Reader.gives g.P.Link.Link.given g.P.Link.Link.taken _ _ _ c.wait.ensures.links
-      (goes_then g.P.Link.Link.tells g.R.Reader.gives g.P.Link.Link.given g.P.Link.Link.taken _ _ _ c.note_reports.ensures.went c.ask_door.ensures.went);
+  went = goes_from (link_view g.P.Link.Link.tells g.P.Link.Link.given g.P.Link.Link.taken) g.R.Reader.gives _ _ _ c.wait.ensures.links
+      (goes_then (link_view g.P.Link.Link.tells g.P.Link.Link.given g.P.Link.Link.taken) g.R.Reader.gives _ _ _ c.note_reports.ensures.went c.ask_door.ensures.went);
   cause = passed_on c.from_residual-in_err-ask_door.result _ _ _ _ c.from_residual-in_err-ask_door.ensures.1 c.in_ok-wait.ensures.cause c.in_err-ask_door.ensures.cause;
 }
 
 pub returns : goal.returns
 returns g c = record {
-  went = goes_from g.P.Link.Link.tells g.R.Reader.gives g.P.Link.Link.given g.P.Link.Link.taken _ _ _ c.wait.ensures.links
-      (goes_then g.P.Link.Link.tells g.R.Reader.gives g.P.Link.Link.given g.P.Link.Link.taken _ _ _
-      (goes_then g.P.Link.Link.tells g.R.Reader.gives g.P.Link.Link.given g.P.Link.Link.taken _ _ _ c.note_reports.ensures.went c.ask_door.ensures.went) c.take_in.ensures.went);
+  went = goes_from (link_view g.P.Link.Link.tells g.P.Link.Link.given g.P.Link.Link.taken) g.R.Reader.gives _ _ _ c.wait.ensures.links
+      (goes_then (link_view g.P.Link.Link.tells g.P.Link.Link.given g.P.Link.Link.taken) g.R.Reader.gives _ _ _
+      (goes_then (link_view g.P.Link.Link.tells g.P.Link.Link.given g.P.Link.Link.taken) g.R.Reader.gives _ _ _ c.note_reports.ensures.went c.ask_door.ensures.went) c.take_in.ensures.went);
   cause = grow_then _ _ _ (grow_then _ _ _ c.in_ok-wait.ensures.cause c.in_ok-ask_door.ensures.cause) c.take_in.ensures.grow;
 }

@@ -1,4 +1,5 @@
 use Rattle.event_loops.proofs.Counting.{grow_none, grow_then, ends_then}
+use Rattle.event_loops.specs.Tales.{link_view}
 use Rattle.event_loops.proofs.Told.{goes_nowhere, goes_quietly, goes_leading}
 use Rattle.event_loops.proofs.event_loop.EventLoop.run.Goals as goal
 
@@ -6,13 +7,13 @@ pub loop-init : goal.loop-init
 loop-init g c = record {
   next = tt;
   finite = tt;
-  went = goes_quietly g.P.Link.Link.tells g.R.Reader.gives g.P.Link.Link.given g.P.Link.Link.taken g.C.Calls.makes _ _ _ (goes_nowhere g.P.Link.Link.tells g.R.Reader.gives g.P.Link.Link.given g.P.Link.Link.taken _);
+  went = goes_quietly (link_view g.P.Link.Link.tells g.P.Link.Link.given g.P.Link.Link.taken) g.R.Reader.gives g.C.Calls.makes _ _ _ (goes_nowhere (link_view g.P.Link.Link.tells g.P.Link.Link.given g.P.Link.Link.taken) g.R.Reader.gives _);
   grow = grow_none _;
 }
 
 pub returns-in-Err : goal.returns-in-Err
 returns-in-Err g c = record {
-  went = goes_leading g.P.Link.Link.tells g.R.Reader.gives g.P.Link.Link.given g.P.Link.Link.taken g.C.Calls.makes _ _ _ _ _ _ c.loop.invariant.went c.pass.ensures.went;
+  went = goes_leading (link_view g.P.Link.Link.tells g.P.Link.Link.given g.P.Link.Link.taken) g.R.Reader.gives g.C.Calls.makes _ _ _ _ _ _ c.loop.invariant.went c.pass.ensures.went;
   cause = ends_then _ _ _ _ c.loop.invariant.grow c.in-Err.ensures.cause;
 }
 
@@ -20,6 +21,6 @@ pub loop-preserved : goal.loop-preserved
 loop-preserved g c = record {
   next = tt;
   finite = tt;
-  went = goes_leading g.P.Link.Link.tells g.R.Reader.gives g.P.Link.Link.given g.P.Link.Link.taken g.C.Calls.makes _ _ _ _ _ _ c.loop.invariant.went c.pass.ensures.went;
+  went = goes_leading (link_view g.P.Link.Link.tells g.P.Link.Link.given g.P.Link.Link.taken) g.R.Reader.gives g.C.Calls.makes _ _ _ _ _ _ c.loop.invariant.went c.pass.ensures.went;
   grow = grow_then _ _ _ c.loop.invariant.grow c.in-Ok.ensures.cause;
 }

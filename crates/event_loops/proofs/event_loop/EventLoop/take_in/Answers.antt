@@ -1,15 +1,16 @@
 use Rattle.event_loops.proofs.Counting.{grow_none, grow_then}
+use Rattle.event_loops.specs.Tales.{link_view}
 use Rattle.event_loops.proofs.Told.{goes_nowhere, goes_then}
 use Rattle.event_loops.proofs.event_loop.EventLoop.take_in.Goals as goal
 
 pub loop-init : goal.loop-init
 loop-init g c = record {
-  went = goes_nowhere g.P.Link.Link.tells g.R.Reader.gives g.P.Link.Link.given g.P.Link.Link.taken _;
+  went = goes_nowhere (link_view g.P.Link.Link.tells g.P.Link.Link.given g.P.Link.Link.taken) g.R.Reader.gives _;
   grow = grow_none _;
 }
 
 pub loop-preserved : goal.loop-preserved
 loop-preserved g c = record {
-  went = goes_then g.P.Link.Link.tells g.R.Reader.gives g.P.Link.Link.given g.P.Link.Link.taken _ _ _ c.loop.invariant.went c.adopt.ensures.went;
+  went = goes_then (link_view g.P.Link.Link.tells g.P.Link.Link.given g.P.Link.Link.taken) g.R.Reader.gives _ _ _ c.loop.invariant.went c.adopt.ensures.went;
   grow = grow_then _ _ _ c.loop.invariant.grow c.adopt.ensures.grow;
 }

@@ -8,7 +8,7 @@ pub returns-then-not-is_response-clause-hears : goal.returns-then-not-is_respons
 returns-then-not-is_response-clause-hears c =
     let given = rw c.in-Ok-Some.field-0-is at c.in-Ok-Some.ensures in
     let request : is_response c.in-Ok-Some.frame.header ≡ false = search rules in
-    hears_next _ _ _ _ c.in-Ok-Some.frame c.hear-heard.result c.skip.invariant.skips given request c.hear-heard.ensures
+    hears_next _ _ _ _ c.in-Ok-Some.frame c.hear.result c.skip.invariant.skips given request c.hear.ensures
 
 pub skip-smaller : goal.skip-smaller
 skip-smaller c = let given = rw c.in-Ok-Some.field-0-is at c.in-Ok-Some.ensures in next_shorter _ _ _ _ given.0
