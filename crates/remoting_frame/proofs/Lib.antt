@@ -12,4 +12,4 @@ pub mod FrontLaws
 pub mod FrameTexts
 pub mod FaultLaws
 pub mod StreamLaws
-pub mod FieldPlaces
+pub mod FieldSpans

@@ -2,22 +2,24 @@
 //! take two pieces of memory.
 
 ghost use Rattle.std.specs.Prelude.{◌≡◌, ℕ, List, ◌+◌, ◌<◌, ◌≤◌, ◌++◌, ◌∷◌, [], length, take, drop, string_bytes};
-ghost use Rattle.std.specs.Prelude.{slice_index_or, OnOk, OnErr, IfOk, IfSome};
-ghost use Rattle.std.specs.Str.{IsUtf8};
-ghost use Rattle.remoting_frame.specs.Fields.{place_behind};
+ghost use Rattle.std.specs.Prelude.{get_or, slice_index_or, OnOk, OnErr, IfOk, IfSome};
+ghost use Rattle.std.specs.Str.{IsUtf8, bytes_eq};
+ghost use Rattle.mq_bytes.specs.Decimal.{digits_of};
+ghost use Rattle.remoting_frame.specs.Fields.{span_behind};
 ghost use Rattle.remoting_frame.specs.Head.{IsInOrder};
 ghost use Rattle.remoting_frame.specs.Binary.{put_pair};
 
+use itoa::Buffer;
 use std::alloc::{AllocError, Global};
 use std::cmp::Ordering;
 use std::marker::Model;
 
-// How many bytes the names and values have together at most: places have 32 bits.
+// How many bytes the names and values have together at most: a span's numbers have 32 bits.
 const MOST: usize = 0xFFFF_FFFF;
 
 // Where the name of a field begins, where its value does, and where that ends.
 #[derive(Clone, Copy)]
-struct Place {
+struct Span {
     name: u32,
     value: u32,
     end: u32,
@@ -28,23 +30,23 @@ struct Place {
 #[derive(Drop)]
 pub struct Fields {
     text: String,
-    places: Vec<Place>,
+    spans: Vec<Span>,
 }
 
 impl Model for Fields {
     ghost use Rattle.std.specs.Prelude.{ℕ, List, All, string_bytes};
-    ghost use Rattle.remoting_frame.specs.Fields.{fields_at, IsPlace};
+    ghost use Rattle.remoting_frame.specs.Fields.{fields_at, IsSpan};
 
     ghost Value = { List (List ℕ × List ℕ) };
 
-    ghost view = { λ f. fields_at (string_bytes f.text) f.places.items };
+    ghost view = { λ f. fields_at (string_bytes f.text) f.spans.items };
 
-    ghost invariant = { λ f. All (IsPlace (string_bytes f.text)) f.places.items };
+    ghost invariant = { λ f. All (IsSpan (string_bytes f.text)) f.spans.items };
 }
 
-// The place of a name and a value behind a text that has `start` bytes, if 32 bits suffice.
-fn place_from(start: usize, name: &str, value: &str) -> Option<Place>
-    ensures { IfSome result (λ place. place ≡ place_behind start name.now value.now) }
+// The span of a name and a value behind a text that has `start` bytes, if 32 bits suffice.
+fn span_from(start: usize, name: &str, value: &str) -> Option<Span>
+    ensures { IfSome result (λ span. span ≡ span_behind start name.now value.now) }
 {
     if start > MOST || name.len() > MOST || value.len() > MOST {
         return None;
@@ -54,7 +56,7 @@ fn place_from(start: usize, name: &str, value: &str) -> Option<Place>
     if end > MOST {
         return None;
     }
-    Some(Place {
+    Some(Span {
         name: start as u32,
         value: between as u32,
         end: end as u32,
@@ -72,22 +74,17 @@ fn push_both(text: &mut String, name: &str, value: &str) -> Result<(), AllocErro
     Ok(())
 }
 
-// Puts a place instead of those from one index up to another, of which there is one at most.
-fn put_place(
-    places: &mut Vec<Place>,
-    from: usize,
-    to: usize,
-    place: Place,
-) -> Result<(), AllocError>
-    requires { (from ≤ to) × (to ≤ from + 1) × (to ≤ length places.old.items) }
-    ensures ok { OnOk result (places.new.items ≡ take from places.old.items ++ place ∷ drop to places.old.items) }
-    ensures err { OnErr result (places.new.items ≡ places.old.items) }
+// Puts a span instead of those from one index up to another, of which there is one at most.
+fn put_span(spans: &mut Vec<Span>, from: usize, to: usize, span: Span) -> Result<(), AllocError>
+    requires { (from ≤ to) × (to ≤ from + 1) × (to ≤ length spans.old.items) }
+    ensures ok { OnOk result (spans.new.items ≡ take from spans.old.items ++ span ∷ drop to spans.old.items) }
+    ensures err { OnErr result (spans.new.items ≡ spans.old.items) }
 {
     if from < to {
-        places[from] = place;
+        spans[from] = span;
         return Ok(());
     }
-    places.insert(from, place)?;
+    spans.insert(from, span)?;
     Ok(())
 }
 
@@ -98,7 +95,7 @@ impl Fields {
     {
         Fields {
             text: String::new(alloc),
-            places: Vec::new(alloc),
+            spans: Vec::new(alloc),
         }
     }
 
@@ -106,9 +103,9 @@ impl Fields {
     pub fn with_room(alloc: Global, fields: usize, bytes: usize) -> Result<Fields, AllocError>
         ensures { IfOk result (λ made. made ≡ []) }
     {
-        let places = Vec::with_capacity(alloc, fields)?;
+        let spans = Vec::with_capacity(alloc, fields)?;
         let text = String::with_capacity(alloc, bytes)?;
-        Ok(Fields { text, places })
+        Ok(Fields { text, spans })
     }
 
     /// Appends a field. Names and values of more than 4,294,967,295 bytes together are refused as if memory ran out.
@@ -116,13 +113,21 @@ impl Fields {
         ensures ok { OnOk result (self.new ≡ self.old ++ (name.now, value.now) ∷ []) }
         ensures err { OnErr result (self.new ≡ self.old) }
     {
-        let Some(place) = place_from(self.text.len(), name, value) else {
+        let Some(span) = span_from(self.text.len(), name, value) else {
             return Err(AllocError);
         };
-        self.places.reserve(1)?;
+        self.spans.reserve(1)?;
         push_both(&mut self.text, name, value)?;
-        self.places.push_reserved(place);
+        self.spans.push_reserved(span);
         Ok(())
+    }
+
+    /// Appends a field whose value is a number in decimal.
+    pub fn push_number(&mut self, name: &str, number: u64) -> Result<(), AllocError>
+        ensures ok { OnOk result (self.new ≡ self.old ++ (name.now, digits_of number) ∷ []) }
+        ensures err { OnErr result (self.new ≡ self.old) }
+    {
+        self.push(name, Buffer::new().format(number))
     }
 
     // Instead of which fields one of this name is put, where they are in order: those from one index up to another. It is
@@ -153,13 +158,13 @@ impl Fields {
         ensures ok { OnOk result (self.new ≡ put_pair self.old (name.now, value.now)) }
         ensures err { OnErr result (self.new ≡ self.old) }
     {
-        let Some(place) = place_from(self.text.len(), name, value) else {
+        let Some(span) = span_from(self.text.len(), name, value) else {
             return Err(AllocError);
         };
         let (from, to) = self.spot_of(name);
-        self.places.reserve(1)?;
+        self.spans.reserve(1)?;
         push_both(&mut self.text, name, value)?;
-        put_place(&mut self.places, from, to, place)?;
+        put_span(&mut self.spans, from, to, span)?;
         Ok(())
     }
 
@@ -167,7 +172,17 @@ impl Fields {
     pub fn len(&self) -> usize
         ensures { result ≡ length self.now }
     {
-        self.places.len()
+        self.spans.len()
+    }
+
+    /// Whether a field has this name.
+    pub fn is_named(&self, index: usize, name: &str) -> bool
+        requires { index < length self.now }
+        ensures { result ≡ bytes_eq name.now (get_or self.now index ([], [])).0 }
+    {
+        let span = self.spans[index];
+        let named = &self.text.as_bytes()[span.name as usize..span.value as usize];
+        name.as_bytes() == named
     }
 
     /// The name and the value of a field.
@@ -177,12 +192,12 @@ impl Fields {
         ensures name { IsUtf8 result.0.now }
         ensures value { IsUtf8 result.1.now }
     {
-        let place = self.places[index];
+        let span = self.spans[index];
         let text = self.text.as_str();
-        let between = place.value as usize;
+        let between = span.value as usize;
         (
-            &text[place.name as usize..between],
-            &text[between..place.end as usize],
+            &text[span.name as usize..between],
+            &text[between..span.end as usize],
         )
     }
 }

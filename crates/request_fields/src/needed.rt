@@ -22,8 +22,8 @@ pub(crate) fn field<'a>(header: &'a Header, name: &str) -> Option<&'a str>
 {
     let fields = &header.ext;
     for index in 0..fields.len() {
-        let (key, value) = fields.at(index);
-        if name == key {
+        if fields.is_named(index, name) {
+            let (_, value) = fields.at(index);
             return Some(value);
         }
     }
