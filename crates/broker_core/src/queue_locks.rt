@@ -14,6 +14,7 @@ use broker_events::Said;
 use bytes::Bytes;
 use lock_body::granted_body;
 use mq_bytes::{QueueName, Rows, Text};
+use remoting_frame::Fields;
 use reply_fields::{Reply, Slice};
 use request_fields::LockFields;
 use std::alloc::{AllocError, Global};
@@ -40,7 +41,7 @@ fn lock_reply(alloc: Global, granted: &[QueueName]) -> Result<Reply, AllocError>
     Ok(Reply {
         code: 0,
         remark: Text::of(String::new(alloc)),
-        ext: Rows::of(Vec::new(alloc)),
+        ext: Fields::new(alloc),
         body: lock_slices(alloc, granted)?,
     })
 }

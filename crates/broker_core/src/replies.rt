@@ -15,9 +15,8 @@
 //!
 //! An offset is the field `offset`; a pull has `maxOffset`, `minOffset`, `nextBeginOffset` and `suggestWhichBrokerId`, in decimal.
 
-ghost use Rattle.std.specs.Prelude.{◌≡◌, ◌≤◌, ◌<◌, ◌^◌, IfOk, FitsSigned};
+ghost use Rattle.std.specs.Prelude.{◌≡◌, ◌≤◌, ◌<◌, ◌^◌, [], IfOk, OnOk, FitsSigned};
 ghost use Rattle.std.specs.Int.{w16};
-ghost use Rattle.mq_bytes.specs.Decimal.{digits_of};
 ghost use Rattle.record_codec.specs.Entry.{Entry};
 ghost use Rattle.record_codec.specs.Units.{unit_of};
 ghost use Rattle.remoting_frame.specs.Head.{IsInOrder, pairs_size};
@@ -34,6 +33,7 @@ ghost use Rattle.broker_core.specs.Reads.{refusal_reply, offset_ext, pull_ext};
 use broker_events::Said;
 use mq_bytes::{Rows, Text};
 use queue_view::Pulled;
+use remoting_frame::Fields;
 use reply_fields::{Reply, Slice};
 use std::alloc::{AllocError, Global};
 
@@ -65,25 +65,17 @@ impl Refused {
     }
 }
 
-fn text(alloc: Global, text: &str) -> Result<Text, AllocError>
-    ensures { IfOk result (λ copy. copy ≡ text.now) }
-{
-    Ok(Text::of(String::from_str(alloc, text)?))
-}
+// Room for the names and values of the fields of a pull.
+const PULL_ROOM: usize = 128;
 
-fn number(alloc: Global, number: u64) -> Result<Text, AllocError>
-    ensures { IfOk result (λ text. text ≡ digits_of number) }
-{
-    Ok(Text::of(format!(in alloc; "{number}")?))
-}
-
-fn offset_fields(alloc: Global, offset: u64) -> Result<Rows<(Text, Text)>, AllocError>
+fn offset_fields(alloc: Global, offset: u64) -> Result<Fields, AllocError>
     ensures fields { IfOk result (λ fields. fields ≡ offset_ext offset) }
     ensures ordered { IfOk result IsInOrder }
     ensures short { IfOk result (λ fields. pairs_size fields ≤ 200) }
 {
-    let fields = vec![in alloc; (text(alloc, "offset")?, number(alloc, offset)?)]?;
-    Ok(Rows::of(fields))
+    let mut fields = Fields::new(alloc);
+    fields.push_number("offset", offset)?;
+    Ok(fields)
 }
 
 /// The reply that tells an offset of a queue.
@@ -108,23 +100,26 @@ pub(crate) fn stored_reply(alloc: Global, offset: Option<u64>) -> Result<Reply, 
     }
 }
 
-fn pull_fields(
-    alloc: Global,
-    max: u64,
-    min: u64,
-    next: u64,
-) -> Result<Rows<(Text, Text)>, AllocError>
+// Appends the fields of a pull to no fields.
+fn fill_pull(fields: &mut Fields, max: u64, min: u64, next: u64) -> Result<(), AllocError>
+    requires { fields.old ≡ [] }
+    ensures { OnOk result (fields.new ≡ pull_ext max min next) }
+{
+    fields.push_number("maxOffset", max)?;
+    fields.push_number("minOffset", min)?;
+    fields.push_number("nextBeginOffset", next)?;
+    fields.push("suggestWhichBrokerId", "0")?;
+    Ok(())
+}
+
+fn pull_fields(alloc: Global, max: u64, min: u64, next: u64) -> Result<Fields, AllocError>
     ensures fields { IfOk result (λ fields. fields ≡ pull_ext max min next) }
     ensures ordered { IfOk result IsInOrder }
     ensures short { IfOk result (λ fields. pairs_size fields ≤ 200) }
 {
-    let fields = vec![in alloc;
-        (text(alloc, "maxOffset")?, number(alloc, max)?),
-        (text(alloc, "minOffset")?, number(alloc, min)?),
-        (text(alloc, "nextBeginOffset")?, number(alloc, next)?),
-        (text(alloc, "suggestWhichBrokerId")?, text(alloc, "0")?),
-    ]?;
-    Ok(Rows::of(fields))
+    let mut fields = Fields::with_room(alloc, 4, PULL_ROOM)?;
+    fill_pull(&mut fields, max, min, next)?;
+    Ok(fields)
 }
 
 /// The reply to a pull that was answered like this, where the records stand in these slices.

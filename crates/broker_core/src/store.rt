@@ -22,40 +22,40 @@ use crate::send_draft::waits;
 use broker_events::Said;
 use mq_bytes::{Rows, Text, message_id};
 use record_codec::{Draft, Place};
+use remoting_frame::Fields;
 use reply_fields::Reply;
 use std::alloc::{AllocError, Global};
 
-fn text(alloc: Global, text: &str) -> Result<Text, AllocError>
-    ensures { IfOk result (λ copy. copy ≡ text.now) }
-{
-    Ok(Text::of(String::from_str(alloc, text)?))
-}
+// Room for the names and values of the fields that tell where a record stands.
+const SENT_ROOM: usize = 96;
 
-// The fields that tell where a record stands.
-fn sent_fields(
+// Appends to no fields those that tell where a record stands.
+fn fill_sent(
     alloc: Global,
     host: [u8; 8],
     place: Place,
     queue: u32,
-) -> Result<Rows<(Text, Text)>, AllocError>
+    fields: &mut Fields,
+) -> Result<(), AllocError>
+    requires { fields.old ≡ [] }
+    ensures { OnOk result (fields.new ≡ sent_fields_of host place.offset queue place.queue_offset) }
+{
+    let id = message_id(alloc, host, place.offset)?;
+    fields.push("msgId", id.as_str())?;
+    fields.push_number("queueId", u64::from(queue))?;
+    fields.push_number("queueOffset", place.queue_offset)?;
+    Ok(())
+}
+
+// The fields that tell where a record stands.
+fn sent_fields(alloc: Global, host: [u8; 8], place: Place, queue: u32) -> Result<Fields, AllocError>
     ensures fields { IfOk result (λ fields. fields ≡ sent_fields_of host place.offset queue place.queue_offset) }
     ensures ordered { IfOk result IsInOrder }
     ensures short { IfOk result (λ fields. pairs_size fields ≤ 200) }
 {
-    let id = message_id(alloc, host, place.offset)?;
-    let offset = place.queue_offset;
-    let fields = vec![in alloc;
-        (text(alloc, "msgId")?, Text::of(id)),
-        (
-            text(alloc, "queueId")?,
-            Text::of(format!(in alloc; "{queue}")?)
-        ),
-        (
-            text(alloc, "queueOffset")?,
-            Text::of(format!(in alloc; "{offset}")?)
-        ),
-    ]?;
-    Ok(Rows::of(fields))
+    let mut fields = Fields::with_room(alloc, 3, SENT_ROOM)?;
+    fill_sent(alloc, host, place, queue, &mut fields)?;
+    Ok(fields)
 }
 
 // The reply to a send whose record stands there.

@@ -2,7 +2,7 @@
 
 use broker_events::Said;
 use reply_fields::{Reply, Slice, StoredRange};
-use slow_script::{put_awaited, put_front};
+use slow_script::{put_awaited, put_field, put_front};
 use std::alloc::{AllocError, Global};
 
 // Place and size of a record.
@@ -11,14 +11,19 @@ fn put_range(out: &mut String, range: &StoredRange) -> Result<(), AllocError> {
     write!(out, " [{} {}]", file.saturating_add(range.at), range.len)
 }
 
-// The code and the remark, the fields, and the places and sizes of the records.
+// The code and the remark, and the fields.
+fn put_fields(out: &mut String, reply: &Reply) -> Result<(), AllocError> {
+    put_front(out, i64::from(reply.code), &reply.remark)?;
+    for index in 0..reply.ext.len() {
+        let (name, value) = reply.ext.at(index);
+        put_field(out, name, value)?;
+    }
+    Ok(())
+}
+
+// The same, and the places and sizes of the records.
 fn put_records(out: &mut String, reply: &Reply) -> Result<(), AllocError> {
-    put_front(
-        out,
-        i64::from(reply.code),
-        &reply.remark,
-        reply.ext.as_slice(),
-    )?;
+    put_fields(out, reply)?;
     for slice in reply.body.as_slice() {
         match slice {
             Slice::Kept(range) => put_range(out, range)?,

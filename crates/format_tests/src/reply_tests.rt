@@ -5,7 +5,7 @@ ghost use Rattle.reply_fields.specs.Slices.{slice_len, body_len};
 
 use mq_bytes::{LogFile, Rows, Text};
 use mq_outside::{Disk, DiskFault, Frozen, MemDisk, MemReader, Room};
-use remoting_frame::Form;
+use remoting_frame::{Fields, Form};
 use reply_fields::{Reply, Slice, StoredRange};
 use request_fields::RequestFault;
 use std::alloc::{AllocError, Global};
@@ -25,12 +25,12 @@ const REFUSAL: &[u8] =
 // The offset 1, as a reply tells it.
 #[tactic(auto, using(reply_fields::proofs::ReplyLemmas::one_in_order))]
 fn max_offset(alloc: Global) -> Result<Reply, AllocError> {
-    let name = Text::of(String::from_str(alloc, "offset")?);
-    let value = Text::of(String::from_str(alloc, "1")?);
+    let mut ext = Fields::new(alloc);
+    ext.push_number("offset", 1)?;
     Ok(Reply {
         code: 0,
         remark: Text::of(String::new(alloc)),
-        ext: Rows::of(vec![in alloc; (name, value)]?),
+        ext,
         body: Rows::of(Vec::new(alloc)),
     })
 }
@@ -68,7 +68,7 @@ fn reply_of(alloc: Global, slices: Vec<Slice>) -> Reply
     Reply {
         code: 0,
         remark: Text::of(String::new(alloc)),
-        ext: Rows::of(Vec::new(alloc)),
+        ext: Fields::new(alloc),
         body: Rows::of(slices),
     }
 }

@@ -116,19 +116,6 @@ fn size_of(message: &Draft) -> u32
     }
 }
 
-fn push_number(
-    alloc: Global,
-    fields: &mut Fields,
-    name: &str,
-    number: u64,
-) -> Result<(), AllocError>
-    ensures { OnOk result (fields.new ≡ fields.old ++ (name.now, digits_of number) ∷ []) }
-{
-    let digits = format!(in alloc; "{number}")?;
-    fields.push(name, digits.as_str())?;
-    Ok(())
-}
-
 fn id_at(alloc: Global, host: [u8; 8], place: u64) -> Result<String, AllocError>
     ensures id { IfOk result (λ id. string_bytes id ≡ message_id_of host place) }
     ensures host { length host ≡ 8 }
@@ -173,10 +160,10 @@ fn fill_fields(alloc: Global, view: &Record, fields: &mut Fields) -> Result<(), 
 {
     let key = view.draft.props.get("UNIQ_KEY").unwrap_or("");
     let (place, next) = (view.place.offset, view.place.queue_offset);
-    push_number(alloc, fields, "commitLogOffset", place)?;
+    fields.push_number("commitLogOffset", place)?;
     push_id(alloc, fields, "msgId", view)?;
     push_offset_id(alloc, fields, "offsetMsgId", view)?;
-    push_number(alloc, fields, "tranStateTableOffset", next)?;
+    fields.push_number("tranStateTableOffset", next)?;
     fields.push("transactionId", key)?;
     Ok(())
 }

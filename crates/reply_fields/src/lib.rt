@@ -3,7 +3,6 @@
 
 mod ask;
 mod body;
-mod copies;
 mod refusals;
 mod reply;
 mod slice;

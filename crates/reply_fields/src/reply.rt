@@ -6,17 +6,16 @@ ghost use Rattle.mq_outside.specs.Counts.{CountsDiskFault};
 ghost use Rattle.remoting_frame.specs.BinaryText.{Has16Bits};
 ghost use Rattle.remoting_frame.specs.Head.{pairs_size};
 ghost use Rattle.remoting_frame.specs.Headers.{header_in, header_text, front_bytes};
-ghost use Rattle.reply_fields.specs.Parts.{plain as plain_of};
+ghost use Rattle.reply_fields.specs.Parts.{ReplyParts, plain as plain_of};
 ghost use Rattle.reply_fields.specs.Ranges.{RisesAtMost, AreAsked};
 ghost use Rattle.reply_fields.specs.Replies.{reply_head, AppendsReply};
 ghost use Rattle.reply_fields.specs.Slices.{body_len, kept_count, AppendsBody};
 
 use crate::body::{size_of, write_body};
-use crate::copies::{copy_of, fields_of};
 use crate::slice::Slice;
 use mq_bytes::{Rows, Text};
 use mq_outside::{DiskFault, Reader};
-use remoting_frame::{Form, Header};
+use remoting_frame::{Fields, Form, Header};
 use std::alloc::{AllocError, Global};
 use std::marker::Model;
 
@@ -27,7 +26,7 @@ use std::marker::Model;
 pub struct Reply {
     pub code: i32,
     pub remark: Text,
-    pub ext: Rows<(Text, Text)>,
+    pub ext: Fields,
     pub body: Rows<Slice>,
 }
 
@@ -46,6 +45,61 @@ impl Model for Reply {
 /// Room for the front of most replies, so that the frame is grown once.
 const FRONT_ROOM: usize = 512;
 
+// Appends the front of a frame with this header, which `size` bytes are to follow.
+#[tactic(auto, using(remoting_frame::proofs::BinaryWriting::short_fits))]
+fn write_front(
+    alloc: Global,
+    form: Form,
+    header: &Header,
+    size: usize,
+    out: &mut Vec<u8>,
+) -> Result<(), AllocError>
+    requires bits { Has16Bits header.now }
+    requires short { length header.now.remark + pairs_size header.now.ext ≤ 65536 }
+    requires within { size < 2 ^ 30 }
+    ensures front { OnOk result (out.new.items ≡ out.old.items ++ front_bytes form header.now size) }
+    ensures again { OnOk result (header_in form (header_text form header.now) ≡ Some header.now) }
+    ensures err { OnErr result (out.new.items ≡ out.old.items) }
+{
+    out.reserve(size + FRONT_ROOM)?;
+    header.write_front(alloc, form, size as u32, out)?;
+    Ok(())
+}
+
+// Appends the frame of a reply that has this header and these slices.
+fn write_frame<R: Reader>(
+    alloc: Global,
+    form: Form,
+    header: &Header,
+    slices: &[Slice],
+    reader: &mut R,
+    out: &mut Vec<u8>,
+) -> Result<(), DiskFault>
+    requires bits { Has16Bits header.now }
+    requires short { length header.now.remark + pairs_size header.now.ext ≤ 65536 }
+    requires within { body_len slices.now < 2 ^ 30 }
+    ensures written { OnOk result ((reply : ReplyParts) → reply_head reply header.now.opaque ≡ header.now → reply.body ≡ slices.now
+        → AppendsReply R.gives form header.now.opaque reply out.old.items out.new.items) }
+    ensures again { OnOk result (header_in form (header_text form header.now) ≡ Some header.now) }
+    ensures err { OnErr result (out.new.items ≡ out.old.items) }
+    ensures cause { CountsDiskFault result (R.faults reader.old) (R.faults reader.new) }
+    ensures reads { RisesAtMost (kept_count slices.now) (R.reads reader.old) (R.reads reader.new) }
+    ensures asked { OnOk result (AreAsked (kept_count slices.now) (R.reads reader.old) (R.reads reader.new)) }
+{
+    let size = size_of(slices);
+    let start = out.len();
+    let Ok(()) = write_front(alloc, form, header, size, out) else {
+        return Err(DiskFault::Memory);
+    };
+    match write_body(slices, size, reader, out) {
+        Ok(()) => Ok(()),
+        Err(fault) => {
+            out.truncate(start);
+            Err(fault)
+        }
+    }
+}
+
 impl Reply {
     /// A reply that is a code and a remark, of at most 65,536 bytes, with no fields and no body.
     #[tactic(auto, using(crate::proofs::ReplyLemmas::none_in_order))]
@@ -57,77 +111,45 @@ impl Reply {
         Ok(Reply {
             code,
             remark: Text::of(String::from_str(alloc, remark)?),
-            ext: Rows::of(Vec::new(alloc)),
+            ext: Fields::new(alloc),
             body: Rows::of(Vec::new(alloc)),
         })
-    }
-
-    // The header of this reply.
-    fn header(&self, alloc: Global, opaque: i32) -> Result<Header, AllocError>
-        ensures header { IfOk result (λ header. header ≡ reply_head self.now opaque) }
-        ensures short { IfOk result (λ header. length header.remark + pairs_size header.ext ≤ 65536) }
-        ensures bits { IfOk result Has16Bits }
-    {
-        Ok(Header {
-            code: self.code,
-            version: 0,
-            opaque,
-            flag: 1,
-            remark: copy_of(alloc, &self.remark)?,
-            ext: fields_of(alloc, self.ext.as_slice())?,
-        })
-    }
-
-    // Appends the front of the frame, which `size` bytes are to follow.
-    #[tactic(auto, using(remoting_frame::proofs::BinaryWriting::short_fits))]
-    fn write_front(
-        &self,
-        alloc: Global,
-        form: Form,
-        opaque: i32,
-        size: usize,
-        out: &mut Vec<u8>,
-    ) -> Result<(), AllocError>
-        requires { size < 2 ^ 30 }
-        ensures front { OnOk result (out.new.items ≡ out.old.items ++ front_bytes form (reply_head self.now opaque) size) }
-        ensures again { OnOk result (header_in form (header_text form (reply_head self.now opaque)) ≡ Some (reply_head self.now opaque)) }
-        ensures err { OnErr result (out.new.items ≡ out.old.items) }
-    {
-        let header = self.header(alloc, opaque)?;
-        out.reserve(size + FRONT_ROOM)?;
-        header.write_front(alloc, form, size as u32, out)?;
-        Ok(())
     }
 
     /// Appends the frame of this reply to the request with this opaque. Ranges that adjoin in one piece are read by one
     /// call of the reader. After a fault `out` is as before.
     pub fn write<R: Reader>(
-        &self,
+        self,
         alloc: Global,
         form: Form,
         opaque: i32,
         reader: &mut R,
         out: &mut Vec<u8>,
     ) -> Result<(), DiskFault>
-        ensures written { OnOk result (AppendsReply R.gives form opaque self.now out.old.items out.new.items) }
-        ensures again { OnOk result (header_in form (header_text form (reply_head self.now opaque)) ≡ Some (reply_head self.now opaque)) }
+        ensures written { OnOk result (AppendsReply R.gives form opaque self out.old.items out.new.items) }
+        ensures again { OnOk result (header_in form (header_text form (reply_head self opaque)) ≡ Some (reply_head self opaque)) }
         ensures err { OnErr result (out.new.items ≡ out.old.items) }
         ensures cause { CountsDiskFault result (R.faults reader.old) (R.faults reader.new) }
-        ensures reads { RisesAtMost (kept_count self.now.body) (R.reads reader.old) (R.reads reader.new) }
-        ensures asked { OnOk result (AreAsked (kept_count self.now.body) (R.reads reader.old) (R.reads reader.new)) }
+        ensures reads { RisesAtMost (kept_count self.body) (R.reads reader.old) (R.reads reader.new) }
+        ensures asked { OnOk result (AreAsked (kept_count self.body) (R.reads reader.old) (R.reads reader.new)) }
     {
-        let slices = self.body.as_slice();
-        let size = size_of(slices);
-        let start = out.len();
-        let Ok(()) = self.write_front(alloc, form, opaque, size, out) else {
-            return Err(DiskFault::Memory);
+        let Reply {
+            code,
+            remark,
+            ext,
+            body,
+        } = self;
+        let header = Header {
+            code,
+            version: 0,
+            opaque,
+            flag: 1,
+            remark,
+            ext,
         };
-        match write_body(slices, size, reader, out) {
-            Ok(()) => Ok(()),
-            Err(fault) => {
-                out.truncate(start);
-                Err(fault)
-            }
-        }
+        let written = write_frame(alloc, form, &header, body.as_slice(), reader, out);
+        drop(header);
+        drop(body);
+        written
     }
 }

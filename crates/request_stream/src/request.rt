@@ -31,11 +31,11 @@ fn tell_at_once<C: Calls, D: Disk, R: Reader, K: Sink>(
     buffer: &mut Vec<u8>,
     sink: &mut K,
     caller: Caller,
-    reply: &Reply,
+    reply: Reply,
 ) -> Result<(), Stop>
     requires free { IsFree (C.has_key calls.old) (C.shown calls.old) }
     requires inside { D.tells → IsInside flusher.old.file.base flusher.old.file.offset (D.state disk.old) }
-    ensures answered { (answer : AnAnswer) → answer ≡ record { reply = reply.now; awaits = None }
+    ensures answered { (answer : AnAnswer) → answer ≡ record { reply = reply; awaits = None }
         → Answers (sides_of C.makes R.gives (view_of D.tells D.state D.faults D.syncs) K.tells (Unit {0})) caller answer result
         (change_of calls.old (point_of (place_of flusher.old.file disk.old)
         (R.faults reader.old) (K.taken sink.old) [])
@@ -84,7 +84,7 @@ fn tell_behind<C: Calls, D: Disk, R: Reader, K: Sink>(
 {
     match flush_and_look(alloc, calls, flusher, disk, reply, awaits) {
         Err(broken) => Err(stop_of(broken)),
-        Ok(told) => tell(alloc, caller, &told, reader, buffer, sink),
+        Ok(told) => tell(alloc, caller, told, reader, buffer, sink),
     }
 }
 
@@ -116,7 +116,7 @@ fn answer_request<C: Calls, D: Disk, R: Reader, K: Sink>(
     let Answer { reply, awaits } = answer;
     match awaits {
         None => tell_at_once(
-            alloc, calls, flusher, disk, reader, buffer, sink, caller, &reply,
+            alloc, calls, flusher, disk, reader, buffer, sink, caller, reply,
         ),
         Some(awaits) => tell_behind(
             alloc, calls, flusher, disk, reader, buffer, sink, caller, reply, awaits,

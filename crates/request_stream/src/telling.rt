@@ -54,12 +54,12 @@ fn append_unread<R: Reader>(
 fn append_reply<R: Reader>(
     alloc: Global,
     caller: Caller,
-    reply: &Reply,
+    reply: Reply,
     reader: &mut R,
     out: &mut Vec<u8>,
 ) -> Result<(), AllocError>
     ensures { OnOk result
-        (Appends R.gives caller reply.now (fault_counts (R.faults reader.old) (R.faults reader.new)) out.old.items out.new.items) }
+        (Appends R.gives caller reply (fault_counts (R.faults reader.old) (R.faults reader.new)) out.old.items out.new.items) }
 {
     match reply.write(alloc, caller.form, caller.opaque, reader, out) {
         Ok(()) => Ok(()),
@@ -72,12 +72,12 @@ fn append_reply<R: Reader>(
 fn write_reply<R: Reader, K: Sink>(
     alloc: Global,
     caller: Caller,
-    reply: &Reply,
+    reply: Reply,
     reader: &mut R,
     buffer: &mut Vec<u8>,
     sink: &mut K,
 ) -> Result<(), Stop>
-    ensures told { WritesReply R.gives caller reply.now (fault_counts (R.faults reader.old) (R.faults reader.new))
+    ensures told { WritesReply R.gives caller reply (fault_counts (R.faults reader.old) (R.faults reader.new))
         (sink_of K.tells (K.taken sink.old) (K.taken sink.new)) result }
     ensures cause { CountsTelling result (K.faults sink.old) (K.faults sink.new) }
 {
@@ -95,16 +95,17 @@ fn write_reply<R: Reader, K: Sink>(
 pub(crate) fn tell<R: Reader, K: Sink>(
     alloc: Global,
     caller: Caller,
-    reply: &Reply,
+    reply: Reply,
     reader: &mut R,
     buffer: &mut Vec<u8>,
     sink: &mut K,
 ) -> Result<(), Stop>
-    ensures told { Tells R.gives caller reply.now (fault_counts (R.faults reader.old) (R.faults reader.new))
+    ensures told { Tells R.gives caller reply (fault_counts (R.faults reader.old) (R.faults reader.new))
         (sink_of K.tells (K.taken sink.old) (K.taken sink.new)) result }
     ensures cause { CountsTelling result (K.faults sink.old) (K.faults sink.new) }
 {
     if caller.one_way {
+        drop(reply);
         return Ok(());
     }
     write_reply(alloc, caller, reply, reader, buffer, sink)

@@ -13,6 +13,7 @@ use crate::caller::Caller;
 use broker_events::{Awaited, Calls, Event, Said};
 use mq_bytes::{Rows, Text};
 use mq_outside::{DiskFault, Reader};
+use remoting_frame::Fields;
 use reply_fields::Reply;
 use request_fields::RequestFault;
 use std::alloc::{AllocError, Global};
@@ -66,14 +67,15 @@ pub fn apply<C: Calls>(alloc: Global, calls: &mut C, event: &Event) -> Result<Ap
     }
 }
 
-// How many bytes the pairs have with their lengths.
-fn size_of(pairs: &[(Text, Text)]) -> usize
-    requires { pairs_size pairs.now < 2 ^ 31 }
-    ensures { result ≡ pairs_size pairs.now }
+// How many bytes the fields have with their lengths.
+fn size_of(fields: &Fields) -> usize
+    requires { pairs_size fields.now < 2 ^ 31 }
+    ensures { result ≡ pairs_size fields.now }
 {
     let mut size = 0;
-    for (name, value) in pairs {
-        size += 6 + name.as_str().len() + value.as_str().len();
+    for index in 0..fields.len() {
+        let (name, value) = fields.at(index);
+        size += 6 + name.len() + value.len();
     }
     size
 }
@@ -85,7 +87,7 @@ pub fn not_flushed(alloc: Global, reply: Reply, count: u64) -> Result<Reply, All
     ensures { IfOk result (λ told. told ≡ not_flushed_of reply count) }
 {
     let remark = format!(in alloc; "flush {count}")?;
-    if size_of(reply.ext.as_slice()) > 65000 {
+    if size_of(&reply.ext) > 65000 {
         return Reply::plain(alloc, 10, remark.as_str());
     }
     Ok(Reply {
@@ -140,11 +142,11 @@ fn unwritten(alloc: Global, fault: DiskFault, count: u64) -> Result<Reply, Alloc
 pub fn write_reply<R: Reader>(
     alloc: Global,
     caller: Caller,
-    reply: &Reply,
+    reply: Reply,
     reader: &mut R,
     out: &mut Vec<u8>,
 ) -> Result<(), AllocError>
-    ensures written { OnOk result (IsWritten R.gives caller reply.now (R.faults reader.new) out.old.items out.new.items) }
+    ensures written { OnOk result (IsWritten R.gives caller reply (R.faults reader.new) out.old.items out.new.items) }
     ensures err { OnErr result (out.new.items ≡ out.old.items) }
 {
     let fault = match reply.write(alloc, caller.form, caller.opaque, reader, out) {
@@ -152,9 +154,7 @@ pub fn write_reply<R: Reader>(
         Err(fault) => fault,
     };
     let refusal = unwritten(alloc, fault, reader.fault_count())?;
-    let written = refusal.write(alloc, caller.form, caller.opaque, reader, out);
-    drop(refusal);
-    match written {
+    match refusal.write(alloc, caller.form, caller.opaque, reader, out) {
         Ok(()) => Ok(()),
         Err(_) => Err(AllocError),
     }

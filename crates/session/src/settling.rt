@@ -123,13 +123,12 @@ impl Session {
         ensures talk { self.new.talk ≡ self.old.talk }
         ensures sent { self.new.sent ≡ self.old.sent }
     {
-        let written = if caller.one_way {
+        if caller.one_way {
+            drop(reply);
             Ok(())
         } else {
-            write_reply(alloc, caller, &reply, reader, &mut self.out)
-        };
-        drop(reply);
-        written
+            write_reply(alloc, caller, reply, reader, &mut self.out)
+        }
     }
 
     /// Whether a reply waits for its record, or a request for room: a flush turn may bring it on.

@@ -13,4 +13,4 @@ pub use asked::request_frame;
 pub use crashes::said_after;
 pub use does::{Do, Verdict};
 pub use sequence::{begin, play, step};
-pub use shown::{put_awaited, put_front};
+pub use shown::{put_awaited, put_field, put_front};

@@ -16,28 +16,22 @@ fn put_records(out: &mut String, records: &[Record]) -> Result<(), AllocError> {
     Ok(())
 }
 
-/// Appends a reply without its body: the code and the remark, and the fields.
-pub fn put_front(
-    out: &mut String,
-    code: i64,
-    remark: &Text,
-    fields: &[(Text, Text)],
-) -> Result<(), AllocError> {
-    write!(out, "{code} {}", remark.as_str())?;
-    for (name, value) in fields {
-        write!(out, " {}={}", name.as_str(), value.as_str())?;
-    }
-    Ok(())
+/// Appends the front of a reply: its code and its remark.
+pub fn put_front(out: &mut String, code: i64, remark: &Text) -> Result<(), AllocError> {
+    write!(out, "{code} {}", remark.as_str())
 }
 
-// The same, and the places and sizes of the records.
+/// Appends a field of a reply.
+pub fn put_field(out: &mut String, name: &str, value: &str) -> Result<(), AllocError> {
+    write!(out, " {name}={value}")
+}
+
+// The front, the fields, and the places and sizes of the records.
 fn put_reply(out: &mut String, reply: &Reply) -> Result<(), AllocError> {
-    put_front(
-        out,
-        i64::from(reply.code),
-        &reply.remark,
-        reply.ext.as_slice(),
-    )?;
+    put_front(out, i64::from(reply.code), &reply.remark)?;
+    for (name, value) in reply.ext.as_slice() {
+        put_field(out, name.as_str(), value.as_str())?;
+    }
     put_records(out, reply.body.as_slice())
 }
 

@@ -6,11 +6,11 @@ use Rattle.broker_core.proofs.replies.offset_fields.Goals as goal
 
 pub returns-clause-ordered : goal.returns-clause-ordered
 returns-clause-ordered c =
-    let fields : c.of.result ≡ offset_ext c.args.offset = search rules in
+    let fields : c.push_number.new.self ≡ offset_ext c.args.offset = search rules in
     subst (λ (l : List (List ℕ × List ℕ)). IsInOrder l) (sym fields) (offset_in_order c.args.offset)
 
 pub returns-clause-short : goal.returns-clause-short
 returns-clause-short c =
-    let fields : c.of.result ≡ offset_ext c.args.offset = search rules in
+    let fields : c.push_number.new.self ≡ offset_ext c.args.offset = search rules in
     let small : c.args.offset < 2 ^ 64 = search rules in
     subst (λ (l : List (List ℕ × List ℕ)). pairs_size l ≤ 200) (sym fields) (offset_is_short c.args.offset small)
