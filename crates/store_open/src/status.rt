@@ -11,7 +11,7 @@
 //! |    6 | a file   | foreign: this file stands without a format, or `format` is another than asked for    |
 //! |    7 |          | want of memory                                                                       |
 //! |    8 | a file   | damaged: no broker leaves this file as it is; `place` is the physical offset, or 0 of a kept text |
-//! |   10 | a device | the clock or the keep failed                                                         |
+//! |   10 | a device | the clock, the keep or the door failed                                               |
 
 ghost use Rattle.std.specs.Prelude.{◌≡◌, ◌≢◌, ◌⊎◌, []};
 ghost use Rattle.store_open.specs.Statuses.{FitsTable};
