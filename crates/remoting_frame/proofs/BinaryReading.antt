@@ -1,6 +1,8 @@
 -- What the readers of a binary header give.
 use Rattle.std.proofs.Common.{◌≡◌, ℕ, zero, suc, ◌+◌, ◌-◌, ◌<◌, ◌≤◌, List, [], ◌∷◌, length, map, subst, take, drop, Bool, true, false, cond, Option, Some, None, option_map, String, Global, ℤ, string_bytes, string_cmp, nat_cmp, Ordering, Less, Equal, Greater, refl, sym, ap, ◌∙◌, arith, length-drop}
 use Rattle.std.specs.Ordering.{match_ordering}
+use Rattle.std.specs.Prelude.{Result, Ok, Err}
+use Rattle.std.specs.Result.{MatchResult, is_err}
 use Rattle.std.specs.Cmp.Lexicographic.{slice_cmp}
 use Rattle.std.specs.BTreeMap.{insert_entry}
 use Rattle.std.specs.List.{AllByRecursion}
@@ -35,6 +37,11 @@ refused bytes false h k = refl
 pub no_text : (bytes : List ℕ) → (IsUtf8 bytes → ⊥) → text_of bytes ≡ None
 unfolding text_of
 no_text bytes h = refused bytes (is_utf8 bytes) (IsUtf8-from_is_utf8 bytes) h
+
+-- what is so of an error, where there is one
+pub told_err : {A E : Type 0} (result : Result A E) (P : A → Type 0) (X : Type 0) (Q : E → Type 0) → MatchResult result P (λ e. X × Q e) → is_err result ≡ true → X
+told_err (Ok text) P X Q h is = absurd (cc is)
+told_err (Err fault) P X Q h is = h.0
 
 -- ---- one pair
 

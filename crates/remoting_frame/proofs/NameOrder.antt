@@ -7,7 +7,6 @@ use Rattle.std.specs.BTreeMap.{insert_entry}
 use Rattle.std.specs.List.{AllByRecursion}
 use Rattle.std.specs.List.Sorted.{IsStrictlySortedBy}
 use Rattle.std.proofs.lemmas.Cmp.{nat_list_cmp_total}
-use Rattle.std.proofs.lemmas.List.{get_or_read_under}
 use Rattle.std.proofs.lemmas.Map.Lookups.{exact_bytes}
 use Rattle.remoting_frame.specs.Head.{IsInOrder, pairs_size}
 use Rattle.remoting_frame.specs.Binary.{put_all, by_name}
@@ -102,22 +101,19 @@ put_same (p ∷ ps) k v (suc i) h lt equal =
     let others = put_same ps k v i h.1 (omega arith) equal in
     rw (first, others) refl
 
--- the same of an index that is one further, and a pair that is read there
-module _ (ps : List Pair) (k v : List ℕ) (n : ℕ) (p : Pair) (h : IsInOrder ps) (some : 0 < n) (le : n ≤ length ps) (read : p ≡ get_or ps (n - 1) p) where
+-- the same of an index that is one further, and a name that is read there
+module _ (ps : List Pair) (k v : List ℕ) (n : ℕ) (name : List ℕ) (h : IsInOrder ps) (some : 0 < n) (le : n ≤ length ps) (named : name ≡ name_at ps (n - 1)) where
   back : suc (n - 1) ≡ n
   back = omega arith
 
-  named : p.0 ≡ name_at ps (n - 1)
-  named = ap (λ (q : Pair). q.0) (get_or_read_under ps (n - 1) (length ps) p ([], []) read (omega arith) refl)
-
-  pub put_same_before : order k p.0 ≡ Equal → put ps k v ≡ take (n - 1) ps ++ (k, v) ∷ drop n ps
+  pub put_same_before : order k name ≡ Equal → put ps k v ≡ take (n - 1) ps ++ (k, v) ∷ drop n ps
   put_same_before equal =
       let same = subst (λ (m : List ℕ). order k m ≡ Equal) named equal in
       subst (λ (m : ℕ). put ps k v ≡ take (n - 1) ps ++ (k, v) ∷ drop m ps) back (put_same ps k v (n - 1) h (omega arith) same)
 
-  pub put_behind_before : order k p.0 ≡ Greater → (n < length ps → order k (name_at ps n) ≡ Less) → put ps k v ≡ take n ps ++ (k, v) ∷ drop n ps
+  pub put_behind_before : order k name ≡ Greater → (n < length ps → order k (name_at ps n) ≡ Less) → put ps k v ≡ take n ps ++ (k, v) ∷ drop n ps
   put_behind_before more above =
-      let below : order (name_at ps (n - 1)) k ≡ Less = subst (λ (m : List ℕ). order m k ≡ Less) named (nat_list_cmp_total.antisymm p.0 k ∙ ap ordering_reverse more) in
+      let below : order (name_at ps (n - 1)) k ≡ Less = subst (λ (m : List ℕ). order m k ≡ Less) named (nat_list_cmp_total.antisymm name k ∙ ap ordering_reverse more) in
       let next : suc (n - 1) < length ps → order k (name_at ps (suc (n - 1))) ≡ Less = subst (λ (m : ℕ). m < length ps → order k (name_at ps m) ≡ Less) (sym back) above in
       subst (λ (m : ℕ). put ps k v ≡ take m ps ++ (k, v) ∷ drop m ps) back (put_behind ps k v (n - 1) h (omega arith) below next)
 

@@ -44,10 +44,11 @@ const MANY: usize = 64;
 fn str_in(bytes: &[u8]) -> Option<&str>
     ensures { option_map (λ text. text.now) result ≡ text_of bytes.now }
 {
-    match str::from_utf8(bytes) {
-        Ok(text) => Some(text),
-        Err(_) => None,
+    // Only whether there is a text is asked, since one that is given comes back through memory, and this is called twice a pair.
+    if str::from_utf8(bytes).is_err() {
+        return None;
     }
+    Some(unsafe { str::from_utf8_unchecked(bytes) })
 }
 
 fn text_from(alloc: Global, bytes: &[u8]) -> Result<String, HeaderFault>

@@ -130,6 +130,14 @@ impl Fields {
         self.push(name, Buffer::new().format(number))
     }
 
+    fn name_at(&self, index: usize) -> &str
+        requires { index < length self.now }
+        ensures { result.now ≡ (get_or self.now index ([], [])).0 }
+    {
+        let span = self.spans[index];
+        &self.text.as_str()[span.name as usize..span.value as usize]
+    }
+
     // Instead of which fields one of this name is put, where they are in order: those from one index up to another. It is
     // looked for from the end, as names mostly ascend.
     fn spot_of(&self, name: &str) -> (usize, usize)
@@ -140,8 +148,7 @@ impl Fields {
     {
         let mut at = self.len();
         while at > 0 {
-            let (before, _) = self.at(at - 1);
-            match name.cmp(before) {
+            match name.cmp(self.name_at(at - 1)) {
                 Ordering::Less => at -= 1,
                 Ordering::Equal => return (at - 1, at),
                 Ordering::Greater => return (at, at),
@@ -180,6 +187,7 @@ impl Fields {
         requires { index < length self.now }
         ensures { result ≡ bytes_eq name.now (get_or self.now index ([], [])).0 }
     {
+        // As bytes, since most fields that are asked have another name: no bounds of characters are looked for.
         let span = self.spans[index];
         let named = &self.text.as_bytes()[span.name as usize..span.value as usize];
         name.as_bytes() == named

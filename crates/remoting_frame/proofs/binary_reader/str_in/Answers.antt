@@ -1,9 +1,12 @@
-use Rattle.std.proofs.Common.{Some, sym, ap, ◌∙◌}
-use Rattle.remoting_frame.proofs.BinaryReading.{text_is, no_text}
+use Rattle.std.proofs.Common.{Some, sym, ap, subst, ◌∙◌}
+use Rattle.std.specs.Str.{IsUtf8}
+use Rattle.remoting_frame.proofs.BinaryReading.{text_is, no_text, told_err}
 use Rattle.remoting_frame.proofs.binary_reader.str_in.Goals as goal
 
-pub returns-in-Ok : goal.returns-in-Ok
-returns-in-Ok c = ap Some c.in-Ok.ensures.cases.0 ∙ sym (text_is c.args.bytes.now c.in-Ok.ensures.cases.1)
+pub returns-then-is_err : goal.returns-then-is_err
+returns-then-is_err c = sym (no_text c.args.bytes.now (told_err c.from_utf8.result _ _ _ c.from_utf8.ensures.cases (sym c.is_err.ensures.value ∙ c.if-is_err.true)))
 
-pub returns-in-Err : goal.returns-in-Err
-returns-in-Err c = sym (no_text c.args.bytes.now c.in-Err.ensures.cases.0)
+pub returns : goal.returns
+returns c =
+    let utf8 = subst IsUtf8 c.from_utf8_unchecked.ensures c.from_utf8_unchecked.utf8 in
+    ap Some c.from_utf8_unchecked.ensures ∙ sym (text_is c.args.bytes.now utf8)
