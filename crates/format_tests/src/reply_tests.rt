@@ -26,7 +26,7 @@ const REFUSAL: &[u8] =
 #[tactic(auto, using(reply_fields::proofs::ReplyLemmas::one_in_order))]
 fn max_offset(alloc: Global) -> Result<Reply, AllocError> {
     let mut ext = Fields::new(alloc);
-    ext.push_number("offset", 1)?;
+    ext.push("offset", "1")?;
     Ok(Reply {
         code: 0,
         remark: Text::of(String::new(alloc)),
