@@ -8,7 +8,7 @@ use Rattle.crossbeam_queue.specs.Fifo.{Pushes, Pops, Forks, Merges, Learns, Held
 use Rattle.atomic_table.proofs.Lists.{at_set}
 use Rattle.outbox.specs.declared.view.View.{View}
 use Rattle.outbox.specs.Frames.{frames_of, all_frames, is_among}
-use Rattle.outbox.specs.Rule.{own, HasNumber, IsInOrder, HasAll, Stands, pushed, gained, fewer, newcomer, met, spent, opening, Fits, Holds}
+use Rattle.outbox.specs.Rule.{own, HasNumber, IsInOrder, HasAll, Stands, pushed, gained, fewer, newcomer, met, spent, opening, shared, Fits, Holds}
 use Rattle.outbox.proofs.Lists.{frames_append, all_append, other_frame, none_held, among_append, or_cases, or_false, among_one, each_set, at_here, at_more}
 
 -- the places of the pushers with one more
@@ -86,7 +86,7 @@ module _ (F : Type 0) where
     held = [];
     items_are = refl;
     later = λ k le. refl;
-    each = each_set (Fits 0 1 (λ k. 0) [] []) (opening ∷ []) 0 opening
+    each = each_set (Fits (shared 0 1 (λ k. 0) [] [])) (opening ∷ []) 0 opening
         record {
           taker_is = λ t. (refl, refl, refl);
           pushers = λ k p. (refl, subst (λ n. n < 1) (among_one k 0 p) (omega arith), refl);
@@ -116,7 +116,7 @@ module _ (F : Type 0) where
         held = held;
         items_are = all_append h.held ((own v, x) ∷ []) ∙ ap (λ (l : List F). l ++ x ∷ []) h.items_are;
         later = λ k le. same_of k (own v) h.got h.held x (λ (e : own v ≡ k). let less = me.1 in absurd (omega (arith, e))) ∙ h.later k le;
-        each = each_set (Fits h.taker h.next h.place_of h.got held) views place (pushed v x)
+        each = each_set (Fits (shared h.taker h.next h.place_of h.got held)) views place (pushed v x)
             record {
               taker_is = mine.taker_is;
               pushers = λ k p. let m = mine.pushers k p in (m.0, m.1, frames_append k v.put ((own v, x) ∷ []) ∙ ap (λ (l : List F). l ++ frames_of k ((own v, x) ∷ [])) m.2 ∙ sym (grown k h.got h.held (own v, x)));
@@ -165,7 +165,7 @@ module _ (F : Type 0) where
         held = rest;
         items_are = are;
         later = λ j le. ap (frames_of j) same ∙ h.later j le;
-        each = each_set (Fits h.taker h.next h.place_of got rest) views place (gained v k x)
+        each = each_set (Fits (shared h.taker h.next h.place_of got rest)) views place (gained v k x)
             record {
               taker_is = λ p. ((mine.taker_is p).0, ap (λ (l : L). l ++ (k, x) ∷ []) (mine.taker_is p).1, (mine.taker_is p).2);
               pushers = λ j p. let m = mine.pushers j p in (m.0, m.1, m.2 ∙ ap (frames_of j) (sym same));
@@ -192,8 +192,8 @@ module _ (F : Type 0) where
       let end : ℕ = length old in
       let next_is : v.next ≡ h.next = (mine.taker_is t).2 in
       let place_of : ℕ → ℕ = with_place h.place_of h.next end in
-      let P : ℕ → V → Type 0 = Fits h.taker (h.next + 1) place_of h.got h.held in
-      let still : (j : ℕ) (u : V) → Fits h.taker h.next h.place_of h.got h.held j u → (k : ℕ) → is_among k u.numbers ≡ true
+      let P : ℕ → V → Type 0 = Fits (shared h.taker (h.next + 1) place_of h.got h.held) in
+      let still : (j : ℕ) (u : V) → Fits (shared h.taker h.next h.place_of h.got h.held) j u → (k : ℕ) → is_among k u.numbers ≡ true
       → (place_of k ≡ j) × (k < h.next + 1) × (frames_of k u.put ≡ frames_of k (h.got ++ h.held)) = λ j u f k p.
       let m = f.pushers k p in let less = m.1 in (with_else h.place_of h.next end k (λ (e : h.next ≡ k). absurd (omega (arith, e))) ∙ m.0, omega arith, m.2) in
       let kept : (j : ℕ) (u : V) → get_elem? old j ≡ some u → P j u = each_set P views place (fewer v)
@@ -238,7 +238,7 @@ module _ (F : Type 0) where
       let theirs = h.each other w at' in
       let place_of : ℕ → ℕ = given h.place_of w.numbers place in
       let taker : ℕ = cond w.taker place h.taker in
-      let P : ℕ → V → Type 0 = Fits taker h.next place_of h.got h.held in
+      let P : ℕ → V → Type 0 = Fits (shared taker h.next place_of h.got h.held) in
       -- which of the two is the taker's
       let theirs_is : w.taker ≡ true → (place ≡ taker) × (both.got ≡ h.got) × (both.next ≡ h.next) = λ q.
       let t = theirs.taker_is q in (sym (ap (λ b. cond b place h.taker) q), ap (λ b. cond b w.got v.got) q ∙ t.1, ap (λ b. cond b w.next v.next) q ∙ t.2) in

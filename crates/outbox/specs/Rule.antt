@@ -5,6 +5,18 @@ use lib.ListN.{get_elem?}
 use Rattle.outbox.specs.declared.view.View.{View}
 use Rattle.outbox.specs.Frames.{frames_of, all_frames, StartsWith, is_among, first}
 
+-- What all views are of: the place of the taker's view, the next pusher's number, the place of the view in which each pusher
+-- stands, and what was got and what is held, each with its pusher's number.
+pub record Shared (F : Type 0) : Type 0 where
+  pub taker : ℕ
+  pub next : ℕ
+  pub place_of : ℕ → ℕ
+  pub got : List (ℕ × F)
+  pub held : List (ℕ × F)
+
+abbrev pub shared : {F : Type 0} → ℕ → ℕ → (ℕ → ℕ) → List (ℕ × F) → List (ℕ × F) → Shared F
+shared taker next place_of got held = record { taker = taker; next = next; place_of = place_of; got = got; held = held }
+
 module _ {F : Type 0} where
   -- the number by which a pass pushes
   abbrev pub own : View F → ℕ
@@ -68,10 +80,10 @@ module _ {F : Type 0} where
 
   -- what the view at this place says is so: the taker got this, and the next pusher has this number; each pusher stands in
   -- one view, and put what was got of it and what is held of it
-  pub record Fits (taker next : ℕ) (place_of : ℕ → ℕ) (got held : List (ℕ × F)) (place : ℕ) (v : View F) : Type 0 where
-    pub taker_is : v.taker ≡ true → (place ≡ taker) × (v.got ≡ got) × (v.next ≡ next)
-    pub pushers :
-        (k : ℕ) → is_among k v.numbers ≡ true → (place_of k ≡ place) × (k < next) × (frames_of k v.put ≡ frames_of k (got ++ held))
+  pub record Fits (all : Shared F) (place : ℕ) (v : View F) : Type 0 where
+    pub taker_is : v.taker ≡ true → (place ≡ all.taker) × (v.got ≡ all.got) × (v.next ≡ all.next)
+    pub pushers : (k : ℕ) → is_among k v.numbers ≡ true
+        → (all.place_of k ≡ place) × (k < all.next) × (frames_of k v.put ≡ frames_of k (all.got ++ all.held))
     pub others : (k : ℕ) → is_among k v.numbers ≡ false → frames_of k v.put ≡ []
 
   pub record Holds (items : List F) (views : List (View F)) : Type 0 where
@@ -82,4 +94,4 @@ module _ {F : Type 0} where
     pub held : List (ℕ × F)
     pub items_are : all_frames held ≡ items
     pub later : (k : ℕ) → next ≤ k → frames_of k (got ++ held) ≡ []
-    pub each : (place : ℕ) (v : View F) → get_elem? views place ≡ some v → Fits taker next place_of got held place v
+    pub each : (place : ℕ) (v : View F) → get_elem? views place ≡ some v → Fits (shared taker next place_of got held) place v
