@@ -1,11 +1,12 @@
 //! One run: the first word says whether it serves a stream or links.
 
-ghost use Rattle.std.specs.Prelude.{◌≡◌, true, false, None};
+ghost use Rattle.std.specs.Prelude.{◌≡◌, ◌≢◌, true, false, None};
 ghost use Rattle.request_acts.specs.Acts.{view_of};
 ghost use Rattle.store_open.specs.Words.{texts_of};
 ghost use Rattle.serve_story.specs.Kept.{keep_over};
 ghost use Rattle.serve_story.specs.Served.{views_of};
 ghost use Rattle.serve_threads.specs.Causes.{counts_of, world_faults};
+ghost use Rattle.answered_sends.specs.Stand.{KeepsAnswers};
 ghost use Rattle.program_run.specs.Runs.{AsksLinks, Pipes, Serves};
 
 use broker_run::run_pipe;
@@ -113,6 +114,33 @@ where
           disk = D.faults result.ended.store.disk;
           keep = E.faults result.ended.store.keep;
           clock = K.faults result.ended.world.clocks.0;
+        }) }
+    // Each message that was answered with 0 once it was on the disk stands there, whatever crashes.
+    ensures answered { (AsksLinks (texts_of words.now) → ⊥) → result.ended.status.code ≢ 1 → KeepsAnswers (texts_of words.now)
+        (record {
+          source = record {
+            tells = S.tells;
+            given = S.given streams.source;
+            given_then = S.given result.streams.source;
+            left_then = S.left result.streams.source;
+          };
+          gives = D.Reader.gives;
+          disk = view_of D.tells D.state D.faults D.syncs;
+          sink = N.tells;
+          clock = K.tells;
+          old = store.disk;
+          new = result.ended.store.disk;
+          taken = N.taken streams.sink;
+          taken_then = N.taken result.streams.sink;
+          readings = K.readings world.clocks.0;
+          readings_then = K.readings result.ended.world.clocks.0;
+        })
+        (record {
+          tells = E.tells;
+          old = E.state store.keep;
+          new = E.state result.ended.store.keep;
+          failed = E.faults store.keep;
+          failed_then = E.faults result.ended.store.keep;
         }) }
     ensures others { (AsksLinks (texts_of words.now) → ⊥) → (result.ended.core ≡ None)
         × (result.ended.world.ready ≡ world.ready) × (result.ended.world.door ≡ world.door)

@@ -1,0 +1,5 @@
+use Rattle.answered_sends.proofs.Stands.{answered_stand}
+use Rattle.program_run.proofs.call.run.Goals as goal
+
+pub returns-clause-answered : goal.returns-clause-answered
+returns-clause-answered g c = λ links not_usage. answered_stand _ _ _ _ (c.run_pipe-status.ensures.fits not_usage)
