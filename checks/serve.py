@@ -803,8 +803,11 @@ def _(folder):
 
 
 def follow(trace):
-    """How often the log was synced, how many sends were answered with 0, and which of them before the sync of their record."""
-    written, synced, syncs, answers, early, open_calls = {}, {}, 0, 0, [], {}
+    """How often the log was synced, how many sends were answered with 0, and which of them before the sync of their record.
+
+    A send counts once, by the place that its answer names: what a link did not take at first is written again.
+    """
+    written, synced, syncs, answers, early, open_calls = {}, {}, 0, set(), [], {}
     call = re.compile(r"(\d+) +(?:<\.\.\. )?(\w+)(?:\((?:\d+<(.*?)>)?| resumed>)")
     for line in open(trace, errors="replace"):
         found = call.match(line)
@@ -821,8 +824,8 @@ def follow(trace):
                 end = (base, base + int(at) + int(size))
             if name in ("write", "writev", "sendto", "sendmsg"):
                 for place in re.findall(r'msgId(?:\\0\\0\\0 |\\":\\")[0-9A-F]{16}([0-9A-F]{16})', line):
-                    answers += 1
                     at = int(place, 16)
+                    answers.add(at)
                     if not any(base <= at < to for base, to in synced.items()):
                         early.append((at, dict(synced)))
             if line.rstrip().endswith("<unfinished ...>"):
@@ -837,7 +840,7 @@ def follow(trace):
             if base.isdigit():
                 syncs += 1
                 synced[int(base)] = max(synced.get(int(base), 0), was.get(int(base), 0))
-    return syncs, answers, early
+    return syncs, len(answers), early
 
 
 @check("under load it syncs less often than it answers sends, and each answer comes behind the sync of its record")
