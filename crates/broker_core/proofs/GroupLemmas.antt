@@ -25,7 +25,7 @@ use Rattle.group_tables.specs.Locks.{lock_row}
 use Rattle.group_tables.specs.Offsets.{offset_of, offset_row, HasOffsets, IsOffset}
 use Rattle.group_tables.specs.declared.groups.Groups.{Groups}
 use Rattle.group_tables.specs.declared.locks.Lock.{Lock}
-use Rattle.lock_body.specs.Granted.{HasShortNames}
+use Rattle.reply_fields.specs.Granted.{HasShortNames}
 use Rattle.broker_core.specs.declared.parts.Parts.{Parts}
 use Rattle.broker_core.specs.Carries.{Stays}
 use Rattle.broker_core.specs.Represents.{Represents}

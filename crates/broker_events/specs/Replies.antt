@@ -10,7 +10,7 @@ use Rattle.reply_fields.specs.declared.slice.Slice.{Slice}
 use Rattle.reply_fields.specs.declared.slice.Slice.TheVariants.{Held, Kept}
 use Rattle.reply_fields.specs.declared.slice.StoredRange.{StoredRange}
 use Rattle.broker_model.specs.Events as model
-use Rattle.lock_body.specs.Granted.{granted_text}
+use Rattle.reply_fields.specs.Granted.{granted_text}
 
 -- the range is where the record stands, all of it, and what its piece holds there is the record
 pub record IsRangeOf (range : StoredRange) (r : Entry) : Type 0 where

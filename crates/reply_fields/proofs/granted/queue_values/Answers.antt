@@ -1,5 +1,5 @@
-use Rattle.lock_body.proofs.GrantedLemmas.{values_next}
-use Rattle.lock_body.proofs.body.queue_values.Goals as goal
+use Rattle.reply_fields.proofs.GrantedLemmas.{values_next}
+use Rattle.reply_fields.proofs.granted.queue_values.Goals as goal
 
 pub loop-queue-preserved : goal.loop-queue-preserved
 loop-queue-preserved c =

@@ -2,9 +2,9 @@ use Rattle.std.proofs.Common.{◌≡◌, ap, ◌∙◌, subst, sym, List, ℕ, f
 use Rattle.std.proofs.lemmas.Result.{IfOk-weaker}
 use Rattle.serde_json.specs.View.{view}
 use Rattle.serde_json.specs.Written.{has_float, compact_text}
-use Rattle.lock_body.specs.Granted.{granted_text}
-use Rattle.lock_body.proofs.GrantedLemmas.{no_float, length-granted}
-use Rattle.lock_body.proofs.body.granted_body.Goals as goal
+use Rattle.reply_fields.specs.Granted.{granted_text}
+use Rattle.reply_fields.proofs.GrantedLemmas.{no_float, length-granted}
+use Rattle.reply_fields.proofs.granted.granted_body.Goals as goal
 
 pub returns-clause-text : goal.returns-clause-text
 returns-clause-text c =

@@ -9,7 +9,7 @@ use Rattle.serde_json.specs.Data.{Data, unsigned, number, string, array, Items, 
 use Rattle.serde_json.specs.View.{view, items_of, items_view}
 use Rattle.serde_json.specs.Written.{number_text, compact_text, items_text, members_text, comma_if, has_float, items_have_float}
 use Rattle.serde_json.specs.declared.value.Value.{Value}
-use Rattle.lock_body.specs.Granted.{HasShortNames, queue_data, queues_items, granted_data, granted_text}
+use Rattle.reply_fields.specs.Granted.{HasShortNames, queue_data, queues_items, granted_data, granted_text}
 
 -- ---- values
 

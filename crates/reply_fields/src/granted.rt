@@ -10,7 +10,7 @@
 ghost use Rattle.std.specs.Prelude.{◌≡◌, ◌<◌, ◌≤◌, ◌^◌, ℕ, length, All, IfOk, OnOk};
 ghost use Rattle.serde_json.specs.Data.{string, object, put};
 ghost use Rattle.serde_json.specs.View.{view, items_view, members_view};
-ghost use Rattle.lock_body.specs.Granted.{HasShortNames, queue_data, queues_items, granted_data, granted_text};
+ghost use Rattle.reply_fields.specs.Granted.{HasShortNames, queue_data, queues_items, granted_data, granted_text};
 
 use mq_bytes::QueueName;
 use serde_json::{Map, Value};
