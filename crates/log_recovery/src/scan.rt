@@ -21,7 +21,7 @@ use crate::names::order_of;
 use crate::visitor::Visit;
 use crate::window::Window;
 use log_model::Base;
-use log_tail::LogTail;
+use crate::tail::LogTail;
 use mq_bytes::{LogFile, Text};
 use mq_outside::Disk;
 use record_codec::{test, test_blank};

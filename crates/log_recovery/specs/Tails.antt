@@ -6,8 +6,8 @@ use Rattle.record_codec.specs.declared.draft.Place.{Place}
 use Rattle.log_model.specs.Bases.{Base}
 use Rattle.log_model.specs.Log.{end_of}
 use Rattle.log_model.specs.Queues.{queue_end}
-use Rattle.log_tail.specs.Counts.{count_in}
-use Rattle.log_tail.specs.declared.tail.LogTail.{LogTail}
+use Rattle.log_recovery.specs.Counts.{count_in}
+use Rattle.log_recovery.specs.declared.tail.LogTail.{LogTail}
 
 -- the store time of the last record, or this one where there is none
 abbrev pub store_from : ℕ → List Entry → ℕ

@@ -3,7 +3,7 @@
 ghost use Rattle.std.specs.Prelude.{◌≡◌, ◌==◌, ◌&&◌, ◌<◌, ◌^◌, ℕ, List, [], slice_index, if◌then◌else◌, IfOk, OnOk, OnErr};
 ghost use Rattle.std.specs.Str.{bytes_eq};
 ghost use Rattle.log_model.specs.Told.{counts_in};
-ghost use Rattle.log_tail.specs.Counts.{count_in};
+ghost use Rattle.log_recovery.specs.Counts.{count_in};
 
 use std::alloc::{AllocError, Global};
 use std::collections::BTreeMap;

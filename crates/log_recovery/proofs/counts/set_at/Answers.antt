@@ -1,6 +1,6 @@
 use Rattle.std.proofs.Common.{◌≡◌, ◌∙◌, slice_index, length, arith, ap}
-use Rattle.log_tail.proofs.CountLemmas.{index_push}
-use Rattle.log_tail.proofs.counts.set_at.Goals as goal
+use Rattle.log_recovery.proofs.CountLemmas.{index_push}
+use Rattle.log_recovery.proofs.counts.set_at.Goals as goal
 
 pub returns-clause-set : goal.returns-clause-set
 returns-clause-set c = λ other.

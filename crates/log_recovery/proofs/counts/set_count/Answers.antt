@@ -4,8 +4,8 @@ use Rattle.std.specs.Str.{bytes_eq}
 use Rattle.std.specs.BTreeMap.{get_by_text}
 use Rattle.std.specs.Map.{update}
 use Rattle.std.proofs.lemmas.Map.Text.{btree_map_updates_text}
-use Rattle.log_tail.proofs.CountLemmas.{counted_after, counted_same, on_err}
-use Rattle.log_tail.proofs.counts.set_count.Goals as goal
+use Rattle.log_recovery.proofs.CountLemmas.{counted_after, counted_same, on_err}
+use Rattle.log_recovery.proofs.counts.set_count.Goals as goal
 
 pub returns-in_err-set-clause-same : goal.returns-in_err-set-clause-same
 returns-in_err-set-clause-same c =

@@ -5,7 +5,7 @@ use Rattle.record_codec.specs.declared.draft.Place.{Place}
 use Rattle.log_model.specs.Bases.{Geometry}
 use Rattle.log_model.specs.Log.{next_place}
 use Rattle.log_model.specs.Queues.{queue_end}
-use Rattle.log_tail.specs.Tails.{last_store}
+use Rattle.log_recovery.specs.Tails.{last_store}
 
 -- The place of the next record, of n bytes: the end of its queue, the next place of the log, and the clock's reading or the
 -- last record's store time, whichever is the later.

@@ -5,11 +5,11 @@ use Rattle.record_codec.specs.Layout.{size, IsRecord}
 use Rattle.log_model.specs.Bases.{Geometry}
 use Rattle.log_model.specs.Log.{place_after, Follows}
 use Rattle.log_model.specs.Admissible.{half_topic, NamesEarlier}
-use Rattle.log_tail.specs.Counts.{count_in}
-use Rattle.log_tail.specs.Matches.{Matches}
-use Rattle.log_tail.specs.Tails.{StandsFor}
-use Rattle.log_tail.specs.declared.tail.LogTail.{LogTail}
-use Rattle.log_tail.proofs.TailLemmas.{last_store_low}
+use Rattle.log_recovery.specs.Counts.{count_in}
+use Rattle.log_recovery.specs.Matches.{Matches}
+use Rattle.log_recovery.specs.Tails.{StandsFor}
+use Rattle.log_recovery.specs.declared.tail.LogTail.{LogTail}
+use Rattle.log_recovery.proofs.TailLemmas.{last_store_low}
 
 -- a record whose numbers match follows
 pub matches_follow : (S : Geometry) (log : List Entry) (tail : LogTail) (r : Entry) → StandsFor S.base tail log → IsRecord r → Matches S.size tail.end tail.stored (count_in tail.counts r.topic r.queue) (count_in tail.counts half_topic 0) r → Follows S log r

@@ -3,8 +3,8 @@
 
 ghost use Rattle.std.specs.Prelude.{◌≡◌, ◌↔◌, ◌+◌, ◌≤◌, ◌<◌, ◌^◌, IsTrue, List, ℕ};
 ghost use Rattle.log_model.specs.Log.{IsSegmentSize};
-ghost use Rattle.log_tail.specs.Counts.{count_in};
-ghost use Rattle.log_tail.specs.Matches.{Matches};
+ghost use Rattle.log_recovery.specs.Counts.{count_in};
+ghost use Rattle.log_recovery.specs.Matches.{Matches};
 
 use crate::counts::{QueueCounts, count_of, counts_of, set_count};
 use log_model::{Base, is_admissible, names_earlier, next_place};
@@ -61,8 +61,8 @@ impl LogTail {
     ghost use Rattle.log_model.specs.Bases.{Base as Removed, Geometry, geometry, no_base};
     ghost use Rattle.log_model.specs.Log.{Follows, IsSegmentSize, IsGeometry};
     ghost use Rattle.log_model.specs.Told.{base_of};
-    ghost use Rattle.log_tail.specs.Tails.{StandsFor, IsPlacedAt, ComesBehind};
-    ghost use Rattle.log_tail.specs.Places.{place_behind, HasRoom};
+    ghost use Rattle.log_recovery.specs.Tails.{StandsFor, IsPlacedAt, ComesBehind};
+    ghost use Rattle.log_recovery.specs.Places.{place_behind, HasRoom};
 
     /// The end of the empty log, in segments of so many bytes.
     pub fn new(alloc: Global, segment: u32) -> LogTail

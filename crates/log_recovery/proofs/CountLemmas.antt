@@ -10,7 +10,7 @@ use Rattle.std.specs.Prelude.{filter, String, Option, Some, Result, Ok, Err, OnE
 use Rattle.std.specs.Option.{unwrap_or}
 use Rattle.std.specs.BTreeMap.{BTreeMap, get_by_text}
 use Rattle.std.specs.Map.{update}
-use Rattle.log_tail.specs.Counts.{count_in}
+use Rattle.log_recovery.specs.Counts.{count_in}
 use Rattle.record_codec.specs.Entry.{Entry}
 use Rattle.log_model.specs.Bases.{Base}
 use Rattle.log_model.specs.Queues.{queue_end}

@@ -1,10 +1,10 @@
 use Rattle.std.proofs.Common.{◌≡◌, ◌∙◌, ℕ, sym, subst}
 use Rattle.log_model.specs.Bases.{geometry}
 use Rattle.log_model.specs.Admissible.{half_topic}
-use Rattle.log_tail.specs.Counts.{count_in}
-use Rattle.log_tail.specs.Matches.{Matches}
-use Rattle.log_tail.proofs.NextLemmas.{matches_follow, follows_match}
-use Rattle.log_tail.proofs.tail.LogTail.is_next.Goals as goal
+use Rattle.log_recovery.specs.Counts.{count_in}
+use Rattle.log_recovery.specs.Matches.{Matches}
+use Rattle.log_recovery.proofs.NextLemmas.{matches_follow, follows_match}
+use Rattle.log_recovery.proofs.tail.LogTail.is_next.Goals as goal
 
 pub returns : goal.returns
 returns c base log stands =

@@ -1,7 +1,7 @@
 use Rattle.std.proofs.Common.{◌∙◌, sym, arith}
 use Rattle.log_model.specs.Queues.{queue_end}
-use Rattle.log_tail.proofs.TailLemmas.{last_store_low}
-use Rattle.log_tail.proofs.tail.LogTail.add.Goals as goal
+use Rattle.log_recovery.proofs.TailLemmas.{last_store_low}
+use Rattle.log_recovery.proofs.tail.LogTail.add.Goals as goal
 
 pub returns-clause-taken : goal.returns-clause-taken
 returns-clause-taken c S log stands follows =

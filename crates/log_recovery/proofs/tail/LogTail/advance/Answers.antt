@@ -1,8 +1,8 @@
 use Rattle.std.proofs.Common.{sym, arith}
-use Rattle.log_tail.specs.Counts.{count_in}
-use Rattle.log_tail.proofs.CountLemmas.{count_more}
-use Rattle.log_tail.proofs.TailLemmas.{stands_more}
-use Rattle.log_tail.proofs.tail.LogTail.advance.Goals as goal
+use Rattle.log_recovery.specs.Counts.{count_in}
+use Rattle.log_recovery.proofs.CountLemmas.{count_more}
+use Rattle.log_recovery.proofs.TailLemmas.{stands_more}
+use Rattle.log_recovery.proofs.tail.LogTail.advance.Goals as goal
 
 pub returns-clause-moved : goal.returns-clause-moved
 returns-clause-moved c base log r stands comes placed =

@@ -1,7 +1,7 @@
 use Rattle.std.proofs.Common.{◌≡◌, ◌∙◌, ◌+◌, ◌++◌, ◌&&◌, ◌==◌, [], ◌∷◌, ℕ, take, ap, sym, cond, bytes_eq}
 use Rattle.log_model.specs.Told.{counts_in}
-use Rattle.log_tail.proofs.CountLemmas.{take_or, with_counts-push}
-use Rattle.log_tail.proofs.counts.counts_of.Goals as goal
+use Rattle.log_recovery.proofs.CountLemmas.{take_or, with_counts-push}
+use Rattle.log_recovery.proofs.counts.counts_of.Goals as goal
 
 pub loop-entry-preserved : goal.loop-entry-preserved
 loop-entry-preserved c topic queue =

@@ -7,9 +7,9 @@ use Rattle.record_codec.specs.Layout.{size}
 use Rattle.log_model.specs.Bases.{Base}
 use Rattle.log_model.specs.Queues.{queue_end}
 use Rattle.log_model.proofs.Places.{end_of-append}
-use Rattle.log_tail.specs.Counts.{count_in}
-use Rattle.log_tail.specs.Tails.{store_from, last_store, StandsFor}
-use Rattle.log_tail.specs.declared.tail.LogTail.{LogTail}
+use Rattle.log_recovery.specs.Counts.{count_in}
+use Rattle.log_recovery.specs.Tails.{store_from, last_store, StandsFor}
+use Rattle.log_recovery.specs.declared.tail.LogTail.{LogTail}
 
 -- what stands in a longer list stands in the list, or is the last
 pub got_push : {A : Type 0} (log : List A) (r : A) (k : ℕ) (s : A) → slice_get (log ++ r ∷ []) k ≡ Some s → (slice_get log k ≡ Some s) ⊎ ((k ≡ length log) × (r ≡ s))
