@@ -1,7 +1,7 @@
 use Rattle.std.proofs.Common.{◌∙◌, ◌++◌, sym, ap, subst, arith, ◌<◌, List, ◌^◌}
 use Rattle.record_codec.specs.declared.unit.Unit.{Unit as QueueUnit}
-use Rattle.table_check.proofs.PullLemmas.{HasTo, at_place, pulls_on, as_asked}
-use Rattle.table_check.proofs.units.units_of.Goals as goal
+use Rattle.core_check.proofs.PullLemmas.{HasTo, at_place, pulls_on, as_asked}
+use Rattle.core_check.proofs.units.units_of.Goals as goal
 
 pub overflow_cast-from : goal.overflow_cast-from
 overflow_cast-from c =

@@ -12,7 +12,7 @@ use Rattle.log_model.specs.declared.base.Base.{Base as Told}
 use Rattle.record_codec.specs.declared.draft.Record.{Record}
 use Rattle.log_replay.specs.Told.{log_of}
 use Rattle.queue_view.specs.Tables.{Table, number_of}
-use Rattle.table_check.specs.Queues.{AreQueuesOf}
+use Rattle.core_check.specs.Queues.{AreQueuesOf}
 
 -- ---- texts and tests
 

@@ -1,8 +1,8 @@
 use Rattle.std.proofs.Common.{◌≡◌, ◌∙◌, sym, ap, ℕ, List, true, is_none}
 use Rattle.log_replay.proofs.Anys.{found}
 use Rattle.queue_view.specs.Tables.{number_of}
-use Rattle.table_check.proofs.QueueLemmas.{is_lost, told_none}
-use Rattle.table_check.proofs.queues.lacks_table.Goals as goal
+use Rattle.core_check.proofs.QueueLemmas.{is_lost, told_none}
+use Rattle.core_check.proofs.queues.lacks_table.Goals as goal
 
 pub returns-then-is_none : goal.returns-then-is_none
 returns-then-is_none c =

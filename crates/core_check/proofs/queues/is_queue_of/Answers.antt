@@ -3,8 +3,8 @@ use Rattle.std.proofs.lemmas.Slice.Eq.{slice_eq-Decides}
 use Rattle.log_model.specs.Numbered.{queue_min}
 use Rattle.log_model.specs.Queues.{entries_of, units_of}
 use Rattle.log_replay.specs.Told.{log_of}
-use Rattle.table_check.proofs.UnitLemmas.{units_decide}
-use Rattle.table_check.proofs.queues.is_queue_of.Goals as goal
+use Rattle.core_check.proofs.UnitLemmas.{units_decide}
+use Rattle.core_check.proofs.queues.is_queue_of.Goals as goal
 
 pub returns : goal.returns
 returns c t at =

@@ -2,7 +2,7 @@
 
 ghost use Rattle.std.specs.Prelude.{◌≡◌, ◌<◌, ◌≤◌, ◌^◌, length, slice_get, Some, IfOk};
 ghost use Rattle.queue_view.specs.Tables.{Table, added_of};
-ghost use Rattle.table_check.specs.Queues.{units_in};
+ghost use Rattle.core_check.specs.Queues.{units_in};
 
 use queue_view::{QueueView, Tags};
 use record_codec::Unit;

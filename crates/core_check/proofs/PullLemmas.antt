@@ -16,7 +16,7 @@ use Rattle.queue_view.specs.Subscriptions.{tags_take}
 use Rattle.queue_view.specs.Tables.{Table, unit_in, seen_units, max_of, added_of}
 use Rattle.queue_view.proofs.AnswerLemmas.{pulled_at}
 use Rattle.queue_view.proofs.Lists.{take_next, drop_next}
-use Rattle.table_check.specs.Queues.{units_in}
+use Rattle.core_check.specs.Queues.{units_in}
 
 -- ---- lists
 

@@ -1,10 +1,10 @@
 use Rattle.std.proofs.Common.{◌∙◌, sym, refl, arith}
 use Rattle.std.proofs.lemmas.Option.{slice_get_within}
 use Rattle.log_replay.specs.Told.{log_of}
-use Rattle.table_check.proofs.PullLemmas.{at_place}
-use Rattle.table_check.proofs.QueueLemmas.{lost_refutes, lost_row_refutes, no_lost}
-use Rattle.table_check.proofs.queues.are_queues_of.Goals.{then-lacks_table-via-then-lacks_table, then-lacks_table-via-else-lacks_table+then-lacks_removed}
-use Rattle.table_check.proofs.queues.are_queues_of.Goals as goal
+use Rattle.core_check.proofs.PullLemmas.{at_place}
+use Rattle.core_check.proofs.QueueLemmas.{lost_refutes, lost_row_refutes, no_lost}
+use Rattle.core_check.proofs.queues.are_queues_of.Goals.{then-lacks_table-via-then-lacks_table, then-lacks_table-via-else-lacks_table+then-lacks_removed}
+use Rattle.core_check.proofs.queues.are_queues_of.Goals as goal
 
 pub returns-then-lacks_table : goal.returns-then-lacks_table
 returns-then-lacks_table c =

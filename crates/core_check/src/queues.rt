@@ -8,7 +8,7 @@ ghost use Rattle.log_model.specs.Queues.{entries_of, IsStored};
 ghost use Rattle.log_model.specs.Told.{counts_in};
 ghost use Rattle.log_replay.specs.Told.{log_of};
 ghost use Rattle.queue_view.specs.Tables.{Table, number_of};
-ghost use Rattle.table_check.specs.Queues.{IsQueueOf, AreQueuesOf};
+ghost use Rattle.core_check.specs.Queues.{IsQueueOf, AreQueuesOf};
 
 use crate::units::units_of;
 use log_model::{Base, queue_of};
