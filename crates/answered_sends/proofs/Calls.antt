@@ -13,7 +13,7 @@ use Rattle.store_open.specs.Openings.{FORMAT, own_format}
 use Rattle.store_open.specs.declared.status.Status.{Status}
 use Rattle.store_open.specs.declared.words.Command.{Command}
 use Rattle.log_opening.specs.Opens.{saved_as}
-use Rattle.kept_log.specs.Leads.{alone}
+use Rattle.flush_story.specs.Leads.{alone}
 use Rattle.request_acts.specs.Acts.{Act, Acts, Change, Place, change_of, turns_of}
 use Rattle.request_acts.specs.declared.broken.Broken.{Broken}
 use Rattle.request_acts.proofs.ActLemmas.{acts_then}

@@ -29,7 +29,7 @@ use Rattle.request_stream.specs.Telling.{FaultCounts}
 use Rattle.flush_story.specs.Story.{StepsAs}
 use Rattle.flush_story.specs.Keeping.{Grows}
 use Rattle.flush_story.proofs.Steps.{grows_then}
-use Rattle.kept_log.specs.Leads.{alone}
+use Rattle.flush_story.specs.Leads.{alone}
 use Rattle.broker_run.specs.Promise.{RunsTo, opened_over}
 use Rattle.core_laws.proofs.Lists.{get_left}
 use Rattle.answered_sends.specs.Sent.{IsSent}

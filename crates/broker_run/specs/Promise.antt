@@ -46,7 +46,7 @@ use Rattle.request_acts.specs.declared.broken.Broken.TheVariants as broken
 use Rattle.request_stream.specs.Serving.{Sides, sides_of, point_of}
 use Rattle.request_stream.specs.Piping.{SourceSeen, Piped, acts_in, stream_limit}
 use Rattle.flush_story.specs.Keeping.{AreInOrder, AreExact}
-use Rattle.kept_log.specs.Leads.{alone}
+use Rattle.flush_story.specs.Leads.{alone}
 use Rattle.request_stream.specs.declared.stop.Halt.{Halt}
 use Rattle.request_stream.specs.declared.stop.Halt.TheVariants.{BadFrame, Read, Stopped}
 use Rattle.request_stream.specs.declared.stop.Stop.TheVariants as stops

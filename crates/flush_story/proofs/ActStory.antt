@@ -25,7 +25,7 @@ use Rattle.flush_story.specs.Story.{StepsAs, Happening, Stepped, Ended, Broke, S
 use Rattle.flush_story.specs.Keeping.{IsPlacedFor, Keeps}
 use Rattle.flush_story.proofs.Keeps.{keeps_start, keeps_story, story_reaches}
 use Rattle.flush_story.proofs.Placing.{placed_story, takes_to_place}
-use Rattle.kept_log.specs.Leads.{alone, LeadsTo, Led}
+use Rattle.flush_story.specs.Leads.{alone, LeadsTo, Led}
 
 -- ---- an act in a story
 

@@ -1,5 +1,5 @@
-use Rattle.kept_log.proofs.ActStory.{acted_led, takes_from}
-use Rattle.kept_log.proofs.turning.flush_turn_kept.Goals as goal
+use Rattle.flush_story.proofs.ActStory.{acted_led, takes_from}
+use Rattle.flush_story.proofs.turning.flush_turn_kept.Goals as goal
 
 pub returns-clause-led : goal.returns-clause-led
 returns-clause-led g c = acted_led _ _ _ _ _ _ c.turn.ensures.acted

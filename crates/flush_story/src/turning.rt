@@ -11,7 +11,7 @@ ghost use Rattle.request_acts.specs.Acts.{place_of, view_of};
 ghost use Rattle.request_acts.specs.Turning.{IsTurn, AreAllTurns, CountsAll};
 ghost use Rattle.request_acts.specs.declared.broken.Broken.TheVariants.{Misplaced};
 ghost use Rattle.flush_story.specs.Keeping.{IsPlacedFor};
-ghost use Rattle.kept_log.specs.Leads.{Led};
+ghost use Rattle.flush_story.specs.Leads.{Led};
 
 use broker_core::Alone;
 use group_flush::Flusher;

@@ -6,7 +6,7 @@ ghost use Rattle.broker_model.specs.State.{State};
 ghost use Rattle.broker_core.specs.Represents.{Represents};
 ghost use Rattle.broker_core.specs.declared.alone.Alone.{Alone};
 ghost use Rattle.request_acts.specs.Acts.{Act, Acts, place_of, view_of, change_of};
-ghost use Rattle.kept_log.specs.Leads.{LeadsTo, alone};
+ghost use Rattle.flush_story.specs.Leads.{LeadsTo, alone};
 
 use mq_outside::Disk;
 
