@@ -18,15 +18,15 @@ use Rattle.broker_model.specs.Sends.{kept_props, waits}
 use Rattle.broker_model.specs.State.{State}
 use Rattle.session.specs.Talks.{requests_of}
 use Rattle.flush_story.specs.Keeping.{AreInOrder}
-use Rattle.request_acts.specs.Acts.{Act, Change, turns_of}
-use Rattle.request_acts.specs.declared.answer.Answer.{Answer}
-use Rattle.request_stream.specs.Serving.{AreServed, Begun, Nothing, Asked, Breaks, Broke, IsAnswered, IsPartly, IsNext, Point, Ran, Served, Sides, acts_of, begun_acts, begun_bytes, bytes_of, frames_of, served_as}
-use Rattle.request_stream.specs.Piping.{RanBy, acts_in}
-use Rattle.request_stream.specs.Telling.{FaultCounts, TookPart, fault_counts}
-use Rattle.request_stream.specs.declared.stop.Halt.{Halt}
-use Rattle.request_stream.specs.declared.stop.Halt.TheVariants.{BadFrame, Read, Stopped}
-use Rattle.request_stream.specs.declared.stop.Stop.{Stop}
-use Rattle.request_stream.specs.declared.stop.Stop.TheVariants.{Clock, Sink, Memory, Misplaced}
+use Rattle.worker_turns.specs.Acts.{Act, Change, turns_of}
+use Rattle.pipe_stream.specs.declared.answer.Answer.{Answer}
+use Rattle.pipe_stream.specs.Serving.{AreServed, Begun, Nothing, Asked, Breaks, Broke, IsAnswered, IsPartly, IsNext, Point, Ran, Served, Sides, acts_of, begun_acts, begun_bytes, bytes_of, frames_of, served_as}
+use Rattle.pipe_stream.specs.Piping.{RanBy, acts_in}
+use Rattle.pipe_stream.specs.Telling.{FaultCounts, TookPart, fault_counts}
+use Rattle.pipe_stream.specs.declared.stop.Halt.{Halt}
+use Rattle.pipe_stream.specs.declared.stop.Halt.TheVariants.{BadFrame, Read, Stopped}
+use Rattle.pipe_stream.specs.declared.stop.Stop.{Stop}
+use Rattle.pipe_stream.specs.declared.stop.Stop.TheVariants.{Clock, Sink, Memory, Misplaced}
 use Rattle.answered_sends.specs.Sent.{IsSent}
 use Rattle.answered_sends.specs.Stand.{Answered, answered, AreOnDisk, IsAccepted, IsOnDisk, IsWritten, StandsFrom}
 use Rattle.answered_sends.proofs.Moments.{last_moment, last_then, order_first, order_high, order_later, order_low, turned_front}

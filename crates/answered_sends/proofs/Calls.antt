@@ -14,13 +14,13 @@ use Rattle.store_open.specs.declared.status.Status.{Status}
 use Rattle.store_open.specs.declared.words.Command.{Command}
 use Rattle.log_opening.specs.Opens.{saved_as}
 use Rattle.flush_story.specs.Leads.{alone}
-use Rattle.request_acts.specs.Acts.{Act, Acts, Change, Place, change_of, turns_of}
-use Rattle.request_acts.specs.declared.broken.Broken.{Broken}
-use Rattle.request_acts.proofs.ActLemmas.{acts_then}
-use Rattle.request_stream.specs.Serving.{Point, Sides, places_of, point_of}
-use Rattle.request_stream.specs.Piping.{RanBy, acts_in}
-use Rattle.request_stream.specs.declared.stop.Halt.{Halt}
-use Rattle.request_stream.specs.declared.stop.Halt.TheVariants.{BadFrame, Read, Stopped}
+use Rattle.worker_turns.specs.Acts.{Act, Acts, Change, Place, change_of, turns_of}
+use Rattle.worker_turns.specs.declared.broken.Broken.{Broken}
+use Rattle.worker_turns.proofs.ActLemmas.{acts_then}
+use Rattle.pipe_stream.specs.Serving.{Point, Sides, places_of, point_of}
+use Rattle.pipe_stream.specs.Piping.{RanBy, acts_in}
+use Rattle.pipe_stream.specs.declared.stop.Halt.{Halt}
+use Rattle.pipe_stream.specs.declared.stop.Halt.TheVariants.{BadFrame, Read, Stopped}
 use Rattle.broker_run.specs.Closing.{ended_as}
 use Rattle.broker_run.specs.Promise.{Call, IsNotServed, KeepSeen, KeepsState, RunFrom, RunsTo, Seen, Served, Survives, before, behind, pipe_setup, sides_for}
 use Rattle.answered_sends.specs.Stand.{AnswersStand, AnswersStandIn, KeepsAnswers}

@@ -25,7 +25,7 @@ use Rattle.session.specs.Owing.{applied_of}
 use Rattle.session.specs.declared.owed.Applied.{Applied}
 use Rattle.session.specs.declared.owed.Applied.TheVariants.{Owes}
 use Rattle.session.specs.declared.owed.Awaits.{Awaits}
-use Rattle.request_acts.specs.Asking.{born_host, event_for, IsDue}
+use Rattle.pipe_stream.specs.Asking.{born_host, event_for, IsDue}
 use Rattle.flush_story.specs.Story.{StepsAs}
 use Rattle.flush_story.proofs.Steps.{step_flushed}
 use Rattle.core_laws.proofs.Acknowledged.{step_flushed as looked_flushed}

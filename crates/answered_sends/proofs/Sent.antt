@@ -21,11 +21,11 @@ use Rattle.broker_events.specs.declared.said.Said.{Said}
 use Rattle.broker_events.specs.declared.said.Said.TheVariants as said
 use Rattle.broker_core.specs.declared.alone.Alone.{Alone}
 use Rattle.session.specs.declared.owed.Awaits.{Awaits}
-use Rattle.request_acts.specs.Acts.{Act, Made, Acts, Change, DiskView, Place, turns_of}
-use Rattle.request_acts.specs.Asking.{born_host, event_for, tries_of, no_room, refusal, IsSaid, IsGivenUp, IsAsked, IsRefused, IsGiven, IsLooked, Chooses}
-use Rattle.request_acts.specs.declared.answer.Answer.{Answer}
-use Rattle.request_stream.specs.Serving.{Served, IsAnswered, IsSettled}
-use Rattle.request_stream.specs.Telling.{FaultCounts}
+use Rattle.worker_turns.specs.Acts.{Act, Made, Acts, Change, DiskView, Place, turns_of}
+use Rattle.pipe_stream.specs.Asking.{born_host, event_for, tries_of, no_room, refusal, IsSaid, IsGivenUp, IsAsked, IsRefused, IsGiven, IsLooked, Chooses}
+use Rattle.pipe_stream.specs.declared.answer.Answer.{Answer}
+use Rattle.pipe_stream.specs.Serving.{Served, IsAnswered, IsSettled}
+use Rattle.pipe_stream.specs.Telling.{FaultCounts}
 use Rattle.flush_story.specs.Story.{StepsAs}
 use Rattle.flush_story.specs.Keeping.{Grows}
 use Rattle.flush_story.proofs.Steps.{grows_then}

@@ -13,7 +13,7 @@ use Rattle.broker_events.specs.declared.event.Event.TheVariants.{Request, Take, 
 use Rattle.broker_events.specs.declared.said.Said.{Said}
 use Rattle.broker_events.specs.declared.said.Said.TheVariants as said
 use Rattle.worker_turns.specs.Turns.{Steps as MakesSteps}
-use Rattle.request_acts.specs.Acts.{Act, Made, Wrote, Missed, Acts, Change, DiskView, Place, Happens, IsBetween, change_of, steps_in, steps_of, turns_in, turns_of}
+use Rattle.worker_turns.specs.Acts.{Act, Made, Wrote, Missed, Acts, Change, DiskView, Place, Happens, IsBetween, change_of, steps_in, steps_of, turns_in, turns_of}
 use Rattle.flush_story.specs.Story as story
 use Rattle.flush_story.specs.Story.{StepsAs, Reaches}
 use Rattle.flush_story.specs.Keeping.{Grows}

@@ -15,8 +15,8 @@ use Rattle.log_model.specs.Store.{IsHonest, KeepsIfHonest, StandsAtPlace, Stores
 use Rattle.broker_model.specs.Answers.{send_ext}
 use Rattle.broker_model.specs.Sends.{kept_props, queue_named, waits}
 use Rattle.session.specs.Talks.{requests_of}
-use Rattle.request_stream.specs.Serving.{caller_of}
-use Rattle.request_stream.specs.Telling.{FaultCounts, IsTold, TookPart}
+use Rattle.pipe_stream.specs.Serving.{caller_of}
+use Rattle.pipe_stream.specs.Telling.{FaultCounts, IsTold, TookPart}
 use Rattle.store_open.specs.Openings.{FORMAT, AreSizesOf}
 use Rattle.store_open.specs.Words.{IsCommand}
 use Rattle.store_open.specs.declared.format.Sizes.{Sizes}

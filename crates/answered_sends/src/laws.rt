@@ -1,7 +1,7 @@
 //! What a call of `pipe` answered with 0 stands on the disk, whatever crashes.
 
 ghost use Rattle.std.specs.Prelude.{List, ℕ};
-ghost use Rattle.request_acts.specs.Acts.{view_of};
+ghost use Rattle.worker_turns.specs.Acts.{view_of};
 ghost use Rattle.store_open.specs.declared.status.Status.{Status};
 ghost use Rattle.answered_sends.specs.Stand.{AnswersAreKept};
 

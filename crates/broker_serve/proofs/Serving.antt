@@ -13,7 +13,7 @@ use Rattle.config_store.specs.Texts.{offsets_text_of, topics_text_of}
 use Rattle.keeper_turns.specs.Puts.{HasSuch, ReplacesBy, PutsBy, KeepsBy}
 use Rattle.keeper_turns.specs.Turns.{IsOffsetsOf, IsTopicsOf}
 use Rattle.keeper_turns.proofs.PutLemmas.{puts_rested}
-use Rattle.request_acts.specs.Acts.{Place, change_of, place_of}
+use Rattle.worker_turns.specs.Acts.{Place, change_of, place_of}
 use Rattle.log_opening.specs.Opens.{OpensLogWith, OpensKeptWith, saved_as}
 use Rattle.log_opening.specs.declared.opening.Opened.{Opened}
 use Rattle.serve_story.specs.Kept.{IsTextAlong, keep_over}

@@ -26,7 +26,7 @@ use Rattle.keeper_turns.specs.Puts.{HasSuch, KeepsBy}
 use Rattle.keeper_turns.specs.Turns.{IsOffsetsOf, IsTopicsOf}
 use Rattle.log_opening.specs.Opens.{OpensLogWith, OpensKeptWith, saved_as}
 use Rattle.log_opening.specs.declared.opening.Opened.{Opened}
-use Rattle.request_acts.specs.Acts.{Place, change_of, place_of}
+use Rattle.worker_turns.specs.Acts.{Place, change_of, place_of}
 use Rattle.spine.specs.Stands.{Stands}
 use Rattle.serve_story.specs.Kept.{IsTextAlong, KeepOver, PutsAlong}
 use Rattle.serve_story.specs.Served.{IsLeft, IsMadeBy, Views}

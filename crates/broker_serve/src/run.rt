@@ -22,7 +22,7 @@ ghost use Rattle.config_store.specs.Configs.{OFFSETS, TOPICS};
 ghost use Rattle.config_store.specs.Texts.{IsKeptTopic};
 ghost use Rattle.group_tables.specs.Offsets.{IsOffset};
 ghost use Rattle.log_opening.specs.Opens.{saved_as};
-ghost use Rattle.request_acts.specs.Acts.{view_of};
+ghost use Rattle.worker_turns.specs.Acts.{view_of};
 ghost use Rattle.serve_story.specs.Kept.{keep_over};
 ghost use Rattle.serve_story.specs.Served.{AreLoops, views_of};
 ghost use Rattle.serve_threads.specs.Causes.{HasCauses, ServeFaults as TheFaults, counts_of, world_faults};

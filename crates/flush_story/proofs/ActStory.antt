@@ -16,10 +16,10 @@ use Rattle.broker_core.specs.Represents.{Represents}
 use Rattle.broker_core.specs.declared.alone.Alone.{Alone}
 use Rattle.broker_core.specs.declared.parts.Parts.{Parts}
 use Rattle.worker_turns.specs.Turns.{TakesFrom}
-use Rattle.request_acts.specs.Acts.{Act, Made, Wrote, Missed, Acts, Acted, DiskView, Place, growing_at, steps_of, turns_of, IsBetween, IsUnwritten, HasUnwritten, Happens, HasMade, HasWritten, HasMissed, change_of}
-use Rattle.request_acts.specs.Turning.{AreAllTurns}
-use Rattle.request_acts.specs.declared.broken.Broken.{Broken}
-use Rattle.request_acts.specs.declared.broken.Broken.TheVariants as broken
+use Rattle.worker_turns.specs.Acts.{Act, Made, Wrote, Missed, Acts, Acted, DiskView, Place, growing_at, steps_of, turns_of, IsBetween, IsUnwritten, HasUnwritten, Happens, HasMade, HasWritten, HasMissed, change_of}
+use Rattle.worker_turns.specs.Turning.{AreAllTurns}
+use Rattle.worker_turns.specs.declared.broken.Broken.{Broken}
+use Rattle.worker_turns.specs.declared.broken.Broken.TheVariants as broken
 use Rattle.flush_story.specs.Story as story
 use Rattle.flush_story.specs.Story.{StepsAs, Happening, Stepped, Ended, Broke, Story, Reaches, span_of}
 use Rattle.flush_story.specs.Keeping.{IsPlacedFor, Keeps}

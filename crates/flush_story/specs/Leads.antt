@@ -5,7 +5,7 @@ use Rattle.broker_core.specs.Makes.{MakesStep}
 use Rattle.broker_core.specs.Represents.{Represents}
 use Rattle.broker_core.specs.declared.alone.Alone.{Alone}
 use Rattle.worker_turns.specs.Turns.{Steps}
-use Rattle.request_acts.specs.Acts.{Act, Acts, HasUnwritten, DiskView, Place, growing_at, steps_of, turns_of, change_of}
+use Rattle.worker_turns.specs.Acts.{Act, Acts, HasUnwritten, DiskView, Place, growing_at, steps_of, turns_of, change_of}
 use Rattle.flush_story.specs.Story.{Reaches}
 use Rattle.flush_story.specs.Keeping.{IsOpenFor, IsPlacedFor, Keeps}
 

@@ -5,7 +5,7 @@ ghost use Rattle.segment_files.specs.declared.last_file.LastFile.{LastFile};
 ghost use Rattle.broker_model.specs.State.{State};
 ghost use Rattle.broker_core.specs.Represents.{Represents};
 ghost use Rattle.broker_core.specs.declared.alone.Alone.{Alone};
-ghost use Rattle.request_acts.specs.Acts.{Act, Acts, place_of, view_of, change_of};
+ghost use Rattle.worker_turns.specs.Acts.{Act, Acts, place_of, view_of, change_of};
 ghost use Rattle.flush_story.specs.Leads.{LeadsTo, alone};
 
 use mq_outside::Disk;

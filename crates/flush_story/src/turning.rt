@@ -7,18 +7,17 @@ ghost use Rattle.broker_model.specs.State.{State};
 ghost use Rattle.broker_core.specs.Makes.{shown_of};
 ghost use Rattle.broker_core.specs.Represents.{Represents};
 ghost use Rattle.worker_turns.specs.Turns.{CountsEnd};
-ghost use Rattle.request_acts.specs.Acts.{place_of, view_of};
-ghost use Rattle.request_acts.specs.Turning.{IsTurn, AreAllTurns, CountsAll};
-ghost use Rattle.request_acts.specs.declared.broken.Broken.TheVariants.{Misplaced};
+ghost use Rattle.worker_turns.specs.Acts.{place_of, view_of};
+ghost use Rattle.worker_turns.specs.Turning.{IsTurn, AreAllTurns, CountsAll};
+ghost use Rattle.worker_turns.specs.declared.broken.Broken.TheVariants.{Misplaced};
 ghost use Rattle.flush_story.specs.Keeping.{IsPlacedFor};
 ghost use Rattle.flush_story.specs.Leads.{Led};
 
 use broker_core::Alone;
 use group_flush::Flusher;
 use mq_outside::Disk;
-use request_acts::{Broken, flush_all, turn};
 use std::alloc::Global;
-use worker_turns::FlushEnd;
+use worker_turns::{Broken, FlushEnd, flush_all, turn};
 
 /// One flush turn. It is never misplaced where the flusher writes behind the broker's flushed records.
 pub fn flush_turn_kept<D: Disk>(

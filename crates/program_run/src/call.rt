@@ -1,7 +1,7 @@
 //! One run: the first word says whether it serves a stream or links.
 
 ghost use Rattle.std.specs.Prelude.{◌≡◌, ◌≢◌, true, false, None};
-ghost use Rattle.request_acts.specs.Acts.{view_of};
+ghost use Rattle.worker_turns.specs.Acts.{view_of};
 ghost use Rattle.store_open.specs.Words.{texts_of};
 ghost use Rattle.serve_story.specs.Kept.{keep_over};
 ghost use Rattle.serve_story.specs.Served.{views_of};

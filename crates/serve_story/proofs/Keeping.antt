@@ -1,7 +1,7 @@
 -- What is put into the kept files, from one look to the next, and along the one history.
 use Rattle.std.proofs.Common.{◌≡◌, inl, inr, refl, sym, ap, subst, ◌∙◌, ℕ, List, [], ◌∷◌, ◌++◌, Option, Some, None, IfSome, Result}
 use Rattle.mq_outside.specs.Disk.{DiskState}
-use Rattle.request_acts.specs.Acts.{Change, Place}
+use Rattle.worker_turns.specs.Acts.{Change, Place}
 use Rattle.mq_outside.specs.declared.faults.DiskFault.{DiskFault}
 use Rattle.broker_model.specs.State.{State}
 use Rattle.broker_events.specs.declared.event.Event.{Event}

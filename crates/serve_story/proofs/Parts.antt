@@ -25,8 +25,8 @@ use Rattle.spine.specs.declared.shared.Shared.{Shared}
 use Rattle.spine.specs.Passes.{Joins}
 use Rattle.spine.specs.Stands.{Stands, StandsFor}
 use Rattle.segment_files.specs.declared.last_file.LastFile.{LastFile}
-use Rattle.request_acts.specs.Acts as acts
-use Rattle.request_acts.specs.Acts.{Acted, DiskView, Place, place_of, change_of}
+use Rattle.worker_turns.specs.Acts as acts
+use Rattle.worker_turns.specs.Acts.{Acted, DiskView, Place, place_of, change_of}
 use Rattle.serve_story.specs.Kept.{SeesAll}
 use Rattle.serve_story.specs.Served.{AreFlushing, Write, AreAnswered, AreLooks, IsMerged, Meets, Cuts, AreCut, AreMet, ByThread, HasMade, IsMadeBy, Views, by_thread}
 use Rattle.serve_story.proofs.Keeping.{SeesAt, starts_then}

@@ -15,8 +15,8 @@ use Rattle.broker_events.specs.declared.said.Said.TheVariants as said
 use Rattle.broker_core.specs.Represents.{Represents}
 use Rattle.broker_core.specs.declared.parts.Parts.{Parts}
 use Rattle.session.specs.Serving.{Made}
-use Rattle.request_acts.specs.Acts as acts
-use Rattle.request_acts.specs.Acts.{Act, Change, Turn, DiskView, Place, growing_at, steps_of, HasWritten, HasMissed, change_of}
+use Rattle.worker_turns.specs.Acts as acts
+use Rattle.worker_turns.specs.Acts.{Act, Change, Turn, DiskView, Place, growing_at, steps_of, HasWritten, HasMissed, change_of}
 use Rattle.flush_story.specs.Story as stories
 use Rattle.flush_story.specs.Story.{StepsAs, Happening, Stepped, Ended, Broke, Story, Reaches, IsBetween, AreBetween, span_of}
 use Rattle.flush_story.proofs.Keeps.{keeps_start, keeps_story}

@@ -11,10 +11,10 @@ use Rattle.session.specs.Serving.{Made}
 use Rattle.worker_turns.specs.Turns.{Steps, TakesFrom, Writes, HasEnded, WroteNone, CountsEnd}
 use Rattle.worker_turns.specs.declared.flush.FlushEnd.{FlushEnd}
 use Rattle.worker_turns.specs.declared.flush.FlushEnd.TheVariants.{Idle, Done, Failed, Misplaced, Memory}
-use Rattle.request_acts.specs.Acts as acts
-use Rattle.request_acts.specs.Acts.{Act, DiskView, Place, TakesBatch, Acts, Acted, Happens, steps_in, steps_of, change_of, synced_at}
-use Rattle.request_acts.specs.Turning.{IsTurn, IsDispatch, most_seen}
-use Rattle.request_acts.proofs.ActLemmas.{acted_then, acted_as, acted_none, one_step, takes_none, turn_acted}
+use Rattle.worker_turns.specs.Acts as acts
+use Rattle.worker_turns.specs.Acts.{Act, DiskView, Place, TakesBatch, Acts, Acted, Happens, steps_in, steps_of, change_of, synced_at}
+use Rattle.worker_turns.specs.Turning.{IsTurn, IsDispatch, most_seen}
+use Rattle.worker_turns.proofs.ActLemmas.{acted_then, acted_as, acted_none, one_step, takes_none, turn_acted}
 use Rattle.serve_story.specs.Served.{IsOfFlusher, AreOfFlusher, AreFlushing, of_anybody, Write}
 
 -- ---- events of the flusher

@@ -19,8 +19,8 @@ use Rattle.event_loops.specs.Tales.{Act, steps_of, made_for, loop_of, IsAnswered
 use Rattle.event_loops.specs.declared.event_loop.EventLoop.{EventLoop}
 use Rattle.spine.specs.declared.shared.Shared.{Shared}
 use Rattle.worker_turns.specs.Turns.{Steps}
-use Rattle.request_acts.specs.Acts as acts
-use Rattle.request_acts.specs.Acts.{Acts, Change, DiskView, Place, place_of, growing_at, change_of}
+use Rattle.worker_turns.specs.Acts as acts
+use Rattle.worker_turns.specs.Acts.{Acts, Change, DiskView, Place, place_of, growing_at, change_of}
 use Rattle.story_lock.specs.declared.chronicle.Chronicle.{Ghosts}
 use Rattle.story_lock.specs.declared.story.Pass.{Pass}
 use Rattle.story_lock.specs.Counts.{times, IsDistinct}

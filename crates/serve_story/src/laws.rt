@@ -3,7 +3,7 @@
 ghost use Rattle.broker_core.specs.Represents.{Represents};
 ghost use Rattle.broker_core.specs.declared.parts.Parts.{Parts};
 ghost use Rattle.broker_model.specs.State.{State};
-ghost use Rattle.request_acts.specs.Acts.{Act, Change, Place, steps_of, view_of};
+ghost use Rattle.worker_turns.specs.Acts.{Act, Change, Place, steps_of, view_of};
 ghost use Rattle.session.specs.Serving.{Made};
 ghost use Rattle.spine.specs.Stands.{Stands};
 ghost use Rattle.std.specs.Prelude.{List};

@@ -1,4 +1,4 @@
-use Rattle.request_acts.specs.Acts.{view_of}
+use Rattle.worker_turns.specs.Acts.{view_of}
 use Rattle.serve_story.proofs.SharedStory.{leads_on}
 use Rattle.serve_story.proofs.laws.a_shared_history_is_a_story.Goals as goal
 

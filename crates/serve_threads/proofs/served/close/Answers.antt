@@ -1,4 +1,4 @@
-use Rattle.request_acts.specs.Acts.{change_of, place_of, view_of}
+use Rattle.worker_turns.specs.Acts.{change_of, place_of, view_of}
 use Rattle.story_lock.specs.Passes.{start_of}
 use Rattle.serve_story.specs.Kept.{keep_over}
 use Rattle.serve_story.specs.Served.{views_of}

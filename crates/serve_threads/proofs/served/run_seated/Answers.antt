@@ -1,6 +1,6 @@
 use Rattle.std.proofs.Common.{◌≤◌, sym, subst}
 use Rattle.log_model.specs.Stored.{StaysOutside}
-use Rattle.request_acts.specs.Acts.{place_of, view_of}
+use Rattle.worker_turns.specs.Acts.{place_of, view_of}
 use Rattle.story_lock.specs.Passes.{seen_by, start_of}
 use Rattle.spine.specs.declared.spine.Spine.{Spine}
 use Rattle.serve_story.specs.Kept.{PutsAlong}

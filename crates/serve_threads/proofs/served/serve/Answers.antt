@@ -1,7 +1,7 @@
 use Rattle.std.proofs.Common.{sym, subst}
 use Rattle.log_model.specs.Stored.{StaysOutside}
 use Rattle.broker_core.specs.declared.parts.Parts.{Parts}
-use Rattle.request_acts.specs.Acts.{change_of, place_of, view_of}
+use Rattle.worker_turns.specs.Acts.{change_of, place_of, view_of}
 use Rattle.segment_files.specs.declared.last_file.LastFile.{LastFile}
 use Rattle.serve_story.specs.Kept.{keep_over}
 use Rattle.serve_story.specs.Served.{IsLeft, views_of}
