@@ -16,8 +16,8 @@ use Rattle.keeper_turns.proofs.PutLemmas.{puts_rested}
 use Rattle.worker_turns.specs.Acts.{Place, change_of, place_of}
 use Rattle.log_opening.specs.Opens.{OpensLogWith, OpensKeptWith, saved_as}
 use Rattle.log_opening.specs.declared.opening.Opened.{Opened}
-use Rattle.serve_story.specs.Kept.{IsTextAlong, keep_over}
-use Rattle.serve_story.specs.Served.{IsLeft, Views}
+use Rattle.serve_threads.specs.Kept.{IsTextAlong, keep_over}
+use Rattle.serve_threads.specs.Served.{IsLeft, Views}
 use Rattle.store_open.specs.Openings.{FORMAT, IsImageWith, StoreTold, IsOpened, PutsOnly, own_format, store_told}
 use Rattle.store_open.specs.ServeWords.{IsServeCommand}
 use Rattle.store_open.specs.declared.format.AskedSizes.{AskedSizes}

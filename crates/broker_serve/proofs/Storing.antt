@@ -25,7 +25,7 @@ use Rattle.log_opening.specs.Opens.{OpensOursWith}
 use Rattle.log_opening.specs.declared.opening.Opened.{Opened}
 use Rattle.session.specs.Serving.{Made}
 use Rattle.worker_turns.specs.Acts.{Place, change_of, place_of}
-use Rattle.serve_story.specs.Served.{IsMadeBy, Views}
+use Rattle.serve_threads.specs.Served.{IsMadeBy, Views}
 use Rattle.broker_serve.specs.Serves.{StoresOn, StoresOpened, StoresOurs}
 
 -- ---- calls that change nothing

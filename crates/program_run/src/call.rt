@@ -3,8 +3,8 @@
 ghost use Rattle.std.specs.Prelude.{◌≡◌, ◌≢◌, true, false, None};
 ghost use Rattle.worker_turns.specs.Acts.{view_of};
 ghost use Rattle.store_open.specs.Words.{texts_of};
-ghost use Rattle.serve_story.specs.Kept.{keep_over};
-ghost use Rattle.serve_story.specs.Served.{views_of};
+ghost use Rattle.serve_threads.specs.Kept.{keep_over};
+ghost use Rattle.serve_threads.specs.Served.{views_of};
 ghost use Rattle.serve_threads.specs.Causes.{counts_of, world_faults};
 ghost use Rattle.answered_sends.specs.Stand.{KeepsAnswers};
 ghost use Rattle.program_run.specs.Runs.{AsksLinks, Pipes, Serves};

@@ -15,7 +15,7 @@ use Rattle.worker_turns.specs.Acts as acts
 use Rattle.worker_turns.specs.Acts.{Act, DiskView, Place, TakesBatch, Acts, Acted, Happens, steps_in, steps_of, change_of, synced_at}
 use Rattle.worker_turns.specs.Turning.{IsTurn, IsDispatch, most_seen}
 use Rattle.worker_turns.proofs.ActLemmas.{acted_then, acted_as, acted_none, one_step, takes_none, turn_acted}
-use Rattle.serve_story.specs.Served.{IsOfFlusher, AreOfFlusher, AreFlushing, of_anybody, Write}
+use Rattle.serve_threads.specs.Served.{IsOfFlusher, AreOfFlusher, AreFlushing, of_anybody, Write}
 
 -- ---- events of the flusher
 

@@ -31,7 +31,7 @@ use Rattle.spine.specs.Passes.{Splits, Joins}
 use Rattle.spine.specs.Stands.{Stands}
 use Rattle.keeper_turns.specs.Puts.{KeepsBy}
 use Rattle.keeper_turns.specs.Turns.{IsOffsetsOf, IsTopicsOf}
-use Rattle.serve_story.specs.Kept.{KeepOver, PutsAlong}
+use Rattle.serve_threads.specs.Kept.{KeepOver, PutsAlong}
 
 -- how a run sees its links, what its readers give, and its disk
 pub record Views (D : Type 0) : Type 1 where

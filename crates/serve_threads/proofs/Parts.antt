@@ -27,12 +27,12 @@ use Rattle.spine.specs.Stands.{Stands, StandsFor}
 use Rattle.segment_files.specs.declared.last_file.LastFile.{LastFile}
 use Rattle.worker_turns.specs.Acts as acts
 use Rattle.worker_turns.specs.Acts.{Acted, DiskView, Place, place_of, change_of}
-use Rattle.serve_story.specs.Kept.{SeesAll}
-use Rattle.serve_story.specs.Served.{AreFlushing, Write, AreAnswered, AreLooks, IsMerged, Meets, Cuts, AreCut, AreMet, ByThread, HasMade, IsMadeBy, Views, by_thread}
-use Rattle.serve_story.proofs.Keeping.{SeesAt, starts_then}
-use Rattle.serve_story.proofs.Keys.{cut_numbers}
-use Rattle.serve_story.proofs.Turns.{acts_make, acts_write}
-use Rattle.serve_story.proofs.SharedStory.{leads_on}
+use Rattle.serve_threads.specs.Kept.{SeesAll}
+use Rattle.serve_threads.specs.Served.{AreFlushing, Write, AreAnswered, AreLooks, IsMerged, Meets, Cuts, AreCut, AreMet, ByThread, HasMade, IsMadeBy, Views, by_thread}
+use Rattle.serve_threads.proofs.Keeping.{SeesAt, starts_then}
+use Rattle.serve_threads.proofs.Keys.{cut_numbers}
+use Rattle.serve_threads.proofs.Turns.{acts_make, acts_write}
+use Rattle.serve_threads.proofs.SharedStory.{leads_on}
 
 -- ---- what a loop made
 

@@ -20,8 +20,8 @@ use Rattle.story_lock.proofs.Sums.{starts_longer, starts_itself, append_three}
 use Rattle.spine.specs.declared.shared.Shared.{Shared}
 use Rattle.spine.specs.Owner.{Sees}
 use Rattle.spine.specs.Stands.{Stands}
-use Rattle.serve_story.specs.Kept.{Among, KeepOver, SeesAll, KeepsUp, IsTextAlong, PutsAlong, keep_over}
-use Rattle.serve_story.specs.Served.{IsLeft, IsMadeBy, Views}
+use Rattle.serve_threads.specs.Kept.{Among, KeepOver, SeesAll, KeepsUp, IsTextAlong, PutsAlong, keep_over}
+use Rattle.serve_threads.specs.Served.{IsLeft, IsMadeBy, Views}
 
 -- ---- one look more
 

@@ -15,7 +15,7 @@ use Rattle.story_lock.specs.Counts.{times}
 use Rattle.story_lock.specs.Owned.{HasAt, AscendsFrom}
 use Rattle.story_lock.proofs.Sums.{one_at, times_append}
 use Rattle.flush_story.specs.Story.{IsBetween, AreBetween}
-use Rattle.serve_story.specs.Served.{AreAnswered, AreLooks, IsMerged}
+use Rattle.serve_threads.specs.Served.{AreAnswered, AreLooks, IsMerged}
 
 -- the flusher's steps are some of these, in order; each other one flushes nothing
 abbrev pub Laid : Made → Made → Type 0

@@ -7,7 +7,7 @@ ghost use Rattle.worker_turns.specs.Acts.{Act, Change, Place, steps_of, view_of}
 ghost use Rattle.session.specs.Serving.{Made};
 ghost use Rattle.spine.specs.Stands.{Stands};
 ghost use Rattle.std.specs.Prelude.{List};
-ghost use Rattle.serve_story.specs.Served.{AreAnswered, AreLooks, IsMerged, LeadsOn, Write};
+ghost use Rattle.serve_threads.specs.Served.{AreAnswered, AreLooks, IsMerged, LeadsOn, Write};
 
 use mq_outside::{Disk, Reader};
 use mq_peers::Link;

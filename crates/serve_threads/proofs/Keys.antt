@@ -15,7 +15,7 @@ use Rattle.spine.specs.declared.spine.Spine.{Spine}
 use Rattle.spine.specs.Passes.{ArePasses, Splits, Joins}
 use Rattle.spine.specs.Seen.{first_shown, shown_by}
 use Rattle.spine.specs.Stands.{shown_after}
-use Rattle.serve_story.specs.Served.{Cuts}
+use Rattle.serve_threads.specs.Served.{Cuts}
 
 abbrev value_or : {X : Type 0} → X → Option X → X
 value_or d None = d

@@ -21,8 +21,8 @@ use Rattle.flush_story.specs.Story as stories
 use Rattle.flush_story.specs.Story.{StepsAs, Happening, Stepped, Ended, Broke, Story, Reaches, IsBetween, AreBetween, span_of}
 use Rattle.flush_story.proofs.Keeps.{keeps_start, keeps_story}
 use Rattle.spine.specs.Stands.{StepsAlong, Along, Stands}
-use Rattle.serve_story.specs.Served.{AreAnswered, AreLooks, IsMerged, of_anybody, Write, LeadsOn}
-use Rattle.serve_story.proofs.Laid.{Laid, laid}
+use Rattle.serve_threads.specs.Served.{AreAnswered, AreLooks, IsMerged, of_anybody, Write, LeadsOn}
+use Rattle.serve_threads.proofs.Laid.{Laid, laid}
 
 -- ---- one step
 

@@ -1,6 +1,6 @@
 use Rattle.worker_turns.specs.Acts.{view_of}
-use Rattle.serve_story.proofs.SharedStory.{leads_on}
-use Rattle.serve_story.proofs.laws.a_shared_history_is_a_story.Goals as goal
+use Rattle.serve_threads.proofs.SharedStory.{leads_on}
+use Rattle.serve_threads.proofs.laws.a_shared_history_is_a_story.Goals as goal
 
 pub returns : goal.returns
 returns g c = λ change history first second looks turns stands merged links keeper write.
