@@ -6,7 +6,7 @@ ghost use Rattle.store_open.specs.Words.{texts_of};
 ghost use Rattle.serve_threads.specs.Kept.{keep_over};
 ghost use Rattle.serve_threads.specs.Served.{views_of};
 ghost use Rattle.serve_threads.specs.Causes.{counts_of, world_faults};
-ghost use Rattle.answered_sends.specs.Stand.{KeepsAnswers};
+ghost use Rattle.program_run.specs.Stand.{KeepsAnswers};
 ghost use Rattle.program_run.specs.Runs.{AsksLinks, Pipes, Serves};
 
 use broker_run::run_pipe;

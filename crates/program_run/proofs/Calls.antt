@@ -23,8 +23,8 @@ use Rattle.pipe_stream.specs.declared.stop.Halt.{Halt}
 use Rattle.pipe_stream.specs.declared.stop.Halt.TheVariants.{BadFrame, Read, Stopped}
 use Rattle.broker_run.specs.Closing.{ended_as}
 use Rattle.broker_run.specs.Promise.{Call, IsNotServed, KeepSeen, KeepsState, RunFrom, RunsTo, Seen, Served, Survives, before, behind, pipe_setup, sides_for}
-use Rattle.answered_sends.specs.Stand.{AnswersStand, AnswersStandIn, KeepsAnswers}
-use Rattle.answered_sends.proofs.Answers.{AreSent, answers_before, run_stands}
+use Rattle.program_run.specs.Stand.{AnswersStand, AnswersStandIn, KeepsAnswers}
+use Rattle.program_run.proofs.Answers.{AreSent, answers_before, run_stands}
 
 -- the acts for the requests happened
 ran_acts : {C D : Type 0} (sides : Sides C D) (ended_by : Result (Unit {0}) Halt) (frames : List Frame) (change : Change C (Point D)) (ran : RanBy sides ended_by frames change)

@@ -6,7 +6,7 @@ use Rattle.reply_fields.specs.Parts.{ReplyParts}
 use Rattle.log_model.specs.Stored.{FlushTurn, turned_in}
 use Rattle.broker_model.specs.Answers.{send_ext}
 use Rattle.broker_model.specs.State.{State}
-use Rattle.answered_sends.specs.Stand.{IsMessage}
+use Rattle.program_run.specs.Stand.{IsMessage}
 
 -- a send's record in the log of a run: flushed by these turns, the send's message, and named by the reply
 pub record IsSent (opened : ℕ) (reached : State) (turns : List FlushTurn) (send : SendSaid) (reply : ReplyParts) : Type 0 where

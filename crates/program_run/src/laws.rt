@@ -3,7 +3,7 @@
 ghost use Rattle.std.specs.Prelude.{List, ℕ};
 ghost use Rattle.worker_turns.specs.Acts.{view_of};
 ghost use Rattle.store_open.specs.declared.status.Status.{Status};
-ghost use Rattle.answered_sends.specs.Stand.{AnswersAreKept};
+ghost use Rattle.program_run.specs.Stand.{AnswersAreKept};
 
 use mq_outside::{Clock, Disk, Keep, Sink, Source};
 

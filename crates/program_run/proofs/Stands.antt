@@ -3,9 +3,9 @@ use Rattle.std.proofs.Common.{ℕ, List}
 use Rattle.store_open.specs.declared.status.Status.{Status}
 use Rattle.log_opening.specs.Opens.{saved_as}
 use Rattle.broker_run.specs.Promise.{Call, KeepSeen, Seen}
-use Rattle.answered_sends.specs.Stand.{KeepsAnswers}
-use Rattle.answered_sends.proofs.Calls.{KeepsSent, call_stands}
-use Rattle.answered_sends.proofs.Sent.{sent}
+use Rattle.program_run.specs.Stand.{KeepsAnswers}
+use Rattle.program_run.proofs.Calls.{KeepsSent, call_stands}
+use Rattle.program_run.proofs.Sent.{sent}
 
 -- whatever acts a run was, each of its sends that waits and is answered with 0 is in the log
 each_sent : {D : Type 0} (seen : Seen D) → KeepsSent seen

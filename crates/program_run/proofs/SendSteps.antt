@@ -29,7 +29,7 @@ use Rattle.pipe_stream.specs.Asking.{born_host, event_for, IsDue}
 use Rattle.flush_story.specs.Story.{StepsAs}
 use Rattle.flush_story.proofs.Steps.{step_flushed}
 use Rattle.core_laws.proofs.Acknowledged.{step_flushed as looked_flushed}
-use Rattle.answered_sends.proofs.SendAnswers.{TellsNone, IsTaken, record_for, send_taken, waiting_reply}
+use Rattle.program_run.proofs.SendAnswers.{TellsNone, IsTaken, record_for, send_taken, waiting_reply}
 
 -- ---- codes
 

@@ -27,11 +27,11 @@ use Rattle.pipe_stream.specs.declared.stop.Halt.{Halt}
 use Rattle.pipe_stream.specs.declared.stop.Halt.TheVariants.{BadFrame, Read, Stopped}
 use Rattle.pipe_stream.specs.declared.stop.Stop.{Stop}
 use Rattle.pipe_stream.specs.declared.stop.Stop.TheVariants.{Clock, Sink, Memory, Misplaced}
-use Rattle.answered_sends.specs.Sent.{IsSent}
-use Rattle.answered_sends.specs.Stand.{Answered, answered, AreOnDisk, IsAccepted, IsOnDisk, IsWritten, StandsFrom}
-use Rattle.answered_sends.proofs.Moments.{last_moment, last_then, order_first, order_high, order_later, order_low, turned_front}
-use Rattle.answered_sends.proofs.OnDisk.{first_stand}
-use Rattle.answered_sends.proofs.Walks.{turns_append}
+use Rattle.program_run.specs.Sent.{IsSent}
+use Rattle.program_run.specs.Stand.{Answered, answered, AreOnDisk, IsAccepted, IsOnDisk, IsWritten, StandsFrom}
+use Rattle.program_run.proofs.Moments.{last_moment, last_then, order_first, order_high, order_later, order_low, turned_front}
+use Rattle.program_run.proofs.OnDisk.{first_stand}
+use Rattle.program_run.proofs.Walks.{turns_append}
 
 -- each send among the requests of a run that waits for the disk and is answered with 0 is in the run's log
 abbrev pub AreSent : Giving → ℕ → State → List Act → Type 0

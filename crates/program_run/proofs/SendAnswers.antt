@@ -18,7 +18,7 @@ use Rattle.broker_model.specs.Answers.{reply_with, send_ext, send_answer, reques
 use Rattle.broker_model.specs.Step.{after}
 use Rattle.broker_model.proofs.StepLemmas.{log_grows}
 use Rattle.broker_events.specs.Served.{is_plain_send}
-use Rattle.answered_sends.specs.Stand.{IsMessage}
+use Rattle.program_run.specs.Stand.{IsMessage}
 
 -- a message that came on this link from this host, at this reading
 abbrev pub asks : ℕ → List ℕ → ℕ → SendSaid → model.Event

@@ -32,10 +32,10 @@ use Rattle.flush_story.proofs.Steps.{grows_then}
 use Rattle.flush_story.specs.Leads.{alone}
 use Rattle.broker_run.specs.Promise.{RunsTo, opened_over}
 use Rattle.core_laws.proofs.Lists.{get_left}
-use Rattle.answered_sends.specs.Sent.{IsSent}
-use Rattle.answered_sends.proofs.SendAnswers.{record_for, is_message}
-use Rattle.answered_sends.proofs.SendSteps.{IsAppended, IsAtOnce, IsWaiting, fault_code, waiting_appended, owed_cases, once_code, due_found}
-use Rattle.answered_sends.proofs.Walks.{Walks, walks_parted, walks_step, walks_grows, walks_flushed, run_walks, turned_append}
+use Rattle.program_run.specs.Sent.{IsSent}
+use Rattle.program_run.proofs.SendAnswers.{record_for, is_message}
+use Rattle.program_run.proofs.SendSteps.{IsAppended, IsAtOnce, IsWaiting, fault_code, waiting_appended, owed_cases, once_code, due_found}
+use Rattle.program_run.proofs.Walks.{Walks, walks_parted, walks_step, walks_grows, walks_flushed, run_walks, turned_append}
 
 -- ---- where its record stands
 
