@@ -3,7 +3,7 @@ use Rattle.log_model.specs.Bases.{whole, no_base}
 use Rattle.log_model.proofs.Places.{whole_geometry, empty_well_formed}
 use Rattle.broker_model.specs.State.{Saved}
 use Rattle.broker_events.specs.Shown.{Shown}
-use Rattle.spine_tests.proofs.messages.empty.Goals as goal
+use Rattle.serve_tests.proofs.messages.empty.Goals as goal
 
 abbrev none_saved : Saved
 none_saved = record { offsets = []; topics = []; base = no_base }

@@ -1,5 +1,5 @@
 use Rattle.std.proofs.Common.{◌*◌, ◌-◌}
-use Rattle.spine_tests.proofs.sharing_tests.+callers+fn-callers-join+arg2.Given as goal
+use Rattle.serve_tests.proofs.sharing_tests.+callers+fn-callers-join+arg2.Given as goal
 
 abbrev pub decreases-callers : goal.decreases-callers
 decreases-callers g l = 2 * l.count
