@@ -1,6 +1,6 @@
 //! At which places the end of a flush turn is counted.
 
-use flush_waits::FlushWaits;
+use spine::FlushWaits;
 use std::sync::Wait;
 
 // How many turns with a record of each place have ended. The places are those of the records 0, 8, 16 and so on.

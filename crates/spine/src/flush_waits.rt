@@ -2,7 +2,6 @@
 //!
 //! Records are in groups of eight by their numbers, and the groups take the places in turn. So the end of a turn wakes those
 //! who wait for one of its records, or for one that stands close behind them. Nothing is claimed of who sleeps or wakes.
-#![tactic(auto)]
 
 use std::sync::{Condvar, Mutex, Wait};
 
