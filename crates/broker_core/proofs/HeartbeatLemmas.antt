@@ -1,6 +1,6 @@
 -- Clients that are heard, and that leave: in the parts and in the state.
 use Rattle.std.proofs.Common.{◌≡◌, refl, sym, subst, ℕ, List}
-use Rattle.mq_bytes.specs.Clients.{Beat as Said}
+use Rattle.request_fields.specs.Clients.{Beat as Said}
 use Rattle.request_fields.specs.Requests.{UnregisterSaid}
 use Rattle.request_fields.specs.declared.request.Request.TheVariants.{Beat, Unregister}
 use Rattle.broker_model.specs.State.{State}

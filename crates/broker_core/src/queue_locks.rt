@@ -12,10 +12,10 @@ ghost use Rattle.broker_core.specs.Asked.{CarriesAsked};
 use crate::parts::Parts;
 use broker_events::Said;
 use bytes::Bytes;
-use mq_bytes::{QueueName, Rows, Text};
+use mq_bytes::{Rows, Text};
 use remoting_frame::Fields;
 use reply_fields::{Reply, Slice, granted_body};
-use request_fields::LockFields;
+use request_fields::{LockFields, QueueName};
 use std::alloc::{AllocError, Global};
 
 // The body of the reply to a request for locks.

@@ -6,8 +6,8 @@ use Rattle.std.proofs.lemmas.List.{map-append, append-nil}
 use Rattle.std.proofs.lemmas.List.Elements.{filter-append, filter_agree}
 use Rattle.std.proofs.lemmas.Slice.Eq.{bytes_eq-Decides}
 use Rattle.std.specs.List.{flat_map}
-use Rattle.mq_bytes.specs.declared.clients.Consumer.{Consumer}
-use Rattle.mq_bytes.specs.declared.clients.Subscription.{Subscription}
+use Rattle.request_fields.specs.declared.clients.Consumer.{Consumer}
+use Rattle.request_fields.specs.declared.clients.Subscription.{Subscription}
 use Rattle.broker_model.specs.Clients.{HeardRow}
 use Rattle.client_tables.specs.Kept.{goes}
 use Rattle.client_tables.specs.Rows.{rows_of, is_key, said_as, said_by}

@@ -4,7 +4,7 @@ use Rattle.std.specs.List.{slice_get}
 use Rattle.std.specs.List.Retain.{RetainsInTurn}
 use Rattle.std.specs.Str.{bytes_eq}
 use Rattle.std.proofs.lemmas.Option.{same_Some}
-use Rattle.mq_bytes.specs.Clients.{Beat}
+use Rattle.request_fields.specs.Clients.{Beat}
 use Rattle.broker_model.specs.Clients.{ClientRow, with_client, new_client, heard_again, clients_after, without_groups, has_group}
 use Rattle.client_tables.specs.Table.{client_of}
 use Rattle.client_tables.specs.Places.{place_in}

@@ -9,8 +9,8 @@ use Rattle.std.proofs.lemmas.List.{map-append, append-nil, reverse-append}
 use Rattle.std.proofs.lemmas.List.Elements.{filter-append, filter_agree, filter_passes, All-append, All-filter, All-map, All-weaker}
 use Rattle.std.proofs.lemmas.Option.{same_Some}
 use Rattle.std.proofs.lemmas.Slice.Eq.{bytes_eq-Decides}
-use Rattle.mq_bytes.specs.declared.clients.Consumer.{Consumer}
-use Rattle.mq_bytes.specs.declared.clients.Subscription.{Subscription}
+use Rattle.request_fields.specs.declared.clients.Consumer.{Consumer}
+use Rattle.request_fields.specs.declared.clients.Subscription.{Subscription}
 use Rattle.broker_model.specs.Clients.{ClientTable, ClientRow, HeardRow, group_rows, heard_rows, is_heard_on, heard_words}
 use Rattle.client_tables.specs.Kept.{goes, last_words, in_groups}
 use Rattle.client_tables.specs.Rows.{rows_of, is_key, said_as, said_by}

@@ -1,7 +1,7 @@
 -- What a heartbeat says of a group, in its order.
 use Rattle.std.specs.Prelude.{ℕ, ◌&&◌, Bool, List, map, filter}
 use Rattle.std.specs.Str.{bytes_eq}
-use Rattle.mq_bytes.specs.declared.clients.Consumer.{Consumer}
+use Rattle.request_fields.specs.declared.clients.Consumer.{Consumer}
 use Rattle.broker_model.specs.Clients.{HeardRow}
 use Rattle.client_tables.specs.declared.heard.Said.{Said}
 

@@ -11,7 +11,7 @@ ghost use Rattle.client_tables.specs.Rows.{rows_of, said_by};
 use crate::client::Client;
 use crate::heard::Said;
 use crate::subscriptions::{ByGroup, forget, forget_in, put};
-use mq_bytes::{Consumer, Subscription};
+use request_fields::{Consumer, Subscription};
 use std::alloc::{AllocError, Global};
 
 // A subscription of one of the client's groups comes to the rest, as this heartbeat says it. At `Err` all is as before.

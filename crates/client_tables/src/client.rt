@@ -5,7 +5,8 @@ ghost use Rattle.broker_model.specs.Clients.{new_client, heard_again, without_gr
 ghost use Rattle.client_tables.specs.Table.{client_of};
 
 use crate::names::{copies, drop_name, groups_of, joined, with_groups};
-use mq_bytes::{Heartbeat, Text};
+use mq_bytes::Text;
+use request_fields::Heartbeat;
 use std::alloc::{AllocError, Global};
 
 /// A client that was heard.

@@ -18,7 +18,7 @@ use crate::beats::{forget_all, forget_link, put_all};
 use crate::client::Client;
 use crate::names::is_among;
 use crate::subscriptions::{ByGroup, forget, forget_in, words};
-use mq_bytes::Heartbeat;
+use request_fields::Heartbeat;
 use std::alloc::{AllocError, Global};
 use std::collections::BTreeMap;
 

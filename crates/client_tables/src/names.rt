@@ -3,7 +3,8 @@
 ghost use Rattle.std.specs.Prelude.{◌≡◌, not, filter, map, IfOk};
 ghost use Rattle.broker_model.specs.Clients.{is_among as is_among_of, without_name, joined as joined_of};
 
-use mq_bytes::{Consumer, Text};
+use mq_bytes::Text;
+use request_fields::Consumer;
 use std::alloc::{AllocError, Global};
 
 /// The name is one of these.

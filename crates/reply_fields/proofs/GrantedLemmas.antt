@@ -3,7 +3,7 @@ use Rattle.std.proofs.Common.{◌≡◌, refl, ap, sym, ◌∙◌, lit≤, lit<,
 use Rattle.std.specs.List.{flat_map}
 use Rattle.std.proofs.lemmas.Fmt.{length-decimal-le}
 use Rattle.std.proofs.lemmas.List.{take_more}
-use Rattle.mq_bytes.specs.declared.clients.QueueName.{QueueName}
+use Rattle.request_fields.specs.declared.clients.QueueName.{QueueName}
 use Rattle.json.specs.Print.{escape_letter, escape_byte, quoted}
 use Rattle.serde_json.specs.Data.{Data, unsigned, number, string, array, Items, no_items, item, Members, no_members, member}
 use Rattle.serde_json.specs.View.{view, items_of, items_view}

@@ -12,7 +12,7 @@ ghost use Rattle.serde_json.specs.Data.{string, object, put};
 ghost use Rattle.serde_json.specs.View.{view, items_view, members_view};
 ghost use Rattle.reply_fields.specs.Granted.{HasShortNames, queue_data, queues_items, granted_data, granted_text};
 
-use mq_bytes::QueueName;
+use request_fields::QueueName;
 use serde_json::{Map, Value};
 use std::alloc::{AllocError, Global};
 

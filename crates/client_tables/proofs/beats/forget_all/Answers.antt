@@ -1,7 +1,7 @@
 use Rattle.std.proofs.Common.{◌∙◌, ◌&&◌, ap, sym, Bool, not, filter, map, take}
 use Rattle.std.specs.Str.{bytes_eq}
 use Rattle.broker_model.specs.Clients.{is_among}
-use Rattle.mq_bytes.specs.declared.clients.Consumer.{Consumer}
+use Rattle.request_fields.specs.declared.clients.Consumer.{Consumer}
 use Rattle.client_tables.specs.Kept.{goes, in_groups}
 use Rattle.client_tables.proofs.BeatLemmas.{left_on}
 use Rattle.client_tables.proofs.ListLemmas.{any_map_more, filter_all}

@@ -1,6 +1,6 @@
 use Rattle.std.proofs.Common.{◌≡◌, ◌∙◌, ◌&&◌, ap, subst, List, not, filter, get_or, length, ◌<◌}
 use Rattle.std.specs.Str.{bytes_eq}
-use Rattle.mq_bytes.specs.declared.clients.Subscription.{Subscription}
+use Rattle.request_fields.specs.declared.clients.Subscription.{Subscription}
 use Rattle.client_tables.specs.Kept.{goes, in_groups}
 use Rattle.client_tables.specs.declared.heard.Said.{Said}
 use Rattle.client_tables.proofs.BeatLemmas.{said_on, goes_self, rest_on}

@@ -1,5 +1,5 @@
 use Rattle.std.proofs.Common.{◌≡◌, ◌≤◌, ◌∙◌, ap, sym, subst, max, length, All, List}
-use Rattle.mq_bytes.specs.declared.clients.QueueName.{QueueName}
+use Rattle.request_fields.specs.declared.clients.QueueName.{QueueName}
 use Rattle.request_fields.specs.Requests.{LockSaid, IsQueueName}
 use Rattle.request_fields.specs.declared.request.Request.TheVariants.{Lock}
 use Rattle.reply_fields.specs.Granted.{HasShortNames}

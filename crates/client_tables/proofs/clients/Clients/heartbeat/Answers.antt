@@ -1,6 +1,6 @@
 use Rattle.std.proofs.Common.{◌∙◌, ◌&&◌, ◌+◌, ap, List, not, filter, map}
 use Rattle.broker_model.specs.Clients.{ClientRow, with_client, is_among}
-use Rattle.mq_bytes.specs.Clients.{Beat}
+use Rattle.request_fields.specs.Clients.{Beat}
 use Rattle.client_tables.specs.Kept.{goes, in_groups}
 use Rattle.client_tables.specs.Table.{client_of}
 use Rattle.client_tables.proofs.HeardLemmas.{beaten, unchanged, taken_back}

@@ -1,7 +1,6 @@
 //! What clients say of themselves: which groups they are in, what these subscribe to, and which queues they want.
 
-use crate::rows::Rows;
-use crate::text::Text;
+use mq_bytes::{Rows, Text};
 use std::marker::Model;
 
 /// A queue of a topic, with the name that the client knows its broker by.
@@ -35,7 +34,7 @@ pub struct Heartbeat {
 }
 
 impl Model for Heartbeat {
-    ghost use Rattle.mq_bytes.specs.Clients.{Beat, IsBeat};
+    ghost use Rattle.request_fields.specs.Clients.{Beat, IsBeat};
 
     ghost Value = { Beat };
 

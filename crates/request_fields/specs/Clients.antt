@@ -1,6 +1,6 @@
 -- What clients say of themselves.
 use Rattle.std.specs.Prelude.{ℕ, ◌<◌, ◌≤◌, List, length, All}
-use Rattle.mq_bytes.specs.declared.clients.Consumer.{Consumer}
+use Rattle.request_fields.specs.declared.clients.Consumer.{Consumer}
 
 -- 1 to 120 bytes
 abbrev pub IsName : List ℕ → Type 0
