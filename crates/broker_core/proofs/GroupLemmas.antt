@@ -4,8 +4,8 @@ use Rattle.std.specs.Option.{option_map, option_to_list}
 use Rattle.std.specs.Str.{IsUtf8}
 use Rattle.std.proofs.lemmas.List.Elements.{All-filter, All-cons, All-head, All-tail}
 use Rattle.std.proofs.lemmas.Bool.{and_parts, ltb-true}
-use Rattle.mq_bytes.specs.Clients.{IsName}
-use Rattle.mq_bytes.specs.declared.clients.QueueName.{QueueName}
+use Rattle.request_fields.specs.Clients.{IsName}
+use Rattle.request_fields.specs.declared.clients.QueueName.{QueueName}
 use Rattle.record_codec.specs.Entry.{Entry}
 use Rattle.record_codec.specs.Layout.{is_named, is_legal}
 use Rattle.log_model.specs.Numbered.{queue_max}
@@ -25,7 +25,7 @@ use Rattle.group_tables.specs.Locks.{lock_row}
 use Rattle.group_tables.specs.Offsets.{offset_of, offset_row, HasOffsets, IsOffset}
 use Rattle.group_tables.specs.declared.groups.Groups.{Groups}
 use Rattle.group_tables.specs.declared.locks.Lock.{Lock}
-use Rattle.lock_body.specs.Granted.{HasShortNames}
+use Rattle.reply_fields.specs.Granted.{HasShortNames}
 use Rattle.broker_core.specs.declared.parts.Parts.{Parts}
 use Rattle.broker_core.specs.Carries.{Stays}
 use Rattle.broker_core.specs.Represents.{Represents}

@@ -1,6 +1,6 @@
 -- Clients that are heard, and that leave: in the parts and in the state.
 use Rattle.std.proofs.Common.{◌≡◌, refl, sym, subst, ℕ, List}
-use Rattle.mq_bytes.specs.Clients.{Beat as Said}
+use Rattle.request_fields.specs.Clients.{Beat as Said}
 use Rattle.request_fields.specs.Requests.{UnregisterSaid}
 use Rattle.request_fields.specs.declared.request.Request.TheVariants.{Beat, Unregister}
 use Rattle.broker_model.specs.State.{State}
@@ -10,8 +10,8 @@ use Rattle.broker_model.specs.Answers.{answer_of, request_answer, done_reply}
 use Rattle.broker_model.specs.Appended.{drafts_of}
 use Rattle.broker_model.specs.Refusals.{refusal_of}
 use Rattle.broker_model.specs.Step.{after, changed, request_changed}
-use Rattle.group_clients.specs.Held.{HasClients}
-use Rattle.group_clients.specs.declared.clients.Clients.{Clients}
+use Rattle.client_tables.specs.Held.{HasClients}
+use Rattle.client_tables.specs.declared.clients.Clients.{Clients}
 use Rattle.broker_core.specs.declared.parts.Parts.{Parts}
 use Rattle.broker_core.specs.Represents.{Represents}
 use Rattle.broker_core.proofs.ReadLemmas.{Does, asked_by}

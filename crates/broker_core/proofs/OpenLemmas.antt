@@ -30,8 +30,8 @@ use Rattle.broker_model.specs.Lawful.{IsState, IsTopic, IsFailedTurn}
 use Rattle.broker_model.specs.Removal.{IsCutAt}
 use Rattle.broker_model.specs.Run.{opened, store_time, with_queue, with_own_queue, with_real_queue, with_topics_of, cut_offset, cut_offsets}
 use Rattle.std.specs.Option.{option_map, option_to_list}
-use Rattle.group_clients.specs.Held.{HasClients}
-use Rattle.group_clients.specs.declared.clients.Clients.{Clients}
+use Rattle.client_tables.specs.Held.{HasClients}
+use Rattle.client_tables.specs.declared.clients.Clients.{Clients}
 use Rattle.broker_model.specs.Clients.{no_clients}
 use Rattle.group_tables.specs.Locks.{lock_row}
 use Rattle.group_tables.specs.Offsets.{IsOffset}

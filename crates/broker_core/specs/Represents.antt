@@ -22,7 +22,7 @@ use Rattle.pending_log.specs.Looks.{Turn, KeepsLast}
 use Rattle.pending_log.specs.declared.turn.Out.{Out}
 use Rattle.pending_log.specs.declared.rows.Row.{Row}
 use Rattle.client_tables.specs.Counts.{queues_of}
-use Rattle.group_clients.specs.Held.{HasClients}
+use Rattle.client_tables.specs.Held.{HasClients}
 use Rattle.group_tables.specs.Held.{HasLocks}
 use Rattle.group_tables.specs.Offsets.{HasOffsets, IsOffset}
 use Rattle.broker_core.specs.declared.parts.Parts.{Parts}

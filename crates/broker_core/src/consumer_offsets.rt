@@ -2,7 +2,7 @@
 
 ghost use Rattle.std.specs.Prelude.{◌≡◌, ◌<◌, ◌^◌, Some, OnOk, OnErr, true};
 ghost use Rattle.std.specs.Str.{IsUtf8};
-ghost use Rattle.mq_bytes.specs.Clients.{IsName};
+ghost use Rattle.request_fields.specs.Clients.{IsName};
 ghost use Rattle.record_codec.specs.Layout.{is_legal};
 ghost use Rattle.request_fields.specs.declared.request.Request.TheVariants.{OffsetOf, SetOffset};
 ghost use Rattle.broker_model.specs.State.{State};

@@ -9,9 +9,8 @@ ghost use Rattle.broker_core.specs.Asked.{CarriesAsked};
 
 use crate::parts::Parts;
 use broker_events::Said;
-use mq_bytes::Heartbeat;
 use reply_fields::Reply;
-use request_fields::UnregisterFields;
+use request_fields::{Heartbeat, UnregisterFields};
 use std::alloc::{AllocError, Global};
 
 impl Parts {

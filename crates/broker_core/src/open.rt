@@ -15,7 +15,7 @@ use crate::dispatch::see;
 use crate::loaded::Loaded;
 use crate::parts::Parts;
 use broker_events::Setup;
-use group_clients::Clients;
+use client_tables::Clients;
 use mq_outside::FrozenRanges;
 use pending_log::Pending;
 use std::alloc::Global;

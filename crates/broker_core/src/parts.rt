@@ -1,8 +1,7 @@
 //! The parts of the core. Each has its own contract; what they say together of a state is `Represents`.
 
 use broker_events::Setup;
-use client_tables::Topics;
-use group_clients::Clients;
+use client_tables::{Clients, Topics};
 use group_tables::Groups;
 use mq_outside::FrozenRanges;
 use pending_log::{Pending, Rows};

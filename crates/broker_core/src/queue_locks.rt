@@ -4,7 +4,7 @@ ghost use Rattle.std.specs.Prelude.{◌≡◌, ◌<◌, ◌≤◌, ◌^◌, ◌�
 ghost use Rattle.request_fields.specs.declared.request.Request.TheVariants.{Lock, Unlock};
 ghost use Rattle.reply_fields.specs.Slices.{body_len};
 ghost use Rattle.reply_fields.specs.declared.slice.Slice.TheVariants.{Held};
-ghost use Rattle.lock_body.specs.Granted.{HasShortNames, granted_text};
+ghost use Rattle.reply_fields.specs.Granted.{HasShortNames, granted_text};
 ghost use Rattle.broker_events.specs.Replies.{IsLockReply};
 ghost use Rattle.broker_core.specs.Carries.{Stays, RepresentsSome};
 ghost use Rattle.broker_core.specs.Asked.{CarriesAsked};
@@ -12,11 +12,10 @@ ghost use Rattle.broker_core.specs.Asked.{CarriesAsked};
 use crate::parts::Parts;
 use broker_events::Said;
 use bytes::Bytes;
-use lock_body::granted_body;
-use mq_bytes::{QueueName, Rows, Text};
+use mq_bytes::{Rows, Text};
 use remoting_frame::Fields;
-use reply_fields::{Reply, Slice};
-use request_fields::LockFields;
+use reply_fields::{Reply, Slice, granted_body};
+use request_fields::{LockFields, QueueName};
 use std::alloc::{AllocError, Global};
 
 // The body of the reply to a request for locks.

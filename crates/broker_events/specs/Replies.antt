@@ -1,6 +1,6 @@
 -- When the reply that is made is the one that the model answers.
 use Rattle.std.specs.Prelude.{◌≡◌, ◌+◌, List, [], ◌∷◌, pos}
-use Rattle.mq_bytes.specs.declared.clients.QueueName.{QueueName}
+use Rattle.request_fields.specs.declared.clients.QueueName.{QueueName}
 use Rattle.record_codec.specs.Entry.{Entry}
 use Rattle.record_codec.specs.Layout.{size, layout}
 use Rattle.mq_outside.specs.Covers.{piece_start}
@@ -10,7 +10,7 @@ use Rattle.reply_fields.specs.declared.slice.Slice.{Slice}
 use Rattle.reply_fields.specs.declared.slice.Slice.TheVariants.{Held, Kept}
 use Rattle.reply_fields.specs.declared.slice.StoredRange.{StoredRange}
 use Rattle.broker_model.specs.Events as model
-use Rattle.lock_body.specs.Granted.{granted_text}
+use Rattle.reply_fields.specs.Granted.{granted_text}
 
 -- the range is where the record stands, all of it, and what its piece holds there is the record
 pub record IsRangeOf (range : StoredRange) (r : Entry) : Type 0 where

@@ -3,9 +3,9 @@ use Rattle.std.specs.Prelude.{ℕ, ◌==◌, ◌&&◌, not, List, [], ◌∷◌,
 use Rattle.std.specs.Prelude.{length, Bool, Option, option_map, unwrap_or, if◌then◌else◌}
 use Rattle.std.specs.List.{list_any}
 use Rattle.std.specs.Str.{bytes_eq}
-use Rattle.mq_bytes.specs.Clients.{Beat}
-use Rattle.mq_bytes.specs.declared.clients.Consumer.{Consumer}
-use Rattle.mq_bytes.specs.declared.clients.Subscription.{Subscription}
+use Rattle.request_fields.specs.Clients.{Beat}
+use Rattle.request_fields.specs.declared.clients.Consumer.{Consumer}
+use Rattle.request_fields.specs.declared.clients.Subscription.{Subscription}
 
 -- a client, the link of its last heartbeat, and the groups that it produces and consumes for
 pub record ClientRow : Type 0 where

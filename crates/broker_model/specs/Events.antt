@@ -1,6 +1,6 @@
 -- What may happen to the broker, and what it answers. Times are in milliseconds.
 use Rattle.std.specs.Prelude.{ℕ, List, Option}
-use Rattle.mq_bytes.specs.declared.clients.QueueName.{QueueName}
+use Rattle.request_fields.specs.declared.clients.QueueName.{QueueName}
 use Rattle.record_codec.specs.Entry.{Entry}
 use Rattle.log_model.specs.Bases.{Base}
 use Rattle.request_fields.specs.declared.request.Request.{Request}

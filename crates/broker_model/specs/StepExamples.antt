@@ -2,11 +2,11 @@
 use Rattle.std.specs.Prelude.{◌≡◌, ℕ, zero, suc, ◌+◌, ◌++◌, List, [], ◌∷◌, length, map, codes, ℤ, pos, Some, None, refl}
 use Rattle.std.specs.Fmt.{digits}
 use Rattle.std.specs.Str.{chars}
-use Rattle.mq_bytes.specs.Clients.{Beat}
+use Rattle.request_fields.specs.Clients.{Beat}
 use Rattle.mq_bytes.specs.Decimal.{decimal_value}
 use Rattle.mq_bytes.specs.Delays.{level_delay}
 use Rattle.mq_bytes.specs.Hashes.{key_hash, java_hash}
-use Rattle.mq_bytes.specs.declared.clients.QueueName.{QueueName}
+use Rattle.request_fields.specs.declared.clients.QueueName.{QueueName}
 use Rattle.record_codec.specs.Layout.{size}
 use Rattle.record_codec.specs.LaxProps.{read_props, pieces}
 use Rattle.record_codec.specs.Props.{pair_in, until}

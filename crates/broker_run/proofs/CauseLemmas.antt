@@ -7,17 +7,17 @@ use Rattle.log_recovery.specs.declared.fault.RecoverFault.TheVariants.{Damaged, 
 use Rattle.log_opening.specs.declared.opening.Opened.{Opened}
 use Rattle.store_open.specs.Openings.{OpeningCause}
 use Rattle.store_open.specs.declared.status.Status.{Status}
-use Rattle.request_stream.specs.Piping.{CountsPipe}
-use Rattle.request_acts.specs.declared.broken.Broken.{Broken}
-use Rattle.request_acts.specs.declared.broken.Broken.TheVariants as broken
-use Rattle.request_stream.specs.declared.stop.Stop.TheVariants as stops
-use Rattle.request_stream.specs.declared.stop.Halt.{Halt}
-use Rattle.request_stream.specs.declared.stop.Halt.TheVariants.{BadFrame, Read, Stopped}
+use Rattle.pipe_stream.specs.Piping.{CountsPipe}
+use Rattle.worker_turns.specs.declared.broken.Broken.{Broken}
+use Rattle.worker_turns.specs.declared.broken.Broken.TheVariants as broken
+use Rattle.pipe_stream.specs.declared.stop.Stop.TheVariants as stops
+use Rattle.pipe_stream.specs.declared.stop.Halt.{Halt}
+use Rattle.pipe_stream.specs.declared.stop.Halt.TheVariants.{BadFrame, Read, Stopped}
 use Rattle.broker_run.specs.Closing.{IsFailed, CountsRun}
 use Rattle.end_statuses.specs.Statuses.{StatusTellsFault}
 use Rattle.broker_run.specs.Promise.{StatusOf, StatusTells, AllFaults, Causes, CountsStatus, CountsEnd}
 use Rattle.broker_run.specs.declared.ended.Ended.{Ended}
-use Rattle.request_stream.specs.Telling.{fault_counts}
+use Rattle.pipe_stream.specs.Telling.{fault_counts}
 
 -- ---- a run from a log that is open
 

@@ -1,7 +1,7 @@
 -- The disk's count of faults over a run.
 use Rattle.std.proofs.Common.{◌≡◌, ℕ, ◌≤◌, Option, Some, None, Result, Ok, Err, arith}
 use Rattle.mq_outside.specs.Counts.{Rises}
-use Rattle.request_acts.specs.Turning.{CountsAll}
+use Rattle.worker_turns.specs.Turning.{CountsAll}
 use Rattle.broker_run.specs.Closing.{IsFailed}
 
 -- it rises where the last flush turn failed

@@ -21,16 +21,16 @@ use Rattle.store_open.specs.Openings.{FORMAT, StoreTold, PutsOnly, IsOpened, for
 use Rattle.store_open.specs.declared.format.Sizes.{Sizes}
 use Rattle.store_open.specs.declared.format.AskedSizes.{AskedSizes}
 use Rattle.store_open.specs.declared.status.Status.{Status}
-use Rattle.request_acts.specs.declared.broken.Broken.{Broken}
-use Rattle.request_acts.specs.declared.broken.Broken.TheVariants as broken
-use Rattle.request_stream.specs.declared.stop.Halt.{Halt}
-use Rattle.request_stream.specs.declared.stop.Halt.TheVariants.{BadFrame, Read, Stopped}
-use Rattle.request_stream.specs.declared.stop.Stop.TheVariants as stops
+use Rattle.worker_turns.specs.declared.broken.Broken.{Broken}
+use Rattle.worker_turns.specs.declared.broken.Broken.TheVariants as broken
+use Rattle.pipe_stream.specs.declared.stop.Halt.{Halt}
+use Rattle.pipe_stream.specs.declared.stop.Halt.TheVariants.{BadFrame, Read, Stopped}
+use Rattle.pipe_stream.specs.declared.stop.Stop.TheVariants as stops
 use Rattle.keeper_turns.specs.Turns.{HasKept}
 use Rattle.end_statuses.specs.Statuses.{StatusKept, StatusTellsConfig, TellsDevice}
 use Rattle.broker_run.specs.Promise.{StatusOf, StatusAfter, AllWell, AllFaults, Causes, Seen, before, behind, KeepSeen, ReplacesAll, PutsAll, CanBeKept, KeepsOpen, KeepsState, Misread, CountsStatus, CountsEnd}
 use Rattle.broker_run.proofs.CauseLemmas.{quiet}
-use Rattle.request_stream.specs.Telling.{fault_counts}
+use Rattle.pipe_stream.specs.Telling.{fault_counts}
 
 -- ---- the status
 

@@ -12,12 +12,12 @@ use Rattle.store_open.specs.Words.{IsCommand}
 use Rattle.store_open.specs.Openings.{FORMAT, IsForeign}
 use Rattle.store_open.specs.declared.status.Status.{Status}
 use Rattle.store_open.specs.declared.words.Command.{Command}
-use Rattle.request_acts.specs.declared.broken.Broken.{Broken}
-use Rattle.request_acts.specs.declared.broken.Broken.TheVariants as broken
-use Rattle.request_stream.specs.Piping.{FaultAt, EndsInside, IsBadAt, EndsBy, stream_limit}
-use Rattle.request_stream.specs.declared.stop.Halt.{Halt}
-use Rattle.request_stream.specs.declared.stop.Halt.TheVariants.{BadFrame, Read, Stopped}
-use Rattle.request_stream.specs.declared.stop.Stop.TheVariants as stops
+use Rattle.worker_turns.specs.declared.broken.Broken.{Broken}
+use Rattle.worker_turns.specs.declared.broken.Broken.TheVariants as broken
+use Rattle.pipe_stream.specs.Piping.{FaultAt, EndsInside, IsBadAt, EndsBy, stream_limit}
+use Rattle.pipe_stream.specs.declared.stop.Halt.{Halt}
+use Rattle.pipe_stream.specs.declared.stop.Halt.TheVariants.{BadFrame, Read, Stopped}
+use Rattle.pipe_stream.specs.declared.stop.Stop.TheVariants as stops
 use Rattle.mq_outside.specs.declared.faults.DiskFault.{DiskFault}
 use Rattle.mq_outside.specs.declared.faults.DiskFault.TheVariants as keeper
 use Rattle.config_store.specs.Faults.{IsBadText}

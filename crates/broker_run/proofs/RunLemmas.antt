@@ -28,10 +28,10 @@ use Rattle.broker_core.specs.declared.parts.Parts.{Parts}
 use Rattle.broker_core.specs.Represents.{Represents}
 use Rattle.log_opening.specs.Opens.{OpensWith, OpensKeptWith, OpensOursWith, OpensLogWith}
 use Rattle.log_opening.specs.declared.opening.Opened.{Opened}
-use Rattle.request_acts.specs.Acts.{Act, HasUnwritten, Acts, Acted, DiskView, Place, place_of, growing_at, turns_of, steps_of, change_of}
-use Rattle.request_acts.specs.Turning.{AreAllTurns}
-use Rattle.request_stream.specs.Serving.{Sides, Point, point_of, acts_of, Begun, Nothing, Asked, begun_acts, Breaks}
-use Rattle.request_stream.specs.Piping.{RanBy, acts_in}
+use Rattle.worker_turns.specs.Acts.{Act, HasUnwritten, Acts, Acted, DiskView, Place, place_of, growing_at, turns_of, steps_of, change_of}
+use Rattle.worker_turns.specs.Turning.{AreAllTurns}
+use Rattle.pipe_stream.specs.Serving.{Sides, Point, point_of, acts_of, Begun, Nothing, Asked, begun_acts, Breaks}
+use Rattle.pipe_stream.specs.Piping.{RanBy, acts_in}
 use Rattle.log_recovery.specs.Recovered.{OnDamage, StaysFlushed}
 use Rattle.log_recovery.specs.declared.fault.RecoverFault.{RecoverFault}
 use Rattle.log_recovery.specs.declared.fault.RecoverFault.TheVariants.{Damaged, Failed as DiskFailed, Memory as NoMemory}
@@ -41,22 +41,22 @@ use Rattle.flush_story.specs.Story.{Reaches}
 use Rattle.flush_story.specs.Keeping.{IsPlacedFor, flushed_in, geometry_of, log_in, IsOpenFor, AreExact, Keeps}
 use Rattle.flush_story.proofs.Keeps.{kept_as}
 use Rattle.flush_story.proofs.Turns.{order_on, exact_later, turned_most}
-use Rattle.kept_log.specs.Leads.{alone}
-use Rattle.kept_log.proofs.ActStory.{acts_lead, acts_written}
+use Rattle.flush_story.specs.Leads.{alone}
+use Rattle.flush_story.proofs.ActStory.{acts_lead, acts_written}
 use Rattle.end_statuses.specs.Statuses.{StatusTellsFault}
 use Rattle.broker_run.specs.Promise.{AreMoves, opened_over, Seen, before, behind, sides_for, Leaves, Survives, RunFrom, BeginsWithKept, KeepsOn, RunsFromSome, KeepsAfter, LeavesDisk, KeepsOpen, ServedOver, Unrecovered, KeepSeen}
 use Rattle.broker_run.proofs.CauseLemmas.{damage_told}
-use Rattle.request_stream.specs.declared.stop.Halt.{Halt}
-use Rattle.request_stream.specs.declared.stop.Halt.TheVariants.{BadFrame, Read, Stopped}
-use Rattle.request_acts.specs.declared.broken.Broken.{Broken}
-use Rattle.request_acts.specs.declared.broken.Broken.TheVariants as broken
-use Rattle.request_stream.specs.declared.stop.Stop.TheVariants as stops
+use Rattle.pipe_stream.specs.declared.stop.Halt.{Halt}
+use Rattle.pipe_stream.specs.declared.stop.Halt.TheVariants.{BadFrame, Read, Stopped}
+use Rattle.worker_turns.specs.declared.broken.Broken.{Broken}
+use Rattle.worker_turns.specs.declared.broken.Broken.TheVariants as broken
+use Rattle.pipe_stream.specs.declared.stop.Stop.TheVariants as stops
 use Rattle.store_open.specs.declared.status.Status.{Status}
 use Rattle.store_open.specs.declared.format.Sizes.{Sizes}
 use Rattle.store_open.specs.declared.words.Command.{Command}
 use Rattle.broker_events.specs.declared.event.Setup.{Setup}
 use Rattle.broker_run.specs.declared.ended.Ended.{Ended}
-use Rattle.request_acts.proofs.ActLemmas.{acts_then, unwritten_behind}
+use Rattle.worker_turns.proofs.ActLemmas.{acts_then, unwritten_behind}
 
 -- ---- the model's run
 

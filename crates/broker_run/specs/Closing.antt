@@ -3,17 +3,17 @@ use Rattle.std.specs.Prelude.{ℕ, ◌≤◌, List, Option, Some, None, Result, 
 use Rattle.mq_outside.specs.Counts.{Rises}
 use Rattle.mq_outside.specs.Files.{Same}
 use Rattle.mq_outside.specs.Disk.{Moves}
-use Rattle.request_acts.specs.Acts.{Acted, Place, change_of}
-use Rattle.request_acts.specs.Turning.{AreAllTurns}
-use Rattle.request_stream.specs.Serving.{Sides, Point, point_of}
-use Rattle.request_stream.specs.Piping.{SourceSeen, Piped, CountsPipe}
+use Rattle.worker_turns.specs.Acts.{Acted, Place, change_of}
+use Rattle.worker_turns.specs.Turning.{AreAllTurns}
+use Rattle.pipe_stream.specs.Serving.{Sides, Point, point_of}
+use Rattle.pipe_stream.specs.Piping.{SourceSeen, Piped, CountsPipe}
 use Rattle.broker_run.specs.declared.ended.Ended.{Ended}
-use Rattle.request_acts.specs.declared.broken.Broken.{Broken}
-use Rattle.request_acts.specs.declared.broken.Broken.TheVariants.{Misplaced, Memory}
-use Rattle.request_stream.specs.declared.stop.Halt.{Halt}
-use Rattle.request_stream.specs.declared.stop.Halt.TheVariants.{BadFrame, Read, Stopped}
-use Rattle.request_stream.specs.declared.stop.Stop.TheVariants as stops
-use Rattle.request_stream.specs.Telling.{FaultCounts}
+use Rattle.worker_turns.specs.declared.broken.Broken.{Broken}
+use Rattle.worker_turns.specs.declared.broken.Broken.TheVariants.{Misplaced, Memory}
+use Rattle.pipe_stream.specs.declared.stop.Halt.{Halt}
+use Rattle.pipe_stream.specs.declared.stop.Halt.TheVariants.{BadFrame, Read, Stopped}
+use Rattle.pipe_stream.specs.declared.stop.Stop.TheVariants as stops
+use Rattle.pipe_stream.specs.Telling.{FaultCounts}
 
 -- no batch that begins elsewhere than where the flusher writes ended the reading
 abbrev pub ReadsPlaced : {A : Type 0} → Result A Halt → Type 0

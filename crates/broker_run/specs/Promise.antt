@@ -39,18 +39,18 @@ use Rattle.config_store.specs.Texts.{IsKeptTopic, offsets_text_of, topics_text_o
 use Rattle.group_tables.specs.Offsets.{IsOffset}
 use Rattle.log_opening.specs.Opens.{OpensWith, saved_as}
 use Rattle.log_opening.specs.declared.opening.Opened.{Opened}
-use Rattle.request_acts.specs.Acts.{Act, Acted, DiskView, Place, steps_of, turns_of, change_of}
-use Rattle.request_acts.specs.Turning.{AreAllTurns}
-use Rattle.request_acts.specs.declared.broken.Broken.{Broken}
-use Rattle.request_acts.specs.declared.broken.Broken.TheVariants as broken
-use Rattle.request_stream.specs.Serving.{Sides, sides_of, point_of}
-use Rattle.request_stream.specs.Piping.{SourceSeen, Piped, acts_in, stream_limit}
+use Rattle.worker_turns.specs.Acts.{Act, Acted, DiskView, Place, steps_of, turns_of, change_of}
+use Rattle.worker_turns.specs.Turning.{AreAllTurns}
+use Rattle.worker_turns.specs.declared.broken.Broken.{Broken}
+use Rattle.worker_turns.specs.declared.broken.Broken.TheVariants as broken
+use Rattle.pipe_stream.specs.Serving.{Sides, sides_of, point_of}
+use Rattle.pipe_stream.specs.Piping.{SourceSeen, Piped, acts_in, stream_limit}
 use Rattle.flush_story.specs.Keeping.{AreInOrder, AreExact}
-use Rattle.kept_log.specs.Leads.{alone}
-use Rattle.request_stream.specs.declared.stop.Halt.{Halt}
-use Rattle.request_stream.specs.declared.stop.Halt.TheVariants.{BadFrame, Read, Stopped}
-use Rattle.request_stream.specs.declared.stop.Stop.TheVariants as stops
-use Rattle.request_stream.specs.Telling.{FaultCounts}
+use Rattle.flush_story.specs.Leads.{alone}
+use Rattle.pipe_stream.specs.declared.stop.Halt.{Halt}
+use Rattle.pipe_stream.specs.declared.stop.Halt.TheVariants.{BadFrame, Read, Stopped}
+use Rattle.pipe_stream.specs.declared.stop.Stop.TheVariants as stops
+use Rattle.pipe_stream.specs.Telling.{FaultCounts}
 use Rattle.broker_run.specs.Closing.{ended_as}
 use Rattle.broker_run.specs.declared.ended.Ended.{Ended}
 

@@ -1,7 +1,7 @@
 //! How the serving of a source ended.
 
-use request_acts::Broken;
-use request_stream::Halt;
+use pipe_stream::Halt;
+use worker_turns::Broken;
 
 /// How the serving of a source ended: what ended the reading, and how the last flush turns ended. They found nothing pending, or
 /// failed, as the disk's failure of this number.

@@ -10,7 +10,7 @@ ghost use Rattle.store_open.specs.declared.words.Command.{Command as TheCommand}
 ghost use Rattle.store_open.specs.Openings.{FORMAT, IsForeign};
 ghost use Rattle.store_open.specs.Statuses.{FitsTable};
 ghost use Rattle.config_store.specs.Configs.{OFFSETS, TOPICS};
-ghost use Rattle.request_acts.specs.Acts.{view_of};
+ghost use Rattle.worker_turns.specs.Acts.{view_of};
 ghost use Rattle.broker_run.specs.Promise.{Call, Causes, IsQuiet, EndsWell};
 
 use crate::serving::serve_log;

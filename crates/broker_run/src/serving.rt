@@ -8,13 +8,13 @@ ghost use Rattle.store_open.specs.Statuses.{FitsTable};
 ghost use Rattle.broker_model.specs.State.{Saved};
 ghost use Rattle.config_store.specs.Configs.{OFFSETS, TOPICS};
 ghost use Rattle.log_opening.specs.Opens.{OpensWith};
-ghost use Rattle.request_acts.specs.Acts.{IsFree, place_of, view_of};
-ghost use Rattle.request_stream.specs.Serving.{sides_of, point_of};
-ghost use Rattle.request_stream.specs.Piping.{source_of};
+ghost use Rattle.worker_turns.specs.Acts.{IsFree, place_of, view_of};
+ghost use Rattle.pipe_stream.specs.Serving.{sides_of, point_of};
+ghost use Rattle.pipe_stream.specs.Piping.{source_of};
 ghost use Rattle.broker_run.specs.Closing.{ServesToEnd, CountsRun, ReadsPlaced, FlushesPlaced, ending_of};
 ghost use Rattle.broker_run.specs.Promise.{StatusOf, StatusTells, ServedOver, CountsEnd};
 ghost use Rattle.broker_events.specs.declared.event.Setup.{Setup as TheSetup};
-ghost use Rattle.request_stream.specs.Telling.{fault_counts};
+ghost use Rattle.pipe_stream.specs.Telling.{fault_counts};
 
 use crate::ended::Ended;
 use broker_core::Alone;
@@ -24,10 +24,10 @@ use group_flush::Flusher;
 use keeper_turns::keep_core;
 use log_opening::Opened;
 use mq_outside::{Clock, Disk, Keep, Sink, Source};
-use request_acts::{Broken, flush_all};
-use request_stream::{Halt, Stop, serve_source};
+use pipe_stream::{Halt, Stop, serve_source};
 use std::alloc::Global;
 use store_open::Status;
+use worker_turns::{Broken, flush_all};
 
 // Serves the requests of the source, and makes the last flush turns whatever ended the reading.
 #[tactic(auto, using(log_model::proofs::OutsideLemmas::outside_start))]

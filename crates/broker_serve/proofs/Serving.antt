@@ -13,11 +13,11 @@ use Rattle.config_store.specs.Texts.{offsets_text_of, topics_text_of}
 use Rattle.keeper_turns.specs.Puts.{HasSuch, ReplacesBy, PutsBy, KeepsBy}
 use Rattle.keeper_turns.specs.Turns.{IsOffsetsOf, IsTopicsOf}
 use Rattle.keeper_turns.proofs.PutLemmas.{puts_rested}
-use Rattle.request_acts.specs.Acts.{Place, change_of, place_of}
+use Rattle.worker_turns.specs.Acts.{Place, change_of, place_of}
 use Rattle.log_opening.specs.Opens.{OpensLogWith, OpensKeptWith, saved_as}
 use Rattle.log_opening.specs.declared.opening.Opened.{Opened}
-use Rattle.serve_story.specs.Kept.{IsTextAlong, keep_over}
-use Rattle.serve_story.specs.Served.{IsLeft, Views}
+use Rattle.serve_threads.specs.Kept.{IsTextAlong, keep_over}
+use Rattle.serve_threads.specs.Served.{IsLeft, Views}
 use Rattle.store_open.specs.Openings.{FORMAT, IsImageWith, StoreTold, IsOpened, PutsOnly, own_format, store_told}
 use Rattle.store_open.specs.ServeWords.{IsServeCommand}
 use Rattle.store_open.specs.declared.format.AskedSizes.{AskedSizes}

@@ -24,8 +24,8 @@ use Rattle.flush_story.proofs.Keeps.{keeps_stores}
 use Rattle.log_opening.specs.Opens.{OpensOursWith}
 use Rattle.log_opening.specs.declared.opening.Opened.{Opened}
 use Rattle.session.specs.Serving.{Made}
-use Rattle.request_acts.specs.Acts.{Place, change_of, place_of}
-use Rattle.serve_story.specs.Served.{IsMadeBy, Views}
+use Rattle.worker_turns.specs.Acts.{Place, change_of, place_of}
+use Rattle.serve_threads.specs.Served.{IsMadeBy, Views}
 use Rattle.broker_serve.specs.Serves.{StoresOn, StoresOpened, StoresOurs}
 
 -- ---- calls that change nothing

@@ -26,10 +26,10 @@ use Rattle.keeper_turns.specs.Puts.{HasSuch, KeepsBy}
 use Rattle.keeper_turns.specs.Turns.{IsOffsetsOf, IsTopicsOf}
 use Rattle.log_opening.specs.Opens.{OpensLogWith, OpensKeptWith, saved_as}
 use Rattle.log_opening.specs.declared.opening.Opened.{Opened}
-use Rattle.request_acts.specs.Acts.{Place, change_of, place_of}
+use Rattle.worker_turns.specs.Acts.{Place, change_of, place_of}
 use Rattle.spine.specs.Stands.{Stands}
-use Rattle.serve_story.specs.Kept.{IsTextAlong, KeepOver, PutsAlong}
-use Rattle.serve_story.specs.Served.{IsLeft, IsMadeBy, Views}
+use Rattle.serve_threads.specs.Kept.{IsTextAlong, KeepOver, PutsAlong}
+use Rattle.serve_threads.specs.Served.{IsLeft, IsMadeBy, Views}
 use Rattle.store_open.specs.Openings.{FORMAT}
 use Rattle.store_open.specs.declared.serve_words.ServeCommand.{ServeCommand}
 use Rattle.store_open.specs.declared.status.Status.{Status}

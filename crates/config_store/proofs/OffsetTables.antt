@@ -7,7 +7,7 @@ use Rattle.std.proofs.lemmas.Bool.{cases_Bool, and_parts, and_from, eqb-true, eq
 use Rattle.std.proofs.lemmas.Fmt.{decimal_injective}
 use Rattle.std.proofs.lemmas.List.Elements.{All-head, All-tail}
 use Rattle.std.proofs.lemmas.Slice.Eq.{bytes_eq-Decides}
-use Rattle.mq_bytes.specs.Clients.{IsName}
+use Rattle.request_fields.specs.Clients.{IsName}
 use Rattle.mq_bytes.specs.Decimal.{digits_of}
 use Rattle.record_codec.specs.Layout.{is_legal}
 use Rattle.broker_model.specs.Tables.{OffsetRow, offset_in, is_row_of}

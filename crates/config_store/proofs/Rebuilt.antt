@@ -2,7 +2,7 @@
 use Rattle.std.proofs.Common.{◌≡◌, ◌≢◌, ℕ, ◌<◌, List, [], ◌∷◌, ◌++◌, length, All, true, Option, Some, None, option_and_then, codes, refl, sym, ap, ◌∙◌, subst, arith, IsUtf8}
 use Rattle.std.specs.Prelude.{unwrap_or}
 use Rattle.std.proofs.lemmas.List.Elements.{All-nil, All-cons, All-append}
-use Rattle.mq_bytes.specs.Clients.{IsName}
+use Rattle.request_fields.specs.Clients.{IsName}
 use Rattle.mq_bytes.specs.Decimal.{digits_of}
 use Rattle.record_codec.specs.Layout.{is_legal}
 use Rattle.broker_model.specs.Tables.{OffsetRow, TopicRow}

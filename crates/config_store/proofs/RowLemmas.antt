@@ -1,7 +1,7 @@
 -- Rows that are read of members, one member after another.
 use Rattle.std.proofs.Common.{◌≡◌, ◌≢◌, ℕ, ◌<◌, ◌^◌, List, [], ◌∷◌, ◌++◌, All, Some, true, refl, sym, ap, ◌∙◌, subst, append_assoc, append-nil, option_and_then, codes, arith, length}
 use Rattle.std.proofs.lemmas.List.Elements.{All-nil, All-head, All-tail, All-append, All-cons}
-use Rattle.mq_bytes.specs.Clients.{IsName}
+use Rattle.request_fields.specs.Clients.{IsName}
 use Rattle.mq_bytes.specs.Decimal.{digits_of}
 use Rattle.record_codec.specs.Layout.{is_legal}
 use Rattle.broker_model.specs.Tables.{OffsetRow, TopicRow}

@@ -4,7 +4,7 @@
 ghost use Rattle.std.specs.Prelude.{◌≡◌, ◌<◌, ◌++◌, ◌∷◌, ◌^◌, ℕ, [], List, All, Err, IfOk, OnOk, Some, MatchOption};
 ghost use Rattle.std.specs.Prelude.{IfSome, codes, option_and_then, string_bytes, true};
 ghost use Rattle.std.specs.Str.{IsUtf8};
-ghost use Rattle.mq_bytes.specs.Clients.{IsName};
+ghost use Rattle.request_fields.specs.Clients.{IsName};
 ghost use Rattle.mq_bytes.specs.Decimal.{digits_of};
 ghost use Rattle.record_codec.specs.Layout.{is_legal};
 ghost use Rattle.broker_model.specs.Tables.{OffsetRow, TopicRow};

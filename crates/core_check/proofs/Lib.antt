@@ -1,1 +1,4 @@
 pub mod Own
+pub mod PullLemmas
+pub mod QueueLemmas
+pub mod UnitLemmas

@@ -16,7 +16,7 @@ use Rattle.broker_core.specs.declared.parts.Parts.{Parts}
 use Rattle.broker_core.specs.Represents.{Represents, stored_unit}
 use Rattle.broker_core.proofs.SeenLemmas.{none_of, number_at, queue_parts}
 use Rattle.broker_core.proofs.TableLemmas.{there_is}
-use Rattle.table_check.specs.Queues.{AreQueuesOf}
+use Rattle.core_check.specs.Queues.{AreQueuesOf}
 
 -- ---- all of it is seen
 

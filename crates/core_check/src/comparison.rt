@@ -4,15 +4,15 @@ ghost use Rattle.std.specs.Prelude.{◌≡◌, ◌↔◌, ◌≤◌, ◌^◌, �
 ghost use Rattle.log_model.specs.Numbered.{queue_min, count_of};
 ghost use Rattle.log_model.specs.Queues.{IsStored};
 ghost use Rattle.log_replay.specs.Told.{log_of};
-ghost use Rattle.table_check.specs.Queues.{AreQueuesOf};
+ghost use Rattle.core_check.specs.Queues.{AreQueuesOf};
 ghost use Rattle.broker_model.specs.State.{State};
 ghost use Rattle.broker_core.specs.Represents.{Represents};
 
+use crate::queues::are_queues_of;
 use broker_core::Core;
 use log_model::Base;
 use record_codec::Record;
 use std::alloc::{AllocError, Global};
-use table_check::are_queues_of;
 
 /// Whether the core's tables of queues have what this log says from this base on, and consumers see all of it.
 pub fn compare(alloc: Global, core: &Core, log: &[Record], base: &Base) -> Result<bool, AllocError>

@@ -2,5 +2,8 @@
 #![tactic(auto)]
 
 mod comparison;
+mod queues;
+mod units;
 
 pub use comparison::compare;
+pub use queues::are_queues_of;

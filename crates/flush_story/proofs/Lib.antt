@@ -3,3 +3,4 @@ pub mod NextBatch
 pub mod Turns
 pub mod Keeps
 pub mod Placing
+pub mod ActStory

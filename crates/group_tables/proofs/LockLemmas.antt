@@ -8,7 +8,7 @@ use Rattle.std.specs.Cmp.Lexicographic.{nat_list_eq_equiv}
 use Rattle.std.specs.List.{list_any}
 use Rattle.std.specs.Option.{option_and, option_flatten, option_map, option_to_list}
 use Rattle.std.specs.Str.{bytes_eq}
-use Rattle.mq_bytes.specs.declared.clients.QueueName.{QueueName}
+use Rattle.request_fields.specs.declared.clients.QueueName.{QueueName}
 use Rattle.broker_model.specs.Tables.{LockRow, is_lock_of, is_foreign, is_held_by_other, without_locks}
 use Rattle.group_tables.specs.Locks.{keeps_off, without_own, names_queue, lock_row}
 use Rattle.group_tables.specs.declared.locks.Lock.{Lock}

@@ -9,7 +9,7 @@ use Rattle.std.specs.Bool.{⊤}
 use Rattle.std.specs.List.{list_any}
 use Rattle.std.specs.Option.{option_map, option_to_list}
 use Rattle.std.specs.Str.{bytes_eq}
-use Rattle.mq_bytes.specs.declared.clients.QueueName.{QueueName}
+use Rattle.request_fields.specs.declared.clients.QueueName.{QueueName}
 use Rattle.broker_model.specs.Tables.{LockRow, is_lock_of, is_same_queue, distinct_queues, lock_at, without_queues, with_locks}
 use Rattle.group_tables.specs.Locks.{lock_from, names_queue, lock_row}
 use Rattle.group_tables.specs.declared.locks.Lock.{Lock}

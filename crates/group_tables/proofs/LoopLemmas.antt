@@ -6,7 +6,7 @@ use Rattle.std.specs.Cmp.Lexicographic.{nat_list_eq_equiv}
 use Rattle.std.specs.List.{list_any}
 use Rattle.std.specs.Option.{option_and}
 use Rattle.std.specs.Str.{bytes_eq}
-use Rattle.mq_bytes.specs.declared.clients.QueueName.{QueueName}
+use Rattle.request_fields.specs.declared.clients.QueueName.{QueueName}
 use Rattle.broker_model.specs.Tables.{is_same_queue, distinct_queues}
 use Rattle.group_tables.specs.Locks.{names_queue, without_own}
 use Rattle.group_tables.specs.declared.locks.Lock.{Lock}

@@ -4,7 +4,7 @@ use Rattle.std.specs.Prelude.{Option, Some, None, option_map, option_to_list, if
 use Rattle.std.specs.Option.{option_flatten}
 use Rattle.std.specs.HashMap.{HashMap}
 use Rattle.std.specs.Str.{bytes_eq}
-use Rattle.mq_bytes.specs.declared.clients.QueueName.{QueueName}
+use Rattle.request_fields.specs.declared.clients.QueueName.{QueueName}
 use Rattle.broker_model.specs.Tables.{LockRow, is_lock_of}
 use Rattle.group_tables.specs.Table.{in_groups}
 use Rattle.group_tables.specs.declared.locks.Lock.{Lock}

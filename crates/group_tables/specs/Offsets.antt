@@ -2,7 +2,7 @@
 use Rattle.std.specs.Prelude.{◌≡◌, ℕ, ◌<◌, ◌^◌, List, String, Option, Some, true}
 use Rattle.std.specs.HashMap.{HashMap}
 use Rattle.std.specs.Str.{IsUtf8}
-use Rattle.mq_bytes.specs.Clients.{IsName}
+use Rattle.request_fields.specs.Clients.{IsName}
 use Rattle.record_codec.specs.Layout.{is_legal}
 use Rattle.broker_model.specs.Tables.{OffsetRow, offset_in}
 use Rattle.group_tables.specs.Table.{in_queues, in_topics, in_groups}

@@ -12,7 +12,7 @@ ghost use Rattle.group_tables.specs.Offsets.{offset_of, offset_row, HasOffsets, 
 use crate::kept::{GroupOffset, rows_of};
 use crate::locks::{Slots, grant, lock_all, unlock_all};
 use crate::table::{ByGroup, set_value, value_of};
-use mq_bytes::QueueName;
+use request_fields::QueueName;
 use std::alloc::{AllocError, Global};
 use std::collections::HashMap;
 

@@ -11,7 +11,8 @@ ghost use Rattle.group_tables.specs.declared.locks.Lock.{Lock};
 ghost use Rattle.group_tables.specs.Locks.{lock_in, keeps_off, without_own, lock_from, names_queue};
 
 use crate::table::{ByGroup, change_value, set_value, value_of};
-use mq_bytes::{QueueName, Text};
+use mq_bytes::Text;
+use request_fields::QueueName;
 use std::alloc::{AllocError, Global};
 use std::collections::HashSet;
 

@@ -9,3 +9,6 @@ pub mod ImageLemmas
 pub mod RecoverLemmas
 pub mod OursLemmas
 pub mod ScanLemmas
+pub mod CountLemmas
+pub mod TailLemmas
+pub mod NextLemmas

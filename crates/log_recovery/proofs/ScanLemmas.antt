@@ -12,7 +12,7 @@ use Rattle.log_model.specs.Log.{IsSegmentSize, IsGeometry}
 use Rattle.log_model.specs.Segments.{layouts, Shape, empty_shape, added, opened, segment_file, last_name, last_bytes, next_segment}
 use Rattle.log_model.specs.Store.{EndsInBlank, ComesNext, IsDamagedAt}
 use Rattle.log_model.proofs.Places.{next_low, used_push}
-use Rattle.log_tail.specs.declared.tail.LogTail.{LogTail}
+use Rattle.log_recovery.specs.declared.tail.LogTail.{LogTail}
 use Rattle.log_recovery.specs.declared.fault.RecoverFault.{RecoverFault}
 use Rattle.log_recovery.specs.declared.fault.RecoverFault.TheVariants.{Damaged, Failed, Memory}
 use Rattle.log_recovery.specs.Recovered.{OnDamage}

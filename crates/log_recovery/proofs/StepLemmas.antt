@@ -9,7 +9,7 @@ use Rattle.log_model.specs.Log.{Follows}
 use Rattle.log_model.specs.Segments.{used, last_bytes}
 use Rattle.log_model.specs.Store.{StartsWith, IsNext}
 use Rattle.log_model.proofs.Fronts.{starts_same}
-use Rattle.log_tail.specs.declared.tail.LogTail.{LogTail}
+use Rattle.log_recovery.specs.declared.tail.LogTail.{LogTail}
 use Rattle.log_recovery.specs.declared.window.Window.{Window}
 use Rattle.log_recovery.specs.Scan.{Shows, EndsBefore, Reading, Stood, NoNext}
 use Rattle.log_recovery.proofs.WindowLemmas.{front_is, starts_there, stands_there}

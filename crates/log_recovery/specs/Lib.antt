@@ -4,3 +4,7 @@ pub mod Reads
 pub mod Recovered
 pub mod Scan
 pub mod Settle
+pub mod Counts
+pub mod Tails
+pub mod Places
+pub mod Matches

@@ -7,8 +7,8 @@ use Rattle.log_model.specs.Bases.{Geometry, first_segment}
 use Rattle.log_model.specs.Log.{IsWellFormed, end_of}
 use Rattle.log_model.specs.Segments.{Shape, used, segment_start, next_segment}
 use Rattle.log_model.specs.Store.{IsNext, ReadsTo, Keeps}
-use Rattle.log_tail.specs.declared.tail.LogTail.{LogTail}
-use Rattle.log_tail.specs.Tails.{StandsFor}
+use Rattle.log_recovery.specs.declared.tail.LogTail.{LogTail}
+use Rattle.log_recovery.specs.Tails.{StandsFor}
 use Rattle.log_recovery.specs.declared.window.Window.{Window}
 use Rattle.log_recovery.specs.Names.{AreNamed, NoFurther}
 

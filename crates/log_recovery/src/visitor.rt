@@ -4,9 +4,9 @@ ghost use Rattle.std.specs.Prelude.{◌++◌, ◌∷◌, List, [], ℕ, OnOk};
 ghost use Rattle.record_codec.specs.Entry.{Entry};
 ghost use Rattle.log_model.specs.Bases.{Base, Geometry};
 ghost use Rattle.log_model.specs.Log.{Follows};
-ghost use Rattle.log_tail.specs.Tails.{StandsFor};
+ghost use Rattle.log_recovery.specs.Tails.{StandsFor};
 
-use log_tail::LogTail;
+use crate::tail::LogTail;
 use record_codec::View;
 use std::alloc::AllocError;
 

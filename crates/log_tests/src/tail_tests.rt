@@ -1,7 +1,7 @@
 //! The tail of a small log, whose record bytes were made independently, with the sums of zlib.
 
 use crate::worked::PLAIN;
-use log_tail::LogTail;
+use log_recovery::LogTail;
 use record_codec::Place;
 use std::test::Fail;
 

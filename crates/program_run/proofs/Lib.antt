@@ -1,1 +1,10 @@
 pub mod Picking
+pub mod Moments
+pub mod OnDisk
+pub mod Answers
+pub mod Calls
+pub mod Walks
+pub mod SendAnswers
+pub mod SendSteps
+pub mod Sent
+pub mod Stands

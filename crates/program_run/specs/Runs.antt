@@ -15,8 +15,8 @@ use Rattle.store_open.specs.declared.serve_words.ServeCommand.{ServeCommand}
 use Rattle.store_open.specs.declared.status.Status.{Status}
 use Rattle.broker_run.specs.Promise as pipe
 use Rattle.broker_run.specs.Promise.{AllFaults, Call, EndsWell, IsQuiet, KeepSeen, Seen, before, behind}
-use Rattle.serve_story.specs.Kept.{KeepOver}
-use Rattle.serve_story.specs.Served.{Views}
+use Rattle.serve_threads.specs.Kept.{KeepOver}
+use Rattle.serve_threads.specs.Served.{Views}
 use Rattle.serve_threads.specs.Causes.{ServeFaults}
 use Rattle.broker_serve.specs.Causes.{Causes}
 use Rattle.broker_serve.specs.Serves.{HasServed, PutsAllAlong, run_over, setup_by}

@@ -1,12 +1,12 @@
 //! One run: the first word says whether it serves a stream or links.
 
 ghost use Rattle.std.specs.Prelude.{◌≡◌, ◌≢◌, true, false, None};
-ghost use Rattle.request_acts.specs.Acts.{view_of};
+ghost use Rattle.worker_turns.specs.Acts.{view_of};
 ghost use Rattle.store_open.specs.Words.{texts_of};
-ghost use Rattle.serve_story.specs.Kept.{keep_over};
-ghost use Rattle.serve_story.specs.Served.{views_of};
+ghost use Rattle.serve_threads.specs.Kept.{keep_over};
+ghost use Rattle.serve_threads.specs.Served.{views_of};
 ghost use Rattle.serve_threads.specs.Causes.{counts_of, world_faults};
-ghost use Rattle.answered_sends.specs.Stand.{KeepsAnswers};
+ghost use Rattle.program_run.specs.Stand.{KeepsAnswers};
 ghost use Rattle.program_run.specs.Runs.{AsksLinks, Pipes, Serves};
 
 use broker_run::run_pipe;

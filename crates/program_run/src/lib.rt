@@ -2,5 +2,7 @@
 #![tactic(auto)]
 
 mod call;
+mod laws;
 
 pub use call::{Ran, Streams, run};
+pub use laws::answered_sends_stand;

@@ -1,3 +1,4 @@
 pub mod BodyLemmas
 pub mod ReplyLemmas
 pub mod AskLemmas
+pub mod GrantedLemmas

@@ -5,3 +5,4 @@ pub mod Parts
 pub mod Replies
 pub mod Refusals
 pub mod Asks
+pub mod Granted

@@ -3,10 +3,12 @@
 
 mod ask;
 mod body;
+mod granted;
 mod refusals;
 mod reply;
 mod slice;
 
 pub use ask::Ask;
+pub use granted::granted_body;
 pub use reply::Reply;
 pub use slice::{Slice, StoredRange};

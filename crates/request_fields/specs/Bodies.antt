@@ -6,10 +6,10 @@ use Rattle.serde_json.specs.Find.{get, as_number, as_u64, as_str, as_array}
 use Rattle.remoting_frame.specs.Gives.{◌>>=◌}
 use Rattle.remoting_frame.specs.Json.{data_of}
 use Rattle.record_codec.specs.Layout.{is_legal}
-use Rattle.mq_bytes.specs.Clients.{Beat}
-use Rattle.mq_bytes.specs.declared.clients.QueueName.{QueueName}
-use Rattle.mq_bytes.specs.declared.clients.Consumer.{Consumer}
-use Rattle.mq_bytes.specs.declared.clients.Subscription.{Subscription}
+use Rattle.request_fields.specs.Clients.{Beat}
+use Rattle.request_fields.specs.declared.clients.QueueName.{QueueName}
+use Rattle.request_fields.specs.declared.clients.Consumer.{Consumer}
+use Rattle.request_fields.specs.declared.clients.Subscription.{Subscription}
 use Rattle.request_fields.specs.Requests.{LockSaid}
 
 -- ---- members of objects

@@ -1,3 +1,4 @@
+pub mod Clients
 pub mod Kinds
 pub mod Values
 pub mod Faults

@@ -1,8 +1,8 @@
 -- What requests say, and the ranges that their fields keep.
 use Rattle.std.specs.Prelude.{◌≡◌, ℕ, ◌<◌, ◌≤◌, ◌^◌, ◌⊎◌, List, [], length, ℤ, true, false, nat_eq, All}
 use Rattle.std.specs.List.{list_any}
-use Rattle.mq_bytes.specs.Clients.{IsName}
-use Rattle.mq_bytes.specs.declared.clients.QueueName.{QueueName}
+use Rattle.request_fields.specs.Clients.{IsName}
+use Rattle.request_fields.specs.declared.clients.QueueName.{QueueName}
 use Rattle.record_codec.specs.Layout.{is_legal}
 
 -- the name of a group or a client in a field: 1 to 120 bytes, none of them 1 or 2

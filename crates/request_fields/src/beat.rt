@@ -11,13 +11,14 @@
 
 ghost use Rattle.std.specs.Prelude.{All, IfOk};
 ghost use Rattle.serde_json.specs.View.{view, items_view};
-ghost use Rattle.mq_bytes.specs.Clients.{IsName};
+ghost use Rattle.request_fields.specs.Clients.{IsName};
 ghost use Rattle.request_fields.specs.Gives.{Finds};
 ghost use Rattle.request_fields.specs.Bodies.{all_of, producer_of, subscription_of, consumer_of, beat_of, beat_in};
 
 use crate::body_fault::BodyFault;
+use crate::clients::{Consumer, Heartbeat, Subscription};
 use crate::members::{items_or_empty, name_in, text_in, value_of};
-use mq_bytes::{Consumer, Heartbeat, Rows, Subscription, Text};
+use mq_bytes::{Rows, Text};
 use serde_json::Value;
 use std::alloc::Global;
 

@@ -1,7 +1,8 @@
 //! What the other requests say. Queue ids are below 2^31, offsets and places that are not signed below 2^62. Names of
 //! groups and clients have 1 to 120 bytes, none of them 1 or 2; those of a lock may have these too.
 
-use mq_bytes::{QueueName, Rows, Text};
+use crate::clients::QueueName;
+use mq_bytes::{Rows, Text};
 use std::marker::Model;
 
 /// A pull: at most `most` messages of the queue, from the queue offset `from` on. `commit` is a queue offset to be

@@ -4,6 +4,7 @@
 mod beat;
 mod bodies;
 mod body_fault;
+mod clients;
 mod fault;
 mod fields;
 mod kinds;
@@ -19,6 +20,7 @@ mod send_fields;
 mod send_names;
 mod texts;
 
+pub use clients::{Consumer, Heartbeat, QueueName, Subscription};
 pub use fault::{Field, RequestFault};
 pub use fields::{
     EndFields, LockFields, OffsetFields, PullFields, QueryFields, QueueFields, SearchFields,

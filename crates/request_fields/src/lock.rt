@@ -17,9 +17,10 @@ ghost use Rattle.request_fields.specs.Requests.{IsQueueName};
 ghost use Rattle.request_fields.specs.Bodies.{all_of, if_legal, if_broker, if_queue, queue_name_of, lock_of, lock_in};
 
 use crate::body_fault::BodyFault;
+use crate::clients::QueueName;
 use crate::fields::LockFields;
 use crate::members::{few_of, name_in, text_in, value_of};
-use mq_bytes::{QueueName, Rows, Text};
+use mq_bytes::{Rows, Text};
 use record_codec::is_legal_topic;
 use serde_json::Value;
 use std::alloc::Global;

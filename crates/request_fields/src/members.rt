@@ -4,7 +4,7 @@ ghost use Rattle.std.specs.Prelude.{◌≤◌, ◌<◌, length, Some, IfOk, opti
 ghost use Rattle.serde_json.specs.View.{view, items_view};
 ghost use Rattle.serde_json.specs.Find.{as_str};
 ghost use Rattle.remoting_frame.specs.Json.{data_of};
-ghost use Rattle.mq_bytes.specs.Clients.{IsName};
+ghost use Rattle.request_fields.specs.Clients.{IsName};
 ghost use Rattle.request_fields.specs.Gives.{Finds};
 ghost use Rattle.request_fields.specs.Bodies.{if_name, items_or_none, few_items, if_few};
 

@@ -3,6 +3,7 @@
 ghost use Rattle.request_fields.specs.Reading.{Reads, request_of};
 
 use crate::bodies::{heartbeat, lock, unlock};
+use crate::clients::Heartbeat;
 use crate::fault::RequestFault;
 use crate::fields::{
     EndFields, LockFields, OffsetFields, PullFields, QueryFields, QueueFields, SearchFields,
@@ -15,7 +16,7 @@ use crate::rows::{
 use crate::send::send;
 use crate::send_fields::SendFields;
 use crate::send_names::{long_names, short_names};
-use mq_bytes::{Heartbeat, Rows};
+use mq_bytes::Rows;
 use remoting_frame::{Frame, Header};
 use std::alloc::Global;
 

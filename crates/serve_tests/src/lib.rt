@@ -1,11 +1,21 @@
-//! Tests of what serves many links: the lock, the turns of the workers, and what a link says.
+//! Tests of what serves many links: the lock, the turns of the workers, what a link says, and callers who share one broker.
 #![tactic(auto)]
 
 #[cfg(test)]
+mod messages;
+#[cfg(test)]
+mod numbers;
+#[cfg(test)]
 mod outbox_tests;
+#[cfg(test)]
+mod places_tests;
+#[cfg(test)]
+mod sharing_tests;
 #[cfg(test)]
 mod story_tests;
 #[cfg(test)]
 mod talk_tests;
 #[cfg(test)]
 mod turn_tests;
+#[cfg(test)]
+mod waiting_tests;

@@ -3,9 +3,9 @@
 ghost use Rattle.std.specs.Prelude.{◌≡◌, ◌≤◌, None};
 ghost use Rattle.log_model.specs.Stored.{StaysOutside};
 ghost use Rattle.segment_files.specs.Turn.{IsInside};
-ghost use Rattle.request_acts.specs.Acts.{Acted, place_of, view_of, change_of};
-ghost use Rattle.request_acts.specs.Turning.{IsDispatch};
-ghost use Rattle.serve_story.specs.Served.{AreFlushing};
+ghost use Rattle.worker_turns.specs.Acts.{Acted, place_of, view_of, change_of};
+ghost use Rattle.worker_turns.specs.Turning.{IsDispatch};
+ghost use Rattle.serve_threads.specs.Served.{AreFlushing};
 ghost use Rattle.serve_threads.specs.Causes.{BlamesDisk};
 
 use broker_events::Calls;

@@ -1,7 +1,7 @@
 //! The keeper: the two kept files follow what the core has, a few seconds behind it.
 
 ghost use Rattle.std.specs.Prelude.{◌≤◌};
-ghost use Rattle.serve_story.specs.Kept.{KeepsUp, keep_over};
+ghost use Rattle.serve_threads.specs.Kept.{KeepsUp, keep_over};
 
 use broker_core::Owner;
 use event_loops::Shared;

@@ -4,11 +4,13 @@
 
 mod flusher;
 mod keeper;
+mod laws;
 mod loops;
 mod served;
 mod threads;
 mod world;
 
+pub use laws::a_shared_history_is_a_story;
 pub use loops::Loops;
 pub use served::{Devices, Served, Unserved, serve};
 pub use world::World;

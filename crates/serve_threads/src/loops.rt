@@ -1,7 +1,7 @@
 //! The two loops, and how other threads reach them.
 
 ghost use Rattle.std.specs.Prelude.{◌≡◌, IfErr, IfOk};
-ghost use Rattle.serve_story.specs.Served.{AreLoops};
+ghost use Rattle.serve_threads.specs.Served.{AreLoops};
 ghost use Rattle.serve_threads.specs.Causes.{BlamesMaking, world_faults};
 
 use crate::world::World;

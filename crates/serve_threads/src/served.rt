@@ -7,10 +7,10 @@ ghost use Rattle.segment_files.specs.declared.last_file.LastFile.{LastFile};
 ghost use Rattle.broker_core.specs.Makes.{shown_of};
 ghost use Rattle.story_lock.specs.Passes.{IsPassOf, HasSeat, HasKey, start_of, seats_of as seats_in, seen_by, mine_of, numbers_of};
 ghost use Rattle.spine.specs.Seen.{shown_by};
-ghost use Rattle.request_acts.specs.Acts.{Place, change_of, place_of, view_of};
+ghost use Rattle.worker_turns.specs.Acts.{Place, change_of, place_of, view_of};
 ghost use Rattle.event_loops.specs.Causes.{door_faults, loop_faults};
-ghost use Rattle.serve_story.specs.Kept.{PutsAlong, keep_over};
-ghost use Rattle.serve_story.specs.Served.{AreLoops, AreCut, AreMet, Meets, HasMade, IsLeft, by_thread, views_of};
+ghost use Rattle.serve_threads.specs.Kept.{PutsAlong, keep_over};
+ghost use Rattle.serve_threads.specs.Served.{AreLoops, AreCut, AreMet, Meets, HasMade, IsLeft, by_thread, views_of};
 ghost use Rattle.serve_threads.specs.Causes.{BlamesDisk, BlamesKeep, BlamesWorld, HasCauses, HasDoor, IsFirstFault};
 ghost use Rattle.serve_threads.specs.Causes.{both_faults, counts_of, world_faults};
 

@@ -5,10 +5,10 @@ ghost use denote.Param.Send.{IsSync, IsSend};
 ghost use Rattle.log_model.specs.Stored.{StaysOutside};
 ghost use Rattle.segment_files.specs.Turn.{IsInside};
 ghost use Rattle.session.specs.Serving.{Leads};
-ghost use Rattle.request_acts.specs.Acts.{Acted, place_of, view_of, change_of};
+ghost use Rattle.worker_turns.specs.Acts.{Acted, place_of, view_of, change_of};
 ghost use Rattle.event_loops.specs.Causes.{CountsEnd, loop_faults};
-ghost use Rattle.serve_story.specs.Kept.{KeepsUp, keep_over};
-ghost use Rattle.serve_story.specs.Served.{IsLoop, AreFlushing, AreAnswered};
+ghost use Rattle.serve_threads.specs.Kept.{KeepsUp, keep_over};
+ghost use Rattle.serve_threads.specs.Served.{IsLoop, AreFlushing, AreAnswered};
 ghost use Rattle.serve_threads.specs.Causes.{BlamesDisk};
 
 use crate::flusher::keep_flushing;

@@ -1,8 +1,9 @@
 //! What the slow broker answers.
 
 use broker_events::Awaited;
-use mq_bytes::{QueueName, Rows};
+use mq_bytes::Rows;
 use record_codec::Record;
+use request_fields::QueueName;
 use slow_rows::Reply;
 
 /// A flush turn that begins.

@@ -9,8 +9,7 @@ ghost use Rattle.slow_broker.specs.Steps.{Stays};
 
 use crate::answer::Answer;
 use crate::broker::SlowBroker;
-use mq_bytes::Heartbeat;
-use request_fields::UnregisterFields;
+use request_fields::{Heartbeat, UnregisterFields};
 use slow_rows::plain_reply;
 use slow_tables::{clients_after, clients_heard, drop_left, heard_after};
 use std::alloc::{AllocError, Global};

@@ -3,7 +3,7 @@ use Rattle.std.proofs.Common.{◌≡◌, ◌∙◌, refl, sym, ap, ℕ, ◌+◌,
 use Rattle.std.specs.Prelude.{filter}
 use Rattle.std.specs.List.{list_any}
 use Rattle.std.proofs.lemmas.List.Elements.{filter-append}
-use Rattle.mq_bytes.specs.declared.clients.QueueName.{QueueName}
+use Rattle.request_fields.specs.declared.clients.QueueName.{QueueName}
 use Rattle.broker_model.specs.Tables.{LockRow, is_same_queue, is_held_by_other, distinct_queues, granted}
 use Rattle.slow_rows.proofs.Lists.{more_in}
 

@@ -2,8 +2,8 @@
 use Rattle.std.proofs.Common.{◌≡◌, ◌∙◌, refl, sym, ap, ℕ, List, [], ◌∷◌, ◌++◌, map, reverse, append_assoc}
 use Rattle.std.specs.List.{flat_map}
 use Rattle.std.proofs.lemmas.List.{reverse-append, append-nil, map-append}
-use Rattle.mq_bytes.specs.declared.clients.Consumer.{Consumer}
-use Rattle.mq_bytes.specs.declared.clients.Subscription.{Subscription}
+use Rattle.request_fields.specs.declared.clients.Consumer.{Consumer}
+use Rattle.request_fields.specs.declared.clients.Subscription.{Subscription}
 use Rattle.broker_model.specs.Clients.{HeardRow, group_rows, heard_rows}
 use Rattle.slow_tables.specs.Clients.{rows_of}
 

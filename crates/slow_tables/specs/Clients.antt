@@ -1,6 +1,6 @@
 -- What a consumer group of a heartbeat says, in its order.
 use Rattle.std.specs.Prelude.{ℕ, List, map}
-use Rattle.mq_bytes.specs.declared.clients.Consumer.{Consumer}
+use Rattle.request_fields.specs.declared.clients.Consumer.{Consumer}
 use Rattle.broker_model.specs.Clients.{HeardRow}
 
 abbrev pub rows_of : List ℕ → Consumer → List HeardRow

@@ -10,8 +10,8 @@ ghost use Rattle.broker_model.specs.Clients.{clients_after as clients_after_of};
 ghost use Rattle.slow_tables.specs.Clients.{rows_of};
 ghost use Rattle.slow_rows.specs.Rows.{client_of, heard_of};
 
-use mq_bytes::{Consumer, Heartbeat, Rows, Text};
-use request_fields::UnregisterFields;
+use mq_bytes::{Rows, Text};
+use request_fields::{Consumer, Heartbeat, UnregisterFields};
 use slow_rows::{ClientRow, HeardRow, text_of};
 use std::alloc::{AllocError, Global};
 

@@ -8,8 +8,7 @@ ghost use Rattle.broker_model.specs.Tables.{is_held_by_other as is_held_by_other
 ghost use Rattle.broker_model.specs.Tables.{granted, lock_at, with_locks as with_locks_of, without_locks};
 ghost use Rattle.slow_rows.specs.Rows.{lock_of};
 
-use mq_bytes::QueueName;
-use request_fields::LockFields;
+use request_fields::{LockFields, QueueName};
 use slow_rows::{LockRow, text_of};
 use std::alloc::{AllocError, Global};
 

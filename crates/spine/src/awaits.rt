@@ -6,9 +6,9 @@ ghost use Rattle.broker_events.specs.declared.said.Said.TheVariants as said;
 ghost use Rattle.broker_events.specs.declared.said.Awaited.TheVariants.{NotYet};
 ghost use Rattle.spine.specs.Awaits.{LooksUntil};
 
+use crate::flush_waits::WaitPlace;
 use crate::pass::SpinePass;
 use broker_events::{Awaited, Calls, Event, Said};
-use flush_waits::WaitPlace;
 use std::alloc::Global;
 use std::sync::Wait;
 

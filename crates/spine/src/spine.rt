@@ -2,11 +2,11 @@
 
 ghost use Rattle.std.specs.Prelude.{◌≡◌};
 
+use crate::flush_waits::FlushWaits;
 use crate::pass::SpinePass;
 use crate::shared::{Pass, Shared};
 use broker_core::Core;
 use broker_events::Event;
-use flush_waits::FlushWaits;
 use std::alloc::{AllocError, Global};
 use std::sync::Wait;
 use story_lock::Story;

@@ -1,7 +1,8 @@
 //! A group stores offsets, and two of its clients ask for the same queue.
 
 use group_tables::Groups;
-use mq_bytes::{QueueName, Text};
+use mq_bytes::Text;
+use request_fields::QueueName;
 use std::alloc::{AllocError, Global};
 use std::test::Fail;
 

@@ -1,1 +1,4 @@
 mod Receipts
+pub mod ActLemmas
+pub mod CountLemmas
+mod TurningLemmas

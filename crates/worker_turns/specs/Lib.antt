@@ -1,1 +1,3 @@
 pub mod Turns
+pub mod Acts
+pub mod Turning

@@ -1,5 +1,5 @@
 use Rattle.log_model.proofs.OutsideLemmas.{outside_then, outside_same}
-use Rattle.request_acts.specs.Acts.{place_of}
+use Rattle.worker_turns.specs.Acts.{place_of}
 use Rattle.broker_run.proofs.ClosingLemmas.{rises_at_last, grows_at_last}
 use Rattle.broker_run.proofs.serving.serve_to_end.Goals as goal
 

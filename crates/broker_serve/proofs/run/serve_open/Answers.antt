@@ -3,9 +3,9 @@ use Rattle.mq_outside.specs.Disk.{Rests}
 use Rattle.mq_outside.proofs.Moments.{rests_start}
 use Rattle.log_model.specs.Stored.{StaysOutside}
 use Rattle.log_model.proofs.OutsideLemmas.{outside_then}
-use Rattle.request_acts.specs.Acts.{change_of, place_of, view_of}
-use Rattle.serve_story.specs.Kept.{keep_over}
-use Rattle.serve_story.specs.Served.{IsLeft, views_of}
+use Rattle.worker_turns.specs.Acts.{change_of, place_of, view_of}
+use Rattle.serve_threads.specs.Kept.{keep_over}
+use Rattle.serve_threads.specs.Served.{IsLeft, views_of}
 use Rattle.broker_serve.specs.Serves.{StoresOpened}
 use Rattle.broker_serve.proofs.Serving.{ends_unserved, ends_served}
 use Rattle.broker_serve.proofs.Storing.{none_of, some_of, stores_opened}

@@ -4,7 +4,7 @@ use Rattle.std.specs.Borrow.{Bor}
 use Rattle.std.specs.List.{list_any}
 use Rattle.std.specs.Str.{bytes_eq}
 use Rattle.std.specs.HashSet.{contains}
-use Rattle.mq_bytes.specs.declared.clients.QueueName.{QueueName}
+use Rattle.request_fields.specs.declared.clients.QueueName.{QueueName}
 use Rattle.broker_model.specs.Tables.{distinct_queues}
 use Rattle.group_tables.specs.Locks.{lock_in, keeps_off, names_queue}
 use Rattle.group_tables.proofs.LoopLemmas.{take_or, free_queues-push, with_key}

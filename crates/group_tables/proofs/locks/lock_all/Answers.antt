@@ -4,7 +4,7 @@ use Rattle.std.proofs.lemmas.Slice.Eq.{bytes_eq-Decides}
 use Rattle.std.specs.List.{list_any}
 use Rattle.std.specs.Option.{option_flatten}
 use Rattle.std.specs.Str.{bytes_eq}
-use Rattle.mq_bytes.specs.declared.clients.QueueName.{QueueName}
+use Rattle.request_fields.specs.declared.clients.QueueName.{QueueName}
 use Rattle.group_tables.specs.Table.{in_groups}
 use Rattle.group_tables.specs.Locks.{lock_in, lock_from, names_queue}
 use Rattle.group_tables.proofs.LockLemmas.{of_named, given_lock}

@@ -1,4 +1,4 @@
-use Rattle.answered_sends.proofs.Stands.{answered_stand}
+use Rattle.program_run.proofs.Stands.{answered_stand}
 use Rattle.program_run.proofs.call.run.Goals as goal
 
 pub returns-clause-answered : goal.returns-clause-answered

@@ -1,6 +1,6 @@
 use Rattle.std.proofs.Common.{◌≡◌, drop, All}
 use Rattle.serde_json.specs.View.{items_view}
-use Rattle.mq_bytes.specs.Clients.{IsName}
+use Rattle.request_fields.specs.Clients.{IsName}
 use Rattle.request_fields.specs.Bodies.{all_of, producer_of}
 use Rattle.request_fields.proofs.Items.{with_front}
 use Rattle.request_fields.proofs.beat.producers_in.Given as goal

@@ -1,7 +1,7 @@
 use Rattle.std.proofs.Common.{arith}
 use Rattle.log_model.proofs.OutsideLemmas.{outside_start, outside_then}
-use Rattle.request_acts.specs.Acts.{place_of}
-use Rattle.serve_story.proofs.Turns.{no_turns, turns_then, ended_turns, dispatch_turns}
+use Rattle.worker_turns.specs.Acts.{place_of}
+use Rattle.serve_threads.proofs.Turns.{no_turns, turns_then, ended_turns, dispatch_turns}
 use Rattle.serve_threads.proofs.Counting.{turn_grows, turn_blamed}
 use Rattle.serve_threads.proofs.flusher.flush_all.Goals as goal
 

@@ -1,6 +1,6 @@
 use Rattle.std.proofs.Common.{arith}
 use Rattle.log_model.proofs.OutsideLemmas.{outside_start, outside_then}
-use Rattle.serve_story.proofs.Turns.{no_turns, turns_then}
+use Rattle.serve_threads.proofs.Turns.{no_turns, turns_then}
 use Rattle.serve_threads.proofs.Counting.{disk_blamed}
 use Rattle.serve_threads.proofs.flusher.keep_flushing.Goals as goal
 

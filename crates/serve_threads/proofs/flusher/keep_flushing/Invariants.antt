@@ -1,8 +1,8 @@
 use Rattle.std.proofs.Common.{◌≡◌, ◌≤◌, None}
 use Rattle.log_model.specs.Stored.{StaysOutside}
 use Rattle.segment_files.specs.Turn.{IsInside}
-use Rattle.request_acts.specs.Acts.{Acted, place_of, view_of, change_of}
-use Rattle.serve_story.specs.Served.{AreFlushing}
+use Rattle.worker_turns.specs.Acts.{Acted, place_of, view_of, change_of}
+use Rattle.serve_threads.specs.Served.{AreFlushing}
 use Rattle.serve_threads.proofs.flusher.keep_flushing.Given as goal
 
 abbrev pub invariant-loop : goal.invariant-loop

@@ -1,7 +1,7 @@
 use Rattle.std.proofs.Common.{Some, subst}
 use Rattle.broker_events.specs.declared.event.Event.TheVariants.{Dispatch}
 use Rattle.broker_events.specs.declared.said.Said.TheVariants as said
-use Rattle.request_acts.specs.Turning.{most_seen}
+use Rattle.worker_turns.specs.Turning.{most_seen}
 use Rattle.serve_threads.proofs.flusher.show.Goals as goal
 
 pub returns-clause-made : goal.returns-clause-made

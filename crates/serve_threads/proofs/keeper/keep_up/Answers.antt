@@ -1,5 +1,5 @@
 use Rattle.std.proofs.Common.{arith}
-use Rattle.serve_story.proofs.Keeping.{keeps_start, keeps_more}
+use Rattle.serve_threads.proofs.Keeping.{keeps_start, keeps_more}
 use Rattle.serve_threads.proofs.Counting.{disk_grows}
 use Rattle.serve_threads.proofs.keeper.keep_up.Goals as goal
 

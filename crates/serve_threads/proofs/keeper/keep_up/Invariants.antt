@@ -1,6 +1,6 @@
 use Rattle.std.proofs.Common.{◌≤◌, IfSome}
 use Rattle.config_store.specs.Configs.{KeepsConfig}
-use Rattle.serve_story.specs.Kept.{KeepsUp, keep_over}
+use Rattle.serve_threads.specs.Kept.{KeepsUp, keep_over}
 use Rattle.serve_threads.proofs.keeper.keep_up.Given as goal
 
 abbrev pub invariant-loop : goal.invariant-loop

@@ -1,9 +1,9 @@
-use Rattle.request_acts.specs.Acts.{change_of, place_of, view_of}
+use Rattle.worker_turns.specs.Acts.{change_of, place_of, view_of}
 use Rattle.story_lock.specs.Passes.{start_of}
-use Rattle.serve_story.specs.Kept.{keep_over}
-use Rattle.serve_story.specs.Served.{views_of}
-use Rattle.serve_story.proofs.Keeping.{left_at}
-use Rattle.serve_story.proofs.Parts.{made_by}
+use Rattle.serve_threads.specs.Kept.{keep_over}
+use Rattle.serve_threads.specs.Served.{views_of}
+use Rattle.serve_threads.proofs.Keeping.{left_at}
+use Rattle.serve_threads.proofs.Parts.{made_by}
 use Rattle.serve_threads.proofs.Counting.{keep_blamed}
 use Rattle.serve_threads.proofs.served.close.Goals as goal
 

@@ -1,6 +1,6 @@
 use Rattle.std.proofs.Common.{sym, subst}
 use Rattle.event_loops.specs.Causes.{door_faults, loop_faults}
-use Rattle.serve_story.proofs.Keys.{some_at}
+use Rattle.serve_threads.proofs.Keys.{some_at}
 use Rattle.serve_threads.specs.Causes.{HasDoor, IsFirstFault}
 use Rattle.serve_threads.proofs.Counting.{world_counts}
 use Rattle.serve_threads.proofs.served.gather.Goals as goal

@@ -1,12 +1,12 @@
 use Rattle.std.proofs.Common.{◌≤◌, sym, subst}
 use Rattle.log_model.specs.Stored.{StaysOutside}
-use Rattle.request_acts.specs.Acts.{place_of, view_of}
+use Rattle.worker_turns.specs.Acts.{place_of, view_of}
 use Rattle.story_lock.specs.Passes.{seen_by, start_of}
 use Rattle.spine.specs.declared.spine.Spine.{Spine}
-use Rattle.serve_story.specs.Kept.{PutsAlong}
-use Rattle.serve_story.specs.Served.{HasMade, views_of}
-use Rattle.serve_story.proofs.Keeping.{keeps_along, puts_longer}
-use Rattle.serve_story.proofs.Parts.{looks_of, made_of, met_last, stays_acting, stays_leading}
+use Rattle.serve_threads.specs.Kept.{PutsAlong}
+use Rattle.serve_threads.specs.Served.{HasMade, views_of}
+use Rattle.serve_threads.proofs.Keeping.{keeps_along, puts_longer}
+use Rattle.serve_threads.proofs.Parts.{looks_of, made_of, met_last, stays_acting, stays_leading}
 use Rattle.serve_threads.specs.Causes.{BlamesDisk}
 use Rattle.serve_threads.proofs.Counting.{door_stays, loops_blame}
 use Rattle.serve_threads.proofs.served.run_seated.Goals as goal

@@ -1,5 +1,5 @@
 use Rattle.std.proofs.Common.{◌∙◌}
-use Rattle.serve_story.proofs.Keys.{split_there, of_there, cut_key, cut_out}
+use Rattle.serve_threads.proofs.Keys.{split_there, of_there, cut_key, cut_out}
 use Rattle.serve_threads.proofs.served.seats_of.Goals as goal
 
 pub returns-clause-cut : goal.returns-clause-cut

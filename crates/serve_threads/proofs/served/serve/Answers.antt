@@ -1,10 +1,10 @@
 use Rattle.std.proofs.Common.{sym, subst}
 use Rattle.log_model.specs.Stored.{StaysOutside}
 use Rattle.broker_core.specs.declared.parts.Parts.{Parts}
-use Rattle.request_acts.specs.Acts.{change_of, place_of, view_of}
+use Rattle.worker_turns.specs.Acts.{change_of, place_of, view_of}
 use Rattle.segment_files.specs.declared.last_file.LastFile.{LastFile}
-use Rattle.serve_story.specs.Kept.{keep_over}
-use Rattle.serve_story.specs.Served.{IsLeft, views_of}
+use Rattle.serve_threads.specs.Kept.{keep_over}
+use Rattle.serve_threads.specs.Served.{IsLeft, views_of}
 use Rattle.event_loops.specs.declared.event_loop.LoopEnd.{LoopEnd}
 use Rattle.worker_turns.specs.declared.flush.FlushEnd.{FlushEnd}
 use Rattle.serve_threads.specs.Causes.{WorldFaults, BlamesDisk, BlamesWorld, world_faults}

@@ -1,6 +1,6 @@
 use Rattle.std.proofs.Common.{◌∙◌, sym, subst}
 use Rattle.spine.specs.Passes.{Joins}
-use Rattle.serve_story.proofs.Keys.{joined_there, same_of}
+use Rattle.serve_threads.proofs.Keys.{joined_there, same_of}
 use Rattle.serve_threads.proofs.served.together.Goals as goal
 
 pub returns-clause-meets : goal.returns-clause-meets

@@ -1,7 +1,7 @@
 use Rattle.std.proofs.Common.{◌∙◌, ap, sym, take, reverse, map, List}
 use Rattle.std.specs.List.{flat_map}
 use Rattle.std.proofs.lemmas.List.{take_all}
-use Rattle.mq_bytes.specs.declared.clients.Consumer.{Consumer}
+use Rattle.request_fields.specs.declared.clients.Consumer.{Consumer}
 use Rattle.broker_model.specs.Clients.{HeardRow as ModelRow}
 use Rattle.slow_tables.specs.Clients.{rows_of}
 use Rattle.slow_rows.specs.Rows.{heard_of}

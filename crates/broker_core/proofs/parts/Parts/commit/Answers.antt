@@ -1,5 +1,5 @@
 use Rattle.std.proofs.Common.{◌≡◌, ◌∙◌, ap, sym, subst, arith, ℕ, List}
-use Rattle.mq_bytes.specs.Clients.{IsName}
+use Rattle.request_fields.specs.Clients.{IsName}
 use Rattle.request_fields.specs.Requests.{PullSaid, KeepsPull}
 use Rattle.broker_core.proofs.GroupLemmas.{name_of_field, commit_stored, commit_none}
 use Rattle.broker_core.proofs.parts.Parts.commit.Goals as goal

@@ -1,8 +1,8 @@
 use Rattle.std.proofs.Common.{◌≡◌, ◌≤◌, ◌∙◌, ap, sym, subst, max, length, All, List}
-use Rattle.mq_bytes.specs.declared.clients.QueueName.{QueueName}
+use Rattle.request_fields.specs.declared.clients.QueueName.{QueueName}
 use Rattle.request_fields.specs.Requests.{LockSaid, IsQueueName}
 use Rattle.request_fields.specs.declared.request.Request.TheVariants.{Lock}
-use Rattle.lock_body.specs.Granted.{HasShortNames}
+use Rattle.reply_fields.specs.Granted.{HasShortNames}
 use Rattle.broker_model.specs.Events as model
 use Rattle.broker_model.specs.Tables.{granted, with_locks}
 use Rattle.broker_events.specs.Replies.{IsLockReply}

@@ -1,5 +1,5 @@
 use Rattle.std.proofs.Common.{◌≡◌, ◌∙◌, ap, sym, subst, arith, ℕ, List, true, None, Some, codes, rules}
-use Rattle.mq_bytes.specs.Clients.{IsName}
+use Rattle.request_fields.specs.Clients.{IsName}
 use Rattle.record_codec.specs.Layout.{is_legal}
 use Rattle.request_fields.specs.Requests.{SetOffsetSaid, KeepsSetOffset}
 use Rattle.request_fields.specs.declared.request.Request.TheVariants.{SetOffset}

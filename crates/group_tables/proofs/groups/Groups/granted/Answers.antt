@@ -1,6 +1,6 @@
 use Rattle.std.proofs.Common.{◌≡◌, ◌∙◌, sym, subst, not, filter, Bool, List}
 use Rattle.std.proofs.lemmas.Result.{IfOk-weaker}
-use Rattle.mq_bytes.specs.declared.clients.QueueName.{QueueName}
+use Rattle.request_fields.specs.declared.clients.QueueName.{QueueName}
 use Rattle.broker_model.specs.Tables.{LockRow, distinct_queues, granted}
 use Rattle.group_tables.specs.Held.{HasLocks}
 use Rattle.group_tables.specs.Locks.{keeps_off, lock_in}

@@ -1,5 +1,5 @@
 use Rattle.event_loops.specs.Tales.{link_view}
-use Rattle.serve_story.proofs.Parts.{answered}
+use Rattle.serve_threads.proofs.Parts.{answered}
 use Rattle.serve_threads.proofs.threads.Worker.run.Goals as goal
 
 pub returns-clause-answered : goal.returns-clause-answered

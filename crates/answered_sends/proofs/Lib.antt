@@ -1,9 +1,0 @@
-pub mod Moments
-pub mod OnDisk
-pub mod Answers
-pub mod Calls
-pub mod Walks
-pub mod SendAnswers
-pub mod SendSteps
-pub mod Sent
-pub mod Stands

@@ -1,5 +1,0 @@
-pub mod ListLemmas
-pub mod MapLemmas
-pub mod HeardLemmas
-pub mod ClientLemmas
-pub mod BeatLemmas

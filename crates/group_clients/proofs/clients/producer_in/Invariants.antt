@@ -1,7 +1,0 @@
-use Rattle.std.proofs.Common.{◌≡◌, find, map, take, None}
-use Rattle.broker_model.specs.Clients.{is_among}
-use Rattle.group_clients.specs.Table.{client_of}
-use Rattle.group_clients.proofs.clients.producer_in.Given as goal
-
-abbrev pub invariant-loop-row : goal.invariant-loop-row
-invariant-loop-row l = find (λ row. is_among row.producers l.group) (map client_of (take l.row-index l.clients)) ≡ None

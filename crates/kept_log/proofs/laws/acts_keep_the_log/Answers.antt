@@ -1,5 +1,0 @@
-use Rattle.kept_log.proofs.ActStory.{acts_lead}
-use Rattle.kept_log.proofs.laws.acts_keep_the_log.Goals as goal
-
-pub returns : goal.returns
-returns g c s x y acts file file_then are happened = acts_lead _ acts s x y _ _ are happened

@@ -1,4 +1,0 @@
-pub mod Counts
-pub mod Tails
-pub mod Places
-pub mod Matches

@@ -1,0 +1,176 @@
+-- A stream that is served piece by piece.
+use Rattle.std.proofs.Common.{◌≡◌, inl, inr, ◌∙◌, ℕ, ◌+◌, ◌≤◌, ◌++◌, List, [], None, Result, Ok, Err, length, refl, ap, sym, subst, arith, append_assoc, append-nil, length-append}
+use Rattle.mq_outside.specs.Counts.{Rises}
+use Rattle.remoting_frame.specs.Held.{Held}
+use Rattle.remoting_frame.specs.Frames.{first_of, next_of}
+use Rattle.remoting_frame.specs.Streams.{BeginsWith}
+use Rattle.remoting_frame.specs.declared.frame.Frame.{Frame}
+use Rattle.remoting_frame.proofs.StreamLaws.{begins_more}
+use Rattle.worker_turns.proofs.CountLemmas.{faults_grow}
+use Rattle.pipe_stream.specs.Serving.{Sides, Point, Ran, acts_of, begun_acts}
+use Rattle.pipe_stream.specs.Piping.{CountsHalt, CountsPipe, RanBy, ServesHeld, EndsBy, SourceSeen, source_of, Piped, SoFar, EndsHere, stream_limit, Gave}
+use Rattle.pipe_stream.specs.declared.stop.Stop.TheVariants as stops
+use Rattle.pipe_stream.specs.declared.stop.Halt.{Halt}
+use Rattle.pipe_stream.specs.declared.stop.Halt.TheVariants.{BadFrame, Read, Stopped}
+use Rattle.pipe_stream.proofs.ServingLemmas.{ran_nothing, ran_then, broke_then, broke_idle, broke_memory}
+use Rattle.pipe_stream.proofs.HeldLemmas.{begins_then}
+use Rattle.worker_turns.specs.Acts.{change_of}
+use Rattle.pipe_stream.specs.Telling.{fault_counts}
+
+pub none_waits : next_of 0 [] ≡ Ok None
+unfolding first_of
+none_waits = refl
+
+module _ {C D : Type 0} (sides : Sides C D) (source : Type 0) (given : List ℕ) (x : C) (old : Point D) where
+  -- nothing was read
+  pub so_far_start : (held : Held) → held ≡ record { at = 0; bytes = [] } → SoFar sides 0 held (Gave source given given) (change_of x old x old)
+  so_far_start held start = record {
+    bytes = [];
+    frames = [];
+    total_is = refl;
+    given_is = λ told. sym (append-nil given);
+    cut = (ap (λ (h : Held). h.at) (sym start), ap (λ (h : Held). h.bytes) (sym start));
+    ran = ran_nothing sides [] x old refl;
+  }
+
+  -- all frames of what was read were served, and what stands behind them ended the reading
+  all_served : {A : Type 0} (result : Result A Halt) (total : ℕ) (held : Held) (given_mid given_then left_then : List ℕ) (y : C) (new : Point D)
+      → (far : SoFar sides total held (Gave source given given_mid) (change_of x old y new)) → (Ran sides far.frames (change_of x old y new) → RanBy sides result far.frames (change_of x old y new)) → (source → given_then ≡ given_mid)
+      → EndsBy result held.at held.bytes far.bytes source left_then → Piped sides result (source_of source given given_then left_then) (change_of x old y new)
+  all_served result total held given_mid given_then left_then y new far ran same ends = record {
+    bytes = far.bytes;
+    frames = far.frames;
+    at = held.at;
+    rest = held.bytes;
+    given_is = λ told. same told ∙ far.given_is told;
+    cut = far.cut;
+    ends = ends;
+    ran = ran far.ran;
+  }
+
+  -- there was no memory to begin with
+  pub not_started : (left : List ℕ) → Piped {A = Unit {0}} sides (Err (Stopped stops.Memory)) (source_of source given given left) (change_of x old x old)
+  not_started left = record {
+    bytes = [];
+    frames = [];
+    at = 0;
+    rest = [];
+    given_is = λ told. sym (append-nil given);
+    cut = (refl, refl);
+    ends = tt;
+    ran = broke_idle sides stops.Memory [] x old.place old.reads old.taken old.readings old.readings tt (λ told. refl);
+  }
+
+  -- the source failed
+  pub read_failed : (total : ℕ) (held : Held) (given_mid given_then left_then : List ℕ) (y : C) (new : Point D) → SoFar sides total held (Gave source given given_mid) (change_of x old y new)
+      → next_of held.at held.bytes ≡ Ok None → (source → given_then ≡ given_mid) → Piped {A = Unit {0}} sides (Err Read) (source_of source given given_then left_then) (change_of x old y new)
+  read_failed total held given_mid given_then left_then y new far waits same = all_served (Err Read) total held given_mid given_then left_then y new far (λ ran. ran) same waits
+
+  -- the source has no more
+  pub source_ended : (result : Result (Unit {0}) Halt) (total : ℕ) (held : Held) (given_mid given_then left_then : List ℕ) (y : C) (new : Point D)
+      → SoFar sides total held (Gave source given given_mid) (change_of x old y new) → next_of held.at held.bytes ≡ Ok None → (source → given_then ≡ given_mid) → (source → left_then ≡ []) → EndsHere held result
+      → Piped sides result (source_of source given given_then left_then) (change_of x old y new)
+  source_ended (Ok u) total held given_mid given_then left_then y new far waits same over ends =
+      all_served (Ok u) total held given_mid given_then left_then y new far (λ ran. ran) same (ends, over)
+  source_ended (Err (BadFrame place)) total held given_mid given_then left_then y new far waits same over ends =
+      all_served (Err (BadFrame place)) total held given_mid given_then left_then y new far (λ ran. ran) same
+      (inr (inl (record { place_is = ends.0; some = ends.1; waits = waits; over = over })))
+  source_ended (Err Read) total held given_mid given_then left_then y new far waits same over ends = absurd ends
+  source_ended (Err (Stopped stop)) total held given_mid given_then left_then y new far waits same over ends = absurd ends
+
+  -- as many bytes were read as a stream may have
+  pub limit_reached : (total : ℕ) (held : Held) (given_then left : List ℕ) (y : C) (new : Point D) → SoFar sides total held (Gave source given given_then) (change_of x old y new) → total ≡ stream_limit
+      → Piped {A = Unit {0}} sides (Err (BadFrame stream_limit)) (source_of source given given_then left) (change_of x old y new)
+  limit_reached total held given_then left y new far limit =
+      all_served (Err (BadFrame stream_limit)) total held given_then given_then left y new far (λ ran. ran) (λ told. refl) (inr (inr (refl, far.total_is ∙ limit)))
+
+  -- what was read, with a piece more
+  more_is : (bytes piece given_mid given_then : List ℕ) → (source → given_then ≡ given_mid ++ piece) → (source → given_mid ≡ given ++ bytes) → source → given_then ≡ given ++ (bytes ++ piece)
+  more_is bytes piece given_mid given_then more before told = more told ∙ ap (λ (l : List ℕ). l ++ piece) (before told) ∙ append_assoc given bytes piece
+
+  -- what was read went nowhere for want of memory
+  pub not_fed : (total : ℕ) (held : Held) (piece given_mid given_then left_then : List ℕ) (y : C) (new : Point D) → SoFar sides total held (Gave source given given_mid) (change_of x old y new)
+      → (source → given_then ≡ given_mid ++ piece) → Piped {A = Unit {0}} sides (Err (Stopped stops.Memory)) (source_of source given given_then left_then) (change_of x old y new)
+  not_fed total held piece given_mid given_then left_then y new far more = record {
+    bytes = far.bytes ++ piece;
+    frames = far.frames;
+    at = held.at;
+    rest = held.bytes ++ piece;
+    given_is = more_is far.bytes piece given_mid given_then more far.given_is;
+    cut = begins_more 0 far.bytes piece far.frames held.at held.bytes far.cut;
+    ends = tt;
+    ran = broke_memory sides far.frames x y old new far.ran;
+  }
+
+  -- the frames of what was read, with those of a piece more
+  fed_begins : (bytes piece : List ℕ) (frames more : List Frame) (held fed held_then : Held) → BeginsWith 0 bytes frames held.at held.bytes → fed ≡ record { at = held.at; bytes = held.bytes ++ piece }
+      → BeginsWith fed.at fed.bytes more held_then.at held_then.bytes → BeginsWith 0 (bytes ++ piece) (frames ++ more) held_then.at held_then.bytes
+  fed_begins bytes piece frames more held fed held_then cut fed_is served =
+      begins_then 0 (bytes ++ piece) frames more held.at held_then.at (held.bytes ++ piece) held_then.bytes (begins_more 0 bytes piece frames held.at held.bytes cut)
+      (subst (λ (h : Held). BeginsWith h.at h.bytes more held_then.at held_then.bytes) fed_is served)
+
+  -- a piece was read, fed and served
+  pub piece_served : (total n : ℕ) (held fed held_then : Held) (piece given_mid given_then : List ℕ) (y z : C) (mid new : Point D) → SoFar sides total held (Gave source given given_mid) (change_of x old y mid)
+      → (source → given_then ≡ given_mid ++ piece) → length piece ≡ n → fed ≡ record { at = held.at; bytes = held.bytes ++ piece } → ServesHeld {A = Unit {0}} sides (Ok tt) fed held_then (change_of y mid z new)
+      → SoFar sides (total + n) held_then (Gave source given given_then) (change_of x old z new)
+  piece_served total n held fed held_then piece given_mid given_then y z mid new far more long fed_is served = record {
+    bytes = far.bytes ++ piece;
+    frames = far.frames ++ served.frames;
+    total_is = omega (arith, length-append far.bytes piece, far.total_is, long);
+    given_is = more_is far.bytes piece given_mid given_then more far.given_is;
+    cut = fed_begins far.bytes piece far.frames served.frames held fed held_then far.cut fed_is served.cut;
+    ran = ran_then sides far.frames served.frames x y z old mid new far.ran served.ran;
+  }
+
+  -- a piece was read and fed, and something ended the reading in it
+  pub piece_halted : (halt : Halt) (total : ℕ) (held fed held_then : Held) (piece given_mid given_then left_then : List ℕ) (y z : C) (mid new : Point D) → SoFar sides total held (Gave source given given_mid) (change_of x old y mid)
+      → (source → given_then ≡ given_mid ++ piece) → fed ≡ record { at = held.at; bytes = held.bytes ++ piece } → ServesHeld {A = Unit {0}} sides (Err halt) fed held_then (change_of y mid z new)
+      → Piped {A = Unit {0}} sides (Err halt) (source_of source given given_then left_then) (change_of x old z new)
+  piece_halted (BadFrame place) total held fed held_then piece given_mid given_then left_then y z mid new far more fed_is served = record {
+    bytes = far.bytes ++ piece;
+    frames = far.frames ++ served.frames;
+    at = held_then.at;
+    rest = held_then.bytes;
+    given_is = more_is far.bytes piece given_mid given_then more far.given_is;
+    cut = fed_begins far.bytes piece far.frames served.frames held fed held_then far.cut fed_is served.cut;
+    ends = inl served.halts;
+    ran = ran_then sides far.frames served.frames x y z old mid new far.ran served.ran;
+  }
+  piece_halted Read total held fed held_then piece given_mid given_then left_then y z mid new far more fed_is served = absurd served.halts
+  piece_halted (Stopped stop) total held fed held_then piece given_mid given_then left_then y z mid new far more fed_is served = record {
+    bytes = far.bytes ++ piece;
+    frames = far.frames ++ served.frames;
+    at = held_then.at;
+    rest = held_then.bytes;
+    given_is = more_is far.bytes piece given_mid given_then more far.given_is;
+    cut = fed_begins far.bytes piece far.frames served.frames held fed held_then far.cut fed_is served.cut;
+    ends = tt;
+    ran = broke_then sides stop far.frames served.frames x y z old mid new far.ran served.ran;
+  }
+
+-- ---- causes
+
+pub counts_end : (held : Held) (result : Result (Unit {0}) Halt) (source source_then sink sink_then clock clock_then : ℕ) → EndsHere held result
+    → CountsPipe result (fault_counts source source_then) (fault_counts sink sink_then) (fault_counts clock clock_then)
+counts_end held (Ok u) source source_then sink sink_then clock clock_then ends = tt
+counts_end held (Err (BadFrame place)) source source_then sink sink_then clock clock_then ends = tt
+counts_end held (Err Read) source source_then sink sink_then clock clock_then ends = absurd ends
+counts_end held (Err (Stopped stop)) source source_then sink sink_then clock clock_then ends = absurd ends
+
+pub counts_halt : (halt : Halt) (source source_then sink sink_mid sink_then clock clock_mid clock_then : ℕ) → sink_mid ≡ sink → clock_mid ≡ clock
+    → CountsHalt {A = Unit {0}} (Err halt) (fault_counts sink_mid sink_then) (fault_counts clock_mid clock_then) → CountsPipe {A = Unit {0}} (Err halt) (fault_counts source source_then) (fault_counts sink sink_then) (fault_counts clock clock_then)
+counts_halt (BadFrame place) source source_then sink sink_mid sink_then clock clock_mid clock_then same_sink same_clock counts = tt
+counts_halt Read source source_then sink sink_mid sink_then clock clock_mid clock_then same_sink same_clock counts = absurd counts
+counts_halt (Stopped stops.Clock) source source_then sink sink_mid sink_then clock clock_mid clock_then same_sink same_clock counts = subst (λ (n : ℕ). Rises n clock_then) same_clock counts
+counts_halt (Stopped stops.Sink) source source_then sink sink_mid sink_then clock clock_mid clock_then same_sink same_clock counts = subst (λ (n : ℕ). Rises n sink_then) same_sink counts
+counts_halt (Stopped stops.Memory) source source_then sink sink_mid sink_then clock clock_mid clock_then same_sink same_clock counts = tt
+counts_halt (Stopped stops.Misplaced) source source_then sink sink_mid sink_then clock clock_mid clock_then same_sink same_clock counts = tt
+
+-- the disk's count of faults never falls
+pub piped_grows : {C D A : Type 0} (sides : Sides C D) (result : Result A Halt) (source : SourceSeen) (x y : C) (old new : Point D) → Piped sides result source (change_of x old y new)
+    → sides.disk.faults old.place.disk ≤ sides.disk.faults new.place.disk
+piped_grows sides (Ok done) source x y old new piped = faults_grow sides.makes sides.disk (acts_of piped.ran.served) x y old.place new.place piped.ran.happened
+piped_grows sides (Err (BadFrame place)) source x y old new piped = faults_grow sides.makes sides.disk (acts_of piped.ran.served) x y old.place new.place piped.ran.happened
+piped_grows sides (Err Read) source x y old new piped = faults_grow sides.makes sides.disk (acts_of piped.ran.served) x y old.place new.place piped.ran.happened
+piped_grows sides (Err (Stopped stop)) source x y old new piped =
+    faults_grow sides.makes sides.disk (acts_of piped.ran.served ++ begun_acts piped.ran.begun) x y old.place new.place piped.ran.happened

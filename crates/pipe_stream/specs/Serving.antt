@@ -1,0 +1,269 @@
+-- Requests that were served, one after another: what was heard of each, what happened for it, and what was written.
+use Rattle.std.specs.Prelude.{◌≡◌, ◌⊎◌, ℕ, ◌++◌, List, [], ◌∷◌, map, Option, Some, None, Result, Ok, Err}
+use Rattle.mq_outside.specs.Readings.{Giving}
+use Rattle.remoting_frame.specs.declared.frame.Frame.{Frame}
+use Rattle.reply_fields.specs.Parts.{ReplyParts}
+use Rattle.request_fields.specs.Reading.{Reads, request_of}
+use Rattle.request_fields.specs.declared.request.Request.{Request}
+use Rattle.request_fields.specs.declared.fault.RequestFault.{RequestFault}
+use Rattle.session.specs.Hearing.{is_one_way}
+use Rattle.session.specs.Talks.{requests_of}
+use Rattle.session.specs.declared.caller.Caller.{Caller}
+use Rattle.session.specs.declared.owed.Awaits.{Awaits}
+use Rattle.worker_turns.specs.Turns.{Steps}
+use Rattle.worker_turns.specs.Acts.{Act, Acts, Change, DiskView, Place, HasUnwritten, change_of}
+use Rattle.worker_turns.specs.Turning.{AreTurnsAndDispatch}
+use Rattle.pipe_stream.specs.Asking.{IsGiven, IsLooked}
+use Rattle.pipe_stream.specs.Telling.{FaultCounts, fault_counts, IsTold, TookPart}
+use Rattle.pipe_stream.specs.declared.answer.Answer.{Answer}
+use Rattle.pipe_stream.specs.declared.stop.Stop.{Stop}
+use Rattle.pipe_stream.specs.declared.stop.Stop.TheVariants.{Clock, Sink, Memory, Misplaced}
+
+-- who makes the broker's steps, what reads of stored pieces give, what is seen of the disk, and that the sink and the clock tell
+-- what they hold
+pub record Sides (C D : Type 0) : Type 1 where
+  pub makes : Steps C
+  pub gives : Giving
+  pub disk : DiskView D
+  pub sink : Type 0
+  pub clock : Type 0
+
+abbrev pub sides_of : {C D : Type 0} → Steps C → Giving → DiskView D → Type 0 → Type 0 → Sides C D
+sides_of makes gives disk sink clock = record { makes = makes; gives = gives; disk = disk; sink = sink; clock = clock }
+
+-- the disk, how often reads of stored pieces failed, what the sink took, and the readings that the clock gave
+pub record Point (D : Type 0) : Type 0 where
+  pub place : Place D
+  pub reads : ℕ
+  pub taken : List ℕ
+  pub readings : List ℕ
+
+abbrev pub point_of : {D : Type 0} → Place D → ℕ → List ℕ → List ℕ → Point D
+point_of place reads taken readings = record { place = place; reads = reads; taken = taken; readings = readings }
+
+-- the places of the disk in it
+abbrev pub places_of : {C D : Type 0} → Change C (Point D) → Change C (Place D)
+places_of change = change_of change.calls change.place.place change.calls_then change.place_then.place
+
+-- ---- one request
+
+-- who waits for the answer to the frame
+abbrev pub caller_of : Frame → Caller
+caller_of frame = record { form = frame.form; opaque = frame.header.opaque; one_way = is_one_way frame.header }
+
+-- the reply to the answer: at once, or by what became of the record that it tells of
+abbrev pub IsSettled : ReplyParts → Option Awaits → ReplyParts → List Act → Type 0
+IsSettled said None reply acts = (reply ≡ said) × (acts ≡ [])
+IsSettled said (Some awaits) reply acts = IsLooked said awaits reply acts
+
+-- behind a reply that is told at once come flush turns
+abbrev pub IsFollowed : Option Awaits → List Act → Type 0
+IsFollowed None acts = AreTurnsAndDispatch acts
+IsFollowed (Some awaits) acts = acts ≡ []
+
+-- a request, the reading that was taken for it, what happened for it, and what was written
+pub record Served : Type 0 where
+  pub frame : Frame
+  pub reading : ℕ
+  pub acts : List Act
+  pub bytes : List ℕ
+
+abbrev pub served_as : Frame → ℕ → List Act → List ℕ → Served
+served_as frame reading acts bytes = record { frame = frame; reading = reading; acts = acts; bytes = bytes }
+
+-- The frame was read, what it asks was given to the broker at the reading of the clock, its record was waited for if the answer
+-- says so, and these are the bytes that answer it.
+pub record IsAnswered (gives : Giving) (it : Served) (answer : Answer) (faults : FaultCounts) : Type 0 where
+  pub request : Result Request RequestFault
+  pub given : List Act
+  pub settled : List Act
+  pub reply : ReplyParts
+  pub read : Reads request (request_of it.frame.header it.frame.body)
+  pub is_given : IsGiven it.frame.header.code it.reading request answer given
+  pub is_settled : IsSettled answer.reply answer.awaits reply settled
+  pub told : IsTold gives (caller_of it.frame) reply faults it.bytes
+  pub are_all : it.acts ≡ given ++ settled
+
+-- what was pending was flushed, it was answered, and flush turns came behind a reply that was told at once
+pub record IsServed (gives : Giving) (it : Served) (faults faults_then : ℕ) : Type 0 where
+  pub answer : Answer
+  pub before : List Act
+  pub first : List Act
+  pub later : List Act
+  pub turned : AreTurnsAndDispatch before
+  pub answered : IsAnswered gives (served_as it.frame it.reading first it.bytes) answer (fault_counts faults faults_then)
+  pub followed : IsFollowed answer.awaits later
+  pub are_all : it.acts ≡ before ++ (first ++ later)
+
+-- its answer was made, and then its serving broke off
+pub record IsPartly (gives : Giving) (it : Served) (faults faults_then : ℕ) : Type 0 where
+  pub answer : Answer
+  pub before : List Act
+  pub first : List Act
+  pub later : List Act
+  pub turned : AreTurnsAndDispatch before
+  pub answered : IsAnswered gives (served_as it.frame it.reading first it.bytes) answer (fault_counts faults faults_then)
+  pub are_all : it.acts ≡ before ++ (first ++ later)
+
+-- ---- many
+
+-- each of them was served, while the reader's count of faults went from the first to the last
+abbrev pub AreServed : Giving → ℕ → List Served → ℕ → Type 0
+AreServed gives faults [] faults_then = faults_then ≡ faults
+AreServed gives faults (it ∷ served) faults_then = (mid : ℕ) × IsServed gives it faults mid × AreServed gives mid served faults_then
+
+-- what happened for all of them
+abbrev pub acts_of : List Served → List Act
+acts_of [] = []
+acts_of (it ∷ served) = it.acts ++ acts_of served
+
+-- what was written for all of them
+abbrev pub bytes_of : List Served → List ℕ
+bytes_of [] = []
+bytes_of (it ∷ served) = it.bytes ++ bytes_of served
+
+abbrev pub frames_of : List Served → List Frame
+frames_of = map (λ it. it.frame)
+
+abbrev pub readings_of : List Served → List ℕ
+readings_of = map (λ it. it.reading)
+
+-- The requests among the frames were served, in order. What is said of the sink and the clock is said where these tell what they
+-- hold.
+pub record Ran {C D : Type 0} (sides : Sides C D) (frames : List Frame) (change : Change C (Point D)) : Type 0 where
+  pub served : List Served
+  pub asked : frames_of served ≡ requests_of frames
+  pub each : AreServed sides.gives change.place.reads served change.place_then.reads
+  pub happened : Acts sides.makes sides.disk (acts_of served) (places_of change)
+  pub answered : sides.sink → change.place_then.taken ≡ change.place.taken ++ bytes_of served
+  pub read : sides.clock → change.place_then.readings ≡ change.place.readings ++ readings_of served
+
+-- What was begun when serving broke off: nothing, where the clock failed or memory ran out between two requests; and else a
+-- request with what happened for it. Its bytes are none, or those of its answer.
+pub data Begun : Type 0 where
+  Nothing : Begun
+  Asked : Served → Begun
+
+-- The bytes that were to be written for it.
+abbrev pub begun_bytes : Begun → List ℕ
+begun_bytes Nothing = []
+begun_bytes (Asked it) = it.bytes
+
+abbrev pub begun_acts : Begun → List Act
+begun_acts Nothing = []
+begun_acts (Asked it) = it.acts
+
+abbrev pub begun_readings : Begun → List ℕ
+begun_readings Nothing = []
+begun_readings (Asked it) = it.reading ∷ []
+
+-- it is the first of the requests that were not served
+abbrev pub IsNext : Begun → List Frame → Type 0
+IsNext Nothing left = Unit {0}
+IsNext (Asked it) [] = ⊥
+IsNext (Asked it) (frame ∷ left) = it.frame ≡ frame
+
+-- what the acts have where this broke them off: a batch that was taken and not written, where one was misplaced
+abbrev pub StoppedIn : Stop → List Act → Type 0
+StoppedIn Clock acts = Unit {0}
+StoppedIn Sink acts = Unit {0}
+StoppedIn Memory acts = Unit {0}
+StoppedIn Misplaced acts = HasUnwritten acts
+
+-- what was begun, by what broke it off
+abbrev pub Breaks : Giving → Stop → Begun → ℕ → ℕ → Type 0
+Breaks gives Clock begun faults faults_then = begun ≡ Nothing
+Breaks gives Sink Nothing faults faults_then = ⊥
+Breaks gives Sink (Asked it) faults faults_then = IsPartly gives it faults faults_then
+Breaks gives Memory Nothing faults faults_then = Unit {0}
+Breaks gives Memory (Asked it) faults faults_then = (it.bytes ≡ []) ⊎ IsPartly gives it faults faults_then
+Breaks gives Misplaced Nothing faults faults_then = ⊥
+Breaks gives Misplaced (Asked it) faults faults_then = HasUnwritten it.acts × ((it.bytes ≡ []) ⊎ IsPartly gives it faults faults_then)
+
+-- The same where this ended it. What was written of the request that was begun is a front of its answer.
+pub record Broke {C D : Type 0} (sides : Sides C D) (stop : Stop) (frames : List Frame) (change : Change C (Point D)) : Type 0 where
+  pub served : List Served
+  pub begun : Begun
+  pub left : List Frame
+  pub mid : ℕ
+  pub asked : frames_of served ++ left ≡ requests_of frames
+  pub next : IsNext begun left
+  pub each : AreServed sides.gives change.place.reads served mid
+  pub breaks : Breaks sides.gives stop begun mid change.place_then.reads
+  pub happened : Acts sides.makes sides.disk (acts_of served ++ begun_acts begun) (places_of change)
+  pub answered : sides.sink → TookPart (change.place.taken ++ bytes_of served) change.place_then.taken (begun_bytes begun)
+  pub read : sides.clock → change.place_then.readings ≡ change.place.readings ++ (readings_of served ++ begun_readings begun)
+
+-- which of the two it is
+abbrev pub Serves : {C D A : Type 0} → Sides C D → Result A Stop → List Frame → Change C (Point D) → Type 0
+Serves sides (Ok done) frames change = Ran sides frames change
+Serves sides (Err stop) frames change = Broke sides stop frames change
+
+-- ---- one request, step by step
+
+-- the answer was told, and this happened for it
+pub record HasAnswered {C D : Type 0} (sides : Sides C D) (caller : Caller) (answer : Answer)
+    (change : Change C (Point D)) : Type 0 where
+  pub settled : List Act
+  pub followed : List Act
+  pub reply : ReplyParts
+  pub bytes : List ℕ
+  pub is_settled : IsSettled answer.reply answer.awaits reply settled
+  pub is_followed : IsFollowed answer.awaits followed
+  pub told : IsTold sides.gives caller reply (fault_counts change.place.reads change.place_then.reads) bytes
+  pub happened : Acts sides.makes sides.disk (settled ++ followed) (places_of change)
+  pub taken_is : sides.sink → change.place_then.taken ≡ change.place.taken ++ bytes
+
+-- it was made, and then its serving broke off
+pub record HasPartly {C D : Type 0} (sides : Sides C D) (stop : Stop) (caller : Caller) (answer : Answer)
+    (change : Change C (Point D)) : Type 0 where
+  pub settled : List Act
+  pub followed : List Act
+  pub reply : ReplyParts
+  pub bytes : List ℕ
+  pub is_settled : IsSettled answer.reply answer.awaits reply settled
+  pub told : IsTold sides.gives caller reply (fault_counts change.place.reads change.place_then.reads) bytes
+  pub happened : Acts sides.makes sides.disk (settled ++ followed) (places_of change)
+  pub stopped : StoppedIn stop (settled ++ followed)
+  pub took : sides.sink → TookPart change.place.taken change.place_then.taken bytes
+
+-- it was not made
+pub record HasBroken {C D : Type 0} (sides : Sides C D) (stop : Stop) (change : Change C (Point D)) : Type 0 where
+  pub acts : List Act
+  pub happened : Acts sides.makes sides.disk acts (places_of change)
+  pub stopped : StoppedIn stop acts
+  pub still : sides.sink → change.place_then.taken ≡ change.place.taken
+
+-- which of them, by what ended it
+abbrev pub Answers : {C D A : Type 0} → Sides C D → Caller → Answer → Result A Stop → Change C (Point D) → Type 0
+Answers sides caller answer (Ok done) change = HasAnswered sides caller answer change
+Answers sides caller answer (Err Clock) change = ⊥
+Answers sides caller answer (Err Sink) change = HasPartly sides Sink caller answer change
+Answers sides caller answer (Err Memory) change = HasPartly sides Memory caller answer change ⊎ HasBroken sides Memory change
+Answers sides caller answer (Err Misplaced) change = HasPartly sides Misplaced caller answer change ⊎ HasBroken sides Misplaced change
+
+-- the frame's request was served
+pub record HasServed {C D : Type 0} (sides : Sides C D) (frame : Frame) (reading : ℕ) (change : Change C (Point D)) : Type 0 where
+  pub acts : List Act
+  pub bytes : List ℕ
+  pub served : IsServed sides.gives (served_as frame reading acts bytes) change.place.reads change.place_then.reads
+  pub happened : Acts sides.makes sides.disk acts (places_of change)
+  pub taken_is : sides.sink → change.place_then.taken ≡ change.place.taken ++ bytes
+
+-- its answer was made, and then its serving broke off
+pub record HasPartlyServed {C D : Type 0} (sides : Sides C D) (stop : Stop) (frame : Frame) (reading : ℕ)
+    (change : Change C (Point D)) : Type 0 where
+  pub acts : List Act
+  pub bytes : List ℕ
+  pub served : IsPartly sides.gives (served_as frame reading acts bytes) change.place.reads change.place_then.reads
+  pub happened : Acts sides.makes sides.disk acts (places_of change)
+  pub stopped : StoppedIn stop acts
+  pub took : sides.sink → TookPart change.place.taken change.place_then.taken bytes
+
+abbrev pub ServesAt : {C D A : Type 0} → Sides C D → Frame → ℕ → Result A Stop → Change C (Point D) → Type 0
+ServesAt sides frame reading (Ok done) change = HasServed sides frame reading change
+ServesAt sides frame reading (Err Clock) change = ⊥
+ServesAt sides frame reading (Err Sink) change = HasPartlyServed sides Sink frame reading change
+ServesAt sides frame reading (Err Memory) change = HasPartlyServed sides Memory frame reading change ⊎ HasBroken sides Memory change
+ServesAt sides frame reading (Err Misplaced) change = HasPartlyServed sides Misplaced frame reading change
+    ⊎ HasBroken sides Misplaced change

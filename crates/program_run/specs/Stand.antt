@@ -1,0 +1,117 @@
+-- What a client of `pipe` may rely on: a message that was answered with 0 stands on the disk, at the place that the reply names.
+use Rattle.std.specs.Prelude.{◌≡◌, ◌⊎◌, ℕ, ◌+◌, ◌≤◌, ◌++◌, List, [], ◌∷◌, flat_map, map, pos, slice_get, All, true, Some, Ok}
+use Rattle.mq_outside.specs.Files.{Files}
+use Rattle.mq_outside.specs.Disk.{DiskState}
+use Rattle.mq_outside.specs.Readings.{Giving}
+use Rattle.remoting_frame.specs.Streams.{BeginsWith}
+use Rattle.remoting_frame.specs.declared.frame.Frame.{Frame}
+use Rattle.record_codec.specs.Entry.{Entry}
+use Rattle.request_fields.specs.Reading.{request_of}
+use Rattle.request_fields.specs.Requests.{SendSaid}
+use Rattle.request_fields.specs.declared.request.Request.TheVariants.{Send}
+use Rattle.reply_fields.specs.Parts.{ReplyParts}
+use Rattle.log_model.specs.Bases.{Geometry, whole}
+use Rattle.log_model.specs.Store.{IsHonest, KeepsIfHonest, StandsAtPlace, StoresLog}
+use Rattle.broker_model.specs.Answers.{send_ext}
+use Rattle.broker_model.specs.Sends.{kept_props, queue_named, waits}
+use Rattle.session.specs.Talks.{requests_of}
+use Rattle.pipe_stream.specs.Serving.{caller_of}
+use Rattle.pipe_stream.specs.Telling.{FaultCounts, IsTold, TookPart}
+use Rattle.store_open.specs.Openings.{FORMAT, AreSizesOf}
+use Rattle.store_open.specs.Words.{IsCommand}
+use Rattle.store_open.specs.declared.format.Sizes.{Sizes}
+use Rattle.store_open.specs.declared.words.Command.{Command}
+use Rattle.store_open.specs.declared.status.Status.{Status}
+use Rattle.broker_run.specs.Promise.{Call, KeepSeen, Seen, before, behind}
+
+-- ---- an answer
+
+-- a request, the reply that was made to it, and the bytes that were to be written for it
+pub record Answered : Type 0 where
+  pub frame : Frame
+  pub reply : ReplyParts
+  pub bytes : List ℕ
+
+abbrev pub answered : Frame → ReplyParts → List ℕ → Answered
+answered frame reply bytes = record { frame = frame; reply = reply; bytes = bytes }
+
+-- the bytes are the reply's, as the frame asks for them
+abbrev pub IsWritten : Giving → Answered → Type 0
+IsWritten gives it = (faults : FaultCounts) × IsTold gives (caller_of it.frame) it.reply faults it.bytes
+
+-- the request sends this message, which waits for the disk, and the reply says 0
+pub record IsAccepted (it : Answered) (send : SendSaid) : Type 0 where
+  pub asked : request_of it.frame.header it.frame.body ≡ Ok (Send send)
+  pub awaited : waits (kept_props send.props) ≡ true
+  pub code : it.reply.code ≡ pos 0
+
+-- ---- its record
+
+-- the record has the message's topic, queue and body, and its properties without the names that the broker keeps for itself
+pub record IsMessage (send : SendSaid) (r : Entry) : Type 0 where
+  pub topic : r.topic ≡ send.topic
+  pub queue : r.queue ≡ queue_named send.queue
+  pub body : r.body ≡ send.body
+  pub props : r.props ≡ kept_props send.props
+
+-- From this moment on each crash leaves record `number` of the log at its place, and recovery keeps it, unless torn bytes pass for
+-- another record.
+pub record StandsFrom (S : Geometry) (log : List Entry) (number moment : ℕ) (disk : DiskState) : Type 0 where
+  pub r : Entry
+  pub is : slice_get log number ≡ Some r
+  pub stands : (m : ℕ) (files : Files) → moment ≤ m → m ≤ disk.moment → disk.image_at m files → StandsAtPlace S files r
+  pub kept : (m : ℕ) (files : Files) → moment ≤ m → m ≤ disk.moment → disk.image_at m files → KeepsIfHonest S log (number + 1) files
+
+-- the message's record stands in the log, the reply names its place and its queue offset, and it stands on the disk from this moment on
+pub record IsOnDisk (S : Geometry) (log : List Entry) (it : Answered) (send : SendSaid) (moment : ℕ) (disk : DiskState) : Type 0 where
+  pub number : ℕ
+  pub stands : StandsFrom S log number moment disk
+  pub message : IsMessage send stands.r
+  pub named : it.reply.ext ≡ send_ext send (stands.r ∷ [])
+
+-- Each message that was accepted is on the disk from a moment on. These moments come one behind another, in the order of the answers.
+abbrev pub AreOnDisk : Geometry → List Entry → ℕ → List Answered → DiskState → Type 0
+AreOnDisk S log low [] disk = low ≤ disk.moment
+AreOnDisk S log low (it ∷ answers) disk = (moment : ℕ) × (low ≤ moment)
+    × ((send : SendSaid) → IsAccepted it send → IsOnDisk S log it send moment disk)
+    × AreOnDisk S log moment answers disk
+
+-- ---- a call
+
+-- The bytes that were read are these frames and a rest. The first requests among them were answered, in order; what was written is a
+-- front of the bytes of these answers; and each message that was accepted is on the disk, in the log that it stores behind the call.
+-- What is said of the source and of the sink is said where these tell what they hold.
+pub record AnswersStand {D : Type 0} (S : Geometry) (seen : Seen D) : Type 0 where
+  pub bytes : List ℕ
+  pub frames : List Frame
+  pub end : ℕ
+  pub rest : List ℕ
+  pub answers : List Answered
+  pub left : List Frame
+  pub log : List Entry
+  pub flushed : ℕ
+  pub given : seen.source.tells → seen.source.given_then ≡ seen.source.given ++ bytes
+  pub cut : BeginsWith 0 bytes frames end rest
+  pub asked : map (λ it. it.frame) answers ++ left ≡ requests_of frames
+  pub written : All (IsWritten seen.gives) answers
+  pub taken : seen.sink → TookPart seen.taken seen.taken_then (flat_map (λ it. it.bytes) answers)
+  pub stand : AreOnDisk S log (before seen).moment answers (behind seen)
+  pub stores : StoresLog S log flushed (behind seen)
+
+-- So it is in a store of these sizes, as its format says, whose disk stores a log and was read honestly.
+pub record AnswersStandIn {D : Type 0} (command : Command) (seen : Seen D) (keep : KeepSeen) : Type 0 where
+  pub sizes : Sizes
+  pub sizes_are : keep.tells → AreSizesOf (keep.old.reads FORMAT) command.sizes sizes
+  pub stand : (log : List Entry) (flushed : ℕ) → StoresLog (whole sizes.segment) log flushed (before seen)
+      → IsHonest (whole sizes.segment) log flushed (before seen).reads → AnswersStand (whole sizes.segment) seen
+
+-- The words are a command. Where it says that messages are synced, and the disk tells what it holds, nothing was written, or what was
+-- answered stands.
+pub record KeepsAnswers {D : Type 0} (words : List (List ℕ)) (seen : Seen D) (keep : KeepSeen) : Type 0 where
+  pub command : Command
+  pub asked : IsCommand words command
+  pub kept : command.sync ≡ true → seen.disk.tells → (seen.taken_then ≡ seen.taken) ⊎ AnswersStandIn command seen keep
+
+-- what a call did that gave this status keeps its answers
+abbrev pub AnswersAreKept : {D : Type 0} → List (List ℕ) → Status → Seen D → KeepSeen → Type 0
+AnswersAreKept words status seen keep = Call words status seen keep → KeepsAnswers words seen keep

@@ -1,4 +1,0 @@
-pub mod ActLemmas
-mod AskLemmas
-pub mod CountLemmas
-mod TurningLemmas

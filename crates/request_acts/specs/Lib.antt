@@ -1,3 +1,0 @@
-pub mod Acts
-pub mod Asking
-pub mod Turning

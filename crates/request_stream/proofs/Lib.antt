@@ -1,5 +1,0 @@
-mod HeldLemmas
-mod PipeLemmas
-mod RemarkLemmas
-mod ServingLemmas
-mod TellingLemmas

@@ -1,3 +1,0 @@
-pub mod Piping
-pub mod Serving
-pub mod Telling

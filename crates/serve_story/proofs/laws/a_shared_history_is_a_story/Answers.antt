@@ -1,7 +1,0 @@
-use Rattle.request_acts.specs.Acts.{view_of}
-use Rattle.serve_story.proofs.SharedStory.{leads_on}
-use Rattle.serve_story.proofs.laws.a_shared_history_is_a_story.Goals as goal
-
-pub returns : goal.returns
-returns g c = λ change history first second looks turns stands merged links keeper write.
-    leads_on (view_of g.D.Disk.tells g.D.Disk.state g.D.Disk.faults g.D.Disk.syncs) g.L.Link.tells g.R.Reader.gives change history turns first second looks stands merged links keeper write

@@ -1,0 +1,123 @@
+-- The flusher's turns, one after another.
+use Rattle.std.proofs.Common.{◌≡◌, ◌≢◌, ℕ, List, [], ◌∷◌, ◌++◌, Option, Some, None, inl, inr, refl, sym, ap, ◌∙◌, subst, append_assoc}
+use Rattle.log_model.specs.declared.batch.Batch.{Batch}
+use Rattle.log_model.specs.declared.batch.Receipt.{Receipt}
+use Rattle.broker_events.specs.Makes.{Makes}
+use Rattle.broker_events.proofs.Makes.{makes_append}
+use Rattle.broker_events.specs.declared.event.Event.TheVariants as events
+use Rattle.broker_events.specs.declared.said.Said.{Said}
+use Rattle.broker_events.specs.declared.said.Said.TheVariants as said
+use Rattle.session.specs.Serving.{Made}
+use Rattle.worker_turns.specs.Turns.{Steps, TakesFrom, Writes, HasEnded, WroteNone, CountsEnd}
+use Rattle.worker_turns.specs.declared.flush.FlushEnd.{FlushEnd}
+use Rattle.worker_turns.specs.declared.flush.FlushEnd.TheVariants.{Idle, Done, Failed, Misplaced, Memory}
+use Rattle.worker_turns.specs.Acts as acts
+use Rattle.worker_turns.specs.Acts.{Act, DiskView, Place, TakesBatch, Acts, Acted, Happens, steps_in, steps_of, change_of, synced_at}
+use Rattle.worker_turns.specs.Turning.{IsTurn, IsDispatch, most_seen}
+use Rattle.worker_turns.proofs.ActLemmas.{acted_then, acted_as, acted_none, one_step, takes_none, turn_acted}
+use Rattle.serve_threads.specs.Served.{IsOfFlusher, AreOfFlusher, AreFlushing, of_anybody, Write}
+
+-- ---- events of the flusher
+
+takes : IsOfFlusher events.Take
+takes = inl refl
+
+tells : (receipt : Receipt) → IsOfFlusher (events.Flushed receipt)
+tells receipt = inr (inl (receipt, refl))
+
+fails : (count : ℕ) → IsOfFlusher (events.FlushFailed count)
+fails count = inr (inr (inl (count, refl)))
+
+shows : (most : ℕ) → IsOfFlusher (events.Dispatch most)
+shows most = inr (inr (inr (most, refl)))
+
+flusher_append : (xs ys : Made) → AreOfFlusher xs → AreOfFlusher ys → AreOfFlusher (xs ++ ys)
+flusher_append [] ys are more = more
+flusher_append (x ∷ xs) ys are more = (are.0, flusher_append xs ys are.1 more)
+
+steps_append : (xs ys : List Act) → steps_of (xs ++ ys) ≡ steps_of xs ++ steps_of ys
+steps_append [] ys = refl
+steps_append (x ∷ xs) ys = ap (λ (l : Made). steps_in x ++ l) (steps_append xs ys) ∙ sym (append_assoc (steps_in x) (steps_of xs) (steps_of ys))
+
+flushing_append : (xs ys : List Act) → AreFlushing xs → AreFlushing ys → AreFlushing (xs ++ ys)
+flushing_append xs ys are more = subst AreOfFlusher (sym (steps_append xs ys)) (flusher_append (steps_of xs) (steps_of ys) are more)
+
+-- ---- turns
+
+-- nothing was said, so no batch was taken
+takes_nothing : TakesBatch events.Take None → ⊥
+takes_nothing takes = let is : ◌≡◌ {A = Option Said} None (Some (said.Batch (Some takes.batch))) = takes.said_is in cc
+
+module _ {C D : Type 0} (makes : Steps C) (view : DiskView D) where
+  pub no_turns : (x : C) (p : Place D) → Acted makes view AreFlushing (change_of x p x p)
+  no_turns x p = acted_none makes view AreFlushing x p tt
+
+  pub turns_then : (x y z : C) (p q r : Place D) → Acted makes view AreFlushing (change_of x p y q) → Acted makes view AreFlushing (change_of y q z r) → Acted makes view AreFlushing (change_of x p z r)
+  turns_then x y z p q r first later = acted_then makes view AreFlushing AreFlushing AreFlushing x y z p q r first later flushing_append
+
+  -- a flush turn
+  pub ended_turns : (end : FlushEnd) (x y : C) (old new : Place D)
+      → HasEnded makes (Writes view.tells (synced_at view old) (synced_at view new)) x end y
+      → (WroteNone end → new ≡ old) → (TakesFrom makes x old.file → end ≢ Misplaced) → CountsEnd end (view.faults old.disk) (view.faults new.disk) → Acted makes view AreFlushing (change_of x old y new)
+  ended_turns Idle x y old new ended same placed counts =
+      acted_as makes view (IsTurn Idle) AreFlushing x y old new (λ made is. subst AreFlushing (sym is) (takes, tt)) (turn_acted makes view Idle x y old new ended same placed counts)
+  ended_turns Done x y old new ended same placed counts =
+      acted_as makes view (IsTurn Done) AreFlushing x y old new (λ made is. subst AreFlushing (sym is.1) (takes, (tells is.0.receipt, tt)))
+      (turn_acted makes view Done x y old new ended same placed counts)
+  ended_turns (Failed count) x y old new ended same placed counts =
+      acted_as makes view (IsTurn (Failed count)) AreFlushing x y old new (λ made is. subst AreFlushing (sym is.1) (takes, (fails count, tt)))
+      (turn_acted makes view (Failed count) x y old new ended same placed counts)
+  ended_turns Misplaced x y old new ended same placed counts =
+      let took : Option Said = Some (said.Batch (Some ended.batch)) in
+      let failed = ended.steps.2 in
+      record {
+        acts = acts.Made events.Take took ∷ acts.Made (events.FlushFailed ended.count) (Some said.Done) ∷ [];
+        kind = (takes, (fails ended.count, tt));
+        happened = (
+          ended.steps.0,
+          old,
+          record { made = ended.steps.1; between = tt; apart = λ takes from. placed from refl; still = refl },
+          one_step makes view (events.FlushFailed ended.count) (Some said.Done) ended.steps.0 y old new tt
+              (takes_none (events.FlushFailed ended.count) (Some said.Done) tt)
+              (subst (λ (w : C). makes ended.steps.0 (events.FlushFailed ended.count) (Some said.Done) w) failed.2 failed.1) (same tt),
+        );
+      }
+  ended_turns Memory x y old new ended same placed counts = record {
+    acts = acts.Made events.Take None ∷ [];
+    kind = (takes, tt);
+    happened = one_step makes view events.Take None x y old new tt takes_nothing (subst (λ (w : C). makes x events.Take None w) ended.2 ended.1) (same tt);
+  }
+
+  -- a dispatch
+  pub dispatch_turns : (x y : C) (p : Place D) → IsDispatch makes x y → Acted makes view AreFlushing (change_of x p y p)
+  dispatch_turns x y p made = record {
+    acts = acts.Made (events.Dispatch most_seen) (Some (said.Moved made.0)) ∷ [];
+    kind = (shows most_seen, tt);
+    happened = one_step makes view (events.Dispatch most_seen) (Some (said.Moved made.0)) x y p p tt
+        (takes_none (events.Dispatch most_seen) (Some (said.Moved made.0)) tt) made.1 refl;
+  }
+
+  -- ---- acts, by their steps and by what they did to the disk
+
+  act_makes : (act : Act) (x y : C) (p q : Place D) → Happens makes view act (change_of x p y q) → Makes makes x (steps_in act) y
+  act_makes (acts.Made event what) x y p q happens = (y, happens.made, refl)
+  act_makes (acts.Wrote turn) x y p q happens = happens.steps
+  act_makes (acts.Missed batch count) x y p q happens = happens.steps
+
+  pub acts_make : (turns : List Act) (x y : C) (p q : Place D) → Acts makes view turns (change_of x p y q) → Makes makes x (steps_of turns) y
+  acts_make [] x y p q happened = sym happened.calls
+  acts_make (act ∷ turns) x y p q happened =
+      makes_append makes x (steps_in act) happened.0 (steps_of turns) y (act_makes act x happened.0 p happened.1 happened.2) (acts_make turns happened.0 y happened.1 q happened.3)
+
+  act_writes : (act : Act) (x y : C) (p q : Place D) → Happens makes view act (change_of x p y q) → Happens of_anybody view act (change_of tt p tt q)
+  act_writes (acts.Made event what) x y p q happens =
+      record { made = tt; between = happens.between; apart = λ takes from. happens.apart takes (λ batch z made. from batch tt tt); still = happens.still }
+  act_writes (acts.Wrote turn) x y p q happens =
+      record { steps = (tt, tt, (tt, tt, refl)); is = happens.is; wrote = happens.wrote; ended = happens.ended; still = happens.still }
+  act_writes (acts.Missed batch count) x y p q happens =
+      record { steps = (tt, tt, (tt, tt, refl)); wrote = happens.wrote; rises = happens.rises; count_is = happens.count_is }
+
+  pub acts_write : (turns : List Act) (x y : C) (p q : Place D) → Acts makes view turns (change_of x p y q) → Write view turns p q
+  acts_write [] x y p q happened = record { calls = refl; place = happened.place }
+  acts_write (act ∷ turns) x y p q happened =
+      (tt, happened.1, act_writes act x happened.0 p happened.1 happened.2, acts_write turns happened.0 y happened.1 q happened.3)

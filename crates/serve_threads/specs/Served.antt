@@ -1,0 +1,218 @@
+-- What the threads of a broker make, and what is left of it.
+use Rattle.std.specs.Prelude.{◌≡◌, ◌⊎◌, ◌<◌, ◌++◌, ℕ, List, [], ◌∷◌, length, Option, Some, Result, OnOk}
+use Rattle.mq_outside.specs.Readings.{Giving}
+use Rattle.mq_outside.specs.declared.faults.DiskFault.{DiskFault}
+use Rattle.log_model.specs.declared.batch.Receipt.{Receipt}
+use Rattle.broker_events.specs.declared.event.Event.{Event}
+use Rattle.broker_events.specs.declared.event.Event.TheVariants.{Take, Flushed, FlushFailed, Dispatch}
+use Rattle.broker_events.specs.declared.said.Said.{Said}
+use Rattle.segment_files.specs.declared.last_file.LastFile.{LastFile}
+use Rattle.broker_model.specs.State.{State}
+use Rattle.broker_core.specs.Owner.{plain_look}
+use Rattle.broker_core.specs.Represents.{Represents}
+use Rattle.broker_core.specs.declared.parts.Parts.{Parts}
+use Rattle.flush_story.specs.Story as stories
+use Rattle.flush_story.specs.Story.{Happening, Story, span_of}
+use Rattle.flush_story.specs.Keeping.{IsOpenFor, Keeps}
+use Rattle.session.specs.Serving.{Made}
+use Rattle.event_loops.specs.Tales.{Act, steps_of, made_for, loop_of, IsAnsweredInOrder}
+use Rattle.event_loops.specs.declared.event_loop.EventLoop.{EventLoop}
+use Rattle.spine.specs.declared.shared.Shared.{Shared}
+use Rattle.worker_turns.specs.Turns.{Steps}
+use Rattle.worker_turns.specs.Acts as acts
+use Rattle.worker_turns.specs.Acts.{Acts, Change, DiskView, Place, place_of, growing_at, change_of}
+use Rattle.story_lock.specs.declared.chronicle.Chronicle.{Ghosts}
+use Rattle.story_lock.specs.declared.story.Pass.{Pass}
+use Rattle.story_lock.specs.Counts.{times, IsDistinct}
+use Rattle.story_lock.specs.declared.story.Story.{Story as TheStory}
+use Rattle.story_lock.specs.Passes.{IsPassOf, seen_by, mine_of, numbers_of}
+use Rattle.story_lock.specs.Owned.{HasAt, AscendsFrom}
+use Rattle.spine.specs.Passes.{Splits, Joins}
+use Rattle.spine.specs.Stands.{Stands}
+use Rattle.keeper_turns.specs.Puts.{KeepsBy}
+use Rattle.keeper_turns.specs.Turns.{IsOffsetsOf, IsTopicsOf}
+use Rattle.serve_threads.specs.Kept.{KeepOver, PutsAlong}
+
+-- how a run sees its links, what its readers give, and its disk
+pub record Views (D : Type 0) : Type 1 where
+  pub links : Type 0
+  pub gives : Giving
+  pub disk : DiskView D
+
+abbrev pub views_of : {D : Type 0} → Type 0 → Giving → DiskView D → Views D
+views_of links gives disk = record { links = links; gives = gives; disk = disk }
+
+-- ---- the loops
+
+-- one of two loops, with this number, which had no link yet
+abbrev pub IsLoop : {Ready Link Door Waker : Type 0} → ℕ → EventLoop Ready Link Door Waker → Type 0
+IsLoop number it = (it.links.loops ≡ 2) × (it.links.number ≡ number) × (it.links.slots.items ≡ [])
+
+-- both of them
+abbrev pub AreLoops : {Ready Link Door Waker : Type 0} → EventLoop Ready Link Door Waker → EventLoop Ready Link Door Waker → Type 0
+AreLoops first second = IsLoop 0 first × IsLoop 1 second
+
+-- ---- the flusher
+
+-- the event is one of the flusher's: it takes a batch, tells how a flush turn ended, or lets consumers see what is flushed
+abbrev pub IsOfFlusher : Event → Type 0
+IsOfFlusher event = (event ≡ Take) ⊎ ((receipt : Receipt) × (event ≡ Flushed receipt)) ⊎ ((count : ℕ) × (event ≡ FlushFailed count))
+    ⊎ ((most : ℕ) × (event ≡ Dispatch most))
+
+-- all of these are the flusher's
+abbrev pub AreOfFlusher : Made → Type 0
+AreOfFlusher [] = Unit {0}
+AreOfFlusher (step ∷ steps) = IsOfFlusher step.0 × AreOfFlusher steps
+
+-- acts of the flusher
+abbrev pub AreFlushing : List acts.Act → Type 0
+AreFlushing turns = AreOfFlusher (acts.steps_of turns)
+
+-- steps of anybody
+abbrev pub of_anybody : Steps (Unit {0})
+of_anybody x event said y = Unit {0}
+
+-- what these acts did to the disk, whoever made their steps
+abbrev pub Write : {D : Type 0} → DiskView D → List acts.Act → Place D → Place D → Type 0
+Write view turns old new = Acts of_anybody view turns (change_of tt old tt new)
+
+-- ---- the links
+
+-- What one of the two loops made: for each of its links its passes, in which each reply is its request's, and behind them at most its
+-- `Leave`, and nothing else.
+pub record AreAnswered (tells : Type 0) (gives : Giving) (number : ℕ) (steps : Made) : Type 0 where
+  pub acts : List Act
+  pub all : steps ≡ steps_of acts
+  pub each : (link : ℕ) → (made_for link acts ≡ []) ⊎ ((loop_of 2 link ≡ number) × IsAnsweredInOrder tells gives link (made_for link acts))
+
+-- ---- the keeper
+
+-- each of these is a look by which the keeper reads the core, and changes nothing
+abbrev pub AreLooks : Made → Type 0
+AreLooks [] = Unit {0}
+AreLooks (step ∷ steps) = (step.0 ≡ plain_look) × AreLooks steps
+
+-- ---- the history
+
+-- Each entry of the history is of the flusher, of one of the two loops or of the keeper, in the order in which these made them.
+pub record IsMerged (history turns first second looks : Made) : Type 0 where
+  pub turns_at : List ℕ
+  pub first_at : List ℕ
+  pub second_at : List ℕ
+  pub looks_at : List ℕ
+  pub are : HasAt history turns_at turns × HasAt history first_at first × HasAt history second_at second × HasAt history looks_at looks
+  pub ascend : AscendsFrom 0 turns_at × AscendsFrom 0 first_at × AscendsFrom 0 second_at × AscendsFrom 0 looks_at
+  pub once : IsDistinct (((turns_at ++ first_at) ++ second_at) ++ looks_at)
+  pub all : (k : ℕ) → k < length history → 0 < times k (((turns_at ++ first_at) ++ second_at) ++ looks_at)
+
+-- ---- passes
+
+-- one for each thread: the flusher, the two loops and the keeper
+pub record ByThread (X : Type 0) : Type 0 where
+  pub flusher : X
+  pub first : X
+  pub second : X
+  pub keeper : X
+
+abbrev pub by_thread : {X : Type 0} → X → X → X → X → ByThread X
+by_thread flusher first second keeper = record { flusher = flusher; first = first; second = second; keeper = keeper }
+
+module _ {chronicle : Ghosts Shared Event (Option Said)} where
+  -- the first pass took over the second, then the third, and then the fourth
+  pub record Meets (one other third last new : Pass Shared Event (Option Said) chronicle) : Type 0 where
+    pub early : Pass Shared Event (Option Said) chronicle
+    pub late : Pass Shared Event (Option Said) chronicle
+    pub first : Joins one other early
+    pub then : Joins early third late
+    pub at_last : Joins late last new
+
+  -- The first pass was cut into four: the last three got its seat numbers, the greatest first, and the second what was left.
+  pub record Cuts (whole one other third last : Pass Shared Event (Option Said) chronicle) : Type 0 where
+    pub early : Pass Shared Event (Option Said) chronicle
+    pub late : Pass Shared Event (Option Said) chronicle
+    pub first : Splits whole early other
+    pub then : Splits early late third
+    pub at_last : Splits late one last
+
+  -- four callers of this story have the passes into which the first one was cut
+  pub record AreCut (story : TheStory Shared Event (Option Said)) (whole : Pass Shared Event (Option Said) chronicle)
+      (passes : ByThread (Option (Pass Shared Event (Option Said) chronicle))) : Type 0 where
+    pub turns : Pass Shared Event (Option Said) chronicle
+    pub first : Pass Shared Event (Option Said) chronicle
+    pub second : Pass Shared Event (Option Said) chronicle
+    pub looks : Pass Shared Event (Option Said) chronicle
+    pub are : (passes.flusher ≡ Some turns) × (passes.first ≡ Some first) × (passes.second ≡ Some second) × (passes.keeper ≡ Some looks)
+    pub of : IsPassOf story turns × IsPassOf story first × IsPassOf story second × IsPassOf story looks
+    pub cuts : Cuts whole turns first second looks
+
+  -- the passes of four callers are one
+  pub record AreMet (passes : ByThread (Option (Pass Shared Event (Option Said) chronicle)))
+      (new : Pass Shared Event (Option Said) chronicle) : Type 0 where
+    pub turns : Pass Shared Event (Option Said) chronicle
+    pub first : Pass Shared Event (Option Said) chronicle
+    pub second : Pass Shared Event (Option Said) chronicle
+    pub looks : Pass Shared Event (Option Said) chronicle
+    pub are : (passes.flusher ≡ Some turns) × (passes.first ≡ Some first) × (passes.second ≡ Some second) × (passes.keeper ≡ Some looks)
+    pub meets : Meets turns first second looks new
+
+  -- The pass has each seat number of four, and its entries are the flusher's, those of the two loops and the keeper's. What the
+  -- flusher's turns did to the disk leads from the first place to this disk.
+  pub record HasMade {D : Type 0} (views : Views D) (old : Place D) (pass : Pass Shared Event (Option Said) chronicle) (disk : D)
+      : Type 0 where
+    pub turns : List acts.Act
+    pub first : Made
+    pub second : Made
+    pub looks : Made
+    pub turns_at : List ℕ
+    pub first_at : List ℕ
+    pub second_at : List ℕ
+    pub looks_at : List ℕ
+    pub are : HasAt (seen_by pass) turns_at (acts.steps_of turns) × HasAt (seen_by pass) first_at first
+        × HasAt (seen_by pass) second_at second × HasAt (seen_by pass) looks_at looks
+    pub ascend : AscendsFrom 0 turns_at × AscendsFrom 0 first_at × AscendsFrom 0 second_at × AscendsFrom 0 looks_at
+    pub mine : mine_of pass ≡ ((turns_at ++ first_at) ++ second_at) ++ looks_at
+    pub flusher : AreFlushing turns
+    pub file : LastFile
+    pub write : Write views.disk turns old (place_of file disk)
+    pub links : AreAnswered views.links views.gives 0 first × AreAnswered views.links views.gives 1 second
+    pub keeper : AreLooks looks
+    pub seats : (k : ℕ) → k < 4 → 0 < times k (numbers_of pass)
+
+-- ---- a run
+
+-- From a state that the first core represented the history leads to one that the second represents. It is a story of the model and of
+-- the disk: where the disk tells what it holds, and stored the first state's log with its flushed number, it stores that of the
+-- second, and at each moment a crash leaves what was flushed by then.
+pub record LeadsOn {D : Type 0} (view : DiskView D) (history : Made) (change : Change Parts (Place D)) (s : State) : Type 0 where
+  pub reached : State
+  pub represents : Represents change.calls_then reached
+  pub story : List Happening
+  pub steps : stories.steps_of story ≡ history
+  pub happens : Story view.tells (growing_at view) story (span_of s change.place reached change.place_then)
+  pub keeps : view.tells → IsOpenFor s (growing_at view change.place)
+      → Keeps s reached (stories.turns_of story) (view.state change.place.disk) (growing_at view change.place_then)
+
+-- Of this history, which leads from the first core to the second: the entries are the flusher's turns, which wrote what was pending,
+-- what the loops made for each link, and the looks of the keeper.
+pub record IsMadeBy {D : Type 0} (views : Views D) (history : Made) (change : Change Parts (Place D)) : Type 0 where
+  pub turns : List acts.Act
+  pub first : Made
+  pub second : Made
+  pub looks : Made
+  pub merged : IsMerged history (acts.steps_of turns) first second looks
+  pub flusher : AreFlushing turns
+  pub links : AreAnswered views.links views.gives 0 first × AreAnswered views.links views.gives 1 second
+  pub keeper : AreLooks looks
+  pub write : Write views.disk turns change.place change.place_then
+  pub leads : (s : State) → Represents change.calls s → LeadsOn views.disk history change s
+
+-- The second core stands for one history that begins with the first: a run of steps, each with the answer that was said, made by the
+-- threads and by nobody else. Meanwhile each of the two kept files had its old text or that of a state of this history; and where
+-- their last replacement ended Ok, both have the texts of the second core, and keep them through a crash.
+pub record IsLeft {D : Type 0} (views : Views D) (change : Change Parts (Place D)) (keep : KeepOver)
+    (kept : Result (Unit {0}) DiskFault) : Type 0 where
+  pub history : Made
+  pub stands : Stands change.calls history change.calls_then
+  pub made : IsMadeBy views history change
+  pub puts : keep.tells → PutsAlong change.calls history keep.old keep.new
+  pub done : keep.tells → OnOk kept (KeepsBy (IsOffsetsOf change.calls_then) (IsTopicsOf change.calls_then) keep.new)

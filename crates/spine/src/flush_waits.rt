@@ -1,0 +1,90 @@
+//! Where callers sleep until a flush turn has ended that may have held their record.
+//!
+//! Records are in groups of eight by their numbers, and the groups take the places in turn. So the end of a turn wakes those
+//! who wait for one of its records, or for one that stands close behind them. Nothing is claimed of who sleeps or wakes.
+
+use std::sync::{Condvar, Mutex, Wait};
+
+const PLACES: usize = 8;
+
+const GROUP: u64 = 8;
+
+/// One place.
+#[derive(Drop)]
+pub struct WaitPlace {
+    // How many turns with a record of this place have ended.
+    ended: Mutex<u64>,
+    ends: Condvar,
+}
+
+impl WaitPlace {
+    fn new() -> WaitPlace {
+        WaitPlace {
+            ended: Mutex::new(0),
+            ends: Condvar::new(),
+        }
+    }
+
+    /// How many turns with a record of this place have ended. A caller remembers it before it looks, so that no end falls
+    /// between its look and its sleep.
+    pub fn ended<R: Wait>(&self, rt: &R) -> u64 {
+        *self.ended.lock(rt)
+    }
+
+    /// Sleeps while so many have ended.
+    pub fn wait_past<R: Wait>(&self, rt: &R, seen: u64) {
+        let ended = self
+            .ends
+            .wait_while(rt, self.ended.lock(rt), |ended| *ended == seen);
+        drop(ended);
+    }
+
+    fn wake<R: Wait>(&self, rt: &R) {
+        let mut ended = self.ended.lock(rt);
+        *ended = ended.wrapping_add(1);
+        drop(ended);
+        self.ends.notify_all();
+    }
+}
+
+/// All places.
+#[derive(Drop)]
+pub struct FlushWaits {
+    places: [WaitPlace; PLACES],
+}
+
+impl FlushWaits {
+    /// Places at which nobody sleeps.
+    pub fn new() -> FlushWaits {
+        FlushWaits {
+            places: std::array::from_fn(|_| WaitPlace::new()),
+        }
+    }
+
+    fn place(&self, group: u64) -> &WaitPlace {
+        &self.places[(group % PLACES as u64) as usize]
+    }
+
+    /// The place of the record with this number.
+    pub fn place_of(&self, number: u64) -> &WaitPlace {
+        self.place(number / GROUP)
+    }
+
+    /// Wakes those who wait for one of so many records from this number on.
+    pub fn wake<R: Wait>(&self, rt: &R, from: u64, count: u64) {
+        let first = from / GROUP;
+        let last = from.saturating_add(count.saturating_sub(1)) / GROUP;
+        for group in 0..PLACES as u64 {
+            if group <= last - first {
+                self.place(first + group).wake(rt);
+            }
+        }
+    }
+
+    /// Wakes all.
+    pub fn wake_all<R: Wait>(&self, rt: &R) {
+        for place in &self.places {
+            place.wake(rt);
+        }
+    }
+}

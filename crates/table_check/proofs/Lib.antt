@@ -1,3 +1,0 @@
-pub mod PullLemmas
-pub mod QueueLemmas
-pub mod UnitLemmas
