@@ -1,4 +1,4 @@
-//! Does a core say of its queues what its log says?
+//! Does a core say of its queues what its log says? Each function looks at the whole log, and at all of a table.
 #![tactic(auto)]
 
 mod comparison;

@@ -1,4 +1,5 @@
-//! What do flush turns leave on the disk of a broker's run? Laws on stories: steps of the broker and turns of its disk, in order.
+//! What do flush turns leave on the disk of a broker's run? Laws on stories, which are steps of the broker and turns of
+//! its disk, in order, and the flush turns of one caller that has the broker alone.
 #![tactic(auto)]
 
 mod acts;

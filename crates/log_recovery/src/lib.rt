@@ -1,4 +1,5 @@
-//! Recovery of the log: its kept records are handed out in order, and what stands behind them is cut off.
+//! Recovery of the log: its kept records are handed out in order, and what comes after them is cut off. And where a log
+//! ends, and what may come next.
 #![tactic(auto)]
 
 mod counts;

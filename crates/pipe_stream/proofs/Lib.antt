@@ -1,2 +1,7 @@
 mod RequestLemmas
 mod AskLemmas
+mod HeldLemmas
+mod PipeLemmas
+mod RemarkLemmas
+mod ServingLemmas
+mod TellingLemmas

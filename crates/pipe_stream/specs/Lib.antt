@@ -1,1 +1,4 @@
 pub mod Asking
+pub mod Piping
+pub mod Serving
+pub mod Telling

@@ -7,7 +7,8 @@ ghost use Rattle.broker_events.specs.Served.{is_served as is_served_of};
 ghost use Rattle.broker_events.specs.Shown.{Shown, Accepts};
 ghost use Rattle.session.specs.Owing.{IsRequest, IsApplied};
 ghost use Rattle.worker_turns.specs.Acts.{IsFree, Acted, place_of, view_of, change_of};
-ghost use Rattle.pipe_stream.specs.Asking.{GivesUp, MakesRoom, IsTry, Asks, Gives, Refuses, event_for, no_room as no_room_of};
+ghost use Rattle.pipe_stream.specs.Asking.{GivesUp, MakesRoom, IsTry, Asks, Gives, Refuses, event_for};
+ghost use Rattle.pipe_stream.specs.Asking.{no_room as no_room_of};
 
 use crate::answer::Answer;
 use broker_events::{Calls, Event, is_served};

@@ -1,4 +1,4 @@
-//! How is a stream of requests served, from a source to a sink? Each is given to the broker, its record looked after, its reply written.
+//! How is a stream of requests served, from a source to a sink, and what happens to the broker and its disk for one?
 #![tactic(auto)]
 
 mod answer;

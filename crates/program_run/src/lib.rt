@@ -1,4 +1,5 @@
-//! One run of the program, whatever its words ask for: a stream, or links.
+//! One run of the program, whatever its arguments ask for: a stream, or links. And where a message is that `pipe`
+//! answered with 0.
 #![tactic(auto)]
 
 mod call;

@@ -1,4 +1,5 @@
-//! The bytes of what the broker says: replies to requests, and check-backs of half messages.
+//! The bytes of what the broker says: replies to requests, the body that names the queues a client got, and check-backs
+//! of half messages.
 #![tactic(auto)]
 
 mod ask;

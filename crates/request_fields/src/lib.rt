@@ -1,4 +1,5 @@
-//! Which request a frame is: the fields of its header by the row of its code, or what its body says.
+//! Which request a frame is: the fields of its header by the row of its code, or what its body says. And what clients
+//! say of themselves.
 #![tactic(auto)]
 
 mod beat;

@@ -1,4 +1,5 @@
-//! Tests of what serves many links: the lock, the turns of the workers, what a link says, and callers who share one broker.
+//! Tests of what serves many links: the lock, the turns of the workers, what a link says, and callers who share a
+//! broker.
 #![tactic(auto)]
 
 #[cfg(test)]

@@ -1,5 +1,5 @@
-//! The broker over many links, from the core that is opened to the core that is left: two loops serve the links, and one flusher
-//! writes what they append.
+//! The broker over many links, from the core that is opened to the core that is left: two loops serve the links, one
+//! flusher writes what they append. And whose the entries of their history are, and which log the disk stores after it.
 #![tactic(auto)]
 
 mod flusher;

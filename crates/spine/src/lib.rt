@@ -1,5 +1,5 @@
-//! The broker for many callers: the core under a story lock, the passes by which each caller makes its steps, and the places where
-//! callers sleep until a flush turn has ended.
+//! The broker for many callers: the core under a story lock, the passes by which each caller makes its steps, and the
+//! places where callers sleep until a flush turn has ended.
 #![tactic(auto)]
 
 mod awaits;

@@ -1,5 +1,5 @@
-//! The turns of the workers: one flush turn, turns until nothing is pending, and one dispatch. Each is generic over who makes the
-//! broker's steps.
+//! The turns of the workers: one flush turn, turns until nothing is pending, and one dispatch. Each is generic over who
+//! makes the broker's steps.
 #![tactic(auto)]
 
 mod broken;
