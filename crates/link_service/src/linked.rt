@@ -1,11 +1,13 @@
 //! A link with its session: what one pass of a loop does for it.
 //!
 //! `whole -> broken [read, serve, settle, write, hear]`, where the link fails or there is no memory. A broken link makes no further call.
+//! `whole -> garbled [serve]`, where what it says is no frame: nothing more is served, and `drain.rt` says how it ends.
 
 ghost use Rattle.std.specs.Prelude.{◌≡◌, ◌<◌, ◌^◌, [], false, true, IfOk};
 ghost use Rattle.session.specs.Serving.{Leads};
 ghost use Rattle.link_service.specs.Transcripts.{WentOn, WentOnUnread, IsFresh, seen_of};
 
+use crate::drain::DRAIN_BYTES;
 use broker_events::Calls;
 use mq_outside::Reader;
 use mq_peers::{Incoming, Link};
@@ -13,7 +15,7 @@ use session::{Halt, Session, Step};
 use std::alloc::Global;
 
 /// So many reads of one link are made in one pass at most.
-const READS_MAX: usize = 16;
+pub(crate) const READS_MAX: usize = 16;
 
 /// So many requests of one link are served in one pass at most.
 const REQUESTS_MAX: usize = 4096;
@@ -31,8 +33,13 @@ pub struct Linked<L: Link + Drop> {
     pub(crate) writable: bool,
     // Its peer has ended its side: reads go on until one says so.
     pub(crate) ended: bool,
-    // Nothing more is read: its stream ended, or what it says is no frame.
+    // Nothing more is read: its stream ended, or it was read on as far as a garbled link is.
     pub(crate) deaf: bool,
+    // What it says is no frame.
+    pub(crate) garbled: bool,
+    // Since when it is read on, in milliseconds, and how many bytes it may still say meanwhile.
+    pub(crate) drained_since: Option<u64>,
+    pub(crate) drain_left: usize,
     // It may hold a whole request that was not served yet.
     pub(crate) behind: bool,
     // Replies may be due, or unsent and taken at once, that its last pass did not come to.
@@ -56,6 +63,9 @@ impl<L: Link + Drop> Linked<L> {
             writable: true,
             ended: false,
             deaf: false,
+            garbled: false,
+            drained_since: None,
+            drain_left: DRAIN_BYTES,
             behind: false,
             owes: false,
             broken: false,
@@ -86,27 +96,31 @@ impl<L: Link + Drop> Linked<L> {
         self.ended = self.ended || ended;
     }
 
-    // Whether it is read on.
-    fn is_heard(&self) -> bool
+    // Whether it is read.
+    pub(crate) fn is_heard(&self) -> bool
         ensures { result ≡ true → self.now.broken ≡ false }
     {
         self.readable && !self.deaf && !self.broken && !self.session.is_loaded()
     }
 
-    // Takes in what one read brings.
-    fn read_once(&mut self, buffer: &mut [u8])
+    // Takes in what one read brings. Answers how many bytes it brought.
+    pub(crate) fn read_once(&mut self, buffer: &mut [u8]) -> usize
         requires whole { self.old.broken ≡ false }
         ensures went { WentOnUnread L.tells (seen_of L.given L.taken self.old) [] (seen_of L.given L.taken self.new) }
     {
         match self.link.read(buffer) {
-            Ok(Incoming::Bytes(n)) => match self.session.feed(&buffer[..n]) {
-                Ok(()) => self.readable = (n == buffer.len()) | self.ended,
-                Err(_) => self.broken = true,
-            },
+            Ok(Incoming::Bytes(n)) => {
+                match self.session.feed(&buffer[..n]) {
+                    Ok(()) => self.readable = (n == buffer.len()) | self.ended,
+                    Err(_) => self.broken = true,
+                }
+                return n;
+            }
             Ok(Incoming::NotNow) => self.readable = false,
             Ok(Incoming::End) => self.deaf = true,
             Err(_) => self.broken = true,
         }
+        0
     }
 
     // Takes in what the link says now, at most as much as one pass reads.
@@ -132,7 +146,7 @@ impl<L: Link + Drop> Linked<L> {
         let end = self.session.serve_next(alloc, calls, now);
         match end {
             Ok(_) => {}
-            Err(Halt::BadFrame(_)) => self.deaf = true,
+            Err(Halt::BadFrame(_)) => self.garbled = true,
             Err(Halt::Memory) => self.broken = true,
         }
         end
@@ -192,6 +206,10 @@ impl<L: Link + Drop> Linked<L> {
             (λ made. WentOnUnread L.tells (seen_of L.given L.taken self.old) made (seen_of L.given L.taken self.new)) }
     {
         if self.broken {
+            return false;
+        }
+        if self.garbled {
+            self.drain(buffer, now);
             return false;
         }
         self.give_up(alloc, failed);
@@ -273,21 +291,27 @@ impl<L: Link + Drop> Linked<L> {
         self.session.awaits()
     }
 
+    // Whether nothing is left to be served or sent.
+    pub(crate) fn is_settled(&self) -> bool {
+        !self.behind
+            && !self.owes
+            && !self.session.awaits()
+            && self.session.unsent().is_empty()
+    }
+
     /// Whether it can go on at once.
     pub fn has_more(&self) -> bool {
         if self.broken {
             return false;
+        }
+        if self.garbled {
+            return self.owes || self.may_drain();
         }
         self.owes || ((self.behind || (self.readable && !self.deaf)) && !self.session.is_loaded())
     }
 
     /// Whether nothing more is to be done for it.
     pub fn has_ended(&self) -> bool {
-        self.broken
-            || (self.deaf
-                && !self.behind
-                && !self.owes
-                && !self.session.awaits()
-                && self.session.unsent().is_empty())
+        self.broken || (self.deaf && self.is_settled())
     }
 }

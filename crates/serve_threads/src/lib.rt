@@ -6,9 +6,11 @@ mod flusher;
 mod keeper;
 mod loops;
 mod served;
+mod starting;
 mod threads;
 mod world;
 
 pub use loops::Loops;
 pub use served::{Devices, Served, Unserved, serve};
+pub use starting::can_start_threads;
 pub use world::World;

@@ -80,7 +80,7 @@ returns-in-Err-open_format-clause-why g c =
     why_unserved (λ s store. Refused (texts_of c.args.words.now) told s (counts_of (g.D.Disk.faults before.disk) (g.E.Keep.faults before.keep) (counts c.args.world))
     (counts_of (g.D.Disk.faults store.disk) (g.E.Keep.faults store.keep) (counts ended.result.world))) _ _ _ _ _
     ended.ensures.core ended.ensures.status ended.ensures.store
-    (inr (c.in-Ok.command, c.in-Ok.ensures.fits, not_formed (IsDamagedFor c.in-Ok.command told) c.in-Err-open_format.status _ _ _ _ c.in-Err-open_format.ensures.cause))
+    (inr (c.in-Ok.command, c.in-Ok.ensures.fits, inr (not_formed (IsDamagedFor c.in-Ok.command told) c.in-Err-open_format.status _ _ _ _ c.in-Err-open_format.ensures.cause)))
 
 pub returns-in-Ok-open_format-clause-why : goal.returns-in-Ok-open_format-clause-why
 returns-in-Ok-open_format-clause-why g c =

@@ -1,0 +1,71 @@
+//! How a link ends whose stream is no frame. Once its replies have left it is shut for writing, so that its peer sees the end, and then
+//! it is read on for a while. To close it at once would reset it where its peer had said more, and replies on their way would be lost.
+
+ghost use Rattle.std.specs.Prelude.{◌≡◌, []};
+ghost use Rattle.link_service.specs.Transcripts.{WentOnUnread, seen_of};
+
+use crate::linked::{Linked, READS_MAX};
+use mq_peers::Link;
+
+/// So many bytes of a garbled link are read on at most, not counting the rest of the last read.
+pub(crate) const DRAIN_BYTES: usize = 1 << 20;
+
+/// It is read on for so many milliseconds at most, by the clock of its loop.
+const DRAIN_MILLIS: u64 = 2_000;
+
+impl<L: Link + Drop> Linked<L> {
+    /// Whether it is read on until a time has passed, so that its loop has to look at the clock.
+    pub fn is_timed(&self) -> bool {
+        !self.broken && !self.deaf && self.drained_since.is_some()
+    }
+
+    // Whether it can be shut or read on at once.
+    pub(crate) fn may_drain(&self) -> bool {
+        !self.deaf && self.is_settled() && (self.readable || self.drained_since.is_none())
+    }
+
+    // Whether it was read on as far as it is to be. A clock that fell ends it too.
+    fn is_drained(&self, now: u64) -> bool {
+        let Some(since) = self.drained_since else {
+            return false;
+        };
+        self.drain_left == 0 || now < since || now - since >= DRAIN_MILLIS
+    }
+
+    // Shuts it for writing, and reads it on from now.
+    fn shut(&mut self, now: u64)
+        ensures went { WentOnUnread L.tells (seen_of L.given L.taken self.old) [] (seen_of L.given L.taken self.new) }
+    {
+        self.link.done();
+        self.drained_since = Some(now);
+    }
+
+    // Reads on what it says now, at most as much as one pass reads. Nothing of it is served.
+    fn read_on(&mut self, buffer: &mut [u8])
+        ensures went { WentOnUnread L.tells (seen_of L.given L.taken self.old) [] (seen_of L.given L.taken self.new) }
+    {
+        for _ in 0..READS_MAX {
+            if !self.is_heard() {
+                return;
+            }
+            let count = self.read_once(buffer);
+            self.drain_left = self.drain_left.saturating_sub(count);
+        }
+    }
+
+    // One pass of a garbled link: nothing while replies are left to be sent, then shut, and then read on.
+    pub(crate) fn drain(&mut self, buffer: &mut [u8], now: u64)
+        ensures went { WentOnUnread L.tells (seen_of L.given L.taken self.old) [] (seen_of L.given L.taken self.new) }
+    {
+        if self.deaf || !self.is_settled() {
+            return;
+        }
+        if self.drained_since.is_none() {
+            self.shut(now);
+        }
+        self.read_on(buffer);
+        if self.is_drained(now) {
+            self.deaf = true;
+        }
+    }
+}
