@@ -4,11 +4,11 @@
 ghost use Rattle.std.specs.Prelude.{◌≡◌, []};
 ghost use Rattle.link_service.specs.Transcripts.{WentOnUnread, seen_of};
 
-use crate::linked::{Linked, READS_MAX};
+use crate::linked::Linked;
 use mq_peers::Link;
 
-/// So many bytes of a garbled link are read on at most, not counting the rest of the last read.
-pub(crate) const DRAIN_BYTES: usize = 1 << 20;
+/// Once so many bytes of a garbled link were read on it is closed.
+const DRAIN_BYTES: u64 = 1 << 20;
 
 /// It is read on for so many milliseconds at most, by the clock of its loop.
 const DRAIN_MILLIS: u64 = 2_000;
@@ -29,31 +29,22 @@ impl<L: Link + Drop> Linked<L> {
         let Some(since) = self.drained_since else {
             return false;
         };
-        self.drain_left == 0 || now < since || now - since >= DRAIN_MILLIS
+        let (_, held) = self.session.rest();
+        held >= self.drained_to || now < since || now - since >= DRAIN_MILLIS
     }
 
-    // Shuts it for writing, and reads it on from now.
+    // Shuts it for writing, and notes how far it is to be read on from now.
     fn shut(&mut self, now: u64)
         ensures went { WentOnUnread L.tells (seen_of L.given L.taken self.old) [] (seen_of L.given L.taken self.new) }
     {
+        let (_, held) = self.session.rest();
         self.link.done();
         self.drained_since = Some(now);
+        self.drained_to = held.saturating_add(DRAIN_BYTES);
     }
 
-    // Reads on what it says now, at most as much as one pass reads. Nothing of it is served.
-    fn read_on(&mut self, buffer: &mut [u8])
-        ensures went { WentOnUnread L.tells (seen_of L.given L.taken self.old) [] (seen_of L.given L.taken self.new) }
-    {
-        for _ in 0..READS_MAX {
-            if !self.is_heard() {
-                return;
-            }
-            let count = self.read_once(buffer);
-            self.drain_left = self.drain_left.saturating_sub(count);
-        }
-    }
-
-    // One pass of a garbled link: nothing while replies are left to be sent, then shut, and then read on.
+    /// One pass of a garbled link: nothing while replies are left to be sent, then it is shut, and read on. Nothing of what it says is
+    /// served.
     pub(crate) fn drain(&mut self, buffer: &mut [u8], now: u64)
         ensures went { WentOnUnread L.tells (seen_of L.given L.taken self.old) [] (seen_of L.given L.taken self.new) }
     {
@@ -63,7 +54,7 @@ impl<L: Link + Drop> Linked<L> {
         if self.drained_since.is_none() {
             self.shut(now);
         }
-        self.read_on(buffer);
+        self.read(buffer);
         if self.is_drained(now) {
             self.deaf = true;
         }

@@ -7,7 +7,6 @@ ghost use Rattle.std.specs.Prelude.{◌≡◌, ◌<◌, ◌^◌, [], false, true
 ghost use Rattle.session.specs.Serving.{Leads};
 ghost use Rattle.link_service.specs.Transcripts.{WentOn, WentOnUnread, IsFresh, seen_of};
 
-use crate::drain::DRAIN_BYTES;
 use broker_events::Calls;
 use mq_outside::Reader;
 use mq_peers::{Incoming, Link};
@@ -15,7 +14,7 @@ use session::{Halt, Session, Step};
 use std::alloc::Global;
 
 /// So many reads of one link are made in one pass at most.
-pub(crate) const READS_MAX: usize = 16;
+const READS_MAX: usize = 16;
 
 /// So many requests of one link are served in one pass at most.
 const REQUESTS_MAX: usize = 4096;
@@ -37,9 +36,9 @@ pub struct Linked<L: Link + Drop> {
     pub(crate) deaf: bool,
     // What it says is no frame.
     pub(crate) garbled: bool,
-    // Since when it is read on, in milliseconds, and how many bytes it may still say meanwhile.
+    // Since when it is read on, in milliseconds, and until how many bytes are held of it.
     pub(crate) drained_since: Option<u64>,
-    pub(crate) drain_left: usize,
+    pub(crate) drained_to: u64,
     // It may hold a whole request that was not served yet.
     pub(crate) behind: bool,
     // Replies may be due, or unsent and taken at once, that its last pass did not come to.
@@ -65,7 +64,7 @@ impl<L: Link + Drop> Linked<L> {
             deaf: false,
             garbled: false,
             drained_since: None,
-            drain_left: DRAIN_BYTES,
+            drained_to: 0,
             behind: false,
             owes: false,
             broken: false,
@@ -97,34 +96,30 @@ impl<L: Link + Drop> Linked<L> {
     }
 
     // Whether it is read.
-    pub(crate) fn is_heard(&self) -> bool
+    fn is_heard(&self) -> bool
         ensures { result ≡ true → self.now.broken ≡ false }
     {
         self.readable && !self.deaf && !self.broken && !self.session.is_loaded()
     }
 
-    // Takes in what one read brings. Answers how many bytes it brought.
-    pub(crate) fn read_once(&mut self, buffer: &mut [u8]) -> usize
+    // Takes in what one read brings.
+    fn read_once(&mut self, buffer: &mut [u8])
         requires whole { self.old.broken ≡ false }
         ensures went { WentOnUnread L.tells (seen_of L.given L.taken self.old) [] (seen_of L.given L.taken self.new) }
     {
         match self.link.read(buffer) {
-            Ok(Incoming::Bytes(n)) => {
-                match self.session.feed(&buffer[..n]) {
-                    Ok(()) => self.readable = (n == buffer.len()) | self.ended,
-                    Err(_) => self.broken = true,
-                }
-                return n;
-            }
+            Ok(Incoming::Bytes(n)) => match self.session.feed(&buffer[..n]) {
+                Ok(()) => self.readable = (n == buffer.len()) | self.ended,
+                Err(_) => self.broken = true,
+            },
             Ok(Incoming::NotNow) => self.readable = false,
             Ok(Incoming::End) => self.deaf = true,
             Err(_) => self.broken = true,
         }
-        0
     }
 
     // Takes in what the link says now, at most as much as one pass reads.
-    fn read(&mut self, buffer: &mut [u8])
+    pub(crate) fn read(&mut self, buffer: &mut [u8])
         ensures went { WentOnUnread L.tells (seen_of L.given L.taken self.old) [] (seen_of L.given L.taken self.new) }
     {
         for _ in 0..READS_MAX {
