@@ -431,8 +431,8 @@ where
 /// Serves links over TCP, or whatever the door gives: the words are those of the command line, `serve` the first. Each request's
 /// record is on the disk before its reply is sent, unless the words say `--flush async`. Consumers resume at the offsets of the
 /// kept files, which follow a few seconds behind, and are replaced at the end. It returns after as many links as
-/// `--connections` says, once all of them have ended, or after a fault. Where threads can't be started it returns status 9, before it
-/// asks any device.
+/// `--connections` says, once all of them have ended, or after a fault. Where threads can't be started it returns
+/// status 9, before it asks any device.
 pub fn run_serve<
     W: Wait + Threads + Sync,
     P: Ready + Send + Sync + Drop,

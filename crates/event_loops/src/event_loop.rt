@@ -43,6 +43,14 @@ pub struct Around<'a, W: Wait, P: Ready> {
     pub ports: &'a [Port<P>],
 }
 
+// A link that was let in is not served: the door may let in another.
+fn uncount<W: Wait, P: Ready>(around: &Around<'_, W, P>) {
+    around.shared.link_ended();
+    if let Some(port) = around.ports.first() {
+        port.wake();
+    }
+}
+
 /// A loop with its links.
 #[derive(Drop)]
 pub struct EventLoop<P: Ready + Drop> {
@@ -120,12 +128,12 @@ impl<P: Ready + Drop> EventLoop<P> {
             && let Some(port) = around.ports.get(to)
         {
             if !port.hand_over(around.rt, new) {
-                around.shared.link_ended();
+                uncount(around);
             }
             return;
         }
         if !self.adopt::<K, R>(around.alloc, outside, new) {
-            around.shared.link_ended();
+            uncount(around);
         }
     }
 
@@ -209,7 +217,7 @@ impl<P: Ready + Drop> EventLoop<P> {
                 return false;
             };
             if !self.adopt::<K, R>(around.alloc, outside, new) {
-                around.shared.link_ended();
+                uncount(around);
             }
         }
         true
@@ -276,11 +284,13 @@ impl<P: Ready + Drop> EventLoop<P> {
         }
     }
 
-    // How long the loop may wait for reports, where more may have come or not. Where a link waits for a flush turn the end of the
-    // next one wakes it.
+    // How many milliseconds the loop may wait for reports, where more may have come or not. Where a link waits for a
+    // flush turn the end of the next one wakes it.
     fn timeout<W: Wait>(&self, around: &Around<'_, W, P>, more_came: bool) -> Option<u64> {
         let outlook = self.links.outlook();
-        if outlook.awaits && let Some(port) = around.ports.get(self.links.number) {
+        if outlook.awaits
+            && let Some(port) = around.ports.get(self.links.number)
+        {
             port.await_turn();
         }
         // Looked at once the turn's end would wake the loop, so that no end falls between.
@@ -331,7 +341,8 @@ impl<P: Ready + Drop> EventLoop<P> {
         outside.wait(timeout, &mut self.events)
     }
 
-    // Waits for reports, so many milliseconds at most, notes them and lets in who came. Answers whether more may have come.
+    // Waits for reports, so many milliseconds at most, notes them and lets in who came. Answers whether more may have
+    // come.
     fn gather<W: Wait, K: Clock + Drop, R: Reader>(
         &mut self,
         around: &Around<'_, W, P>,

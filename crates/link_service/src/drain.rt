@@ -1,5 +1,6 @@
-//! How a link ends whose stream is no frame. Once its replies have left it is shut for writing, so that its peer sees the end, and then
-//! it is read on for a while. To close it at once would reset it where its peer had said more, and replies on their way would be lost.
+//! How a link ends whose stream is no frame. Once its replies have left it is shut for writing, so that its peer sees
+//! the end, and then it is read on for a while. To close it at once would reset it where its peer had said more, and
+//! replies on their way would be lost.
 
 ghost use Rattle.std.specs.Prelude.{◌≡◌, []};
 ghost use Rattle.link_service.specs.Transcripts.{WentOnUnread, seen_of};
@@ -21,7 +22,7 @@ impl<L: Link + Drop> Linked<L> {
 
     // Whether it can be shut or read on at once.
     pub(crate) fn may_drain(&self) -> bool {
-        !self.deaf && self.is_settled() && (self.readable || self.drained_since.is_none())
+        self.has_left() && (self.readable || self.drained_since.is_none())
     }
 
     // Whether it was read on as far as it is to be. A clock that fell ends it too.
@@ -33,30 +34,34 @@ impl<L: Link + Drop> Linked<L> {
         held >= self.drained_to || now < since || now - since >= DRAIN_MILLIS
     }
 
-    // Shuts it for writing, and notes how far it is to be read on from now.
+    // Whether all that is due to it has left, and nothing says that it is over.
+    fn has_left(&self) -> bool {
+        !self.deaf && self.is_settled()
+    }
+
+    // Shuts it for writing, once, and notes how far it is to be read on from now.
     fn shut(&mut self, now: u64)
         ensures went { WentOnUnread L.tells (seen_of L.given L.taken self.old) [] (seen_of L.given L.taken self.new) }
     {
+        if self.drained_since.is_some() {
+            return;
+        }
         let (_, held) = self.session.rest();
         self.link.done();
         self.drained_since = Some(now);
         self.drained_to = held.saturating_add(DRAIN_BYTES);
     }
 
-    /// One pass of a garbled link: nothing while replies are left to be sent, then it is shut, and read on. Nothing of what it says is
-    /// served.
+    /// One pass of a garbled link: nothing while replies are left to be sent, then it is shut, and read on. Nothing of
+    /// what it says is served.
     pub(crate) fn drain(&mut self, buffer: &mut [u8], now: u64)
         ensures went { WentOnUnread L.tells (seen_of L.given L.taken self.old) [] (seen_of L.given L.taken self.new) }
     {
-        if self.deaf || !self.is_settled() {
+        if !self.has_left() {
             return;
         }
-        if self.drained_since.is_none() {
-            self.shut(now);
-        }
+        self.shut(now);
         self.read(buffer);
-        if self.is_drained(now) {
-            self.deaf = true;
-        }
+        self.deaf |= self.is_drained(now);
     }
 }

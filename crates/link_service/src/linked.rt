@@ -1,7 +1,7 @@
 //! A link with its session: what one pass of a loop does for it.
 //!
 //! `whole -> broken [read, serve, settle, write, hear]`, where the link fails or there is no memory. A broken link makes no further call.
-//! `whole -> garbled [serve]`, where what it says is no frame: nothing more is served, and `drain.rt` says how it ends.
+//! `whole -> garbled [serve]`, where what it says is no frame: nothing more is served. `drain.rt` says how it ends.
 
 ghost use Rattle.std.specs.Prelude.{◌≡◌, ◌<◌, ◌^◌, [], false, true, IfOk};
 ghost use Rattle.session.specs.Serving.{Leads};
@@ -288,10 +288,7 @@ impl<L: Link + Drop> Linked<L> {
 
     // Whether nothing is left to be served or sent.
     pub(crate) fn is_settled(&self) -> bool {
-        !self.behind
-            && !self.owes
-            && !self.session.awaits()
-            && self.session.unsent().is_empty()
+        !self.behind && !self.owes && !self.session.awaits() && self.session.unsent().is_empty()
     }
 
     /// Whether it can go on at once.

@@ -73,8 +73,8 @@ fn refusal_of(error: &io::Error) -> Refusal {
     }
 }
 
-// The link of a stream that came from this address. A peer that isn't at an IPv4 address is closed, and so is one of whose stream
-// the system refuses an option.
+// The link of a stream that came from this address. A peer that isn't at an IPv4 address is closed, and so is one of
+// whose stream the system refuses an option.
 fn link_of(stream: TcpStream, address: SocketAddr) -> Option<TcpLink>
     ensures faults { IfSome result (λ link. ⟦<TcpLink as Link>⟧.faults link ≡ 0) }
 {
