@@ -143,6 +143,10 @@ class Server:
             fields = file.read().rpartition(")")[2].split()
         return (int(fields[11]) + int(fields[12])) / os.sysconf("SC_CLK_TCK")
 
+    def descriptors(self):
+        """How many descriptors it has open."""
+        return len(os.listdir(f"/proc/{self.child.pid}/fd"))
+
     def memory(self):
         """Its memory in MiB."""
         with open(f"/proc/{self.child.pid}/statm") as file:
@@ -510,6 +514,77 @@ def _(folder):
         read_back(steady, "before", [b"before"] * count)
 
 
+@check("a connection that says no frame after many requests gets all their replies and the end, however slowly it reads")
+def _(folder):
+    with Server(folder) as server:
+        steady = server.link()
+        body = b"y" * 32000
+        steady.store([body] * 8, "big")
+        steady.pull_all("big", 8)
+        rest = random.Random(5).randbytes(300_000)
+        for name, data in BAD.items():
+            slow = server.link(buffers=1 << 14)
+            slow.say(b"".join(pull(k, "big", 0) for k in range(4)) + data)
+            time.sleep(0.3)  # its replies are on their way
+            slow.say_beside(rest)
+            time.sleep(0.1)
+            for k in range(4):
+                reply = slow.hear()
+                want(reply["code"] == 0 and len(pulled(reply["body"])) == 8, f"{name}: pull {k} before it is answered by", reply["code"])
+            try:
+                want(slow.socket.recv(1) == b"", name, "is answered")
+            except ConnectionResetError:
+                raise Failed(f"{name}: the connection is reset") from None
+            slow.close()
+        is_served(server, "A")
+
+
+@check("a connection that says no frame is closed within seconds, whether it is quiet or says more and more, and costs no time")
+def _(folder):
+    with Server(folder) as server:
+        is_served(server, "A")
+        time.sleep(0.2)
+        open_before = server.descriptors()
+        quiet = [server.link() for _ in range(8)]
+        for link in quiet:
+            link.say(b"GET / HTTP/1.1\r\n\r\n")
+            link.hear_end("another protocol")
+        took = server.seconds()
+        end = time.time() + WAIT
+        while server.descriptors() > open_before:
+            want(time.time() < end, f"{server.descriptors() - open_before} connections are open {WAIT} s after they said no frame")
+            time.sleep(0.1)
+        want(server.seconds() - took < 0.3, f"to wait for them took {server.seconds() - took:.2f} s of processor time")
+        link = server.link()
+        began, said = time.time(), 0
+        try:
+            while time.time() < began + WAIT:
+                said += link.socket.send(b"\xff" * 65536)
+        except OSError:  # the connection is closed
+            pass
+        want(said < 1 << 26, f"a connection that said no frame said {said} bytes more")
+        is_served(server, "A")
+
+
+@check("a peer that vanishes is probed: each connection has its keep-alive timer")
+def _(folder):
+    if shutil.which("ss") is None:
+        raise Skipped("there is no ss")
+    with Server(folder) as server:
+        links = [server.link() for _ in range(3)]
+        for link in links:
+            link.store([b"here"], "A")
+        time.sleep(0.5)  # until nothing more has to be acknowledged
+        table = subprocess.run(["ss", "-Htno", "state", "established", f"( sport = :{server.port} )"], capture_output=True, text=True,
+                               timeout=WAIT).stdout.splitlines()
+        want(len(table) == 3, "the server has other connections than three:", *table)
+        for row in table:
+            timer = re.search(r"timer:\(keepalive,(?:(\d+)min)?(?:([\d.]+)sec)?", row)
+            want(timer, "a connection has no keep-alive timer:", row)
+            seconds = 60 * int(timer[1] or 0) + float(timer[2] or 0)
+            want(50 <= seconds <= 60, "its next probe comes in", seconds, "seconds")
+
+
 @check("a frame of 16 MiB is read whole and one byte more is not; a message of 4 MiB comes back; others are served meanwhile")
 def _(folder):
     with Server(folder) as server:
@@ -782,6 +857,35 @@ def _(folder):
             folder = other
             want(status("serve", "--host", f"127.0.0.1:{server.port}") == 10, "a port in use is answered by another status than 10")
         is_served(server, "A")
+
+
+@check("where threads can't be started it ends with status 9 before it listens or makes a store, and else it serves")
+def _(folder):
+    if not IS_SERVE:
+        raise Skipped("it takes no words of serve")
+    if os.getuid() != 0:
+        raise Skipped("only root may run it as a user of its own")
+    os.chmod(folder, 0o777)
+    user = random.randrange(1 << 20, 1 << 30)
+
+    def run_by_user(tasks):
+        def begin():
+            os.setgroups([])
+            os.setgid(user)
+            os.setuid(user)
+            resource.setrlimit(resource.RLIMIT_NPROC, (tasks, tasks))
+        words = ["serve", "--host", f"127.0.0.1:{free_port()}", "--connections", "1"]
+        try:
+            return subprocess.run([PROGRAM, *words], cwd=folder, stdin=subprocess.DEVNULL, preexec_fn=begin, timeout=2).returncode
+        except PermissionError:
+            raise Skipped("the program may not be run by others") from None
+        except subprocess.TimeoutExpired:
+            return "none: it runs"
+    for tasks in (1, 2, 3):
+        status = run_by_user(tasks)
+        want(status == 9, f"where {tasks - 1} threads more can be started its status is", status)
+        want(not os.path.exists(os.path.join(folder, "store", "format")), "it made a store")
+    want(run_by_user(64) == "none: it runs", "where threads can be started it ends")
 
 
 @check("with --flush async all that was answered stands once the last link has ended")

@@ -62,6 +62,9 @@ module _ (status : Status) (old new : ServeFaults) where
   pub words_cause : status.code ≡ 1 → Causes status old new
   words_cause one = inl (inr (inl one))
 
+  pub threads_cause : status.code ≡ 9 → Causes status old new
+  threads_cause nine = inl (inr (inr (inr (inr (inr nine)))))
+
   pub opening_causes : OpeningCause status old.disk new.disk old.keep new.keep → Causes status old new
   opening_causes (inl failed) = inr (inl failed)
   opening_causes (inr (inl six)) = inl (inr (inr (inl six)))
@@ -69,13 +72,13 @@ module _ (status : Status) (old new : ServeFaults) where
   opening_causes (inr (inr (inr kept))) = inr (inr (kept.0, inr (inl (kept.1, kept.2))))
 
   pub config_causes : (fault : ConfigFault) → StatusTellsConfig status fault → CountsConfigFault {A = Unit {0}} (Err fault) old.keep new.keep → Causes status old new
-  config_causes (config.BadText name) (inl told) counts = inl (inr (inr (inr (inr told.0))))
+  config_causes (config.BadText name) (inl told) counts = inl (inr (inr (inr (inr (inl told.0)))))
   config_causes (config.BadText name) (inr seven) counts = seven_causes seven
   config_causes config.Failed told counts = keep_causes counts told
   config_causes config.Memory seven counts = seven_causes seven
 
   pub log_causes : (fault : RecoverFault) → StatusTellsFault status fault → CountsRecoverFault {A = Unit {0}} (Err fault) old.disk new.disk → Causes status old new
-  log_causes (recovery.Damaged place name) told counts = inl (inr (inr (inr (inr told.0))))
+  log_causes (recovery.Damaged place name) told counts = inl (inr (inr (inr (inr (inl told.0)))))
   log_causes recovery.Failed five counts = inr (inl (five, counts))
   log_causes recovery.Memory seven counts = seven_causes seven
 

@@ -161,7 +161,7 @@ module _ (words : List (List ℕ)) (command : ServeCommand) (sizes : Sizes) (tel
       inr (
         command,
         asked,
-        inr (subst (λ (n : ℕ). Unserved (IsDamagedFor command (store_told tells disk.reads keeps keep.reads)) status n d_then k k_then) same_disk
+        inr (inr (subst (λ (n : ℕ). Unserved (IsDamagedFor command (store_told tells disk.reads keeps keep.reads)) status n d_then k k_then) same_disk
             (subst (λ (n : ℕ). Unserved (IsDamagedFor command (store_told tells disk.reads keeps keep.reads)) status d_opened d_then n k_then) same_keep
-            (before_opening status d_opened d_then k_opened k_then is))),
+            (before_opening status d_opened d_then k_opened k_then is)))),
       )

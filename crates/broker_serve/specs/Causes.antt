@@ -10,7 +10,7 @@ use Rattle.end_statuses.specs.Statuses.{TellsDevice}
 -- the status tells of no device that failed
 abbrev pub BlamesNone : Status → Type 0
 BlamesNone status =
-    (status.code ≡ 0) ⊎ ((status.code ≡ 1) ⊎ ((status.code ≡ 6) ⊎ ((status.code ≡ 7) ⊎ (status.code ≡ 8))))
+    (status.code ≡ 0) ⊎ ((status.code ≡ 1) ⊎ ((status.code ≡ 6) ⊎ ((status.code ≡ 7) ⊎ ((status.code ≡ 8) ⊎ (status.code ≡ 9)))))
 
 -- what keeps the door shut: it failed, or what tells one of the loops which links are ready did, or there is no memory
 abbrev pub BlamesDoor : Status → WorldFaults → WorldFaults → Type 0

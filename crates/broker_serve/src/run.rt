@@ -42,7 +42,7 @@ use event_loops::Bounds;
 use log_opening::{Opened, open_log_with};
 use mq_outside::{Clock, Disk, DiskFault, Failed, Keep};
 use mq_peers::{Door, Ready};
-use serve_threads::{Devices, Loops, Served, Unserved, World, serve};
+use serve_threads::{Devices, Loops, Served, Unserved, World, can_start_threads, serve};
 use std::alloc::Global;
 use std::sync::Wait;
 use std::thread::Threads;
@@ -431,7 +431,8 @@ where
 /// Serves links over TCP, or whatever the door gives: the words are those of the command line, `serve` the first. Each request's
 /// record is on the disk before its reply is sent, unless the words say `--flush async`. Consumers resume at the offsets of the
 /// kept files, which follow a few seconds behind, and are replaced at the end. It returns after as many links as
-/// `--connections` says, once all of them have ended, or after a fault.
+/// `--connections` says, once all of them have ended, or after a fault. Where threads can't be started it returns
+/// status 9, before it asks any device.
 pub fn run_serve<
     W: Wait + Threads + Sync,
     P: Ready + Send + Sync + Drop,
@@ -468,7 +469,7 @@ where
     ensures unserved { E.tells → IfNone result.core ((text : List ℕ)
         × PutsOnly text (E.state store.keep) (E.state result.store.keep)) }
 
-    // Then the status tells why: the words, another's store, damage, a device that failed, or want of memory.
+    // Then the status tells why: the words, no threads, another's store, damage, a device that failed, or no memory.
     ensures why { IfNone result.core (Refused (texts_of words.now)
         (store_told D.tells (D.state store.disk).reads E.tells (E.state store.keep).reads) result.status
         (counts_of (D.faults store.disk) (E.faults store.keep) (world_faults P.faults P.Door.faults K.faults world))
@@ -499,6 +500,9 @@ where
         Err(place) => return unserved(store, world, Status::at(alloc, 1, place)),
         Ok(command) => command,
     };
+    if !can_start_threads(rt) {
+        return unserved(store, world, Status::plain(alloc, 9));
+    }
     let Store { mut disk, mut keep } = store;
     match open_format(alloc, &mut disk, &mut keep, &command.sizes) {
         Err(status) => unserved(Store { disk, keep }, world, status),

@@ -43,6 +43,14 @@ pub struct Around<'a, W: Wait, P: Ready> {
     pub ports: &'a [Port<P>],
 }
 
+// A link that was let in is not served: the door may let in another.
+fn uncount<W: Wait, P: Ready>(around: &Around<'_, W, P>) {
+    around.shared.link_ended();
+    if let Some(port) = around.ports.first() {
+        port.wake();
+    }
+}
+
 /// A loop with its links.
 #[derive(Drop)]
 pub struct EventLoop<P: Ready + Drop> {
@@ -113,16 +121,19 @@ impl<P: Ready + Drop> EventLoop<P> {
         ensures grow { Grow (loop_faults P.faults P.Door.faults K.faults outside.old)
             (loop_faults P.faults P.Door.faults K.faults outside.new) }
     {
+        // Counted first: the loop that gets it may end it at once.
         around.shared.link_opened();
         let to = self.links.loop_of(new.number);
         if to != self.links.number
             && let Some(port) = around.ports.get(to)
         {
-            port.hand_over(around.rt, new);
+            if !port.hand_over(around.rt, new) {
+                uncount(around);
+            }
             return;
         }
         if !self.adopt::<K, R>(around.alloc, outside, new) {
-            around.shared.link_ended();
+            uncount(around);
         }
     }
 
@@ -206,7 +217,7 @@ impl<P: Ready + Drop> EventLoop<P> {
                 return false;
             };
             if !self.adopt::<K, R>(around.alloc, outside, new) {
-                around.shared.link_ended();
+                uncount(around);
             }
         }
         true
@@ -273,15 +284,21 @@ impl<P: Ready + Drop> EventLoop<P> {
         }
     }
 
-    // Whether the loop can go on at once. Where a link waits for a flush turn the end of the next one wakes it.
-    fn goes_on<W: Wait>(&self, around: &Around<'_, W, P>) -> bool {
-        let (awaits, has_more) = self.links.outlook();
-        if awaits && let Some(port) = around.ports.get(self.links.number) {
+    // How many milliseconds the loop may wait for reports, where more may have come or not. Where a link waits for a
+    // flush turn the end of the next one wakes it.
+    fn timeout<W: Wait>(&self, around: &Around<'_, W, P>, more_came: bool) -> Option<u64> {
+        let outlook = self.links.outlook();
+        if outlook.awaits
+            && let Some(port) = around.ports.get(self.links.number)
+        {
             port.await_turn();
         }
         // Looked at once the turn's end would wake the loop, so that no end falls between.
-        let turned = awaits && around.shared.turns() != self.turns;
-        has_more || turned || self.at_door
+        let turned = outlook.awaits && around.shared.turns() != self.turns;
+        if turned || more_came || self.at_door {
+            return Some(0);
+        }
+        outlook.timeout()
     }
 
     // Whether no link comes any more. Links that were handed over before the door was closed are on their way.
@@ -311,57 +328,56 @@ impl<P: Ready + Drop> EventLoop<P> {
         self.links.is_empty() && self.is_last(around, outside)
     }
 
-    // Waits for reports, not at all where the loop can go on at once.
+    // Waits for reports, so many milliseconds at most.
     fn wait<K: Clock + Drop>(
         &mut self,
         outside: &mut Outside<P, K>,
-        has_more: bool,
+        timeout: Option<u64>,
     ) -> Result<(), LoopEnd>
         ensures links { self.new.links ≡ self.old.links }
         ensures cause { CountsLoop result (loop_faults P.faults P.Door.faults K.faults outside.old)
             (loop_faults P.faults P.Door.faults K.faults outside.new) }
     {
-        let timeout = if has_more { Some(0) } else { None };
         outside.wait(timeout, &mut self.events)
     }
 
-    // Waits for reports, not at all where the loop can go on at once, notes them and lets in who came. Answers whether more may have
+    // Waits for reports, so many milliseconds at most, notes them and lets in who came. Answers whether more may have
     // come.
     fn gather<W: Wait, K: Clock + Drop, R: Reader>(
         &mut self,
         around: &Around<'_, W, P>,
         outside: &mut Outside<P, K>,
-        has_more: bool,
+        timeout: Option<u64>,
     ) -> Result<bool, LoopEnd>
         ensures went { GoesOn (link_view P.Link.tells P.Link.given P.Link.taken) R.gives self.old.links [] self.new.links }
         ensures cause { CountsLoop result (loop_faults P.faults P.Door.faults K.faults outside.old)
             (loop_faults P.faults P.Door.faults K.faults outside.new) }
     {
-        self.wait(outside, has_more)?;
+        self.wait(outside, timeout)?;
         self.note_reports::<R>();
         self.ask_door::<W, K, R>(around, outside)?;
         Ok(self.take_in::<W, K, R>(around, outside))
     }
 
-    // One pass: what was reported, what came, and what is due. Answers whether the loop can go on at once.
+    // One pass: what was reported, what came, and what is due. Answers how long the next one may wait for reports.
     fn pass<W: Wait, K: Clock + Drop, C: Calls, R: Reader>(
         &mut self,
         around: &Around<'_, W, P>,
         outside: &mut Outside<P, K>,
         calls: &mut C,
         reader: &mut R,
-        has_more: bool,
-    ) -> Result<bool, LoopEnd>
+        timeout: Option<u64>,
+    ) -> Result<Option<u64>, LoopEnd>
         ensures went { LeadsBy C.makes calls.old calls.new
             (λ acts. GoesOn (link_view P.Link.tells P.Link.given P.Link.taken) R.gives self.old.links acts self.new.links) }
         ensures cause { CountsLoop result (loop_faults P.faults P.Door.faults K.faults outside.old)
             (loop_faults P.faults P.Door.faults K.faults outside.new) }
     {
-        let more_came = self.gather::<W, K, R>(around, outside, has_more)?;
+        let more_came = self.gather::<W, K, R>(around, outside, timeout)?;
         let now = outside.now()?;
         let failed = self.note_turns(around.shared);
         self.serve(around, calls, reader, now, failed);
-        Ok(self.goes_on(around) | more_came)
+        Ok(self.timeout(around, more_came))
     }
 
     /// Serves links until the door is done and all of them have ended, or a fault ends it.
@@ -379,13 +395,13 @@ impl<P: Ready + Drop> EventLoop<P> {
         ensures cause { CountsEnd result (loop_faults P.faults P.Door.faults K.faults outside.old)
             (loop_faults P.faults P.Door.faults K.faults outside.new) }
     {
-        let mut has_more = false;
+        let mut timeout = None;
         for _ in around.rt.forever() {
             if around.shared.is_ending() || self.is_done(around, outside) {
                 return LoopEnd::Done;
             }
-            match self.pass(around, outside, calls, reader, has_more) {
-                Ok(more) => has_more = more,
+            match self.pass(around, outside, calls, reader, timeout) {
+                Ok(next) => timeout = next,
                 Err(end) => return end,
             }
         }

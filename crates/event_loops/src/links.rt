@@ -15,6 +15,33 @@ use std::alloc::Global;
 /// So many links a loop has at most.
 const LINKS_MAX: usize = 1 << 16;
 
+/// How often, in milliseconds, a loop looks at the clock for links whose time passes.
+const LOOK_MILLIS: u64 = 500;
+
+/// What a loop's links wait for.
+#[derive(Clone, Copy)]
+pub(crate) struct Outlook {
+    // One waits for a flush turn.
+    pub(crate) awaits: bool,
+    // One can go on at once.
+    pub(crate) has_more: bool,
+    // One waits for a time to pass.
+    pub(crate) is_timed: bool,
+}
+
+impl Outlook {
+    /// How many milliseconds the loop may wait for reports at most; `None` sets no time.
+    pub(crate) fn timeout(&self) -> Option<u64> {
+        if self.has_more {
+            Some(0)
+        } else if self.is_timed {
+            Some(LOOK_MILLIS)
+        } else {
+            None
+        }
+    }
+}
+
 /// A link that a loop serves, with its number.
 #[derive(Drop)]
 pub struct Numbered<L: Link + Drop> {
@@ -289,17 +316,21 @@ impl<L: Link + Drop> Links<L> {
         reply_each(alloc, shared, calls, self.slots.as_mut_slice(), reader)
     }
 
-    /// Whether a link waits for a flush turn, and whether one can go on at once.
-    pub(crate) fn outlook(&self) -> (bool, bool) {
-        let mut awaits = false;
-        let mut has_more = false;
+    /// What its links wait for.
+    pub(crate) fn outlook(&self) -> Outlook {
+        let mut outlook = Outlook {
+            awaits: false,
+            has_more: false,
+            is_timed: false,
+        };
         for slot in &self.slots {
             if let Some(numbered) = slot {
-                awaits = awaits || numbered.linked.awaits();
-                has_more = has_more || numbered.linked.has_more();
+                outlook.awaits = outlook.awaits || numbered.linked.awaits();
+                outlook.has_more = outlook.has_more || numbered.linked.has_more();
+                outlook.is_timed = outlook.is_timed || numbered.linked.is_timed();
             }
         }
-        (awaits, has_more)
+        outlook
     }
 
     /// Whether there is none.

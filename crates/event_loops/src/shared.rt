@@ -37,10 +37,11 @@ impl<P: Ready> Port<P> {
         }
     }
 
-    /// Hands a link over. Where memory wants for it the link is dropped, which closes it.
-    pub fn hand_over<R: Wait>(&self, rt: &R, link: NewLink<P::Link>) {
-        let _ = self.inbox.lock(rt).push_back(link);
+    /// Hands a link over. Answers whether it did: where there is no memory for it, it is dropped, which closes it.
+    pub fn hand_over<R: Wait>(&self, rt: &R, link: NewLink<P::Link>) -> bool {
+        let is_there = self.inbox.lock(rt).push_back(link).is_ok();
         self.waker.wake();
+        is_there
     }
 
     /// The next link that was handed over.

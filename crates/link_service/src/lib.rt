@@ -1,6 +1,7 @@
 //! A link with its session: what one pass of a loop does for it.
 #![tactic(auto)]
 
+mod drain;
 mod laws;
 mod linked;
 

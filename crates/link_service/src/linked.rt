@@ -1,6 +1,7 @@
 //! A link with its session: what one pass of a loop does for it.
 //!
 //! `whole -> broken [read, serve, settle, write, hear]`, where the link fails or there is no memory. A broken link makes no further call.
+//! `whole -> garbled [serve]`, where what it says is no frame: nothing more is served. `drain.rt` says how it ends.
 
 ghost use Rattle.std.specs.Prelude.{◌≡◌, ◌<◌, ◌^◌, [], false, true, IfOk};
 ghost use Rattle.session.specs.Serving.{Leads};
@@ -31,8 +32,13 @@ pub struct Linked<L: Link + Drop> {
     pub(crate) writable: bool,
     // Its peer has ended its side: reads go on until one says so.
     pub(crate) ended: bool,
-    // Nothing more is read: its stream ended, or what it says is no frame.
+    // Nothing more is read: its stream ended, or it was read on as far as a garbled link is.
     pub(crate) deaf: bool,
+    // What it says is no frame.
+    pub(crate) garbled: bool,
+    // Since when it is read on, in milliseconds, and until how many bytes are held of it.
+    pub(crate) drained_since: Option<u64>,
+    pub(crate) drained_to: u64,
     // It may hold a whole request that was not served yet.
     pub(crate) behind: bool,
     // Replies may be due, or unsent and taken at once, that its last pass did not come to.
@@ -56,6 +62,9 @@ impl<L: Link + Drop> Linked<L> {
             writable: true,
             ended: false,
             deaf: false,
+            garbled: false,
+            drained_since: None,
+            drained_to: 0,
             behind: false,
             owes: false,
             broken: false,
@@ -86,7 +95,7 @@ impl<L: Link + Drop> Linked<L> {
         self.ended = self.ended || ended;
     }
 
-    // Whether it is read on.
+    // Whether it is read.
     fn is_heard(&self) -> bool
         ensures { result ≡ true → self.now.broken ≡ false }
     {
@@ -110,7 +119,7 @@ impl<L: Link + Drop> Linked<L> {
     }
 
     // Takes in what the link says now, at most as much as one pass reads.
-    fn read(&mut self, buffer: &mut [u8])
+    pub(crate) fn read(&mut self, buffer: &mut [u8])
         ensures went { WentOnUnread L.tells (seen_of L.given L.taken self.old) [] (seen_of L.given L.taken self.new) }
     {
         for _ in 0..READS_MAX {
@@ -132,7 +141,7 @@ impl<L: Link + Drop> Linked<L> {
         let end = self.session.serve_next(alloc, calls, now);
         match end {
             Ok(_) => {}
-            Err(Halt::BadFrame(_)) => self.deaf = true,
+            Err(Halt::BadFrame(_)) => self.garbled = true,
             Err(Halt::Memory) => self.broken = true,
         }
         end
@@ -192,6 +201,10 @@ impl<L: Link + Drop> Linked<L> {
             (λ made. WentOnUnread L.tells (seen_of L.given L.taken self.old) made (seen_of L.given L.taken self.new)) }
     {
         if self.broken {
+            return false;
+        }
+        if self.garbled {
+            self.drain(buffer, now);
             return false;
         }
         self.give_up(alloc, failed);
@@ -273,21 +286,24 @@ impl<L: Link + Drop> Linked<L> {
         self.session.awaits()
     }
 
+    // Whether nothing is left to be served or sent.
+    pub(crate) fn is_settled(&self) -> bool {
+        !self.behind && !self.owes && !self.session.awaits() && self.session.unsent().is_empty()
+    }
+
     /// Whether it can go on at once.
     pub fn has_more(&self) -> bool {
         if self.broken {
             return false;
+        }
+        if self.garbled {
+            return self.owes || self.may_drain();
         }
         self.owes || ((self.behind || (self.readable && !self.deaf)) && !self.session.is_loaded())
     }
 
     /// Whether nothing more is to be done for it.
     pub fn has_ended(&self) -> bool {
-        self.broken
-            || (self.deaf
-                && !self.behind
-                && !self.owes
-                && !self.session.awaits()
-                && self.session.unsent().is_empty())
+        self.broken || (self.deaf && self.is_settled())
     }
 }

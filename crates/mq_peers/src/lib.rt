@@ -5,6 +5,7 @@ mod calls;
 mod door;
 mod event;
 mod incoming;
+mod keep_alive;
 mod link;
 mod mem_door;
 mod mem_link;

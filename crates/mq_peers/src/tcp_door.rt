@@ -1,8 +1,9 @@
-//! A door over TCP: peers come in by IPv4, and links don't wait to gather what they send.
+//! A door over TCP: peers come in by IPv4, links don't wait to gather what they send, and peers that vanish are found.
 
 ghost use Rattle.std.specs.Prelude.{◌≡◌, IfOk, IfSome};
 
 use crate::door::Door;
+use crate::keep_alive::keep_alive;
 use crate::link::Link;
 use crate::tcp_link::{TcpLink, peer_of};
 use mio::net::{TcpListener, TcpStream};
@@ -72,14 +73,15 @@ fn refusal_of(error: &io::Error) -> Refusal {
     }
 }
 
-// The link of a stream that came from this address. A peer that isn't at an IPv4 address is closed.
+// The link of a stream that came from this address. A peer that isn't at an IPv4 address is closed, and so is one of
+// whose stream the system refuses an option.
 fn link_of(stream: TcpStream, address: SocketAddr) -> Option<TcpLink>
     ensures faults { IfSome result (λ link. ⟦<TcpLink as Link>⟧.faults link ≡ 0) }
 {
     let SocketAddr::V4(address) = address else {
         return None;
     };
-    if stream.set_nodelay(true).is_err() {
+    if stream.set_nodelay(true).is_err() || !keep_alive(&stream) {
         return None;
     }
     Some(TcpLink::new(stream, peer_of(&address)))

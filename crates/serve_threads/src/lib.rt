@@ -7,10 +7,12 @@ mod keeper;
 mod laws;
 mod loops;
 mod served;
+mod starting;
 mod threads;
 mod world;
 
 pub use laws::a_shared_history_is_a_story;
 pub use loops::Loops;
 pub use served::{Devices, Served, Unserved, serve};
+pub use starting::can_start_threads;
 pub use world::World;

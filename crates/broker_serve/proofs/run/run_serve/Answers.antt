@@ -9,7 +9,7 @@ use Rattle.broker_serve.specs.Statuses.{IsDamagedFor, Refused}
 use Rattle.broker_serve.proofs.Serving.{puts_no_format, run_served, run_unserved, store_others}
 use Rattle.broker_serve.proofs.Telling.{why_unserved, why_then, not_formed, refused}
 use Rattle.serve_threads.specs.Causes.{counts_of, world_faults}
-use Rattle.broker_serve.proofs.Causing.{causes_from, causes_unserved, opening_causes, words_cause}
+use Rattle.broker_serve.proofs.Causing.{causes_from, causes_unserved, opening_causes, threads_cause, words_cause}
 use Rattle.broker_serve.proofs.run.run_serve.Goals as goal
 
 pub serve_store-requires-clause-size : goal.serve_store-requires-clause-size
@@ -22,6 +22,15 @@ returns-in-Err-clause-unserved g c = λ told.
     let before = c.args.store.keep in
     subst (λ o. IfNone o ((text : List ℕ) × PutsOnly text (g.E.Keep.state before) (g.E.Keep.state c.unserved.result.store.keep))) (sym c.unserved.ensures.core)
     ([], subst (λ k. PutsOnly [] (g.E.Keep.state before) (g.E.Keep.state k)) (sym (ap (λ s. s.keep) c.unserved.ensures.store)) (puts_no_format [] _))
+
+-- ---- threads can't be started
+
+pub returns-then-not-can_start_threads-clause-unserved : goal.returns-then-not-can_start_threads-clause-unserved
+returns-then-not-can_start_threads-clause-unserved g c = λ told.
+    let before = c.args.store.keep in
+    let ended = c.unserved-then-not-can_start_threads in
+    subst (λ o. IfNone o ((text : List ℕ) × PutsOnly text (g.E.Keep.state before) (g.E.Keep.state ended.result.store.keep))) (sym ended.ensures.core)
+    ([], subst (λ k. PutsOnly [] (g.E.Keep.state before) (g.E.Keep.state k)) (sym (ap (λ s. s.keep) ended.ensures.store)) (puts_no_format [] _))
 
 -- ---- the store isn't opened
 
@@ -71,6 +80,17 @@ returns-in-Err-clause-why g c =
     (counts_of (g.D.Disk.faults store.disk) (g.E.Keep.faults store.keep) (counts c.unserved.result.world))) _ _ _ _ _
     c.unserved.ensures.core c.unserved.ensures.status c.unserved.ensures.store (inl c.at.ensures.code)
 
+pub returns-then-not-can_start_threads-clause-why : goal.returns-then-not-can_start_threads-clause-why
+returns-then-not-can_start_threads-clause-why g c =
+    let before = c.args.store in
+    let ended = c.unserved-then-not-can_start_threads in
+    let told = store_told g.D.Disk.tells (g.D.Disk.state before.disk).reads g.E.Keep.tells (g.E.Keep.state before.keep).reads in
+    let counts = world_faults g.P.Ready.faults g.P.Door.Door.faults g.K.Clock.faults in
+    why_unserved (λ s store. Refused (texts_of c.args.words.now) told s (counts_of (g.D.Disk.faults before.disk) (g.E.Keep.faults before.keep) (counts c.args.world))
+    (counts_of (g.D.Disk.faults store.disk) (g.E.Keep.faults store.keep) (counts ended.result.world))) _ _ _ _ _
+    ended.ensures.core ended.ensures.status ended.ensures.store
+    (inr (c.in-Ok.command, c.in-Ok.ensures.fits, inl c.plain.ensures.code))
+
 pub returns-in-Err-open_format-clause-why : goal.returns-in-Err-open_format-clause-why
 returns-in-Err-open_format-clause-why g c =
     let before = c.args.store in
@@ -80,7 +100,7 @@ returns-in-Err-open_format-clause-why g c =
     why_unserved (λ s store. Refused (texts_of c.args.words.now) told s (counts_of (g.D.Disk.faults before.disk) (g.E.Keep.faults before.keep) (counts c.args.world))
     (counts_of (g.D.Disk.faults store.disk) (g.E.Keep.faults store.keep) (counts ended.result.world))) _ _ _ _ _
     ended.ensures.core ended.ensures.status ended.ensures.store
-    (inr (c.in-Ok.command, c.in-Ok.ensures.fits, not_formed (IsDamagedFor c.in-Ok.command told) c.in-Err-open_format.status _ _ _ _ c.in-Err-open_format.ensures.cause))
+    (inr (c.in-Ok.command, c.in-Ok.ensures.fits, inr (not_formed (IsDamagedFor c.in-Ok.command told) c.in-Err-open_format.status _ _ _ _ c.in-Err-open_format.ensures.cause)))
 
 pub returns-in-Ok-open_format-clause-why : goal.returns-in-Ok-open_format-clause-why
 returns-in-Ok-open_format-clause-why g c =
@@ -95,6 +115,11 @@ pub returns-in-Err-clause-cause : goal.returns-in-Err-clause-cause
 returns-in-Err-clause-cause g c =
     causes_unserved (λ s. g.D.Disk.faults s.disk) (λ s. g.E.Keep.faults s.keep) (world_faults g.P.Ready.faults g.P.Door.Door.faults g.K.Clock.faults) _ c.at.result c.unserved.result.status _ _ _ _ c.unserved.ensures.status c.unserved.ensures.store c.unserved.ensures.world
     (words_cause c.at.result _ _ c.at.ensures.code)
+
+pub returns-then-not-can_start_threads-clause-cause : goal.returns-then-not-can_start_threads-clause-cause
+returns-then-not-can_start_threads-clause-cause g c =
+    causes_unserved (λ s. g.D.Disk.faults s.disk) (λ s. g.E.Keep.faults s.keep) (world_faults g.P.Ready.faults g.P.Door.Door.faults g.K.Clock.faults) _ c.plain.result c.unserved-then-not-can_start_threads.result.status _ _ _ _ c.unserved-then-not-can_start_threads.ensures.status c.unserved-then-not-can_start_threads.ensures.store c.unserved-then-not-can_start_threads.ensures.world
+    (threads_cause c.plain.result _ _ c.plain.ensures.code)
 
 pub returns-in-Err-open_format-clause-cause : goal.returns-in-Err-open_format-clause-cause
 returns-in-Err-open_format-clause-cause g c =

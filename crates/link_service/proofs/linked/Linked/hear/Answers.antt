@@ -5,7 +5,10 @@ pub returns-then-self : goal.returns-then-self
 returns-then-self g c = record { went = hears_quietly g.C.Calls.makes g.L.Link.tells _ _ _ (unread_same _ _) }
 
 pub returns-then-self-2 : goal.returns-then-self-2
-returns-then-self-2 g c = record {
+returns-then-self-2 g c = record { went = hears_quietly g.C.Calls.makes g.L.Link.tells _ _ _ c.drain.ensures.went }
+
+pub returns-then-self-3 : goal.returns-then-self-3
+returns-then-self-3 g c = record {
   went = hears_quietly g.C.Calls.makes g.L.Link.tells _ _ _ (unread_on _ _ _ _ _ _ c.give_up.ensures.went c.read.ensures.went);
 }
 
