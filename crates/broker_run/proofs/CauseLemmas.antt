@@ -14,7 +14,7 @@ use Rattle.pipe_stream.specs.declared.stop.Stop.TheVariants as stops
 use Rattle.pipe_stream.specs.declared.stop.Halt.{Halt}
 use Rattle.pipe_stream.specs.declared.stop.Halt.TheVariants.{BadFrame, Read, Stopped}
 use Rattle.broker_run.specs.Closing.{IsFailed, CountsRun}
-use Rattle.end_statuses.specs.Statuses.{StatusTellsFault}
+use Rattle.exit_status.specs.Statuses.{StatusTellsFault}
 use Rattle.broker_run.specs.Promise.{StatusOf, StatusTells, AllFaults, Causes, CountsStatus, CountsEnd}
 use Rattle.broker_run.specs.declared.ended.Ended.{Ended}
 use Rattle.pipe_stream.specs.Telling.{fault_counts}

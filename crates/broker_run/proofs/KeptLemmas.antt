@@ -27,7 +27,7 @@ use Rattle.pipe_stream.specs.declared.stop.Halt.{Halt}
 use Rattle.pipe_stream.specs.declared.stop.Halt.TheVariants.{BadFrame, Read, Stopped}
 use Rattle.pipe_stream.specs.declared.stop.Stop.TheVariants as stops
 use Rattle.keeper_turns.specs.Turns.{HasKept}
-use Rattle.end_statuses.specs.Statuses.{StatusKept, StatusTellsConfig, TellsDevice}
+use Rattle.exit_status.specs.Statuses.{StatusKept, StatusTellsConfig, TellsDevice}
 use Rattle.broker_run.specs.Promise.{StatusOf, StatusAfter, AllWell, AllFaults, Causes, Seen, before, behind, KeepSeen, ReplacesAll, PutsAll, CanBeKept, KeepsOpen, KeepsState, Misread, CountsStatus, CountsEnd}
 use Rattle.broker_run.proofs.CauseLemmas.{quiet}
 use Rattle.pipe_stream.specs.Telling.{fault_counts}

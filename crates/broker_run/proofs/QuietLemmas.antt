@@ -21,7 +21,7 @@ use Rattle.pipe_stream.specs.declared.stop.Stop.TheVariants as stops
 use Rattle.mq_outside.specs.declared.faults.DiskFault.{DiskFault}
 use Rattle.mq_outside.specs.declared.faults.DiskFault.TheVariants as keeper
 use Rattle.config_store.specs.Faults.{IsBadText}
-use Rattle.end_statuses.specs.Statuses.{TellsDevice, StatusTellsFault}
+use Rattle.exit_status.specs.Statuses.{TellsDevice, StatusTellsFault}
 use Rattle.broker_run.specs.Promise.{Seen, KeepSeen, AllFaults, Causes, StatusTells, StatusOf, StatusAfter, before, Served, Refused, Misread, Unrecovered, IsNotServed, Call, IsQuiet, EndsWell}
 
 -- ---- bytes that are whole frames

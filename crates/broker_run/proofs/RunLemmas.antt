@@ -43,7 +43,7 @@ use Rattle.flush_story.proofs.Keeps.{kept_as}
 use Rattle.flush_story.proofs.Turns.{order_on, exact_later, turned_most}
 use Rattle.flush_story.specs.Leads.{alone}
 use Rattle.flush_story.proofs.ActStory.{acts_lead, acts_written}
-use Rattle.end_statuses.specs.Statuses.{StatusTellsFault}
+use Rattle.exit_status.specs.Statuses.{StatusTellsFault}
 use Rattle.broker_run.specs.Promise.{AreMoves, opened_over, Seen, before, behind, sides_for, Leaves, Survives, RunFrom, BeginsWithKept, KeepsOn, RunsFromSome, KeepsAfter, LeavesDisk, KeepsOpen, ServedOver, Unrecovered, KeepSeen}
 use Rattle.broker_run.proofs.CauseLemmas.{damage_told}
 use Rattle.pipe_stream.specs.declared.stop.Halt.{Halt}

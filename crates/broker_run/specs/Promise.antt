@@ -21,7 +21,7 @@ use Rattle.store_open.specs.Openings.{FORMAT, AreSizesOf, IsForeign, IsOpened, P
 use Rattle.store_open.specs.declared.format.Sizes.{Sizes}
 use Rattle.store_open.specs.declared.words.Command.{Command}
 use Rattle.store_open.specs.declared.status.Status.{Status}
-use Rattle.end_statuses.specs.Statuses.{TellsDevice, StatusTellsFault}
+use Rattle.exit_status.specs.Statuses.{TellsDevice, StatusTellsFault}
 use Rattle.broker_model.specs.State.{State, Saved}
 use Rattle.broker_model.specs.Tables.{OffsetRow, TopicRow}
 use Rattle.broker_model.specs.Events as model

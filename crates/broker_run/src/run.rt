@@ -16,7 +16,7 @@ ghost use Rattle.broker_run.specs.Promise.{Call, Causes, IsQuiet, EndsWell};
 use crate::serving::serve_log;
 use broker_events::Setup;
 use config_store::load_config;
-use end_statuses::{status_of_config, status_of_fault};
+use exit_status::{status_of_config, status_of_fault};
 use log_opening::open_log_with;
 use mq_outside::{Clock, Disk, DiskFault, Keep, Sink, Source};
 use std::alloc::Global;

@@ -19,7 +19,7 @@ ghost use Rattle.pipe_stream.specs.Telling.{fault_counts};
 use crate::ended::Ended;
 use broker_core::Alone;
 use broker_events::Calls;
-use end_statuses::status_kept;
+use exit_status::status_kept;
 use group_flush::Flusher;
 use keeper_turns::keep_core;
 use log_opening::Opened;

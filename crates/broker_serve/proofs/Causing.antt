@@ -18,7 +18,7 @@ use Rattle.store_open.specs.Openings.{OpeningCause}
 use Rattle.store_open.specs.declared.status.Status.{Status}
 use Rattle.serve_threads.specs.Causes.{WorldFaults, ServeFaults, BlamesWorld, BlamesDisk, BlamesMaking, HasCauses, counts_of}
 use Rattle.broker_serve.specs.Causes.{BlamesDoor, Causes, StatusTellsMaking}
-use Rattle.end_statuses.specs.Statuses.{TellsDevice, StatusTellsFault, StatusTellsConfig}
+use Rattle.exit_status.specs.Statuses.{TellsDevice, StatusTellsFault, StatusTellsConfig}
 use Rattle.broker_serve.specs.Statuses.{StatusTellsLoops, StatusTellsEnd, StatusLeft, StatusTellsReader}
 
 module _ (status : Status) (old new : ServeFaults) where

@@ -25,7 +25,7 @@ use Rattle.store_open.specs.declared.format.Sizes.{Sizes}
 use Rattle.store_open.specs.declared.serve_words.ServeCommand.{ServeCommand}
 use Rattle.store_open.specs.declared.status.Status.{Status}
 use Rattle.serve_threads.specs.Causes.{WorldFaults, counts_of}
-use Rattle.end_statuses.specs.Statuses.{TellsDevice, StatusKept, StatusTellsFault, StatusTellsConfig}
+use Rattle.exit_status.specs.Statuses.{TellsDevice, StatusKept, StatusTellsFault, StatusTellsConfig}
 use Rattle.broker_serve.specs.Statuses.{StatusTellsLoops, StatusTellsEnd, AllWell, StatusLeft}
 use Rattle.broker_serve.specs.Statuses.{StatusTellsReader, ShutOut, Unopened, Unserved, IsDamagedLog, IsDamagedIn, IsDamagedFor, Refused}
 

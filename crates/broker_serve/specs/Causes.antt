@@ -5,7 +5,7 @@ use Rattle.event_loops.specs.declared.event_loop.LoopEnd.{LoopEnd}
 use Rattle.event_loops.specs.declared.event_loop.LoopEnd.TheVariants as loops
 use Rattle.store_open.specs.declared.status.Status.{Status}
 use Rattle.serve_threads.specs.Causes.{OneRises, ServeFaults, WorldFaults}
-use Rattle.end_statuses.specs.Statuses.{TellsDevice}
+use Rattle.exit_status.specs.Statuses.{TellsDevice}
 
 -- the status tells of no device that failed
 abbrev pub BlamesNone : Status → Type 0

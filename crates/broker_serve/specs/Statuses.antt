@@ -17,7 +17,7 @@ use Rattle.store_open.specs.declared.format.Sizes.{Sizes}
 use Rattle.store_open.specs.declared.serve_words.ServeCommand.{ServeCommand}
 use Rattle.store_open.specs.declared.status.Status.{Status}
 use Rattle.serve_threads.specs.Causes.{ServeFaults}
-use Rattle.end_statuses.specs.Statuses.{TellsDevice}
+use Rattle.exit_status.specs.Statuses.{TellsDevice}
 
 -- ---- links were served
 

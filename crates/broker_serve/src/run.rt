@@ -29,7 +29,7 @@ ghost use Rattle.serve_threads.specs.Causes.{HasCauses, ServeFaults as TheFaults
 ghost use Rattle.broker_serve.specs.Causes.{BlamesDoor, Causes};
 ghost use Rattle.broker_serve.specs.Serves.{EndsOver, HasServed, PutsAllAlong, ServesLog, ServesStore, StoresOpened};
 ghost use Rattle.broker_serve.specs.Serves.{run_over, setup_by};
-ghost use Rattle.end_statuses.specs.Statuses.{TellsDevice};
+ghost use Rattle.exit_status.specs.Statuses.{TellsDevice};
 ghost use Rattle.broker_serve.specs.Statuses.{IsDamagedIn, IsDamagedLog, Refused, ShutOut, StatusLeft, Unopened};
 ghost use Rattle.broker_serve.specs.Statuses.{Unserved as UnservedBy};
 
@@ -37,8 +37,8 @@ use crate::statuses::{last_status, status_of_making, status_of_reader};
 use broker_core::Core;
 use broker_events::Setup;
 use config_store::{Config, load_config};
-use end_statuses::{status_kept, status_of_config, status_of_fault};
 use event_loops::Bounds;
+use exit_status::{status_kept, status_of_config, status_of_fault};
 use log_opening::{Opened, open_log_with};
 use mq_outside::{Clock, Disk, DiskFault, Failed, Keep};
 use mq_peers::{Door, Ready};
@@ -85,9 +85,9 @@ fn unserved<P: Ready + Drop, K: Clock + Drop, D: Disk + Drop, E: Keep + Drop>(
     }
 }
 
-// The port of the broker's host.
+// The port at which the arguments say to listen.
 fn port_of(command: &ServeCommand) -> u16 {
-    let [_, _, _, _, _, _, high, low] = command.host;
+    let [_, _, _, _, _, _, high, low] = command.listen;
     u16::from_be_bytes([high, low])
 }
 

@@ -1,28 +1,32 @@
-//! `mq_broker pipe` serves the requests of standard input and answers on standard output; `mq_broker serve` serves links over
-//! TCP. The store is the folder `store` of the current folder. The exit status tells how the run ended (`store_open`), and
-//! nothing else is printed.
+//! `mq_broker pipe` answers the requests of standard input on standard output; `mq_broker serve` accepts connections over TCP.
+//! The arguments are read before anything is made. Standard output has replies and the texts of `--help` and `--version`
+//! alone; standard error has one line for each run that ends with another status than 0, and two of each run of `serve`.
 #![tactic(auto)]
 
-use broker_serve::Store;
-use mq_outside::{FolderDisk, FolderKeep, MachineClock, StdSink, StdSource};
-use mq_peers::{TcpDoor, TcpReady};
-use program_run::{Streams, run};
-use serve_threads::World;
+mod asked;
+mod running;
+mod telling;
+
+use asked::{Asked, asked_of};
+use exit_status::usage_line;
+use running::run_target;
 use std::alloc::{AllocError, Global};
 use std::process::ExitCode;
 use std::sync::Wait;
 use std::thread::Threads;
+use store_open::{help, help_of};
+use telling::{say, warn};
 
-/// The folder of the store.
-const STORE: &str = "store";
+/// The status of a usage error.
+const USAGE: u8 = 1;
 
-/// The status of want of memory.
+/// The status of a run that is out of memory.
 const NO_MEMORY: u8 = 7;
 
-/// The status where nothing tells which links are ready.
-const NO_DEVICE: u8 = 10;
+/// The text of `--version`.
+const VERSION: &str = "mq_broker 0.1.0\n";
 
-// The words behind the program's name. One that isn't text is none that fits.
+// The arguments. If one isn't UTF-8, a single empty argument, which is a usage error.
 fn words_of(rt: HostRuntime, alloc: Global) -> Result<Vec<String>, AllocError> {
     let mut words = Vec::new(alloc);
     match std::env::args(&rt) {
@@ -36,41 +40,26 @@ fn words_of(rt: HostRuntime, alloc: Global) -> Result<Vec<String>, AllocError> {
     Ok(words)
 }
 
-// Runs over the real devices, as the words say, and answers the exit status.
+// Does what the arguments ask for, and answers the exit status.
 fn run_words<W: Wait + Threads + Sync>(
     threads: &W,
     rt: HostRuntime,
     alloc: Global,
     words: &[&str],
 ) -> Result<u8, AllocError> {
-    let Ok(ready) = TcpReady::new(rt, alloc) else {
-        return Ok(NO_DEVICE);
-    };
-    let Ok(other) = TcpReady::new(rt, alloc) else {
-        return Ok(NO_DEVICE);
-    };
-    let store = Store {
-        disk: FolderDisk::new(rt, String::from_str(alloc, STORE)?),
-        keep: FolderKeep::new(rt, String::from_str(alloc, STORE)?),
-    };
-    let world = World {
-        ready: (ready, other),
-        clocks: (MachineClock::new(rt), MachineClock::new(rt)),
-        door: TcpDoor::new(rt),
-    };
-    let streams = Streams {
-        source: StdSource::new(rt),
-        sink: StdSink::new(rt),
-    };
-    Ok(
-        run(threads, alloc, words, streams, world, store)
-            .ended
-            .status
-            .code,
-    )
+    match asked_of(words) {
+        Asked::Help => Ok(say(rt, help(alloc)?.as_str())),
+        Asked::HelpOf(verb) => Ok(say(rt, help_of(alloc, verb)?.as_str())),
+        Asked::Version => Ok(say(rt, VERSION)),
+        Asked::Unfit(place) => {
+            warn(rt, usage_line(alloc, words, place)?.as_str());
+            Ok(USAGE)
+        }
+        Asked::Run(target) => run_target(threads, rt, alloc, words, &target),
+    }
 }
 
-// Takes the words, and runs as they say.
+// Takes the arguments, and does as they say.
 fn run_program<W: Wait + Threads + Sync>(
     threads: &W,
     rt: HostRuntime,
@@ -88,6 +77,12 @@ fn main(rt: HostRuntime) -> ExitCode {
     let alloc = rt.alloc();
     match run_program(&rt, rt, alloc) {
         Ok(code) => ExitCode::from(code),
-        Err(_) => ExitCode::from(NO_MEMORY),
+        Err(AllocError) => {
+            warn(
+                rt,
+                "mq_broker: out of memory (status 7): give it more memory, then run again",
+            );
+            ExitCode::from(NO_MEMORY)
+        }
     }
 }

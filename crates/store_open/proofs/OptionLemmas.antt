@@ -9,12 +9,12 @@ use Rattle.std.proofs.lemmas.List.Concat.{flat_map-append}
 use denote.Ref.{Bor}
 use Rattle.store_open.specs.declared.settings.Verb.{Verb}
 use Rattle.store_open.specs.declared.settings.Choice.{Choice}
-use Rattle.store_open.specs.declared.settings.Choice.TheVariants.{Flush, Segment, Slots, Entries, Host, Links, Connections}
+use Rattle.store_open.specs.declared.settings.Choice.TheVariants.{Flush, Segment, Slots, Entries, Host, Store, Listen, Links, Connections}
 use Rattle.store_open.specs.declared.settings.Setting.{Setting}
-use Rattle.store_open.specs.declared.settings.Setting.TheVariants.{FlushAs, SegmentOf, SlotsOf, EntriesOf, HostAt, LinksOf, ConnectionsOf}
+use Rattle.store_open.specs.declared.settings.Setting.TheVariants.{FlushAs, SegmentOf, SlotsOf, EntriesOf, HostAt, StoreIn, ListenAt, LinksOf, ConnectionsOf}
 use Rattle.store_open.specs.declared.settings.Settings.{Settings}
-use Rattle.store_open.specs.Options.{texts_of, word_of, spelled, choice_of, value_text, written, listed, IsInRange, IsOffered, IsFree, AreSaid}
-use Rattle.store_open.specs.Options.{sync_in, segment_in, slots_in, entries_in, host_in, links_in, connections_in}
+use Rattle.store_open.specs.Options.{texts_of, word_of, spelled, choice_of, value_text, written, listed, IsInRange, IsOffered, IsFree, AreSaid, text_in}
+use Rattle.store_open.specs.Options.{sync_in, segment_in, slots_in, entries_in, host_in, store_in, listen_in, links_in, connections_in}
 use Rattle.store_open.specs.Options.{IsSettingOf, AreArguments, BeginsArguments, IsFirstUnfit}
 use Rattle.store_open.proofs.SettingLemmas.{kept, added}
 
@@ -38,6 +38,8 @@ index Entries = 3
 index Host = 4
 index Links = 5
 index Connections = 6
+index Store = 7
+index Listen = 8
 
 abbrev one : Choice → Choice → ℕ
 one k c = if nat_eq (index k) (index c) then 1 else 0
@@ -52,6 +54,8 @@ one_self Segment = refl
 one_self Slots = refl
 one_self Entries = refl
 one_self Host = refl
+one_self Store = refl
+one_self Listen = refl
 one_self Links = refl
 one_self Connections = refl
 
@@ -67,6 +71,8 @@ count_sync (SegmentOf v ∷ said) = omega (arith, count_sync said)
 count_sync (SlotsOf v ∷ said) = omega (arith, count_sync said)
 count_sync (EntriesOf v ∷ said) = omega (arith, count_sync said)
 count_sync (HostAt v ∷ said) = omega (arith, count_sync said)
+count_sync (StoreIn v ∷ said) = omega (arith, count_sync said)
+count_sync (ListenAt v ∷ said) = omega (arith, count_sync said)
 count_sync (LinksOf v ∷ said) = omega (arith, count_sync said)
 count_sync (ConnectionsOf v ∷ said) = omega (arith, count_sync said)
 
@@ -77,6 +83,8 @@ count_segment (SegmentOf v ∷ said) = omega (arith, count_segment said)
 count_segment (SlotsOf v ∷ said) = omega (arith, count_segment said)
 count_segment (EntriesOf v ∷ said) = omega (arith, count_segment said)
 count_segment (HostAt v ∷ said) = omega (arith, count_segment said)
+count_segment (StoreIn v ∷ said) = omega (arith, count_segment said)
+count_segment (ListenAt v ∷ said) = omega (arith, count_segment said)
 count_segment (LinksOf v ∷ said) = omega (arith, count_segment said)
 count_segment (ConnectionsOf v ∷ said) = omega (arith, count_segment said)
 
@@ -87,6 +95,8 @@ count_slots (SegmentOf v ∷ said) = omega (arith, count_slots said)
 count_slots (SlotsOf v ∷ said) = omega (arith, count_slots said)
 count_slots (EntriesOf v ∷ said) = omega (arith, count_slots said)
 count_slots (HostAt v ∷ said) = omega (arith, count_slots said)
+count_slots (StoreIn v ∷ said) = omega (arith, count_slots said)
+count_slots (ListenAt v ∷ said) = omega (arith, count_slots said)
 count_slots (LinksOf v ∷ said) = omega (arith, count_slots said)
 count_slots (ConnectionsOf v ∷ said) = omega (arith, count_slots said)
 
@@ -97,6 +107,8 @@ count_entries (SegmentOf v ∷ said) = omega (arith, count_entries said)
 count_entries (SlotsOf v ∷ said) = omega (arith, count_entries said)
 count_entries (EntriesOf v ∷ said) = omega (arith, count_entries said)
 count_entries (HostAt v ∷ said) = omega (arith, count_entries said)
+count_entries (StoreIn v ∷ said) = omega (arith, count_entries said)
+count_entries (ListenAt v ∷ said) = omega (arith, count_entries said)
 count_entries (LinksOf v ∷ said) = omega (arith, count_entries said)
 count_entries (ConnectionsOf v ∷ said) = omega (arith, count_entries said)
 
@@ -107,8 +119,34 @@ count_host (SegmentOf v ∷ said) = omega (arith, count_host said)
 count_host (SlotsOf v ∷ said) = omega (arith, count_host said)
 count_host (EntriesOf v ∷ said) = omega (arith, count_host said)
 count_host (HostAt v ∷ said) = omega (arith, count_host said)
+count_host (StoreIn v ∷ said) = omega (arith, count_host said)
+count_host (ListenAt v ∷ said) = omega (arith, count_host said)
 count_host (LinksOf v ∷ said) = omega (arith, count_host said)
 count_host (ConnectionsOf v ∷ said) = omega (arith, count_host said)
+
+count_store : (said : List Setting) → length (filter_map store_in said) ≡ total Store (map choice_of said)
+count_store [] = refl
+count_store (FlushAs v ∷ said) = omega (arith, count_store said)
+count_store (SegmentOf v ∷ said) = omega (arith, count_store said)
+count_store (SlotsOf v ∷ said) = omega (arith, count_store said)
+count_store (EntriesOf v ∷ said) = omega (arith, count_store said)
+count_store (HostAt v ∷ said) = omega (arith, count_store said)
+count_store (StoreIn v ∷ said) = omega (arith, count_store said)
+count_store (ListenAt v ∷ said) = omega (arith, count_store said)
+count_store (LinksOf v ∷ said) = omega (arith, count_store said)
+count_store (ConnectionsOf v ∷ said) = omega (arith, count_store said)
+
+count_listen : (said : List Setting) → length (filter_map listen_in said) ≡ total Listen (map choice_of said)
+count_listen [] = refl
+count_listen (FlushAs v ∷ said) = omega (arith, count_listen said)
+count_listen (SegmentOf v ∷ said) = omega (arith, count_listen said)
+count_listen (SlotsOf v ∷ said) = omega (arith, count_listen said)
+count_listen (EntriesOf v ∷ said) = omega (arith, count_listen said)
+count_listen (HostAt v ∷ said) = omega (arith, count_listen said)
+count_listen (StoreIn v ∷ said) = omega (arith, count_listen said)
+count_listen (ListenAt v ∷ said) = omega (arith, count_listen said)
+count_listen (LinksOf v ∷ said) = omega (arith, count_listen said)
+count_listen (ConnectionsOf v ∷ said) = omega (arith, count_listen said)
 
 count_links : (said : List Setting) → length (filter_map links_in said) ≡ total Links (map choice_of said)
 count_links [] = refl
@@ -117,6 +155,8 @@ count_links (SegmentOf v ∷ said) = omega (arith, count_links said)
 count_links (SlotsOf v ∷ said) = omega (arith, count_links said)
 count_links (EntriesOf v ∷ said) = omega (arith, count_links said)
 count_links (HostAt v ∷ said) = omega (arith, count_links said)
+count_links (StoreIn v ∷ said) = omega (arith, count_links said)
+count_links (ListenAt v ∷ said) = omega (arith, count_links said)
 count_links (LinksOf v ∷ said) = omega (arith, count_links said)
 count_links (ConnectionsOf v ∷ said) = omega (arith, count_links said)
 
@@ -127,8 +167,15 @@ count_connections (SegmentOf v ∷ said) = omega (arith, count_connections said)
 count_connections (SlotsOf v ∷ said) = omega (arith, count_connections said)
 count_connections (EntriesOf v ∷ said) = omega (arith, count_connections said)
 count_connections (HostAt v ∷ said) = omega (arith, count_connections said)
+count_connections (StoreIn v ∷ said) = omega (arith, count_connections said)
+count_connections (ListenAt v ∷ said) = omega (arith, count_connections said)
 count_connections (LinksOf v ∷ said) = omega (arith, count_connections said)
 count_connections (ConnectionsOf v ∷ said) = omega (arith, count_connections said)
+
+-- no text, no reference to one
+text_none : (o : Option (Bor (List ℕ))) → text_in o ≡ None → o ≡ None
+text_none None none = refl
+text_none (Some s) none = absurd cc
 
 listed_once : {A : Type 0} (o : Option A) → length (listed o) ≤ 1
 listed_once None = omega arith
@@ -144,6 +191,8 @@ at_most_once Segment said o is = let n = ap length is.segment in omega (arith, n
 at_most_once Slots said o is = let n = ap length is.slots in omega (arith, n, count_slots said, listed_once o.slots)
 at_most_once Entries said o is = let n = ap length is.entries in omega (arith, n, count_entries said, listed_once o.entries)
 at_most_once Host said o is = let n = ap length is.host in omega (arith, n, count_host said, listed_once o.host)
+at_most_once Store said o is = let n = ap length is.store in omega (arith, n, count_store said, listed_once (text_in o.store))
+at_most_once Listen said o is = let n = ap length is.listen in omega (arith, n, count_listen said, listed_once o.listen)
 at_most_once Links said o is = let n = ap length is.links in omega (arith, n, count_links said, listed_once o.links)
 at_most_once Connections said o is = let n = ap length is.connections in omega (arith, n, count_connections said, listed_once o.connections)
 
@@ -153,6 +202,8 @@ is_said Segment said o is taken = let n = ap length is.segment in omega (arith, 
 is_said Slots said o is taken = let n = ap length is.slots in omega (arith, n, count_slots said, listed_some o.slots taken)
 is_said Entries said o is taken = let n = ap length is.entries in omega (arith, n, count_entries said, listed_some o.entries taken)
 is_said Host said o is taken = let n = ap length is.host in omega (arith, n, count_host said, listed_some o.host taken)
+is_said Store said o is taken = let n = ap length is.store in omega (arith, n, count_store said, listed_some (text_in o.store) (λ none. taken (text_none o.store none)))
+is_said Listen said o is taken = let n = ap length is.listen in omega (arith, n, count_listen said, listed_some o.listen taken)
 is_said Links said o is taken = let n = ap length is.links in omega (arith, n, count_links said, listed_some o.links taken)
 is_said Connections said o is taken = let n = ap length is.connections in omega (arith, n, count_connections said, listed_some o.connections taken)
 
@@ -164,6 +215,8 @@ example Segment = SegmentOf 4096
 example Slots = SlotsOf 1
 example Entries = EntriesOf 2
 example Host = HostAt (127 ∷ 0 ∷ 0 ∷ 1 ∷ 0 ∷ 0 ∷ 42 ∷ 159 ∷ [])
+example Store = StoreIn (record { ref_ptr = (0, 0); now = 100 ∷ [] })
+example Listen = ListenAt (127 ∷ 0 ∷ 0 ∷ 1 ∷ 0 ∷ 0 ∷ 42 ∷ 159 ∷ [])
 example Links = LinksOf 1
 example Connections = ConnectionsOf 1
 
@@ -173,6 +226,8 @@ example_is Segment = refl
 example_is Slots = refl
 example_is Entries = refl
 example_is Host = refl
+example_is Store = refl
+example_is Listen = refl
 example_is Links = refl
 example_is Connections = refl
 
@@ -182,6 +237,8 @@ example_in_range Segment = record { low = omega arith; high = omega arith }
 example_in_range Slots = record { low = omega arith; high = omega arith }
 example_in_range Entries = record { low = omega arith; high = omega arith }
 example_in_range Host = record { len = refl; first = omega arith; second = omega arith; third = omega arith; fourth = omega arith; upper = refl; next = refl; low = omega arith; high = omega arith; low_byte = omega arith }
+example_in_range Store = λ empty. absurd cc
+example_in_range Listen = record { len = refl; first = omega arith; second = omega arith; third = omega arith; fourth = omega arith; upper = refl; next = refl; low = omega arith; high = omega arith; low_byte = omega arith }
 example_in_range Links = record { low = omega arith; high = omega arith }
 example_in_range Connections = record { low = omega arith; high = omega arith }
 
@@ -191,85 +248,127 @@ example_fits verb k offered = record { offered = subst (λ (c : Choice). IsOffer
 -- an option more that was free
 example_more : (k : Choice) (said : List Setting) (o : Settings) → IsFree k o → AreSaid said o → (more : Settings) × AreSaid (said ++ example k ∷ []) more
 example_more Flush said o free is = (
-  record { sync = Some true; segment = o.segment; slots = o.slots; entries = o.entries; host = o.host; links = o.links; connections = o.connections },
+  record { sync = Some true; segment = o.segment; slots = o.slots; entries = o.entries; host = o.host; store = o.store; listen = o.listen; links = o.links; connections = o.connections },
   record {
     sync = added sync_in said _ _ _ refl free is.sync;
     segment = kept segment_in said _ _ refl is.segment;
     slots = kept slots_in said _ _ refl is.slots;
     entries = kept entries_in said _ _ refl is.entries;
     host = kept host_in said _ _ refl is.host;
+    store = kept store_in said _ _ refl is.store;
+    listen = kept listen_in said _ _ refl is.listen;
     links = kept links_in said _ _ refl is.links;
     connections = kept connections_in said _ _ refl is.connections;
   },
 )
 example_more Segment said o free is = (
-  record { sync = o.sync; segment = Some 4096; slots = o.slots; entries = o.entries; host = o.host; links = o.links; connections = o.connections },
+  record { sync = o.sync; segment = Some 4096; slots = o.slots; entries = o.entries; host = o.host; store = o.store; listen = o.listen; links = o.links; connections = o.connections },
   record {
     sync = kept sync_in said _ _ refl is.sync;
     segment = added segment_in said _ _ _ refl free is.segment;
     slots = kept slots_in said _ _ refl is.slots;
     entries = kept entries_in said _ _ refl is.entries;
     host = kept host_in said _ _ refl is.host;
+    store = kept store_in said _ _ refl is.store;
+    listen = kept listen_in said _ _ refl is.listen;
     links = kept links_in said _ _ refl is.links;
     connections = kept connections_in said _ _ refl is.connections;
   },
 )
 example_more Slots said o free is = (
-  record { sync = o.sync; segment = o.segment; slots = Some 1; entries = o.entries; host = o.host; links = o.links; connections = o.connections },
+  record { sync = o.sync; segment = o.segment; slots = Some 1; entries = o.entries; host = o.host; store = o.store; listen = o.listen; links = o.links; connections = o.connections },
   record {
     sync = kept sync_in said _ _ refl is.sync;
     segment = kept segment_in said _ _ refl is.segment;
     slots = added slots_in said _ _ _ refl free is.slots;
     entries = kept entries_in said _ _ refl is.entries;
     host = kept host_in said _ _ refl is.host;
+    store = kept store_in said _ _ refl is.store;
+    listen = kept listen_in said _ _ refl is.listen;
     links = kept links_in said _ _ refl is.links;
     connections = kept connections_in said _ _ refl is.connections;
   },
 )
 example_more Entries said o free is = (
-  record { sync = o.sync; segment = o.segment; slots = o.slots; entries = Some 2; host = o.host; links = o.links; connections = o.connections },
+  record { sync = o.sync; segment = o.segment; slots = o.slots; entries = Some 2; host = o.host; store = o.store; listen = o.listen; links = o.links; connections = o.connections },
   record {
     sync = kept sync_in said _ _ refl is.sync;
     segment = kept segment_in said _ _ refl is.segment;
     slots = kept slots_in said _ _ refl is.slots;
     entries = added entries_in said _ _ _ refl free is.entries;
     host = kept host_in said _ _ refl is.host;
+    store = kept store_in said _ _ refl is.store;
+    listen = kept listen_in said _ _ refl is.listen;
     links = kept links_in said _ _ refl is.links;
     connections = kept connections_in said _ _ refl is.connections;
   },
 )
 example_more Host said o free is = (
-  record { sync = o.sync; segment = o.segment; slots = o.slots; entries = o.entries; host = Some (127 ∷ 0 ∷ 0 ∷ 1 ∷ 0 ∷ 0 ∷ 42 ∷ 159 ∷ []); links = o.links; connections = o.connections },
+  record { sync = o.sync; segment = o.segment; slots = o.slots; entries = o.entries; host = Some (127 ∷ 0 ∷ 0 ∷ 1 ∷ 0 ∷ 0 ∷ 42 ∷ 159 ∷ []); store = o.store; listen = o.listen; links = o.links; connections = o.connections },
   record {
     sync = kept sync_in said _ _ refl is.sync;
     segment = kept segment_in said _ _ refl is.segment;
     slots = kept slots_in said _ _ refl is.slots;
     entries = kept entries_in said _ _ refl is.entries;
     host = added host_in said _ _ _ refl free is.host;
+    store = kept store_in said _ _ refl is.store;
+    listen = kept listen_in said _ _ refl is.listen;
+    links = kept links_in said _ _ refl is.links;
+    connections = kept connections_in said _ _ refl is.connections;
+  },
+)
+example_more Store said o free is = (
+  record { sync = o.sync; segment = o.segment; slots = o.slots; entries = o.entries; host = o.host; store = Some (record { ref_ptr = (0, 0); now = 100 ∷ [] }); listen = o.listen; links = o.links; connections = o.connections },
+  record {
+    sync = kept sync_in said _ _ refl is.sync;
+    segment = kept segment_in said _ _ refl is.segment;
+    slots = kept slots_in said _ _ refl is.slots;
+    entries = kept entries_in said _ _ refl is.entries;
+    host = kept host_in said _ _ refl is.host;
+    store = added store_in said _ _ _ refl (ap text_in free) is.store;
+    listen = kept listen_in said _ _ refl is.listen;
+    links = kept links_in said _ _ refl is.links;
+    connections = kept connections_in said _ _ refl is.connections;
+  },
+)
+example_more Listen said o free is = (
+  record { sync = o.sync; segment = o.segment; slots = o.slots; entries = o.entries; host = o.host; store = o.store; listen = Some (127 ∷ 0 ∷ 0 ∷ 1 ∷ 0 ∷ 0 ∷ 42 ∷ 159 ∷ []); links = o.links; connections = o.connections },
+  record {
+    sync = kept sync_in said _ _ refl is.sync;
+    segment = kept segment_in said _ _ refl is.segment;
+    slots = kept slots_in said _ _ refl is.slots;
+    entries = kept entries_in said _ _ refl is.entries;
+    host = kept host_in said _ _ refl is.host;
+    store = kept store_in said _ _ refl is.store;
+    listen = added listen_in said _ _ _ refl free is.listen;
     links = kept links_in said _ _ refl is.links;
     connections = kept connections_in said _ _ refl is.connections;
   },
 )
 example_more Links said o free is = (
-  record { sync = o.sync; segment = o.segment; slots = o.slots; entries = o.entries; host = o.host; links = Some 1; connections = o.connections },
+  record { sync = o.sync; segment = o.segment; slots = o.slots; entries = o.entries; host = o.host; store = o.store; listen = o.listen; links = Some 1; connections = o.connections },
   record {
     sync = kept sync_in said _ _ refl is.sync;
     segment = kept segment_in said _ _ refl is.segment;
     slots = kept slots_in said _ _ refl is.slots;
     entries = kept entries_in said _ _ refl is.entries;
     host = kept host_in said _ _ refl is.host;
+    store = kept store_in said _ _ refl is.store;
+    listen = kept listen_in said _ _ refl is.listen;
     links = added links_in said _ _ _ refl free is.links;
     connections = kept connections_in said _ _ refl is.connections;
   },
 )
 example_more Connections said o free is = (
-  record { sync = o.sync; segment = o.segment; slots = o.slots; entries = o.entries; host = o.host; links = o.links; connections = Some 1 },
+  record { sync = o.sync; segment = o.segment; slots = o.slots; entries = o.entries; host = o.host; store = o.store; listen = o.listen; links = o.links; connections = Some 1 },
   record {
     sync = kept sync_in said _ _ refl is.sync;
     segment = kept segment_in said _ _ refl is.segment;
     slots = kept slots_in said _ _ refl is.slots;
     entries = kept entries_in said _ _ refl is.entries;
     host = kept host_in said _ _ refl is.host;
+    store = kept store_in said _ _ refl is.store;
+    listen = kept listen_in said _ _ refl is.listen;
     links = kept links_in said _ _ refl is.links;
     connections = added connections_in said _ _ _ refl free is.connections;
   },
@@ -277,21 +376,27 @@ example_more Connections said o free is = (
 
 -- ---- the name of an option is its own
 
-abbrev named : ℕ → ℕ → Option Choice
-named n m = if nat_eq n 102 then Some Flush else if nat_eq n 104 then Some Host else if nat_eq n 101 then Some Entries
-    else if nat_eq m 101 then Some Segment else if nat_eq n 115 then Some Slots else if nat_eq n 108 then Some Links else Some Connections
+abbrev named : ℕ → ℕ → ℕ → Option Choice
+named n m p = if nat_eq n 102 then Some Flush else if nat_eq n 104 then Some Host else if nat_eq n 101 then Some Entries
+    else if nat_eq m 101 then Some Segment else if nat_eq m 116 then Some Store else if nat_eq n 115 then Some Slots
+    else if nat_eq p 115 then Some Listen else if nat_eq n 108 then Some Links else Some Connections
 
-named_is : (k : Choice) → named (get_or (spelled k) 2 0) (get_or (spelled k) 3 0) ≡ Some k
+abbrev named_by : List ℕ → Option Choice
+named_by t = named (get_or t 2 0) (get_or t 3 0) (get_or t 4 0)
+
+named_is : (k : Choice) → named_by (spelled k) ≡ Some k
 named_is Flush = refl
 named_is Segment = refl
 named_is Slots = refl
 named_is Entries = refl
 named_is Host = refl
+named_is Store = refl
+named_is Listen = refl
 named_is Links = refl
 named_is Connections = refl
 
 pub one_name : (a b : Choice) → spelled a ≡ spelled b → a ≡ b
-one_name a b same = let both = sym (named_is a) ∙ ap (λ (t : List ℕ). named (get_or t 2 0) (get_or t 3 0)) same ∙ named_is b in cc
+one_name a b same = let both = sym (named_is a) ∙ ap named_by same ∙ named_is b in cc
 
 -- ---- words that go on behind what is said
 
@@ -428,10 +533,10 @@ first_differs verb (w ∷ x) other there rest said e =
     other x (ap (λ (t : List ℕ). t ∷ x) first)
 
 abbrev no_settings : Settings
-no_settings = record { sync = None; segment = None; slots = None; entries = None; host = None; links = None; connections = None }
+no_settings = record { sync = None; segment = None; slots = None; entries = None; host = None; store = None; listen = None; links = None; connections = None }
 
 none_said : AreSaid [] no_settings
-none_said = record { sync = refl; segment = refl; slots = refl; entries = refl; host = refl; links = refl; connections = refl }
+none_said = record { sync = refl; segment = refl; slots = refl; entries = refl; host = refl; store = refl; listen = refl; links = refl; connections = refl }
 
 pub wrong_first : (verb : Verb) (texts : List (List ℕ)) → ((x : List (List ℕ)) → texts ≢ word_of verb ∷ x) → IsFirstUnfit verb texts 0
 wrong_first verb texts other = record {

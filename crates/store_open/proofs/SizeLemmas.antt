@@ -11,7 +11,7 @@ use Rattle.store_open.specs.declared.words.Command.{Command}
 use Rattle.store_open.specs.declared.serve_words.ServeCommand.{ServeCommand}
 use Rattle.store_open.specs.declared.settings.Verb.{Verb}
 use Rattle.store_open.specs.declared.settings.Setting.{Setting}
-use Rattle.store_open.specs.declared.settings.Setting.TheVariants.{FlushAs, SegmentOf, SlotsOf, EntriesOf, HostAt, LinksOf, ConnectionsOf}
+use Rattle.store_open.specs.declared.settings.Setting.TheVariants.{FlushAs, SegmentOf, SlotsOf, EntriesOf, HostAt, StoreIn, ListenAt, LinksOf, ConnectionsOf}
 use Rattle.store_open.specs.declared.settings.Settings.{Settings}
 
 module _ (verb : Verb) where
@@ -22,6 +22,8 @@ module _ (verb : Verb) where
   said_segment (SlotsOf v ∷ said) all = said_segment said (All-tail (IsSettingOf verb) (SlotsOf v) said all)
   said_segment (EntriesOf v ∷ said) all = said_segment said (All-tail (IsSettingOf verb) (EntriesOf v) said all)
   said_segment (HostAt v ∷ said) all = said_segment said (All-tail (IsSettingOf verb) (HostAt v) said all)
+  said_segment (StoreIn v ∷ said) all = said_segment said (All-tail (IsSettingOf verb) (StoreIn v) said all)
+  said_segment (ListenAt v ∷ said) all = said_segment said (All-tail (IsSettingOf verb) (ListenAt v) said all)
   said_segment (LinksOf v ∷ said) all = said_segment said (All-tail (IsSettingOf verb) (LinksOf v) said all)
   said_segment (ConnectionsOf v ∷ said) all = said_segment said (All-tail (IsSettingOf verb) (ConnectionsOf v) said all)
 
@@ -32,6 +34,8 @@ module _ (verb : Verb) where
   said_slots (SlotsOf v ∷ said) all = All-cons IsSlotCount v (filter_map slots_in said) (All-head (IsSettingOf verb) (SlotsOf v) said all).in_range (said_slots said (All-tail (IsSettingOf verb) (SlotsOf v) said all))
   said_slots (EntriesOf v ∷ said) all = said_slots said (All-tail (IsSettingOf verb) (EntriesOf v) said all)
   said_slots (HostAt v ∷ said) all = said_slots said (All-tail (IsSettingOf verb) (HostAt v) said all)
+  said_slots (StoreIn v ∷ said) all = said_slots said (All-tail (IsSettingOf verb) (StoreIn v) said all)
+  said_slots (ListenAt v ∷ said) all = said_slots said (All-tail (IsSettingOf verb) (ListenAt v) said all)
   said_slots (LinksOf v ∷ said) all = said_slots said (All-tail (IsSettingOf verb) (LinksOf v) said all)
   said_slots (ConnectionsOf v ∷ said) all = said_slots said (All-tail (IsSettingOf verb) (ConnectionsOf v) said all)
 
@@ -42,6 +46,8 @@ module _ (verb : Verb) where
   said_entries (SlotsOf v ∷ said) all = said_entries said (All-tail (IsSettingOf verb) (SlotsOf v) said all)
   said_entries (EntriesOf v ∷ said) all = All-cons IsEntryCount v (filter_map entries_in said) (All-head (IsSettingOf verb) (EntriesOf v) said all).in_range (said_entries said (All-tail (IsSettingOf verb) (EntriesOf v) said all))
   said_entries (HostAt v ∷ said) all = said_entries said (All-tail (IsSettingOf verb) (HostAt v) said all)
+  said_entries (StoreIn v ∷ said) all = said_entries said (All-tail (IsSettingOf verb) (StoreIn v) said all)
+  said_entries (ListenAt v ∷ said) all = said_entries said (All-tail (IsSettingOf verb) (ListenAt v) said all)
   said_entries (LinksOf v ∷ said) all = said_entries said (All-tail (IsSettingOf verb) (LinksOf v) said all)
   said_entries (ConnectionsOf v ∷ said) all = said_entries said (All-tail (IsSettingOf verb) (ConnectionsOf v) said all)
 

@@ -1,5 +1,5 @@
 -- The arguments: a command, and behind it options with their values.
-use Rattle.std.specs.Prelude.{◌≡◌, ℕ, ◌+◌, ◌*◌, ◌<◌, ◌≤◌, List, [], ◌∷◌, ◌++◌, codes, length, map, take, get_or, All, flat_map, filter_map}
+use Rattle.std.specs.Prelude.{◌≡◌, ◌≢◌, ℕ, ◌+◌, ◌*◌, ◌<◌, ◌≤◌, List, [], ◌∷◌, ◌++◌, codes, length, map, take, get_or, All, flat_map, filter_map}
 use Rattle.std.specs.Prelude.{Option, Some, None, Bool, true, false, unwrap_or}
 use denote.Ref.{Bor}
 use Rattle.mq_bytes.specs.Decimal.{digits_of}
@@ -8,9 +8,9 @@ use Rattle.store_open.specs.declared.format.AskedSizes.{AskedSizes}
 use Rattle.store_open.specs.declared.settings.Verb.{Verb}
 use Rattle.store_open.specs.declared.settings.Verb.TheVariants.{Pipe, Serve}
 use Rattle.store_open.specs.declared.settings.Choice.{Choice}
-use Rattle.store_open.specs.declared.settings.Choice.TheVariants.{Flush, Segment, Slots, Entries, Host, Links, Connections}
+use Rattle.store_open.specs.declared.settings.Choice.TheVariants.{Flush, Segment, Slots, Entries, Host, Store, Listen, Links, Connections}
 use Rattle.store_open.specs.declared.settings.Setting.{Setting}
-use Rattle.store_open.specs.declared.settings.Setting.TheVariants.{FlushAs, SegmentOf, SlotsOf, EntriesOf, HostAt, LinksOf, ConnectionsOf}
+use Rattle.store_open.specs.declared.settings.Setting.TheVariants.{FlushAs, SegmentOf, SlotsOf, EntriesOf, HostAt, StoreIn, ListenAt, LinksOf, ConnectionsOf}
 use Rattle.store_open.specs.declared.settings.Settings.{Settings}
 use Rattle.store_open.specs.Formats.{IsSlotCount, IsEntryCount}
 
@@ -32,6 +32,8 @@ spelled Segment = codes "--segment"
 spelled Slots = codes "--slots"
 spelled Entries = codes "--entries"
 spelled Host = codes "--host"
+spelled Store = codes "--store"
+spelled Listen = codes "--listen"
 spelled Links = codes "--links"
 spelled Connections = codes "--connections"
 
@@ -43,6 +45,8 @@ IsOffered Pipe Segment = Unit {0}
 IsOffered Pipe Slots = Unit {0}
 IsOffered Pipe Entries = Unit {0}
 IsOffered Pipe Host = Unit {0}
+IsOffered Pipe Store = Unit {0}
+IsOffered Pipe Listen = ⊥
 IsOffered Pipe Links = ⊥
 IsOffered Pipe Connections = ⊥
 
@@ -81,6 +85,8 @@ IsInRange (SegmentOf size) = IsSegmentSize size
 IsInRange (SlotsOf n) = IsSlotCount n
 IsInRange (EntriesOf n) = IsEntryCount n
 IsInRange (HostAt host) = IsHost host
+IsInRange (StoreIn folder) = folder.now ≢ []
+IsInRange (ListenAt host) = IsHost host
 IsInRange (LinksOf n) = IsCount n
 IsInRange (ConnectionsOf n) = IsCount n
 
@@ -96,6 +102,8 @@ choice_of (SegmentOf size) = Segment
 choice_of (SlotsOf n) = Slots
 choice_of (EntriesOf n) = Entries
 choice_of (HostAt host) = Host
+choice_of (StoreIn folder) = Store
+choice_of (ListenAt host) = Listen
 choice_of (LinksOf n) = Links
 choice_of (ConnectionsOf n) = Connections
 
@@ -106,6 +114,8 @@ value_text (SegmentOf size) = digits_of size
 value_text (SlotsOf n) = digits_of n
 value_text (EntriesOf n) = digits_of n
 value_text (HostAt host) = host_text host
+value_text (StoreIn folder) = folder.now
+value_text (ListenAt host) = host_text host
 value_text (LinksOf n) = digits_of n
 value_text (ConnectionsOf n) = digits_of n
 
@@ -122,6 +132,8 @@ sync_in (SegmentOf size) = None
 sync_in (SlotsOf n) = None
 sync_in (EntriesOf n) = None
 sync_in (HostAt host) = None
+sync_in (StoreIn folder) = None
+sync_in (ListenAt host) = None
 sync_in (LinksOf n) = None
 sync_in (ConnectionsOf n) = None
 
@@ -131,6 +143,8 @@ segment_in (SegmentOf size) = Some size
 segment_in (SlotsOf n) = None
 segment_in (EntriesOf n) = None
 segment_in (HostAt host) = None
+segment_in (StoreIn folder) = None
+segment_in (ListenAt host) = None
 segment_in (LinksOf n) = None
 segment_in (ConnectionsOf n) = None
 
@@ -140,6 +154,8 @@ slots_in (SegmentOf size) = None
 slots_in (SlotsOf n) = Some n
 slots_in (EntriesOf n) = None
 slots_in (HostAt host) = None
+slots_in (StoreIn folder) = None
+slots_in (ListenAt host) = None
 slots_in (LinksOf n) = None
 slots_in (ConnectionsOf n) = None
 
@@ -149,6 +165,8 @@ entries_in (SegmentOf size) = None
 entries_in (SlotsOf n) = None
 entries_in (EntriesOf n) = Some n
 entries_in (HostAt host) = None
+entries_in (StoreIn folder) = None
+entries_in (ListenAt host) = None
 entries_in (LinksOf n) = None
 entries_in (ConnectionsOf n) = None
 
@@ -158,8 +176,32 @@ host_in (SegmentOf size) = None
 host_in (SlotsOf n) = None
 host_in (EntriesOf n) = None
 host_in (HostAt host) = Some host
+host_in (StoreIn folder) = None
+host_in (ListenAt host) = None
 host_in (LinksOf n) = None
 host_in (ConnectionsOf n) = None
+
+abbrev pub store_in : Setting → Option (List ℕ)
+store_in (FlushAs sync) = None
+store_in (SegmentOf size) = None
+store_in (SlotsOf n) = None
+store_in (EntriesOf n) = None
+store_in (HostAt host) = None
+store_in (StoreIn folder) = Some folder.now
+store_in (ListenAt host) = None
+store_in (LinksOf n) = None
+store_in (ConnectionsOf n) = None
+
+abbrev pub listen_in : Setting → Option (List ℕ)
+listen_in (FlushAs sync) = None
+listen_in (SegmentOf size) = None
+listen_in (SlotsOf n) = None
+listen_in (EntriesOf n) = None
+listen_in (HostAt host) = None
+listen_in (StoreIn folder) = None
+listen_in (ListenAt host) = Some host
+listen_in (LinksOf n) = None
+listen_in (ConnectionsOf n) = None
 
 abbrev pub links_in : Setting → Option ℕ
 links_in (FlushAs sync) = None
@@ -167,6 +209,8 @@ links_in (SegmentOf size) = None
 links_in (SlotsOf n) = None
 links_in (EntriesOf n) = None
 links_in (HostAt host) = None
+links_in (StoreIn folder) = None
+links_in (ListenAt host) = None
 links_in (LinksOf n) = Some n
 links_in (ConnectionsOf n) = None
 
@@ -176,6 +220,8 @@ connections_in (SegmentOf size) = None
 connections_in (SlotsOf n) = None
 connections_in (EntriesOf n) = None
 connections_in (HostAt host) = None
+connections_in (StoreIn folder) = None
+connections_in (ListenAt host) = None
 connections_in (LinksOf n) = None
 connections_in (ConnectionsOf n) = Some n
 
@@ -184,6 +230,11 @@ abbrev pub listed : {A : Type 0} → Option A → List A
 listed None = []
 listed (Some a) = a ∷ []
 
+-- the text that this refers to
+abbrev pub text_in : Option (Bor (List ℕ)) → Option (List ℕ)
+text_in None = None
+text_in (Some text) = Some text.now
+
 -- each option is said at most once, and these are the values that are said
 pub record AreSaid (said : List Setting) (settings : Settings) : Type 0 where
   pub sync : filter_map sync_in said ≡ listed settings.sync
@@ -191,6 +242,8 @@ pub record AreSaid (said : List Setting) (settings : Settings) : Type 0 where
   pub slots : filter_map slots_in said ≡ listed settings.slots
   pub entries : filter_map entries_in said ≡ listed settings.entries
   pub host : filter_map host_in said ≡ listed settings.host
+  pub store : filter_map store_in said ≡ listed (text_in settings.store)
+  pub listen : filter_map listen_in said ≡ listed settings.listen
   pub links : filter_map links_in said ≡ listed settings.links
   pub connections : filter_map connections_in said ≡ listed settings.connections
 
@@ -201,6 +254,8 @@ IsFree Segment settings = settings.segment ≡ None
 IsFree Slots settings = settings.slots ≡ None
 IsFree Entries settings = settings.entries ≡ None
 IsFree Host settings = settings.host ≡ None
+IsFree Store settings = settings.store ≡ None
+IsFree Listen settings = settings.listen ≡ None
 IsFree Links settings = settings.links ≡ None
 IsFree Connections settings = settings.connections ≡ None
 
@@ -215,6 +270,14 @@ sizes_of settings = record { segment = settings.segment; slots = settings.slots;
 -- the broker is reached at 127.0.0.1:10911, unless another is said
 abbrev pub host_of : Settings → List ℕ
 host_of settings = unwrap_or settings.host (127 ∷ 0 ∷ 0 ∷ 1 ∷ 0 ∷ 0 ∷ 42 ∷ 159 ∷ [])
+
+-- the store is the folder `store` of the current one, unless another is said
+abbrev pub store_of : Settings → List ℕ
+store_of settings = unwrap_or (text_in settings.store) (codes "store")
+
+-- the broker listens where it is reached, unless another is said
+abbrev pub listen_of : Settings → List ℕ
+listen_of settings = unwrap_or settings.listen (host_of settings)
 
 -- the setting is one of this command's, with a value within its bounds
 pub record IsSettingOf (verb : Verb) (setting : Setting) : Type 0 where

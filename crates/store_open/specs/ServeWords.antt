@@ -3,13 +3,15 @@ use Rattle.std.specs.Prelude.{◌≡◌, ℕ, List, unwrap_or}
 use Rattle.store_open.specs.declared.settings.Verb.TheVariants.{Serve}
 use Rattle.store_open.specs.declared.settings.Settings.{Settings}
 use Rattle.store_open.specs.declared.serve_words.ServeCommand.{ServeCommand}
-use Rattle.store_open.specs.Options.{AreArguments, IsFirstUnfit, sync_of, sizes_of, host_of}
+use Rattle.store_open.specs.Options.{AreArguments, IsFirstUnfit, sync_of, sizes_of, host_of, store_of, listen_of}
 
 -- the command has what is said, and else the defaults; it has up to 1024 links
 pub record IsServeMeant (settings : Settings) (command : ServeCommand) : Type 0 where
   pub sync : command.sync ≡ sync_of settings
   pub sizes : command.sizes ≡ sizes_of settings
   pub host : command.host ≡ host_of settings
+  pub store : command.store.now ≡ store_of settings
+  pub listen : command.listen ≡ listen_of settings
   pub links : command.links ≡ unwrap_or settings.links 1024
   pub connections : command.connections ≡ settings.connections
 

@@ -2,6 +2,7 @@
 #![tactic(auto)]
 
 mod format;
+mod help_text;
 mod host;
 mod laws;
 mod number;
@@ -10,11 +11,15 @@ mod options;
 mod serve_words;
 mod settings;
 mod status;
+mod unfit;
 mod words;
 
 pub use format::{AskedSizes, Sizes};
+pub use help_text::{help, help_of};
 pub use laws::a_cut_off_opening_leaves_a_store;
 pub use opening::open_format;
 pub use serve_words::{ServeCommand, read_serve_words};
+pub use settings::Verb;
 pub use status::Status;
+pub use unfit::{Unfit, unfit_at};
 pub use words::{Command, read_words};

@@ -6,8 +6,8 @@ ghost use Rattle.store_open.specs.Options.{texts_of, word_of, AreArguments, IsFi
 use crate::settings::{Settings, Verb, read_choice, read_setting};
 
 impl Verb {
-    // The word of the command.
-    fn word(self) -> &'static str
+    /// The word of the command.
+    pub fn word(self) -> &'static str
         ensures { result.now ≡ word_of self }
     {
         match self {
@@ -18,7 +18,7 @@ impl Verb {
 }
 
 /// What the options of this command say, or the place of the first word that doesn't fit, counted from 0.
-pub(crate) fn read_options(verb: Verb, words: &[&str]) -> Result<Settings, u64>
+pub(crate) fn read_options<'a>(verb: Verb, words: &[&'a str]) -> Result<Settings<'a>, u64>
     ensures fits { IfOk result (AreArguments verb (texts_of words.now)) }
     ensures wrong { IfErr result (IsFirstUnfit verb (texts_of words.now)) }
 {

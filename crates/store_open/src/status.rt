@@ -11,6 +11,7 @@
 //! |    6 | a file   | foreign: this file stands without a format, or `format` is another than asked for    |
 //! |    7 |          | want of memory                                                                       |
 //! |    8 | a file   | damaged: no broker leaves this file as it is; `place` is the physical offset, or 0 of a kept text |
+//! |    9 |          | `serve`: no thread can be started, and nothing was served                             |
 //! |   10 | a device | the clock, the keep or the door failed                                               |
 
 ghost use Rattle.std.specs.Prelude.{◌≡◌, ◌≢◌, ◌⊎◌, []};

@@ -1,5 +1,6 @@
-use Rattle.std.proofs.Common.{refl}
-use Rattle.store_open.specs.Options.{sync_in, segment_in, slots_in, entries_in, host_in, links_in, connections_in}
+use Rattle.std.proofs.Common.{refl, ap}
+use Rattle.store_open.specs.Options.{text_in}
+use Rattle.store_open.specs.Options.{sync_in, segment_in, slots_in, entries_in, host_in, store_in, listen_in, links_in, connections_in}
 use Rattle.store_open.proofs.SettingLemmas.{kept, added}
 use Rattle.store_open.proofs.settings.Settings.put.Goals as goal
 
@@ -10,6 +11,8 @@ returns-in-FlushAs c = λ said is. let free = rw c.in-FlushAs.is at c.requires i
   slots = kept slots_in said _ _ refl is.slots;
   entries = kept entries_in said _ _ refl is.entries;
   host = kept host_in said _ _ refl is.host;
+  store = kept store_in said _ _ refl is.store;
+  listen = kept listen_in said _ _ refl is.listen;
   links = kept links_in said _ _ refl is.links;
   connections = kept connections_in said _ _ refl is.connections;
 })
@@ -21,6 +24,8 @@ returns-in-SegmentOf c = λ said is. let free = rw c.in-SegmentOf.is at c.requir
   slots = kept slots_in said _ _ refl is.slots;
   entries = kept entries_in said _ _ refl is.entries;
   host = kept host_in said _ _ refl is.host;
+  store = kept store_in said _ _ refl is.store;
+  listen = kept listen_in said _ _ refl is.listen;
   links = kept links_in said _ _ refl is.links;
   connections = kept connections_in said _ _ refl is.connections;
 })
@@ -32,6 +37,8 @@ returns-in-SlotsOf c = λ said is. let free = rw c.in-SlotsOf.is at c.requires i
   slots = added slots_in said _ _ _ refl free is.slots;
   entries = kept entries_in said _ _ refl is.entries;
   host = kept host_in said _ _ refl is.host;
+  store = kept store_in said _ _ refl is.store;
+  listen = kept listen_in said _ _ refl is.listen;
   links = kept links_in said _ _ refl is.links;
   connections = kept connections_in said _ _ refl is.connections;
 })
@@ -43,6 +50,8 @@ returns-in-EntriesOf c = λ said is. let free = rw c.in-EntriesOf.is at c.requir
   slots = kept slots_in said _ _ refl is.slots;
   entries = added entries_in said _ _ _ refl free is.entries;
   host = kept host_in said _ _ refl is.host;
+  store = kept store_in said _ _ refl is.store;
+  listen = kept listen_in said _ _ refl is.listen;
   links = kept links_in said _ _ refl is.links;
   connections = kept connections_in said _ _ refl is.connections;
 })
@@ -54,6 +63,34 @@ returns-in-HostAt c = λ said is. let free = rw c.in-HostAt.is at c.requires in 
   slots = kept slots_in said _ _ refl is.slots;
   entries = kept entries_in said _ _ refl is.entries;
   host = added host_in said _ _ _ refl free is.host;
+  store = kept store_in said _ _ refl is.store;
+  listen = kept listen_in said _ _ refl is.listen;
+  links = kept links_in said _ _ refl is.links;
+  connections = kept connections_in said _ _ refl is.connections;
+})
+
+pub returns-in-StoreIn : goal.returns-in-StoreIn
+returns-in-StoreIn c = λ said is. let free = rw c.in-StoreIn.is at c.requires in rw c.in-StoreIn.is (record {
+  sync = kept sync_in said _ _ refl is.sync;
+  segment = kept segment_in said _ _ refl is.segment;
+  slots = kept slots_in said _ _ refl is.slots;
+  entries = kept entries_in said _ _ refl is.entries;
+  host = kept host_in said _ _ refl is.host;
+  store = added store_in said _ _ _ refl (ap text_in free) is.store;
+  listen = kept listen_in said _ _ refl is.listen;
+  links = kept links_in said _ _ refl is.links;
+  connections = kept connections_in said _ _ refl is.connections;
+})
+
+pub returns-in-ListenAt : goal.returns-in-ListenAt
+returns-in-ListenAt c = λ said is. let free = rw c.in-ListenAt.is at c.requires in rw c.in-ListenAt.is (record {
+  sync = kept sync_in said _ _ refl is.sync;
+  segment = kept segment_in said _ _ refl is.segment;
+  slots = kept slots_in said _ _ refl is.slots;
+  entries = kept entries_in said _ _ refl is.entries;
+  host = kept host_in said _ _ refl is.host;
+  store = kept store_in said _ _ refl is.store;
+  listen = added listen_in said _ _ _ refl free is.listen;
   links = kept links_in said _ _ refl is.links;
   connections = kept connections_in said _ _ refl is.connections;
 })
@@ -65,6 +102,8 @@ returns-in-LinksOf c = λ said is. let free = rw c.in-LinksOf.is at c.requires i
   slots = kept slots_in said _ _ refl is.slots;
   entries = kept entries_in said _ _ refl is.entries;
   host = kept host_in said _ _ refl is.host;
+  store = kept store_in said _ _ refl is.store;
+  listen = kept listen_in said _ _ refl is.listen;
   links = added links_in said _ _ _ refl free is.links;
   connections = kept connections_in said _ _ refl is.connections;
 })
@@ -76,6 +115,8 @@ returns-in-ConnectionsOf c = λ said is. let free = rw c.in-ConnectionsOf.is at 
   slots = kept slots_in said _ _ refl is.slots;
   entries = kept entries_in said _ _ refl is.entries;
   host = kept host_in said _ _ refl is.host;
+  store = kept store_in said _ _ refl is.store;
+  listen = kept listen_in said _ _ refl is.listen;
   links = kept links_in said _ _ refl is.links;
   connections = added connections_in said _ _ _ refl free is.connections;
 })

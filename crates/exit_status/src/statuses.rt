@@ -2,7 +2,7 @@
 
 ghost use Rattle.std.specs.Prelude.{◌≡◌, ◌≢◌};
 ghost use Rattle.store_open.specs.Statuses.{FitsTable};
-ghost use Rattle.end_statuses.specs.Statuses.{StatusKept, StatusTellsConfig, StatusTellsFault};
+ghost use Rattle.exit_status.specs.Statuses.{StatusKept, StatusTellsConfig, StatusTellsFault};
 
 use config_store::ConfigFault;
 use log_recovery::RecoverFault;

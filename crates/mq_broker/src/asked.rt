@@ -1,0 +1,91 @@
+//! What the arguments ask for, found before anything is made.
+
+use store_open::{Verb, read_serve_words, read_words};
+
+/// A run: the command, the store's folder, and where `serve` listens (the address, and the port in four bytes, high byte first).
+#[derive(Clone, Copy)]
+pub(crate) struct Target<'a> {
+    pub(crate) verb: Verb,
+    pub(crate) store: &'a str,
+    pub(crate) listen: [u8; 8],
+}
+
+/// What the arguments ask for.
+#[derive(Clone, Copy)]
+pub(crate) enum Asked<'a> {
+    Help,
+    HelpOf(Verb),
+    Version,
+    Run(Target<'a>),
+    /// The argument at this place, counted from 0, is the first that doesn't fit.
+    Unfit(u64),
+}
+
+// The run that the arguments of `pipe` ask for. It doesn't listen.
+fn asked_of_pipe<'a>(words: &[&'a str]) -> Asked<'a> {
+    match read_words(words) {
+        Err(place) => Asked::Unfit(place),
+        Ok(command) => Asked::Run(Target {
+            verb: Verb::Pipe,
+            store: command.store,
+            listen: command.host,
+        }),
+    }
+}
+
+// The run that the arguments of `serve` ask for.
+fn asked_of_serve<'a>(words: &[&'a str]) -> Asked<'a> {
+    match read_serve_words(words) {
+        Err(place) => Asked::Unfit(place),
+        Ok(command) => Asked::Run(Target {
+            verb: Verb::Serve,
+            store: command.store,
+            listen: command.listen,
+        }),
+    }
+}
+
+// The help or the version, where the one argument asks for it.
+fn asked_alone<'a>(word: &str) -> Option<Asked<'a>> {
+    if word == "--help" {
+        Some(Asked::Help)
+    } else if word == "--version" {
+        Some(Asked::Version)
+    } else {
+        None
+    }
+}
+
+// The help of a command, where the two arguments ask for it.
+fn asked_help<'a>(command: &str, word: &str) -> Option<Asked<'a>> {
+    if word != "--help" {
+        None
+    } else if command == Verb::Pipe.word() {
+        Some(Asked::HelpOf(Verb::Pipe))
+    } else if command == Verb::Serve.word() {
+        Some(Asked::HelpOf(Verb::Serve))
+    } else {
+        None
+    }
+}
+
+// The text that the arguments ask for, if it is one.
+fn asked_text<'a>(words: &[&str]) -> Option<Asked<'a>> {
+    let first = words.first()?;
+    match words.len() {
+        1 => asked_alone(first),
+        2 => asked_help(first, words.get(1)?),
+        _ => None,
+    }
+}
+
+/// What these arguments ask for.
+pub(crate) fn asked_of<'a>(words: &[&'a str]) -> Asked<'a> {
+    if let Some(asked) = asked_text(words) {
+        return asked;
+    }
+    match words.first() {
+        Some(word) if *word == Verb::Serve.word() => asked_of_serve(words),
+        _ => asked_of_pipe(words),
+    }
+}

@@ -1,0 +1,82 @@
+//! The help, made from the table of options by which the arguments are read (`settings.rt`).
+
+use crate::settings::{CHOICES, Choice, Verb, is_offered};
+use std::alloc::{AllocError, Global};
+
+/// Where the column of the options' texts begins.
+const COLUMN: usize = 34;
+
+// Appends spaces up to this column of a line of so many bytes, and at least one.
+fn pad(line: usize, column: usize, out: &mut String) -> Result<(), AllocError> {
+    out.push_str(" ")?;
+    for _ in line.saturating_add(1)..column {
+        out.push_str(" ")?;
+    }
+    Ok(())
+}
+
+// Appends the line of an option.
+fn push_option(choice: Choice, out: &mut String) -> Result<(), AllocError> {
+    let about = choice.about();
+    out.push_str("  ")?;
+    out.push_str(choice.name())?;
+    out.push_str(" ")?;
+    out.push_str(about.value)?;
+    let size = choice.name().len().saturating_add(about.value.len());
+    pad(size.saturating_add(3), COLUMN, out)?;
+    out.push_str(about.text)?;
+    out.push_str(" (default: ")?;
+    out.push_str(about.default)?;
+    out.push_str(")\n")
+}
+
+// What the command does.
+fn purpose(verb: Verb) -> &'static str {
+    match verb {
+        Verb::Pipe => "answers the requests of standard input on standard output, and ends with it",
+        Verb::Serve => "accepts connections over TCP and answers their requests",
+    }
+}
+
+// Appends the options that `verb` has, and where `beside` is given only those that this one has not.
+fn push_options(verb: Verb, beside: Option<Verb>, out: &mut String) -> Result<(), AllocError> {
+    for choice in &CHOICES {
+        let is_told = match beside {
+            Some(other) => is_offered(other, *choice),
+            None => false,
+        };
+        if is_offered(verb, *choice) && !is_told {
+            push_option(*choice, out)?;
+        }
+    }
+    Ok(())
+}
+
+/// The help of one command: what it does and its options.
+pub fn help_of(alloc: Global, verb: Verb) -> Result<String, AllocError> {
+    let mut out = String::from_str(alloc, "mq_broker ")?;
+    out.push_str(verb.word())?;
+    out.push_str(" [OPTION VALUE]...\n\n  ")?;
+    out.push_str(purpose(verb))?;
+    out.push_str("\n\noptions, each at most once and in any order:\n")?;
+    push_options(verb, None, &mut out)?;
+    Ok(out)
+}
+
+/// The help of the program: its commands and their options.
+pub fn help(alloc: Global) -> Result<String, AllocError> {
+    let mut out = String::from_str(alloc, "mq_broker COMMAND [OPTION VALUE]...\n\ncommands:\n")?;
+    for verb in &[Verb::Serve, Verb::Pipe] {
+        out.push_str("  ")?;
+        out.push_str(verb.word())?;
+        pad(verb.word().len().saturating_add(2), 9, &mut out)?;
+        out.push_str(purpose(*verb))?;
+        out.push_str("\n")?;
+    }
+    out.push_str("\noptions of both commands, each at most once and in any order:\n")?;
+    push_options(Verb::Pipe, None, &mut out)?;
+    out.push_str("\noptions of serve alone:\n")?;
+    push_options(Verb::Serve, Some(Verb::Pipe), &mut out)?;
+    out.push_str("\nmq_broker --help | --version; mq_broker COMMAND --help\n")?;
+    Ok(out)
+}
