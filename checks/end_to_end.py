@@ -141,13 +141,13 @@ def _(folder):
     assert run(SAMPLE, folder) == (6, b"") and log(folder) == b"other"
 
 
-@check("a file beside the log's folder is one too; what the program itself put there is not")
+@check("a file beside the log's folder is one too, and the folder without it is a new store")
 def _(folder):
     os.makedirs(folder + "/store")
     open(folder + "/store/x", "wb").write(b"other")
     assert run(SAMPLE, folder) == (6, b"") and open(folder + "/store/x", "rb").read() == b"other"
     os.remove(folder + "/store/x")
-    assert os.listdir(folder + "/store") == ["lock"] and run(SAMPLE, folder) == (0, REPLY)
+    assert os.listdir(folder + "/store") == [] and run(SAMPLE, folder) == (0, REPLY)
 
 
 @check("a second process on the store is refused with status 5 and harms nothing")

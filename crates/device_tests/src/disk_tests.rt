@@ -6,7 +6,8 @@ ghost use Rattle.mq_outside.specs.Covers.{piece_start};
 use bytes::Bytes;
 use mq_bytes::LogFile;
 use mq_outside::{
-    Disk, DiskFault, Failed, FolderDisk, Frozen, FrozenRanges, MemDisk, Reader, Room,
+    Disk, DiskFault, Failed, FolderDisk, FolderKeep, Frozen, FrozenRanges, Keep, MemDisk, Reader,
+    Room,
 };
 use std::alloc::{AllocError, Global};
 use std::fs;
@@ -126,10 +127,23 @@ fn pieces_of_a_disk_in_memory_are_read_and_found(rt: HostRuntime) -> Result<(), 
     Ok(())
 }
 
-// The length of a file, as a second disk over this store tells it.
-fn len_of_second(rt: HostRuntime, root: &str) -> Result<Result<u64, Failed>, AllocError> {
+// Whether a second disk over this store fails, and says that this is why.
+fn is_refused(rt: HostRuntime, root: &str, why: &str) -> Result<bool, AllocError> {
     let mut disk = FolderDisk::new(rt, String::from_str(rt.alloc(), root)?);
-    Ok(disk.len("b"))
+    let is_silent = disk.fault_text().is_none();
+    let len = disk.len("b");
+    Ok(is_silent && len == Err(Failed) && disk.fault_text() == Some(why))
+}
+
+// Whether a second disk is refused: while the store has no format as another program's, and then since the first has it.
+fn refuses_second(rt: HostRuntime, root: &str) -> Result<bool, Fail> {
+    let foreign =
+        "mq_outside_store: it has files and no config/format, so it is not this program's";
+    let is_foreign = is_refused(rt, root, foreign)?;
+    let mut keep = FolderKeep::new(rt, String::from_str(rt.alloc(), root)?);
+    keep.replace(rt.alloc(), "format", b"1")?;
+    let held = "mq_outside_store/lock: another process has the store";
+    Ok(is_foreign && is_refused(rt, root, held)?)
 }
 
 // Whether a disk over this store does what it should, and a second one meanwhile is refused.
@@ -138,8 +152,9 @@ fn serves_one(rt: HostRuntime, root: &str) -> Result<bool, Fail> {
     let does_each = does_each_call(rt.alloc(), &mut disk)?;
     let read = read_pieces(rt.alloc(), &mut disk)?;
     let found = find_pieces(rt.alloc(), &mut disk)?;
-    let second = len_of_second(rt, root)?;
-    Ok(does_each && &read == b"cdebc" && &found == b"def" && second == Err(Failed))
+    let refuses = refuses_second(rt, root)?;
+    let is_silent = disk.fault_text().is_none();
+    Ok(does_each && &read == b"cdebc" && &found == b"def" && refuses && is_silent)
 }
 
 #[test]

@@ -59,14 +59,17 @@ fn put_texts(rt: HostRuntime, root: &str) -> Result<bool, Fail> {
     Ok(gives_the_second(rt.alloc(), &mut keep)?)
 }
 
-// One that finds the last of them there, and what it answers once the folder is gone.
+// One that finds the last of them there, and what it answers and says once the folder is gone.
 fn find_text(rt: HostRuntime, root: &str) -> Result<(bool, Result<(), DiskFault>), Fail> {
     let mut keep = FolderKeep::new(rt, String::from_str(rt.alloc(), root)?);
     let found = finds_the_second(rt.alloc(), &mut keep);
     let removed = fs::remove_dir_all(&rt, root);
+    let is_silent = keep.fault_text().is_none();
     let third = keep.replace(rt.alloc(), "format", b"third");
     removed?;
-    Ok((found?, third))
+    let why = format!(in rt.alloc(); "{root}/config/format.new: it is not there")?;
+    let says_why = keep.fault_text() == Some(why.as_str());
+    Ok((found? && is_silent && says_why, third))
 }
 
 #[test]

@@ -17,6 +17,7 @@ use std::io::ErrorKind;
 use std::rt::Files;
 
 /// The disk of a store folder. Two processes can't have it at a time: where another one has it each call fails.
+/// `folder_files` says what is made when, and what is refused.
 #[derive(Drop)]
 pub struct FolderDisk<R: Files<File = File> + AllocGlobal + Clone + Drop> {
     files: FolderFiles<R>,
@@ -27,7 +28,7 @@ pub struct FolderDisk<R: Files<File = File> + AllocGlobal + Clone + Drop> {
 }
 
 impl<R: Files<File = File> + AllocGlobal + Clone + Drop> FolderDisk<R> {
-    /// The disk of a store folder, which is made where it is absent.
+    /// The disk of a store folder, which the first call makes where it is absent.
     pub fn new(rt: R, root: String) -> FolderDisk<R>
         ensures faults { result.faults ≡ 0 }
         ensures syncs { result.syncs ≡ 0 }
@@ -41,6 +42,12 @@ impl<R: Files<File = File> + AllocGlobal + Clone + Drop> FolderDisk<R> {
             given: 0,
             reader_faults: 0,
         }
+    }
+
+    /// The first fault of any call, or of a reader that came back: `PATH: WHY`, one line without its end. None where
+    /// nothing failed, or there was no memory for the text.
+    pub fn fault_text(&self) -> Option<&str> {
+        self.files.fault_text()
     }
 
     // Counts where the system refused.
@@ -167,5 +174,6 @@ impl<R: Files<File = File> + AllocGlobal + Clone + Drop> Disk for FolderDisk<R> 
 
     fn take_back(&mut self, reader: FolderReader<R>) {
         self.reader_faults = self.reader_faults.saturating_add(reader.faults);
+        self.files.take_fault(reader.fault);
     }
 }

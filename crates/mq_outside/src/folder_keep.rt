@@ -1,9 +1,12 @@
 //! A keep of small texts in the folder `config` of a store folder, one file a text.
 //!
-//! | file        | what stands in it                                           |
+//! | file        | what is in it                                               |
 //! |-------------|-------------------------------------------------------------|
 //! | `NAME`      | the bytes that were last put under this name                |
 //! | `NAME.new`  | bytes on their way: left by a crash, read by nobody         |
+//!
+//! Links are followed, but for one: where `NAME` is a link to a file, a replacement puts a file in place of the link.
+//! What is there as something else (`folder_kinds`) is refused before anything is changed.
 //!
 //! A text is replaced in four steps: its bytes are written to `NAME.new`, that file is synced, renamed over `NAME`, and
 //! the folder is synced. So a crash leaves the old bytes or the new under the name, and after the last step the new.
@@ -11,7 +14,7 @@
 ghost use Rattle.std.specs.Prelude.{◌≡◌, ◌++◌, None, IfOk, codes, string_bytes};
 
 use crate::faults::DiskFault;
-use crate::folder_files::{make_folder, parent_of, sync_folder};
+use crate::folder_kinds::{FirstFault, is_file, is_folder, make_folder, parent_of, sync_folder};
 use crate::keep::Keep;
 use std::alloc::{AllocError, Global};
 use std::fs::OpenFile;
@@ -27,14 +30,16 @@ pub struct FolderKeep<R: Files + Drop> {
     // That the folders were made by this keep, and those above them synced.
     is_made: bool,
     faults: u64,
+    fault: FirstFault,
 }
 
-// The paths of one text: of its file, of its file on the way, and of the folder of both.
+// The paths of one text: of its file, of its file on the way, of the folder of both, and of the store folder.
 #[derive(Drop)]
 struct Paths {
     file: String,
     new_file: String,
     folder: String,
+    root: String,
 }
 
 fn paths_of(alloc: Global, root: &str, name: &str) -> Result<Paths, AllocError>
@@ -46,24 +51,16 @@ fn paths_of(alloc: Global, root: &str, name: &str) -> Result<Paths, AllocError>
         file: format!(in alloc; "{root}/config/{name}")?,
         new_file: format!(in alloc; "{root}/config/{name}.new")?,
         folder: format!(in alloc; "{root}/config")?,
+        root: String::from_str(alloc, root)?,
     })
 }
 
-// The whole file, `None` where it is absent.
-fn read_file<R: Files>(rt: &R, alloc: Global, path: &str) -> io::Result<Option<Vec<u8>>> {
-    let mut file = match fs::open(rt, path) {
-        Ok(file) => file,
-        Err(e) => {
-            return if e.kind() == ErrorKind::NotFound {
-                Ok(None)
-            } else {
-                Err(e)
-            };
-        }
-    };
+// The whole file.
+fn read_file<R: Files>(rt: &R, alloc: Global, path: &str) -> io::Result<Vec<u8>> {
+    let mut file = fs::open(rt, path)?;
     let mut bytes = Vec::new(alloc);
     file.read_to_end(&mut bytes)?;
-    Ok(Some(bytes))
+    Ok(bytes)
 }
 
 // Writes a file anew, and syncs it.
@@ -83,30 +80,103 @@ impl<R: Files + Drop> FolderKeep<R> {
             root,
             is_made: false,
             faults: 0,
+            fault: FirstFault::none(),
         }
     }
 
+    /// The first fault of any call: `PATH: WHY`, one line without its end. None where nothing failed, or there was no
+    /// memory for the text.
+    pub fn fault_text(&self) -> Option<&str> {
+        self.fault.text()
+    }
+
+    // Notes what was refused.
+    fn told<T: Drop>(&mut self, alloc: Global, path: &str, answer: io::Result<T>) -> io::Result<T>
+        ensures { self.new.faults ≡ self.old.faults }
+    {
+        match answer {
+            Ok(value) => Ok(value),
+            Err(e) => {
+                self.fault.note(alloc, path, &e);
+                Err(e)
+            }
+        }
+    }
+
+    fn has_file(&mut self, alloc: Global, path: &str) -> io::Result<bool>
+        ensures { self.new.faults ≡ self.old.faults }
+    {
+        let answer = is_file(&self.rt, path);
+        self.told(alloc, path, answer)
+    }
+
+    fn has_folder(&mut self, alloc: Global, path: &str) -> io::Result<bool>
+        ensures { self.new.faults ≡ self.old.faults }
+    {
+        let answer = is_folder(&self.rt, path);
+        self.told(alloc, path, answer)
+    }
+
+    fn make(&mut self, alloc: Global, path: &str) -> io::Result<()>
+        ensures { self.new.faults ≡ self.old.faults }
+    {
+        let answer = make_folder(&self.rt, path);
+        self.told(alloc, path, answer)
+    }
+
+    fn sync(&mut self, alloc: Global, path: &str) -> io::Result<()>
+        ensures { self.new.faults ≡ self.old.faults }
+    {
+        let answer = sync_folder(&self.rt, path);
+        self.told(alloc, path, answer)
+    }
+
+    // The whole text, `None` where it is absent.
+    fn get(&mut self, alloc: Global, paths: &Paths) -> io::Result<Option<Vec<u8>>>
+        ensures { self.new.faults ≡ self.old.faults }
+    {
+        if self.has_file(alloc, &paths.file)? {
+            let answer = read_file(&self.rt, alloc, &paths.file);
+            return Ok(Some(self.told(alloc, &paths.file, answer)?));
+        }
+        // A folder that is a link which leads nowhere has no text, but it isn't absent.
+        self.has_folder(alloc, &paths.folder)?;
+        self.has_folder(alloc, &paths.root)?;
+        Ok(None)
+    }
+
     // Makes the folders, and syncs those above them: a folder that an earlier run made may not be synced yet.
-    fn make_folders(&mut self, paths: &Paths) -> io::Result<()>
+    fn make_folders(&mut self, alloc: Global, paths: &Paths) -> io::Result<()>
         ensures { self.new.faults ≡ self.old.faults }
     {
         if !self.is_made {
-            make_folder(&self.rt, &self.root)?;
-            sync_folder(&self.rt, parent_of(&self.root))?;
-            make_folder(&self.rt, &paths.folder)?;
-            sync_folder(&self.rt, &self.root)?;
+            self.make(alloc, &paths.root)?;
+            self.sync(alloc, parent_of(&paths.root))?;
+            self.make(alloc, &paths.folder)?;
+            self.sync(alloc, &paths.root)?;
             self.is_made = true;
         }
         Ok(())
     }
 
-    fn put(&mut self, paths: &Paths, bytes: &[u8]) -> io::Result<()>
+    // Writes the bytes to the file on the way, and gives it its name.
+    fn write(&mut self, alloc: Global, paths: &Paths, bytes: &[u8]) -> io::Result<()>
         ensures { self.new.faults ≡ self.old.faults }
     {
-        self.make_folders(paths)?;
-        write_file(&self.rt, &paths.new_file, bytes)?;
-        fs::rename(&self.rt, &paths.new_file, &paths.file)?;
-        sync_folder(&self.rt, &paths.folder)
+        let answer = write_file(&self.rt, &paths.new_file, bytes);
+        self.told(alloc, &paths.new_file, answer)?;
+        let answer = fs::rename(&self.rt, &paths.new_file, &paths.file);
+        self.told(alloc, &paths.file, answer)
+    }
+
+    fn put(&mut self, alloc: Global, paths: &Paths, bytes: &[u8]) -> io::Result<()>
+        ensures { self.new.faults ≡ self.old.faults }
+    {
+        self.has_file(alloc, &paths.file)?;
+        self.has_file(alloc, &paths.new_file)?;
+        self.make_folders(alloc, paths)?;
+        self.write(alloc, paths, bytes)?;
+        self.sync(alloc, &paths.folder)
     }
 }
 
@@ -123,7 +193,7 @@ impl<R: Files + Drop> Keep for FolderKeep<R> {
         let Ok(paths) = paths_of(alloc, &self.root, name) else {
             return Err(DiskFault::Memory);
         };
-        match read_file(&self.rt, alloc, &paths.file) {
+        match self.get(alloc, &paths) {
             Ok(bytes) => Ok(bytes),
             Err(e) if e.kind() == ErrorKind::OutOfMemory => Err(DiskFault::Memory),
             Err(_) => {
@@ -137,7 +207,7 @@ impl<R: Files + Drop> Keep for FolderKeep<R> {
         let Ok(paths) = paths_of(alloc, &self.root, name) else {
             return Err(DiskFault::Memory);
         };
-        match self.put(&paths, bytes) {
+        match self.put(alloc, &paths, bytes) {
             Ok(()) => Ok(()),
             Err(e) if e.kind() == ErrorKind::OutOfMemory => Err(DiskFault::Memory),
             Err(_) => {

@@ -2,14 +2,15 @@
 //! was read last is kept open.
 
 ghost use Rattle.std.specs.Prelude.{◌≡◌};
+ghost use Rattle.mq_outside.specs.Counts.{Counted};
 
 use crate::faults::Failed;
+use crate::folder_kinds::{FirstFault, Kind, is_file, unexpected};
 use crate::frozen::Frozen;
 use crate::reader::Reader;
 use mq_bytes::LogFile;
 use std::fs::File;
 use std::io;
-use std::io::ErrorKind;
 use std::os::unix::fs::FileExt;
 use std::rt::Files;
 
@@ -27,6 +28,7 @@ pub struct FolderReader<R: Files<File = File> + AllocGlobal + Clone + Drop> {
     root: String,
     last: Option<OpenLog>,
     pub(crate) faults: u64,
+    pub(crate) fault: FirstFault,
     reads: u64,
 }
 
@@ -41,6 +43,7 @@ impl<R: Files<File = File> + AllocGlobal + Clone + Drop> FolderReader<R> {
             root,
             last: None,
             faults: 0,
+            fault: FirstFault::none(),
             reads: 0,
         }
     }
@@ -60,6 +63,9 @@ impl<R: Files<File = File> + AllocGlobal + Clone + Drop> FolderReader<R> {
         let root = self.root.as_str();
         let name = log.as_str();
         let path = format!(in self.rt.alloc(); "{root}/{name}")?;
+        if !is_file(&self.rt, path.as_str())? {
+            return Err(unexpected(Kind::Absent));
+        }
         let file = std::fs::open(&self.rt, path.as_str())?;
         self.last = Some(OpenLog { base, file });
         Ok(())
@@ -73,7 +79,22 @@ impl<R: Files<File = File> + AllocGlobal + Clone + Drop> FolderReader<R> {
         self.open(base)?;
         match &self.last {
             Some(open) => open.file.read_exact_at(out, at),
-            None => Err(io::Error::from(ErrorKind::NotFound)),
+            None => Err(unexpected(Kind::Absent)),
+        }
+    }
+
+    // Counts a fault, and notes it where it is the first.
+    fn count_fault(&mut self, base: u64, error: &io::Error)
+        ensures faults { Counted 1 self.old.faults self.new.faults }
+        ensures reads { self.new.reads ≡ self.old.reads }
+    {
+        self.faults = self.faults.saturating_add(1);
+        let log = LogFile::of(base);
+        let root = self.root.as_str();
+        let name = log.as_str();
+        let alloc = self.rt.alloc();
+        if let Ok(path) = format!(in alloc; "{root}/{name}") {
+            self.fault.note(alloc, path.as_str(), error);
         }
     }
 }
@@ -107,8 +128,8 @@ impl<R: Files<File = File> + AllocGlobal + Clone + Drop> Reader for FolderReader
         }
         match self.read_log(piece.base, piece.from.saturating_add(at), out) {
             Ok(()) => Ok(()),
-            Err(_) => {
-                self.faults = self.faults.saturating_add(1);
+            Err(e) => {
+                self.count_fault(piece.base, &e);
                 Err(Failed)
             }
         }

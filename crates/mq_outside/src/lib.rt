@@ -8,6 +8,7 @@ mod faults;
 mod folder_disk;
 mod folder_files;
 mod folder_keep;
+mod folder_kinds;
 mod folder_reader;
 mod frozen;
 mod frozen_ranges;
