@@ -117,6 +117,22 @@ def _(folder):
         assert bodies(folder) == texts[:4 + 2 * k] and os.path.islink(os.path.join(folder, path)), path
 
 
+@check("a log that has begun and whose disk is away is status 8, and nothing is changed")
+def _(folder):
+    send_all(folder, [b"first"])
+    shutil.move(folder + "/store/commitlog", folder + "/away")
+    want_refused(folder, 8, "the folder of the log is gone")
+    os.mkdir(folder + "/store/commitlog")
+    want_refused(folder, 8, "the folder of the log is empty")
+    os.mkdir(folder + "/store/commitlog/lost+found")
+    want_refused(folder, 8, "another disk is in its place")
+    ended = subprocess.run([PROGRAM, "pipe"], cwd=folder, input=b"", capture_output=True, timeout=60)
+    assert b"store/commitlog has no file, though the log has begun (status 8)" in ended.stderr, ended.stderr
+    shutil.rmtree(folder + "/store/commitlog")
+    shutil.move(folder + "/away", folder + "/store/commitlog")
+    assert bodies(folder) == [b"first"]
+
+
 @check("what the file system or an operator puts beside the log is ignored, and stays")
 def _(folder):
     os.makedirs(folder + "/store/lost+found/x")

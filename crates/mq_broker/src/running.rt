@@ -15,6 +15,13 @@ use std::sync::Wait;
 use std::thread::Threads;
 use store_open::{Status, Verb};
 
+// The status where the disk failed, the one of damage, and the one where another device failed.
+const DISK: u8 = 5;
+
+const DAMAGED: u8 = 8;
+
+const DEVICE: u8 = 10;
+
 // The store's devices.
 type FolderStore = Store<FolderDisk<HostRuntime>, FolderKeep<HostRuntime>>;
 
@@ -28,9 +35,13 @@ fn address_text(alloc: Global, listen: &[u8; 8]) -> Result<String, AllocError> {
     format!(in alloc; "{a}.{b}.{c}.{d}:{port}")
 }
 
-// Why a device of the store failed, where it says so.
-fn cause_in(_store: &FolderStore) -> Option<&str> {
-    None
+// Why the device of the store failed that this status blames, where it says so.
+fn cause_in<'a>(store: &'a FolderStore, status: &Status) -> Option<&'a str> {
+    match status.code {
+        DISK => store.disk.fault_text(),
+        DEVICE => store.keep.fault_text(),
+        _ => None,
+    }
 }
 
 // The devices of the store in this folder. Nothing is made yet.
@@ -92,10 +103,25 @@ fn tell_end(
 // The status where the system gives nothing that waits for connections.
 fn no_world(alloc: Global) -> Result<Status, AllocError> {
     Ok(Status {
-        code: 10,
+        code: DEVICE,
         place: 0,
         name: Text::of(String::from_str(alloc, "poll")?),
     })
+}
+
+// Whether the disk failed since the log has begun and none of its files is there.
+fn is_log_lost(status: &Status, store: &FolderStore) -> bool {
+    status.code == DISK && store.disk.is_log_lost()
+}
+
+// Prints that the log is lost, and answers the status of damage: the model knows of no disk that is away.
+fn tell_lost_log(rt: HostRuntime, alloc: Global, store: &str) -> Result<u8, AllocError> {
+    let line = format!(in alloc;
+        "mq_broker: {store}/commitlog has no file, though the log has begun (status 8): \
+         is its disk mounted? nothing was changed"
+    )?;
+    warn(rt, line.as_str());
+    Ok(DAMAGED)
 }
 
 /// Runs as the arguments ask, over the real devices, and answers the exit status. These are the arguments of this target.
@@ -124,8 +150,11 @@ pub(crate) fn run_target<W: Wait + Threads + Sync>(
     };
     tell_start(rt, alloc, target, address.as_str())?;
     let ended = run(threads, alloc, words, streams, world, store).ended;
+    if is_log_lost(&ended.status, &ended.store) {
+        return tell_lost_log(rt, alloc, target.store);
+    }
     let scene = Scene {
-        cause: cause_in(&ended.store),
+        cause: cause_in(&ended.store, &ended.status),
         ..scene
     };
     tell_end(rt, alloc, target.verb, &ended.status, &scene)?;

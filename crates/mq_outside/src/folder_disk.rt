@@ -50,6 +50,12 @@ impl<R: Files<File = File> + AllocGlobal + Clone + Drop> FolderDisk<R> {
         self.files.fault_text()
     }
 
+    /// Whether the log has begun and none of its files is there, as where the disk that has them is not mounted. The
+    /// list that found it failed, and nothing was changed.
+    pub fn is_log_lost(&self) -> bool {
+        self.files.is_log_lost()
+    }
+
     // Counts where the system refused.
     fn answer<T: Drop>(&mut self, answer: io::Result<T>) -> Result<T, Failed>
         ensures value { MatchResult answer (λ v. result ≡ Ok v) (λ _. result ≡ Err record {}) }

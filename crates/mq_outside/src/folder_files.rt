@@ -4,7 +4,7 @@
 //! | in the store folder        | what it is                                                     |
 //! |----------------------------|----------------------------------------------------------------|
 //! | `lock`                     | held by the one process that uses the store, for as long       |
-//! | `config/`                  | small texts, which are no files of the disk                    |
+//! | `config/`                  | small texts, which are no files of the disk, and `begun`       |
 //! | `commitlog/`               | the log's files, as `commitlog/00000000000000000000`           |
 //! | `lost+found/`, anywhere    | the file system's own: ignored                                 |
 //! | all else                   | files of the disk, where they are files                        |
@@ -33,6 +33,8 @@
 //! | has other files and no `config/format`: is foreign | takes no lock and changes nothing: `list` alone answers |
 //! | can't be read, or has what is refused above        | fails, and so does each later call                      |
 //!
+//! In a store with `config/format` the first list fails where the log has begun and has no file (`folder_mark`).
+//!
 //! A new name is in its folder for good only once that folder is synced. So the first sync of a file syncs the folders
 //! on the way to it, unless this process has synced them since a name was last put into them.
 
@@ -41,6 +43,7 @@ ghost use Rattle.std.specs.Prelude.{◌≡◌, ◌≤◌, ◌++◌, length, code
 use crate::folder_kinds::{
     FirstFault, Kind, is_file, is_folder, kind_at, make_folder, parent_of, sync_folder, unexpected,
 };
+use crate::folder_mark::{MARK, lost, put_mark};
 use crate::folder_reader::FolderReader;
 use std::alloc::{AllocError, Global};
 use std::fs::{File, OpenOptions, TryLockError};
@@ -91,6 +94,11 @@ pub struct FolderFiles<R: Files<File = File> + AllocGlobal + Clone + Drop> {
     clean: Vec<String>,
     // The file whose end was last written again, since when no change failed.
     renewed: Option<String>,
+    // That the mark of a log that has begun is there (`folder_mark`).
+    is_marked: bool,
+    // That a list has looked whether the log's files are there, and that they are not.
+    is_looked_at: bool,
+    is_lost: bool,
     fault: FirstFault,
 }
 
@@ -220,6 +228,9 @@ impl<R: Files<File = File> + AllocGlobal + Clone + Drop> FolderFiles<R> {
             last: None,
             clean,
             renewed: None,
+            is_marked: false,
+            is_looked_at: false,
+            is_lost: false,
             fault: FirstFault::none(),
         }
     }
@@ -525,6 +536,20 @@ impl<R: Files<File = File> + AllocGlobal + Clone + Drop> FolderFiles<R> {
         self.changed(name, answer)
     }
 
+    // Marks that the log has begun, unless it is marked.
+    fn mark_begun(&mut self) -> io::Result<()> {
+        if !self.is_marked {
+            if !self.has_file(MARK)? {
+                let folder = self.path(folder_of(MARK))?;
+                let path = self.path(MARK)?;
+                let answer = put_mark(&self.rt, self.root.as_str(), folder.as_str(), path.as_str());
+                self.told(MARK, answer)?;
+            }
+            self.is_marked = true;
+        }
+        Ok(())
+    }
+
     fn sync_file(&mut self, name: &str) -> io::Result<()> {
         let is_named = match self.open(name)? {
             Some(open) => {
@@ -538,6 +563,9 @@ impl<R: Files<File = File> + AllocGlobal + Clone + Drop> FolderFiles<R> {
             if let Some(open) = &mut self.last {
                 open.is_named = true;
             }
+        }
+        if self.last.is_some() && is_in_log(name) {
+            self.mark_begun()?;
         }
         Ok(())
     }
@@ -664,6 +692,19 @@ impl<R: Files<File = File> + AllocGlobal + Clone + Drop> FolderFiles<R> {
         Err(self.refuse(name, error))
     }
 
+    // Fails where the log has begun and none of its files is there: the disk that has them is away.
+    fn check_log(&mut self, names: &[String]) -> io::Result<()> {
+        let has_log = names.iter().any(|name| is_in_log(name.as_str()));
+        if has_log {
+            self.mark_begun()?;
+        } else if self.has_file(MARK)? {
+            self.is_lost = true;
+            return Err(self.refuse("commitlog", lost()));
+        }
+        self.is_looked_at = true;
+        Ok(())
+    }
+
     fn list_names(&mut self, alloc: Global) -> io::Result<Vec<String>> {
         let is_locked = self.is_locked()?;
         let is_ours = self.has_format()?;
@@ -671,7 +712,15 @@ impl<R: Files<File = File> + AllocGlobal + Clone + Drop> FolderFiles<R> {
         if !is_locked && names.is_empty() {
             return Err(foreign());
         }
+        if is_ours && is_locked && !self.is_looked_at {
+            self.check_log(names.as_slice())?;
+        }
         Ok(names)
+    }
+
+    /// Whether a list found that the log has begun and none of its files is there.
+    pub fn is_log_lost(&self) -> bool {
+        self.is_lost
     }
 
     /// The names of the files, in byte order. Those of a foreign store are given without a lock.

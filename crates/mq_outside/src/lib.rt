@@ -9,6 +9,7 @@ mod folder_disk;
 mod folder_files;
 mod folder_keep;
 mod folder_kinds;
+mod folder_mark;
 mod folder_reader;
 mod frozen;
 mod frozen_ranges;
