@@ -20,6 +20,11 @@ use std::os::unix::fs::FileExt;
 use std::rt::Files;
 use std::{fs, io};
 
+// What an earlier process wrote last and may have failed to sync lies in so many bytes at the end of a file.
+const RENEWED: u64 = 64 << 20;
+// So many bytes are renewed at once.
+const PIECE: usize = 1 << 20;
+
 // How many folders stand inside one another.
 const DEPTH: u8 = 5;
 
@@ -295,6 +300,22 @@ impl<R: Files<File = File> + AllocGlobal + Clone + Drop> FolderFiles<R> {
             }
         }
         Ok(())
+    }
+
+    /// Writes the end of a file again as it is read, and syncs the file.
+    pub fn renew(&mut self, name: &str) -> io::Result<()> {
+        let end = self.len(name)?;
+        let mut piece = vec![in self.rt.alloc(); 0; PIECE]?;
+        let mut at = end.saturating_sub(RENEWED);
+        for _ in 0..RENEWED {
+            let n = self.read_at(name, at, &mut piece)?;
+            if n == 0 {
+                break;
+            }
+            self.write_at(name, at, &piece[..n])?;
+            at = at.saturating_add(n as u64);
+        }
+        self.sync(name)
     }
 
     /// Removes a file, and makes that durable.
