@@ -1,10 +1,12 @@
 -- What a write at the end of the log and a sync do to the crash images.
-use Rattle.std.proofs.Common.{◌≡◌, ◌≢◌, ⊎_elim, ℕ, suc, ◌+◌, ◌-◌, ◌≤◌, max, List, [], ◌∷◌, ◌++◌, length, take, drop, replicate, Option, Some, None, refl, sym, ◌∙◌, ap, subst, arith, length-append}
+use Rattle.std.proofs.Common.{◌≡◌, ◌≢◌, ⊎_elim, ℕ, suc, ◌+◌, ◌-◌, ◌<◌, ◌≤◌, max, List, [], ◌∷◌, ◌++◌, length, take, drop, replicate, Option, Some, None, refl, sym, ◌∙◌, ap, subst, arith, length-append}
 use Rattle.std.proofs.lemmas.List.{take-take, take_at, take_all, length-take, length-replicate}
 use Rattle.std.proofs.lemmas.List.Concat.{flat_map-append}
+use Rattle.std.proofs.Math.Seq.{take-add}
 use Rattle.mq_bytes.specs.Names.{log_file}
-use Rattle.mq_outside.specs.Files.{Files, Same, bytes_in, bytes_of, At, Torn, Shortened, Vanished, overwritten}
-use Rattle.mq_outside.specs.Disk.{DiskState, IsCrashImage, IsDurable, EachImage, Moves}
+use Rattle.mq_outside.specs.Files.{Files, bytes_in, bytes_of, At, Torn, Shortened, Vanished}
+use Rattle.mq_outside.specs.Disk.{DiskState, EachImage, Moves}
+use Rattle.mq_outside.specs.Pieces.{HasPiece}
 use Rattle.mq_outside.proofs.Moments.{each_step}
 use Rattle.record_codec.specs.Entry.{Entry}
 use Rattle.record_codec.specs.Layout.{layout}
@@ -79,30 +81,19 @@ cut_stands S shape reach len old new named low step stands =
 
 -- ---- what stands there after a write that was synced
 
-written : (front piece old : List ℕ) (at : ℕ) → at ≡ length front → take (length front) old ≡ front
-    → take (length front + length piece) (overwritten at piece old) ≡ front ++ piece
-written front piece old at is begins =
-    let whole : overwritten at piece old ≡ front ++ piece ++ drop (at + length piece) old =
-    ap (λ (l : List ℕ). l ++ piece ++ drop (at + length piece) old) (ap (λ (k : ℕ). take k old) is ∙ begins) in
-    ap (λ (l : List ℕ). take (length front + length piece) l) whole ∙ take_at (front ++ piece) (drop (at + length piece) old) (length front + length piece) (length-append front piece)
-
--- a write that is done and synced
-pub each_has : {S : Geometry} {shape : Shape} {first_reach reach : ℕ} {old mid new : DiskState} {name piece : List ℕ} {at file_base : ℕ} → name ≡ log_file file_base → IsAt S shape file_base at
-    → IsCrashImage old old.reads → EachImage (Stands S shape first_reach) old → mid.reads name ≡ Some (overwritten at piece (bytes_of old.reads name))
-    → Moves Same mid new → IsDurable name new → EachImage (Stands S shape reach) new → EachImage (Has S shape reach piece) new
-each_has {S = S} {shape = shape} {reach = reach} {old = old} {name = name} {piece = piece} {at = at} named place read before wrote moves durable still = record {
+-- a piece behind the records that every image has
+pub each_has : {S : Geometry} {shape : Shape} {reach : ℕ} {disk : DiskState} {piece : List ℕ} {at file_base : ℕ} → IsAt S shape file_base at
+    → EachImage (HasPiece file_base at piece) disk → EachImage (Stands S shape reach) disk → EachImage (Has S shape reach piece) disk
+each_has {S = S} {shape = shape} {piece = piece} {file_base = file_base} place each still = record {
   at = λ files image.
       let stands = still.at files image in
-      let first = before.at old.reads read in
-      let here : name ≡ last_name S shape = named ∙ ap log_file place.last in
-      let there : files (last_name S shape) ≡ Some (overwritten at piece (last_bytes S shape old.reads)) =
-      subst (λ (l : List ℕ). files l ≡ Some (overwritten at piece (bytes_of old.reads l))) here (durable files image ∙ ap (λ (f : Files). f name) moves.reads ∙ wrote) in
+      let there : take (length piece) (drop (used shape) (last_bytes S shape files)) ≡ piece =
+      subst (λ (b : ℕ). take (length piece) (drop (used shape) (bytes_of files (log_file b))) ≡ piece) place.last
+      (subst (λ (k : ℕ). take (length piece) (drop k (bytes_of files (log_file file_base))) ≡ piece) place.end (each.at files image)) in
       record {
         older = stands.older;
-        bytes = overwritten at piece (last_bytes S shape old.reads);
-        there = there;
-        last = written (layouts shape.last) piece (last_bytes S shape old.reads) at place.end first.last;
-        short = subst (λ (o : Option (List ℕ)). length (bytes_in o) ≤ reach) there stands.short;
+        last = take-add (used shape) (length piece) (last_bytes S shape files) ∙ (λ i. stands.last i ++ there i);
+        short = stands.short;
         others = stands.others;
       };
 }
@@ -116,24 +107,30 @@ batch_stands S shape reach records batch files is has =
     let size : length (layouts (shape.last ++ records)) ≡ used shape + length batch = ap length all ∙ length-append (layouts shape.last) batch in
     record {
       older = has.older;
-      last = (λ i. take (size i) (bytes_in (has.there i))) ∙ has.last ∙ sym all;
-      short = subst (λ (o : Option (List ℕ)). length (bytes_in o) ≤ reach) (sym has.there) has.short;
+      last = ap (λ (k : ℕ). take k (last_bytes S shape files)) size ∙ has.last ∙ sym all;
+      short = has.short;
       others = has.others;
     }
 
 pub length-blank_of : (n : ℕ) → 8 ≤ n → length (blank_of n) ≡ n
 length-blank_of n low = omega (arith, length-append (blank_front n) (replicate (n - 8) 0), length-replicate {A = ℕ} (n - 8) 0, low)
 
+-- a file that has bytes is there
+there_if_some : (file : Option (List ℕ)) (bytes : List ℕ) → bytes_in file ≡ bytes → 0 < length bytes → file ≡ Some bytes
+there_if_some None bytes is some = absurd (omega (arith, ap length is, some))
+there_if_some (Some held) bytes is some = ap (λ (l : List ℕ). Some l) is
+
 -- behind a blank the next segment is opened
 pub blank_opens : (S : Geometry) (shape : Shape) (reach : ℕ) (files : Files) → used shape + 8 ≤ S.size → reach ≤ S.size → IsNamed S (suc (next_segment S shape.older))
     → Has S shape reach (blank_of (S.size - used shape)) files → Stands S (opened shape) 0 files
 blank_opens S shape reach files room low named has =
     let size : length (blank_of (S.size - used shape)) ≡ S.size - used shape = length-blank_of (S.size - used shape) (omega (arith, room)) in
-    let whole : has.bytes ≡ closed S shape.last =
-    sym (take_all (used shape + length (blank_of (S.size - used shape))) has.bytes (omega (arith, size, has.short, room, low))) ∙ has.last in
+    let whole : last_bytes S shape files ≡ closed S shape.last =
+    sym (take_all (used shape + length (blank_of (S.size - used shape))) (last_bytes S shape files) (omega (arith, size, has.short, room, low))) ∙ has.last in
+    let some : 0 < length (closed S shape.last) = omega (arith, size, room, length-append (layouts shape.last) (blank_of (S.size - used shape))) in
     let none : files (segment_file S (suc (next_segment S shape.older))) ≡ None = next_absent S (next_segment S shape.older) files named has.others in
     record {
-      older = (has.there ∙ ap (λ (l : List ℕ). Some l) whole, has.older);
+      older = (there_if_some (files (last_name S shape)) (closed S shape.last) whole some, has.older);
       last = refl;
       short = subst (λ (o : Option (List ℕ)). length (bytes_in o) ≤ 0) (sym none) (omega arith);
       others = λ name in_folder apart. has.others name in_folder (λ k within. apart k (omega (arith, within)));

@@ -180,8 +180,6 @@ pub record IsAt (S : Geometry) (shape : Shape) (file_base offset : ℕ) : Type 0
 -- the files have the piece behind the records
 pub record Has (S : Geometry) (shape : Shape) (reach : ℕ) (piece : List ℕ) (files : Files) : Type 0 where
   pub older : AreClosed S shape.older files
-  pub bytes : List ℕ
-  pub there : files (last_name S shape) ≡ Some bytes
-  pub last : take (used shape + length piece) bytes ≡ layouts shape.last ++ piece
-  pub short : length bytes ≤ reach
+  pub last : take (used shape + length piece) (last_bytes S shape files) ≡ layouts shape.last ++ piece
+  pub short : length (last_bytes S shape files) ≤ reach
   pub others : NoOther S (next_segment S shape.older) files

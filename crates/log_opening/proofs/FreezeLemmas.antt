@@ -1,16 +1,16 @@
 -- A file's bytes, once its piece was added.
-use Rattle.std.proofs.Common.{◌≡◌, ◌⊎◌, ⊎_elim, inl, inr, ap, sym, ◌∙◌, subst, arith, ℕ, ◌+◌, ◌-◌, ◌*◌, ◌/◌, ◌%◌, ◌<◌, ◌≤◌, List, [], length, take, drop, Option, Some, None, IfSome}
+use Rattle.std.proofs.Common.{◌≡◌, ◌⊎◌, ⊎_elim, inl, inr, ap, sym, ◌∙◌, subst, arith, ℕ, ◌+◌, ◌-◌, ◌*◌, ◌/◌, ◌%◌, ◌<◌, ◌≤◌, List, [], length, take, drop, Option, Some, None, IfSome, IsSome, refl}
 use Rattle.std.proofs.lemmas.Bool.{cases_lt}
 use Rattle.std.proofs.lemmas.List.{drop-take, take-take}
-use Rattle.std.proofs.Math.Nat.{mul-le-mul_right, div-add-mod}
+use Rattle.std.proofs.Math.Nat.{mul-le-mul_right, div-add-mod, mod-lt}
 use Rattle.mq_outside.specs.Covers.{piece_start, piece_end, Covers, HasRange, HoldsRange, PieceHolds}
 use Rattle.mq_outside.specs.Readings.{HasAt}
-use Rattle.mq_outside.specs.Files.{Files, bytes_of}
+use Rattle.mq_outside.specs.Files.{Files, bytes_in, bytes_of}
 use Rattle.mq_outside.specs.declared.frozen.Frozen.{Frozen}
 use Rattle.mq_outside.specs.declared.frozen_ranges.FrozenRanges.{FrozenRanges}
 use Rattle.log_model.specs.Bases.{whole}
 use Rattle.log_model.specs.Segments.{segment_file}
-use Rattle.log_opening.specs.Freezes.{ArePieces}
+use Rattle.log_opening.specs.Freezes.{ArePieces, HasUpTo}
 
 -- what comes of a piece that is added
 pub record HasAdded (old : FrozenRanges) (piece : Frozen) (new : FrozenRanges) : Type 0 where
@@ -136,3 +136,26 @@ whole_and_rest segment first second end is same =
     let rest : end % second ≡ end % segment = ap (λ (n : ℕ). end % n) same in
     let both = div-add-mod end segment in
     omega (arith, number, rest, both)
+
+-- a file that has bytes is there
+there_if_some : (file : Option (List ℕ)) → 0 < length (bytes_in file) → IsSome file
+there_if_some None some = absurd (let none : ⊥ = omega (arith, some) in none)
+there_if_some (Some bytes) some = refl
+
+-- the file of each segment that the log reaches is there
+pub reached_is_there : (segment end k : ℕ) (files : Files) → 0 < segment → HasUpTo segment end files → k * segment < end → IsSome (files (segment_file (whole segment) k))
+reached_is_there segment end k files some has low =
+    let all = div-add-mod end segment in
+    let file = files (segment_file (whole segment) k) in
+    there_if_some file (⊎_elim
+    (λ (whole_one : k < end / segment). let long = has.before k whole_one in omega (arith, long, some))
+    (λ (last : end / segment ≤ k).
+    let up : end / segment * segment ≤ k * segment = mul-le-mul_right segment last in
+    let left : 0 < end % segment = omega (arith, up, low, all) in
+    let no_more : k ≤ end / segment = ⊎_elim
+        (λ (past : end / segment < k). absurd (let none : ⊥ = omega (arith, ends_first (end / segment) k segment past, low, all, mod-lt end {segment} some) in none))
+        (λ (within : k ≤ end / segment). within)
+        (cases_lt (end / segment) k) in
+    let same : end / segment ≡ k = omega (arith, last, no_more) in
+    subst (λ (j : ℕ). 0 < length (bytes_of files (segment_file (whole segment) j))) same (omega (arith, left, has.last)))
+    (cases_lt k (end / segment)))

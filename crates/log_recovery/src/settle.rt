@@ -50,7 +50,7 @@ fn shorten<D: Disk>(disk: &mut D, name: &str, len: u64) -> Result<(), Failed>
     Ok(())
 }
 
-// Cuts the file that begins at this base where it is longer, and syncs it.
+// Cuts the file that begins at this base where it is longer, and writes its end again and syncs it.
 fn cut_last<D: Disk>(disk: &mut D, base: u64, len: u64) -> Result<(), Failed>
     requires within { D.tells → len ≤ length (bytes_of (D.state disk.old).reads (log_file base)) }
     ensures turns { D.tells → Turns (IsCut (log_file base) len) (D.state disk.old) (D.state disk.new) }
@@ -61,7 +61,9 @@ fn cut_last<D: Disk>(disk: &mut D, base: u64, len: u64) -> Result<(), Failed>
     let file = LogFile::of(base);
     let name = file.as_str();
     shorten(disk, name, len)?;
-    disk.sync(name)?; // the cut
+    // The cut goes to the disk with it. A sync alone may answer Ok although an earlier process failed to sync its last bytes,
+    // and then later records would stand behind a hole.
+    disk.renew(name)?;
     Ok(())
 }
 

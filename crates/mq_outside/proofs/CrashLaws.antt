@@ -1,8 +1,9 @@
 -- What a crash may do to a disk in memory: that the images are not too few. Each law is of any list of earlier calls.
-use Rattle.std.proofs.Common.{◌≡◌, ◌≢◌, ℕ, ◌≤◌, List, ◌∷◌, length, Option, Some, inr, refl, sym, ◌∙◌, subst, arith}
+use Rattle.std.proofs.Common.{◌≡◌, ◌≢◌, ℕ, zero, suc, ◌≤◌, List, ◌∷◌, length, take, drop, Option, Some, inr, refl, sym, ◌∙◌, ap, subst, arith}
 use Rattle.std.proofs.lemmas.List.{take_all}
 use Rattle.mq_outside.specs.Files.{Files, At, Torn, Shortened, bytes_in, overwritten}
-use Rattle.mq_outside.specs.Calls.{Event, image_after, reads_after, put_file}
+use Rattle.mq_outside.specs.Disk.{AgreesOn}
+use Rattle.mq_outside.specs.Calls.{Event, AreFresh, image_after, reads_after, put_file}
 use Rattle.mq_outside.proofs.Replay.{put_here, put_other, torn_done}
 
 -- one file changed so
@@ -55,7 +56,8 @@ cut_may_be_shortened base earlier files name len short image left = inr (files, 
 -- a sync of one file leaves the others as they may have been
 pub sync_keeps_others : (base : Files) (earlier : List Event) (files : Files) (name : List ℕ)
     → image_after base earlier files → files name ≡ reads_after base earlier name → image_after base (Event.Synced name ∷ earlier) files
-sync_keeps_others base earlier files name image synced = inr (files, image, (refl, synced))
+sync_keeps_others base earlier files name image synced =
+    inr (files, image, (refl, λ from n fresh. ap (λ (o : Option (List ℕ)). take n (drop from (bytes_in o))) synced))
 
 -- so what a write of one file may leave, it may still leave after a sync of another
 pub write_may_be_undone_past_another_sync : (base : Files) (earlier : List Event) (files : Files) (name other piece : List ℕ) (at : ℕ) → other ≢ name
@@ -64,3 +66,25 @@ write_may_be_undone_past_another_sync base earlier files name other piece at apa
     let read = reads_after base earlier in
     sync_keeps_others base (Event.Wrote name at piece ∷ earlier) files other (write_may_be_undone base earlier files name piece at image)
     (same ∙ sym (put_other name other (Some (overwritten at piece (bytes_in (read name)))) read apart))
+
+-- nothing of a file is fresh after a sync of it that failed
+none_fresh : (earlier : List Event) (name : List ℕ) (from n : ℕ) → AreFresh (Event.Missed name ∷ earlier) name from n → n ≡ 0
+none_fresh earlier name from zero fresh = refl
+none_fresh earlier name from (suc n) fresh = absurd ((fresh from (omega arith) (omega arith)).0 refl)
+
+-- What was written before a sync that failed may be undone although a later sync answered Ok, unless it was written again.
+pub write_may_be_undone_past_a_failed_sync : (base : Files) (earlier : List Event) (files : Files) (name piece : List ℕ) (at : ℕ)
+    → image_after base earlier files → image_after base (Event.Synced name ∷ Event.Missed name ∷ Event.Wrote name at piece ∷ earlier) files
+write_may_be_undone_past_a_failed_sync base earlier files name piece at image =
+    let written : List Event = Event.Wrote name at piece ∷ earlier in
+    let missed : image_after base (Event.Missed name ∷ written) files = inr (files, write_may_be_undone base earlier files name piece at image, refl) in
+    inr (
+      files,
+      missed,
+      (
+        refl,
+        λ from n fresh.
+            let none : n ≡ 0 = none_fresh written name from n fresh in
+            subst (λ (k : ℕ). AgreesOn name from k (reads_after base written) files) (sym none) refl,
+      ),
+    )

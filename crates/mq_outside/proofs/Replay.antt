@@ -1,13 +1,14 @@
 -- One more call of a disk that keeps its calls.
-use Rattle.std.proofs.Common.{◌≡◌, ◌≢◌, inl, ⊎_elim, ℕ, ◌+◌, ◌≤◌, List, [], ◌∷◌, ◌++◌, length, take, drop, reverse, Option, Some, None, refl, sym, ◌∙◌, ap, subst, arith, length-append, length-take-le, length-take, length-drop}
+use Rattle.std.proofs.Common.{◌≡◌, ◌≢◌, inl, inr, ⊎_elim, ℕ, ◌+◌, ◌<◌, ◌≤◌, List, [], ◌∷◌, ◌++◌, length, take, drop, reverse, Option, Some, None, refl, sym, ◌∙◌, ap, subst, arith, length-append, length-take-le, length-take, length-drop}
 use Rattle.std.proofs.lemmas.List.{take_all, take_min, take-append-le, take_at, drop_at, reverse-append, append_assoc}
 use Rattle.std.proofs.lemmas.Slice.Eq.{bytes_eq-Decides}
-use Rattle.std.proofs.lemmas.Bool.{cond-true, cond-false, false_from_ne_true}
+use Rattle.std.proofs.lemmas.Bool.{cond-true, cond-false, false_from_ne_true, cases_lt}
+use Rattle.std.specs.Prelude.{Result, Ok, Err, OnOk, OnErr}
 use Rattle.std.specs.Str.{bytes_eq}
 use Rattle.std.specs.Option.{option_map}
 use Rattle.mq_outside.specs.Files.{Files, Same, At, Torn, Shortened, Vanished, bytes_in, bytes_of, overwritten}
-use Rattle.mq_outside.specs.Disk.{DiskState, IsCrashImage, IsDurable, Moves}
-use Rattle.mq_outside.specs.Calls.{Event, reads_after, image_after, Does, state_after, put_file, state_reads_image}
+use Rattle.mq_outside.specs.Disk.{DiskState, IsCrashImage, IsDurable, Moves, AgreesOn, Freshens, IsFreshDurable}
+use Rattle.mq_outside.specs.Calls.{Event, reads_after, image_after, Does, AreFresh, state_after, put_file, state_reads_image}
 
 module _ (base : Files) (events : List Event) (event : Event) where
   turned : reverse (events ++ event ∷ []) ≡ event ∷ reverse events
@@ -26,7 +27,7 @@ module _ (base : Files) (events : List Event) (event : Event) where
 
   -- each image comes from an old one by the step
   pub pushed : (step : Files → Files → Type 0) → step (reads_after base (reverse events)) (reads_after base (event ∷ reverse events))
-      → ((old new : Files) → Does event (reads_after base (reverse events)) old new → step old new)
+      → ((old new : Files) → Does event (reverse events) (reads_after base (reverse events)) old new → step old new)
       → Moves step (state_after base events) (state_after base (events ++ event ∷ []))
   pushed step reads does = record {
     reads = subst (λ (l : List Event). step (reads_after base (reverse events)) (reads_after base l)) (sym turned) reads;
@@ -37,10 +38,19 @@ module _ (base : Files) (events : List Event) (event : Event) where
     crash = λ files image. ⊎_elim
         (λ (now : files ≡ reads_after base (event ∷ reverse events)).
         (reads_after base (reverse events), state_reads_image base events, subst (λ (f : Files). step (reads_after base (reverse events)) f) (sym now) reads))
-        (λ (from : (old : Files) × image_after base (reverse events) old × Does event (reads_after base (reverse events)) old files).
+        (λ (from : (old : Files) × image_after base (reverse events) old × Does event (reverse events) (reads_after base (reverse events)) old files).
         (from.0, before from.0 from.1, does from.0 files from.2))
         (newest files image);
   }
+
+-- what is read after a call that changes nothing of it
+pub read_still : (base : Files) (events : List Event) (event : Event) → reads_after base (event ∷ reverse events) ≡ reads_after base (reverse events) → reads_after base (reverse (events ++ event ∷ [])) ≡ reads_after base (reverse events)
+read_still base events event same = ap (reads_after base) (turned base events event) ∙ same
+
+-- what an Ok gives, or else an Err
+pub either_way : {A E P Q : Type 0} (result : Result A E) → OnOk result Q → (Q → P) → OnErr result P → P
+either_way (Ok value) done gives failed = gives done
+either_way (Err fault) done gives failed = failed
 
 -- no call more
 pub unmoved : (state : DiskState) → Moves Same state state
@@ -83,17 +93,48 @@ wrote base events name at piece within = pushed base events (Event.Wrote name at
     })
     (λ old new does. does)
 
+-- what is written is fresh, and so is a fresh range that ends where it begins, together with it
+pub wrote_fresh : (base : Files) (events : List Event) (name : List ℕ) (at : ℕ) (piece : List ℕ)
+    → Freshens name at (length piece) (state_after base events) (state_after base (events ++ Event.Wrote name at piece ∷ []))
+wrote_fresh base events name at piece =
+    let event : Event = Event.Wrote name at piece in
+    record {
+      piece = subst (λ (l : List Event). AreFresh l name at (length piece)) (sym (turned base events event)) (λ i low high. inl (refl, low, high));
+      longer = λ from before is fresh.
+          subst (λ (l : List Event). AreFresh l name from (before + length piece)) (sym (turned base events event))
+          (λ i low high. ⊎_elim
+          (λ (early : i < at). inr (fresh i low (omega (arith, is, early))))
+          (λ (late : at ≤ i). inl (refl, late, omega (arith, is, high)))
+          (cases_lt i at));
+    }
+
 pub synced : (base : Files) (events : List Event) (name : List ℕ) → Moves Same (state_after base events) (state_after base (events ++ Event.Synced name ∷ []))
 synced base events name = pushed base events (Event.Synced name) Same refl (λ old new does. does.0)
 
-pub synced_durable : (base : Files) (events : List Event) (name : List ℕ) → IsDurable name (state_after base (events ++ Event.Synced name ∷ []))
-synced_durable base events name files image =
-    let now : (state_after base (events ++ Event.Synced name ∷ [])).reads name ≡ reads_after base (reverse events) name =
-    ap (λ (l : List Event). reads_after base l name) (turned base events (Event.Synced name)) in
+pub synced_durable : (base : Files) (events : List Event) (name : List ℕ) → IsFreshDurable name (state_after base events) (state_after base (events ++ Event.Synced name ∷ []))
+synced_durable base events name from n fresh = record {
+  at = λ files image.
+      let now : reads_after base (reverse (events ++ Event.Synced name ∷ [])) ≡ reads_after base (reverse events) = ap (reads_after base) (turned base events (Event.Synced name)) in
+      subst (λ (f : Files). AgreesOn name from n f files) (sym now) (⊎_elim
+      (λ (is : files ≡ reads_after base (reverse events)). ap (λ (f : Files). take n (drop from (bytes_of f name))) is)
+      (λ (left : (old : Files) × image_after base (reverse events) old × Does (Event.Synced name) (reverse events) (reads_after base (reverse events)) old files). left.2.1 from n fresh)
+      (newest base events (Event.Synced name) files image));
+}
+
+pub missed : (base : Files) (events : List Event) (name : List ℕ) → Moves Same (state_after base events) (state_after base (events ++ Event.Missed name ∷ []))
+missed base events name = pushed base events (Event.Missed name) Same refl (λ old new does. does)
+
+pub renewed : (base : Files) (events : List Event) (name : List ℕ) → Moves Same (state_after base events) (state_after base (events ++ Event.Renewed name ∷ []))
+renewed base events name = pushed base events (Event.Renewed name) Same refl (λ old new does. does.0)
+
+pub renewed_durable : (base : Files) (events : List Event) (name : List ℕ) → IsDurable name (state_after base (events ++ Event.Renewed name ∷ []))
+renewed_durable base events name files image =
+    let now : (state_after base (events ++ Event.Renewed name ∷ [])).reads name ≡ reads_after base (reverse events) name =
+    ap (λ (l : List Event). reads_after base l name) (turned base events (Event.Renewed name)) in
     ⊎_elim
     (λ (is : files ≡ reads_after base (reverse events)). ap (λ (f : Files). f name) is ∙ sym now)
-    (λ (from : (old : Files) × image_after base (reverse events) old × Does (Event.Synced name) (reads_after base (reverse events)) old files). from.2.1 ∙ sym now)
-    (newest base events (Event.Synced name) files image)
+    (λ (from : (old : Files) × image_after base (reverse events) old × Does (Event.Renewed name) (reverse events) (reads_after base (reverse events)) old files). from.2.1 ∙ sym now)
+    (newest base events (Event.Renewed name) files image)
 
 cut_done : (len : ℕ) (old : Option (List ℕ)) → Shortened len old (option_map (λ bytes. take len bytes) old)
 cut_done len None = record { there = ((λ there. there), (λ there. there)); no_shorter = omega arith; front = refl }
@@ -129,5 +170,5 @@ removed_durable base events name files image =
     ap (λ (l : List Event). reads_after base l name) (turned base events (Event.Removed name)) ∙ put_here name None read in
     ⊎_elim
     (λ (is : files ≡ reads_after base (Event.Removed name ∷ reverse events)). ap (λ (f : Files). f name) is ∙ put_here name None read ∙ sym now)
-    (λ (from : (old : Files) × image_after base (reverse events) old × Does (Event.Removed name) read old files). from.2.here ∙ sym now)
+    (λ (from : (old : Files) × image_after base (reverse events) old × Does (Event.Removed name) (reverse events) read old files). from.2.here ∙ sym now)
     (newest base events (Event.Removed name) files image)

@@ -3,13 +3,15 @@ use Rattle.std.specs.Prelude.{ℕ, ◌+◌, List, [], ◌∷◌, take, drop}
 use Rattle.mq_outside.specs.Calls.{Event}
 use Rattle.mq_outside.specs.declared.mem_calls.Call.{Call}
 use Rattle.mq_outside.specs.declared.mem_calls.Kind.{Kind}
-use Rattle.mq_outside.specs.declared.mem_calls.Kind.TheVariants.{Write, Cut, Sync, Remove}
+use Rattle.mq_outside.specs.declared.mem_calls.Kind.TheVariants.{Write, Cut, Sync, Miss, Renew, Remove}
 
 -- the call of this kind, file name and piece
 abbrev pub event_of : Kind → List ℕ → List ℕ → Event
 event_of (Write at) name piece = Event.Wrote name at piece
 event_of (Cut len) name piece = Event.Cut name len
 event_of Sync name piece = Event.Synced name
+event_of Miss name piece = Event.Missed name
+event_of Renew name piece = Event.Renewed name
 event_of Remove name piece = Event.Removed name
 
 -- how many bytes these calls take in the buffer

@@ -1,7 +1,7 @@
 -- What the disk in memory tells, for how much it has room, and how much of that each call takes.
-use Rattle.std.specs.Prelude.{◌≡◌, ℕ, ◌+◌, ◌≤◌, List, length}
+use Rattle.std.specs.Prelude.{◌≡◌, ℕ, ◌+◌, ◌≤◌, List, [], ◌∷◌, ◌++◌, length}
 use Rattle.mq_outside.specs.Disk.{DiskState}
-use Rattle.mq_outside.specs.Calls.{state_after}
+use Rattle.mq_outside.specs.Calls.{Event, state_after}
 use Rattle.mq_outside.specs.Named.{Named, content, size_of}
 use Rattle.mq_outside.specs.MemDisk.{events_of, given_files, more_files, more_bytes}
 use Rattle.mq_outside.specs.declared.mem_disk.MemDisk.{MemDisk}
@@ -69,6 +69,13 @@ write_amount disk name at piece = record {
 -- what a cut, a sync or a removal takes: a call with its name
 abbrev pub call_amount : List ℕ → Amount
 call_amount name = record { files = 0; bytes = 0; calls = 1; call_bytes = length name }
+
+-- a sync of the file failed: what is read stays, and where there is room for it the failure is noted
+pub record IsMissed (name : List ℕ) (old new : MemDisk) : Type 0 where
+  pub base : new.base ≡ old.base
+  pub files : new.files ≡ old.files
+  pub noted : Fits old (call_amount name) → events_of new.calls ≡ events_of old.calls ++ Event.Missed name ∷ []
+  pub full : ¬ Fits old (call_amount name) → new.calls ≡ old.calls
 
 -- it has this room, of which these files are taken
 pub record HasRoom (disk : MemDisk) (room : Room) (files : List Named) : Type 0 where

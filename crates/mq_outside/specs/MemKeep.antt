@@ -27,6 +27,7 @@ keep_state first puts = record {
   reads = texts_of first puts;
   moment = length puts;
   image_at = λ m texts. texts ≡ texts_of first (take m puts);
+  fresh = λ _ _ _. ⊥;
 }
 
 -- what is loaded is what a crash now leaves

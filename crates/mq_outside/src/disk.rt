@@ -2,14 +2,15 @@
 //!
 //! The moment is a number that a call raises by at most one. Between two syncs of a file each range that was written, and
 //! the part past its length at the last sync, may hold any bytes after a crash, and any length between may be left. After
-//! a sync that answered Ok a crash leaves what a read gives. A removal that answered Ok stays done. `DiskState` says this
-//! as one relation.
+//! a sync that answered Ok a crash leaves, of what is fresh, what a read gives. Fresh is what this process wrote of the file
+//! since the last sync of it that failed: a system may drop what it could not write, and answer Ok to the next sync. So after
+//! a failed sync the same bytes are written again. A removal that answered Ok stays done. `DiskState` says this as one relation.
 
-ghost use Rattle.std.specs.Prelude.{◌≡◌, ◌+◌, ◌-◌, ◌≤◌, ℕ, length, take, drop, map, min, Some};
-ghost use Rattle.std.specs.Prelude.{None, IfOk, IfSome, OnOk, MatchResult, string_bytes};
+ghost use Rattle.std.specs.Prelude.{◌≡◌, ◌≢◌, ◌+◌, ◌-◌, ◌≤◌, ℕ, length, take, drop, map, min, Some};
+ghost use Rattle.std.specs.Prelude.{None, IsSome, IfOk, IfSome, OnOk, MatchResult, string_bytes};
 ghost use Rattle.mq_outside.specs.Counts.{Counted, CountsFailure, CountsDiskFault};
 ghost use Rattle.mq_outside.specs.Files.{Same, At, Torn, Shortened, Vanished, Lists, bytes_of, overwritten};
-ghost use Rattle.mq_outside.specs.Disk.{DiskState, EachImage, Moves, IsDurable, IsCrashImage};
+ghost use Rattle.mq_outside.specs.Disk.{DiskState, EachImage, Moves, IsDurable, IsCrashImage, Freshens, IsFreshDurable};
 ghost use Rattle.mq_outside.specs.Pieces.{HasPiece, IsStored, stored_piece};
 
 use crate::faults::{DiskFault, Failed};
@@ -80,6 +81,7 @@ pub trait Disk {
         ensures written { tells → OnOk result ((state self.new).reads file.now
             ≡ Some (overwritten at piece.now (bytes_of (state self.old).reads file.now))) }
         ensures moves { tells → Moves (At file.now (Torn at (length piece.now))) (state self.old) (state self.new) }
+        ensures fresh { tells → OnOk result (Freshens file.now at (length piece.now) (state self.old) (state self.new)) }
         ensures cause { CountsFailure result (faults self.old) (faults self.new) }
         ensures syncs { syncs self.new ≡ syncs self.old }
         ensures given { given self.new ≡ given self.old }
@@ -95,8 +97,32 @@ pub trait Disk {
         ensures given { given self.new ≡ given self.old }
         ensures reader_faults { reader_faults self.new ≡ reader_faults self.old };
 
-    /// After it a crash leaves of this file what is read.
+    /// After it a crash leaves what is read of all that was fresh of this file.
     fn sync(&mut self, file: &str) -> Result<(), Failed>
+        ensures durable { tells → OnOk result (IsFreshDurable file.now (state self.old) (state self.new)) }
+        ensures moves { tells → Moves Same (state self.old) (state self.new) }
+        ensures cause { CountsFailure result (faults self.old) (faults self.new) }
+        ensures syncs { Counted 1 (syncs self.old) (syncs self.new) }
+        ensures given { given self.new ≡ given self.old }
+        ensures reader_faults { reader_faults self.new ≡ reader_faults self.old };
+
+    /// Syncs a file that an earlier process wrote: what that process wrote last, and may have failed to sync, is written again as
+    /// it is read, and synced. After it a crash leaves of this file what is read. The device takes it that all that may have
+    /// failed lies in the last 64 MiB of the file: one turn of the flusher writes no more, and none begins before the one before
+    /// it is on the disk. Writing what is read leaves nothing that a crash could not have left before.
+    fn renew(&mut self, file: &str) -> Result<(), Failed>
+        ensures durable { tells → OnOk result (IsDurable file.now (state self.new)) }
+        ensures moves { tells → Moves Same (state self.old) (state self.new) }
+        ensures cause { CountsFailure result (faults self.old) (faults self.new) }
+        ensures syncs { Counted 1 (syncs self.old) (syncs self.new) }
+        ensures given { given self.new ≡ given self.old }
+        ensures reader_faults { reader_faults self.new ≡ reader_faults self.old };
+
+    /// Syncs a file that an earlier process ended. It was synced before the file `next` was made, so nothing of it has to be
+    /// written again. After it a crash leaves of this file what is read.
+    fn sync_ended(&mut self, file: &str, next: &str) -> Result<(), Failed>
+        requires apart { file.now ≢ next.now }
+        requires made { tells → IsSome ((state self.old).reads next.now) }
         ensures durable { tells → OnOk result (IsDurable file.now (state self.new)) }
         ensures moves { tells → Moves Same (state self.old) (state self.new) }
         ensures cause { CountsFailure result (faults self.old) (faults self.new) }

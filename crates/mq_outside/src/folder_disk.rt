@@ -79,7 +79,7 @@ impl<R: Files<File = File> + AllocGlobal + Clone + Drop> Disk for FolderDisk<R> 
 
     ghost tells = { ⊥ };
 
-    ghost state = { λ _. record { reads = λ _. None; moment = 0; image_at = λ _ _. ⊥ } };
+    ghost state = { λ _. record { reads = λ _. None; moment = 0; image_at = λ _ _. ⊥; fresh = λ _ _ _. ⊥ } };
 
     ghost faults = { λ disk. disk.faults };
 
@@ -129,6 +129,19 @@ impl<R: Files<File = File> + AllocGlobal + Clone + Drop> Disk for FolderDisk<R> 
     }
 
     fn sync(&mut self, file: &str) -> Result<(), Failed> {
+        self.syncs = self.syncs.saturating_add(1);
+        let answer = self.files.sync(file);
+        self.answer(answer)
+    }
+
+    fn renew(&mut self, file: &str) -> Result<(), Failed> {
+        self.syncs = self.syncs.saturating_add(1);
+        let answer = self.files.renew(file);
+        self.answer(answer)
+    }
+
+    // Its bytes were synced before the next file was made. Its name may not be yet, as that of a file that was copied here.
+    fn sync_ended(&mut self, file: &str, _next: &str) -> Result<(), Failed> {
         self.syncs = self.syncs.saturating_add(1);
         let answer = self.files.sync(file);
         self.answer(answer)

@@ -183,7 +183,7 @@ impl<R: Files + Drop> FolderKeep<R> {
 impl<R: Files + Drop> Keep for FolderKeep<R> {
     ghost tells = { ⊥ };
 
-    ghost state = { λ _. record { reads = λ _. None; moment = 0; image_at = λ _ _. ⊥ } };
+    ghost state = { λ _. record { reads = λ _. None; moment = 0; image_at = λ _ _. ⊥; fresh = λ _ _ _. ⊥ } };
 
     ghost faults = { λ s. s.faults };
 

@@ -13,6 +13,10 @@ pub enum Kind {
     Write(u64),
     Cut(u64),
     Sync,
+    /// A sync that failed.
+    Miss,
+    /// A sync of what was written again, or had been synced before.
+    Renew,
     Remove,
 }
 

@@ -2,15 +2,15 @@
 //! All its memory is taken at the start: a call for which there is no room fails like one that is listed to fail.
 
 ghost use Rattle.std.specs.Prelude.{◌≡◌, ◌≢◌, ◌↔◌, ◌⊎◌, ◌+◌, ◌-◌, ◌≤◌, [], ℕ, List, length, take, drop, map, min};
-ghost use Rattle.std.specs.Prelude.{reverse, Some, None, IfOk, IsErr, OnOk, OnErr, MatchResult, string_bytes};
+ghost use Rattle.std.specs.Prelude.{reverse, ◌∷◌, ◌++◌, Some, None, IsSome, IfOk, IsErr, OnOk, OnErr, MatchResult, string_bytes};
 ghost use Rattle.std.specs.List.{AllPairs};
 ghost use Rattle.std.specs.Option.{option_copied};
 ghost use Rattle.std.proofs.Props.{props};
 ghost use Rattle.mq_outside.specs.Counts.{Counted, CountsFailure, CountsDiskFault, Rises};
 ghost use Rattle.mq_outside.specs.Files.{Files, Same, At, Torn, Shortened, Vanished, Lists, bytes_in, bytes_of, overwritten};
-ghost use Rattle.mq_outside.specs.Disk.{EachImage, IsCrashImage, IsDurable, Moves};
+ghost use Rattle.mq_outside.specs.Disk.{EachImage, IsCrashImage, IsDurable, Moves, Freshens, IsFreshDurable};
 ghost use Rattle.mq_outside.specs.Pieces.{HasPiece, IsStored, stored_piece};
-ghost use Rattle.mq_outside.specs.Calls.{reads_after, state_reads_image};
+ghost use Rattle.mq_outside.specs.Calls.{Event, reads_after, state_reads_image};
 ghost use Rattle.mq_outside.specs.Named.{content, size_of};
 ghost use Rattle.mq_outside.specs.MemDisk.{files_of, events_of, given_files};
 
@@ -81,7 +81,9 @@ fn load(held: &mut MemFiles, files: &[(String, Vec<u8>)])
 }
 
 impl MemDisk {
-    ghost use Rattle.mq_outside.specs.MemDiskState.{state_of, HasRoom};
+    ghost use Rattle.mq_outside.specs.MemDiskState.{state_of, HasRoom, IsMissed, Fits, Takes, call_amount};
+    ghost use Rattle.mq_outside.specs.Listed.{IsListed, after_call};
+    ghost use Rattle.mq_outside.specs.MemCalls.{event_of};
 
     /// A disk with these files, all synced, of which the calls with these numbers are to fail. The first call is number 1.
     pub fn new(
@@ -124,12 +126,44 @@ impl MemDisk {
     {
         self.files.bytes(file.as_bytes())
     }
+
+    // Notes a sync of this kind, or that it failed. Without room for either it fails, and so does each later one of this file.
+    fn note_sync(&mut self, kind: Kind, name: &[u8]) -> Result<(), Failed>
+        requires { (base : Files) (earlier : List Event)
+            → reads_after base (event_of kind name.now [] ∷ earlier) ≡ reads_after base earlier }
+        ensures noted { OnOk result (events_of self.new.calls ≡ events_of self.old.calls ++ event_of kind name.now [] ∷ []) }
+        ensures still { OnErr result (IsMissed name.now self.old self.new) }
+        ensures moves { OnErr result (Moves Same (state_of self.old) (state_of self.new)) }
+        ensures base { self.new.base ≡ self.old.base }
+        ensures files { self.new.files ≡ self.old.files }
+        ensures cause { CountsFailure result self.old.faults self.new.faults }
+        ensures syncs { Counted 1 self.old.syncs self.new.syncs }
+        ensures given { self.new.given ≡ self.old.given }
+        ensures reader_faults { self.new.reader_faults ≡ self.old.reader_faults }
+        ensures listed { IsListed self.old.fails → IsErr result }
+        ensures refused { OnErr result (IsListed self.old.fails ⊎ ¬ Fits self.old (call_amount name.now)) }
+        ensures fits { OnOk result (Fits self.old (call_amount name.now)) }
+        ensures asks { self.new.fails ≡ after_call self.old.fails }
+        ensures takes { Takes (call_amount name.now) self.old self.new }
+    {
+        self.syncs = self.syncs.saturating_add(1);
+        let is_listed = self.fails.next();
+        if !self.calls.has_room(name, &[]) {
+            return Err(fail(&mut self.faults));
+        }
+        if is_listed {
+            self.calls.note(Kind::Miss, name, &[]);
+            return Err(fail(&mut self.faults));
+        }
+        self.calls.note(kind, name, &[]);
+        Ok(())
+    }
 }
 
 impl Disk for MemDisk {
     type Reader = MemReader;
 
-    ghost use Rattle.mq_outside.specs.MemDiskState.{state_of, IsUntouched, Fits, Takes, write_amount, call_amount};
+    ghost use Rattle.mq_outside.specs.MemDiskState.{state_of, IsUntouched, IsMissed, Fits, Takes, write_amount, call_amount};
     ghost use Rattle.mq_outside.specs.Listed.{IsListed, after_call};
 
     ghost tells = { Unit {0} };
@@ -227,6 +261,7 @@ impl Disk for MemDisk {
         ensures written { OnOk result ((state_of self.new).reads file.now
             ≡ Some (overwritten at piece.now (bytes_of (state_of self.old).reads file.now))) }
         ensures moves { Moves (At file.now (Torn at (length piece.now))) (state_of self.old) (state_of self.new) }
+        ensures fresh { OnOk result (Freshens file.now at (length piece.now) (state_of self.old) (state_of self.new)) }
         ensures cause { CountsFailure result (self.old.faults) (self.new.faults) }
         ensures syncs { self.new.syncs ≡ self.old.syncs }
         ensures given { self.new.given ≡ self.old.given }
@@ -278,6 +313,26 @@ impl Disk for MemDisk {
     }
 
     fn sync(&mut self, file: &str) -> Result<(), Failed>
+        ensures durable { OnOk result (IsFreshDurable file.now (state_of self.old) (state_of self.new)) }
+        ensures moves { Moves Same (state_of self.old) (state_of self.new) }
+        ensures cause { CountsFailure result (self.old.faults) (self.new.faults) }
+        ensures syncs { Counted 1 (self.old.syncs) (self.new.syncs) }
+        ensures given { self.new.given ≡ self.old.given }
+        ensures reader_faults { self.new.reader_faults ≡ self.old.reader_faults }
+
+        // It fails where it is listed, or there is no room. One that was listed is noted as failed.
+        ensures listed { IsListed self.old.fails → IsErr result }
+        ensures refused { OnErr result (IsListed self.old.fails ⊎ ¬ Fits self.old (call_amount file.now)) }
+        ensures fits { OnOk result (Fits self.old (call_amount file.now)) }
+        ensures asks { self.new.fails ≡ after_call self.old.fails }
+        ensures still { OnErr result (IsMissed file.now self.old self.new) }
+        ensures noted { OnOk result (events_of self.new.calls ≡ events_of self.old.calls ++ Event.Synced file.now ∷ []) }
+        ensures takes { Takes (call_amount file.now) self.old self.new }
+    {
+        self.note_sync(Kind::Sync, file.as_bytes())
+    }
+
+    fn renew(&mut self, file: &str) -> Result<(), Failed>
         ensures durable { OnOk result (IsDurable file.now (state_of self.new)) }
         ensures moves { Moves Same (state_of self.old) (state_of self.new) }
         ensures cause { CountsFailure result (self.old.faults) (self.new.faults) }
@@ -285,21 +340,38 @@ impl Disk for MemDisk {
         ensures given { self.new.given ≡ self.old.given }
         ensures reader_faults { self.new.reader_faults ≡ self.old.reader_faults }
 
-        // It fails where it is listed, or there is no room, and then changes nothing.
+        // It fails where it is listed, or there is no room. One that was listed is noted as failed.
         ensures listed { IsListed self.old.fails → IsErr result }
         ensures refused { OnErr result (IsListed self.old.fails ⊎ ¬ Fits self.old (call_amount file.now)) }
         ensures fits { OnOk result (Fits self.old (call_amount file.now)) }
         ensures asks { self.new.fails ≡ after_call self.old.fails }
-        ensures still { OnErr result (IsUntouched self.old self.new) }
-        ensures takes { OnOk result (Takes (call_amount file.now) self.old self.new) }
+        ensures still { OnErr result (IsMissed file.now self.old self.new) }
+        ensures noted { OnOk result (events_of self.new.calls ≡ events_of self.old.calls ++ Event.Renewed file.now ∷ []) }
+        ensures takes { Takes (call_amount file.now) self.old self.new }
     {
-        let name = file.as_bytes();
-        self.syncs = self.syncs.saturating_add(1);
-        if self.fails.next() || !self.calls.has_room(name, &[]) {
-            return Err(fail(&mut self.faults));
-        }
-        self.calls.note(Kind::Sync, name, &[]);
-        Ok(())
+        self.note_sync(Kind::Renew, file.as_bytes())
+    }
+
+    fn sync_ended(&mut self, file: &str, next: &str) -> Result<(), Failed>
+        requires apart { file.now ≢ next.now }
+        requires made { IsSome ((state_of self.old).reads next.now) }
+        ensures durable { OnOk result (IsDurable file.now (state_of self.new)) }
+        ensures moves { Moves Same (state_of self.old) (state_of self.new) }
+        ensures cause { CountsFailure result (self.old.faults) (self.new.faults) }
+        ensures syncs { Counted 1 (self.old.syncs) (self.new.syncs) }
+        ensures given { self.new.given ≡ self.old.given }
+        ensures reader_faults { self.new.reader_faults ≡ self.old.reader_faults }
+
+        // It fails where it is listed, or there is no room. One that was listed is noted as failed.
+        ensures listed { IsListed self.old.fails → IsErr result }
+        ensures refused { OnErr result (IsListed self.old.fails ⊎ ¬ Fits self.old (call_amount file.now)) }
+        ensures fits { OnOk result (Fits self.old (call_amount file.now)) }
+        ensures asks { self.new.fails ≡ after_call self.old.fails }
+        ensures still { OnErr result (IsMissed file.now self.old self.new) }
+        ensures noted { OnOk result (events_of self.new.calls ≡ events_of self.old.calls ++ Event.Renewed file.now ∷ []) }
+        ensures takes { Takes (call_amount file.now) self.old self.new }
+    {
+        self.note_sync(Kind::Renew, file.as_bytes())
     }
 
     fn remove(&mut self, file: &str) -> Result<(), Failed>

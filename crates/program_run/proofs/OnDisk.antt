@@ -12,7 +12,7 @@ use Rattle.log_model.proofs.StoredLemmas.{first_stores}
 
 -- a disk that has these files alone, whatever crashes
 abbrev holding : Files → DiskState
-holding files = record { reads = files; moment = 0; image_at = λ m image. image ≡ files }
+holding files = record { reads = files; moment = 0; image_at = λ m image. image ≡ files; fresh = λ name from n. ⊥ }
 
 -- where the files have the first records of a log, each of these stands at its place
 pub first_stand : (S : Geometry) (log : List Entry) (least number : ℕ) (files : Files) (r : Entry) → IsWellFormed S log → HasFirst S log least files → number < least

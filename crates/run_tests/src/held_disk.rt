@@ -111,6 +111,14 @@ impl<'a, D: Disk + Drop, W: Wait + Clock> Disk for HeldDisk<'a, D, W> {
         self.disk.sync(file)
     }
 
+    fn renew(&mut self, file: &str) -> Result<(), Failed> {
+        self.disk.renew(file)
+    }
+
+    fn sync_ended(&mut self, file: &str, next: &str) -> Result<(), Failed> {
+        self.disk.sync_ended(file, next)
+    }
+
     fn remove(&mut self, file: &str) -> Result<(), Failed> {
         self.disk.remove(file)
     }

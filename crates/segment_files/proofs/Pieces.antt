@@ -5,7 +5,7 @@ use Rattle.std.proofs.lemmas.Slice.{drop-append-drop}
 use Rattle.std.proofs.Transfers.{drop-appended}
 use Rattle.mq_bytes.specs.Names.{log_file}
 use Rattle.mq_outside.specs.Files.{Files, Same, bytes_in, bytes_of, At, Torn, overwritten}
-use Rattle.mq_outside.specs.Disk.{DiskState, IsDurable, EachImage, Moves, Throughout}
+use Rattle.mq_outside.specs.Disk.{DiskState, AgreesOn, EachImage, Moves, Throughout}
 use Rattle.mq_outside.specs.Pieces.{HasPiece}
 use Rattle.mq_outside.proofs.Moments.{each_step, goes_on, at_end}
 use Rattle.record_codec.specs.Blanks.{blank_front}
@@ -100,17 +100,19 @@ writes_on {S = S} {shape = shape} {name = name} {next = next} behind later low m
 
 -- a piece that is written and synced stands in every image
 pub each_piece : (old : DiskState) (file_base : ℕ) {mid new : DiskState} {name piece : List ℕ} {at : ℕ} → name ≡ log_file file_base → at ≤ length (bytes_of old.reads name)
-    → mid.reads name ≡ Some (overwritten at piece (bytes_of old.reads name)) → Moves Same mid new → IsDurable name new → EachImage (HasPiece file_base at piece) new
-each_piece old file_base {name = name} {piece = piece} {at = at} named inside wrote moves durable = record {
+    → mid.reads name ≡ Some (overwritten at piece (bytes_of old.reads name)) → Moves Same mid new → EachImage (AgreesOn name at (length piece) new.reads) new
+    → EachImage (HasPiece file_base at piece) new
+each_piece old file_base {new = new} {name = name} {piece = piece} {at = at} named inside wrote moves synced = record {
   at = λ files image.
       let was : List ℕ = bytes_of old.reads name in
       let rest : List ℕ = drop (at + length piece) was in
-      let there : files (log_file file_base) ≡ Some (overwritten at piece was) =
-      subst (λ (l : List ℕ). files l ≡ Some (overwritten at piece was)) named (durable files image ∙ ap (λ (f : Files). f name) moves.reads ∙ wrote) in
+      let now : bytes_of new.reads name ≡ overwritten at piece was = ap (λ (f : Files). bytes_of f name) moves.reads ∙ ap bytes_in wrote in
       let front : length (take at was) ≡ at = omega (arith, length-take at was, inside) in
       let behind : drop at (overwritten at piece was) ≡ piece ++ rest =
       subst (λ (k : ℕ). drop k (overwritten at piece was) ≡ piece ++ rest) front
       (drop-appended (take at was) (overwritten at piece was) (piece ++ rest) (append_assoc (take at was) piece rest)) in
-      ap (λ (o : Option (List ℕ)). take (length piece) (drop at (bytes_in o))) there
-      ∙ ap (λ (l : List ℕ). take (length piece) l) behind ∙ take_at piece rest (length piece) refl;
+      let has : take (length piece) (drop at (bytes_of files name)) ≡ piece =
+      synced.at files image ∙ ap (λ (l : List ℕ). take (length piece) (drop at l)) now
+      ∙ ap (λ (l : List ℕ). take (length piece) l) behind ∙ take_at piece rest (length piece) refl in
+      subst (λ (l : List ℕ). take (length piece) (drop at (bytes_of files l)) ≡ piece) named has;
 }

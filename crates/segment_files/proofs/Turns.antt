@@ -5,8 +5,9 @@ use Rattle.std.proofs.lemmas.List.{length-take}
 use Rattle.std.proofs.lemmas.Nat.{mod-mul-add, div-mul-add}
 use Rattle.std.proofs.lemmas.List.Concat.{flat_map-append}
 use Rattle.mq_bytes.specs.Names.{log_file}
-use Rattle.mq_outside.specs.Files.{Files, Same, At, Torn, bytes_of, overwritten}
-use Rattle.mq_outside.specs.Disk.{DiskState, IsCrashImage, IsDurable, EachImage, Moves, Throughout}
+use Rattle.mq_outside.specs.Files.{Files, Same, At, Torn, bytes_of}
+use Rattle.mq_outside.specs.Disk.{DiskState, IsCrashImage, EachImage, Moves, Throughout}
+use Rattle.mq_outside.specs.Pieces.{HasPiece}
 use Rattle.mq_outside.proofs.Moments.{at_end, weaker, at_start, goes_on, each_same}
 use Rattle.record_codec.specs.Entry.{Entry}
 use Rattle.record_codec.specs.Layout.{layout}
@@ -68,15 +69,14 @@ pub each_to_end : {S : Geometry} {log : List Entry} {flushed : ℕ} {shape : Sha
 each_to_end {S = S} {shape = shape} {reach = reach} writes = record { at = λ files image. stands_more S shape reach S.size files writes.low (writes.stores.each.at files image) }
 
 -- behind a blank that was synced the next segment is opened
-pub writes_opened : {S : Geometry} {log : List Entry} {flushed : ℕ} {shape : Shape} {reach file_base offset size next : ℕ} {old mid new : DiskState} {name : List ℕ}
-    → WritesAt (stored S log flushed) shape reach file_base offset old → name ≡ log_file file_base → shape ≡ shape_of S (take flushed log) → size ≡ S.size - used shape → next ≡ segment_start S (opened shape)
-    → IsCrashImage old old.reads → mid.reads name ≡ Some (overwritten offset (blank_of size) (bytes_of old.reads name)) → Moves Same mid new → IsDurable name new
-    → EachImage (Stands S shape S.size) new → WritesAt (stored S log flushed) (opened shape) 0 next 0 new
-writes_opened {S = S} {log = log} {flushed = flushed} {shape = shape} {offset = offset} {size = size} {old = old} {mid = mid} {new = new} {name = name} writes named is fills next read wrote moves durable still =
-    let blank : mid.reads name ≡ Some (overwritten offset (blank_of (S.size - used shape)) (bytes_of old.reads name)) =
-    subst (λ (n : ℕ). mid.reads name ≡ Some (overwritten offset (blank_of n) (bytes_of old.reads name))) fills wrote in
+pub writes_opened : {S : Geometry} {log : List Entry} {flushed : ℕ} {shape : Shape} {reach file_base offset size next : ℕ} {old new : DiskState}
+    → WritesAt (stored S log flushed) shape reach file_base offset old → shape ≡ shape_of S (take flushed log) → size ≡ S.size - used shape → next ≡ segment_start S (opened shape)
+    → EachImage (HasPiece file_base offset (blank_of size)) new → EachImage (Stands S shape S.size) new → WritesAt (stored S log flushed) (opened shape) 0 next 0 new
+writes_opened {S = S} {log = log} {flushed = flushed} {shape = shape} {file_base = file_base} {offset = offset} {new = new} writes is fills next has still =
+    let blank : EachImage (HasPiece file_base offset (blank_of (S.size - used shape))) new =
+    subst (λ (n : ℕ). EachImage (HasPiece file_base offset (blank_of n)) new) fills has in
     record {
-      stores = stores_opened S log flushed shape S.size new writes.stores.well_formed writes.stores.within is (omega arith) (each_has named writes.place read writes.stores.each blank moves durable still);
+      stores = stores_opened S log flushed shape S.size new writes.stores.well_formed writes.stores.within is (omega arith) (each_has writes.place blank still);
       place = record { last = next; end = refl };
       low = omega arith;
     }
@@ -106,14 +106,13 @@ write_stands {S = S} {log = log} {flushed = flushed} {shape = shape} {reach = re
     subst (λ (k : ℕ). Throughout old new (Stands S shape (max reach (offset + k)))) same (goes_on (at_start _ (Stands S shape (max reach (offset + n))) (each_more offset n writes.stores.each)) moves (each_torn is_named named writes.place moves writes.stores.each))
 
 -- a batch that was written and synced is flushed
-pub writes_batch : {S : Geometry} {log : List Entry} {flushed count : ℕ} {shape : Shape} {reach file_base offset : ℕ} {old mid new : DiskState} {name batch : List ℕ}
-    → WritesAt (stored S log flushed) shape reach file_base offset old → IsBatch S log flushed count shape batch → name ≡ log_file file_base
-    → IsCrashImage old old.reads → mid.reads name ≡ Some (overwritten offset batch (bytes_of old.reads name)) → Moves Same mid new → IsDurable name new
-    → EachImage (Stands S shape (max reach (offset + length batch))) new
+pub writes_batch : {S : Geometry} {log : List Entry} {flushed count : ℕ} {shape : Shape} {reach file_base offset : ℕ} {old new : DiskState} {batch : List ℕ}
+    → WritesAt (stored S log flushed) shape reach file_base offset old → IsBatch S log flushed count shape batch
+    → EachImage (HasPiece file_base offset batch) new → EachImage (Stands S shape (max reach (offset + length batch))) new
     → WritesAt (stored S log (flushed + count)) (shape_of S (take (flushed + count) log)) (max reach (offset + length batch)) file_base (offset + length batch) new
-writes_batch {S = S} {log = log} {flushed = flushed} {count = count} {shape = shape} {reach = reach} {file_base = file_base} {offset = offset} {new = new} {batch = batch} writes is named read wrote moves durable still =
+writes_batch {S = S} {log = log} {flushed = flushed} {count = count} {shape = shape} {reach = reach} {offset = offset} {new = new} {batch = batch} writes is has still =
     let more : ℕ = max reach (offset + length batch) in
-    let stores = stores_batch S log flushed count shape more batch new writes.stores.well_formed is (each_has named writes.place read writes.stores.each wrote moves durable still) in
+    let stores = stores_batch S log flushed count shape more batch new writes.stores.well_formed is (each_has writes.place has still) in
     record {
       stores = subst (λ (s : Shape). StoresAt S log (flushed + count) s more new) (sym is.rule) stores;
       place = record { last = writes.place.last ∙ ap (segment_start S) (sym is.rule); end = omega (arith, used_batch is, writes.place.end) };

@@ -33,6 +33,7 @@ pub fn write_blank<D: Disk>(
     requires inside { D.tells → at ≤ length (bytes_of (D.state disk.old).reads name.now) }
     ensures written { D.tells → OnOk result ((D.state disk.new).reads name.now
         ≡ Some (overwritten at (blank_of size) (bytes_of (D.state disk.old).reads name.now))) }
+    ensures fresh { D.tells → OnOk result ((D.state disk.new).fresh name.now at (length (blank_of size))) }
     ensures any_moment { D.tells → (S : Geometry) (shape : Shape) (reach : ℕ) → IsBehind S shape name.now at
         → at + length (blank_of size) ≤ reach
         → EachImage (Stands S shape reach) (D.state disk.old) → Throughout (D.state disk.old) (D.state disk.new) (Stands S shape reach) }

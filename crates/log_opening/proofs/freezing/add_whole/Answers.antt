@@ -1,4 +1,5 @@
-use Rattle.std.proofs.Common.{◌≡◌, ◌∙◌, ◌+◌, ◌*◌, ℕ, length, refl, subst, ap, arith}
+use Rattle.std.proofs.Common.{◌≡◌, ◌∙◌, ◌+◌, ◌*◌, ℕ, List, length, Option, IsSome, refl, sym, subst, ap, arith}
+use Rattle.mq_bytes.specs.Names.{log_file}
 use Rattle.mq_outside.specs.Files.{Files, bytes_of}
 use Rattle.mq_outside.proofs.Moments.{rests_start, rests_then}
 use Rattle.log_model.specs.Bases.{whole}
@@ -27,6 +28,14 @@ add_file-requires-clause-within g c = λ tells.
     let long = c.requires.within tells c.loop-i.i c.loop-i-test.true in
     let same = ap (λ (f : Files). length (bytes_of f (segment_file (whole c.args.segment) c.loop-i.i))) (c.loop-i.invariant.rests tells).same in
     omega (arith, long, same, c.from.ensures)
+
+pub add_file-requires-clause-made : goal.add_file-requires-clause-made
+add_file-requires-clause-made g c = λ tells low.
+    let S : ℕ = c.args.segment in
+    let to : c.loop-i.i * S + c.from.result ≡ (c.loop-i.i + 1) * S = ap (λ (k : ℕ). c.loop-i.i * S + k) c.from.ensures ∙ one_more S c.loop-i.i in
+    let there = c.requires.made tells (c.loop-i.i + 1) (omega (arith, low, to)) in
+    let same = ap (λ (f : Files). f (segment_file (whole S) (c.loop-i.i + 1))) (c.loop-i.invariant.rests tells).same in
+    subst (λ (n : ℕ). IsSome ((g.D.Disk.state c.loop-i.disk).reads (log_file n))) (sym to) (subst (λ (file : Option (List ℕ)). IsSome file) (sym same) there)
 
 pub loop-i-preserved : goal.loop-i-preserved
 loop-i-preserved g c =

@@ -1,9 +1,18 @@
 use Rattle.std.proofs.Common.{◌≡◌, ◌∙◌, ◌*◌, ◌/◌, ℕ, sym, subst, arith}
 use Rattle.mq_outside.specs.declared.frozen_ranges.FrozenRanges.{FrozenRanges}
 use Rattle.log_opening.specs.Freezes.{ArePieces}
-use Rattle.log_opening.proofs.FreezeLemmas.{no_files, whole_and_rest}
+use Rattle.log_opening.proofs.FreezeLemmas.{no_files, whole_and_rest, reached_is_there}
 use Rattle.log_opening.proofs.freezing.freeze_log.Goals as goal
 use Rattle.log_opening.proofs.freezing.freeze_log.Goals.{then-rest-gt0+in_ok-add_file, else-rest-gt0}
+
+pub add_whole-requires-clause-made : goal.add_whole-requires-clause-made
+add_whole-requires-clause-made g c = λ tells k low.
+    reached_is_there c.args.segment c.args.end k (g.D.Disk.state c.args.disk.now).reads (omega (arith, c.requires.size.low)) (c.requires.has tells) low
+
+pub add_file-requires-clause-made : goal.add_file-requires-clause-made
+add_file-requires-clause-made g c = λ tells low.
+    let all = whole_and_rest c.args.segment c.from.result c.from-2.result c.args.end c.from.ensures c.from-2.ensures in
+    absurd (let none : ⊥ = omega (arith, all, low) in none)
 
 pub returns-clause-pieces : goal.returns-clause-pieces
 returns-clause-pieces g c = λ files reads.

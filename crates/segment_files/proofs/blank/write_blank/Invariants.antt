@@ -13,6 +13,7 @@ invariant-loop-done g l = record {
   low : 8 ≤ l.done;
   within : l.done - 8 ≤ l.fn.size - 8;
   written : g.D.Disk.tells → (g.D.Disk.state l.disk).reads l.name ≡ Some (overwritten l.at (blank_to l.fn.size l.done) (bytes_of (g.D.Disk.state l.fn.disk).reads l.name));
+  fresh : g.D.Disk.tells → (g.D.Disk.state l.disk).fresh l.name l.at l.done;
   any_moment : g.D.Disk.tells → (S : Geometry) (shape : Shape) (reach : ℕ) → IsBehind S shape l.name l.at → l.at + length (blank_of l.fn.size) ≤ reach
       → EachImage (Stands S shape reach) (g.D.Disk.state l.fn.disk) → Throughout (g.D.Disk.state l.fn.disk) (g.D.Disk.state l.disk) (Stands S shape reach);
   outside : g.D.Disk.tells → IsLogFile l.name → StaysOutside (g.D.Disk.state l.fn.disk) (g.D.Disk.state l.disk);

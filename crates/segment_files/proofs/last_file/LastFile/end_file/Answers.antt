@@ -1,6 +1,9 @@
-use Rattle.std.proofs.Common.{◌∙◌, arith}
+use Rattle.std.proofs.Common.{◌∙◌, ◌≤◌, sym, subst, arith, List, ℕ, length}
+use Rattle.mq_outside.specs.Files.{bytes_of}
 use Rattle.mq_outside.proofs.Moments.{at_end}
 use Rattle.log_model.proofs.OutsideLemmas.{in_folder, outside_same}
+use Rattle.log_model.specs.Segments.{blank_of}
+use Rattle.segment_files.proofs.Pieces.{each_piece}
 use Rattle.segment_files.proofs.Turns.{has_records, same_on, writes_still, end_behind, blank_fits, each_to_end, writes_opened}
 use Rattle.segment_files.proofs.last_file.LastFile.end_file.Goals as goal
 
@@ -37,8 +40,11 @@ returns-clause-opened g c tells S log flushed shape reach writes is fills next =
     let named = c.as_str-name.ensures ∙ c.of-file.ensures in
     let written = c.write_blank.ensures.any_moment tells S shape S.size (end_behind writes named) (blank_fits writes fills) (each_to_end writes) in
     let synced = c.sync.ensures.moves tells in
-    writes_opened writes named is fills next (g.met.D.Disk.reads_is_image c.args.disk.now tells)
-    (c.in_ok-write_blank.ensures.written tells) synced (c.in_ok-sync.ensures.durable tells) (at_end (same_on written synced))
+    let inside : c.args.self.now.offset ≤ length (bytes_of (g.D.Disk.state c.args.disk.now).reads c.as_str-name.result.now) =
+    subst (λ (l : List ℕ). c.args.self.now.offset ≤ length (bytes_of (g.D.Disk.state c.args.disk.now).reads l)) (sym named) (c.requires.inside tells) in
+    let durable = c.in_ok-sync.ensures.durable tells c.args.self.now.offset (length (blank_of c.args.size)) (c.in_ok-write_blank.ensures.fresh tells) in
+    let has = each_piece (g.D.Disk.state c.args.disk.now) c.args.self.now.base named inside (c.in_ok-write_blank.ensures.written tells) synced durable in
+    writes_opened writes is fills next has (at_end (same_on written synced))
 
 pub returns-clause-still : goal.returns-clause-still
 returns-clause-still g c tells S log flushed shape reach writes is fills =
