@@ -28,7 +28,7 @@ fn set_option(fd: RawFd, level: i32, name: i32, value: i32) -> bool
 /// Has the system probe a peer that says nothing, and fail reads and writes where it does not answer. Answers whether
 /// the system does. A peer that owes the acknowledgement of bytes is not probed: they are sent again, and given up by
 /// the system's own limit.
-pub(crate) fn keep_alive(stream: &TcpStream) -> bool {
+pub(crate) fn set_keep_alive(stream: &TcpStream) -> bool {
     let fd = stream.as_raw_fd();
     set_option(fd, c::IPPROTO_TCP, c::TCP_KEEPIDLE, IDLE_SECONDS)
         && set_option(fd, c::IPPROTO_TCP, c::TCP_KEEPINTVL, INTERVAL_SECONDS)

@@ -3,7 +3,7 @@
 ghost use Rattle.std.specs.Prelude.{◌≡◌, IfOk, IfSome};
 
 use crate::door::Door;
-use crate::keep_alive::keep_alive;
+use crate::keep_alive::set_keep_alive;
 use crate::link::Link;
 use crate::tcp_link::{TcpLink, peer_of};
 use mio::net::{TcpListener, TcpStream};
@@ -81,7 +81,7 @@ fn link_of(stream: TcpStream, address: SocketAddr) -> Option<TcpLink>
     let SocketAddr::V4(address) = address else {
         return None;
     };
-    if stream.set_nodelay(true).is_err() || !keep_alive(&stream) {
+    if stream.set_nodelay(true).is_err() || !set_keep_alive(&stream) {
         return None;
     }
     Some(TcpLink::new(stream, peer_of(&address)))
