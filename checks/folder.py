@@ -227,7 +227,7 @@ def _(folder):
 
 @check("arguments that don't fit make nothing")
 def _(folder):
-    for words in ((), ("pipe", "x"), ("serve",)):
+    for words in ((), ("pipe", "x"), ("serve", "x"), ("pipe", "--segment", "4095")):
         assert run(b"", folder, words) == (1, b"") and os.listdir(folder) == [], words
 
 
