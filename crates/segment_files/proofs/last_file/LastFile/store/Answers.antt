@@ -46,9 +46,16 @@ returns-clause-flushed g c tells S log flushed count shape reach writes is =
     let named = c.as_str-name.ensures ∙ c.of-file.ensures in
     let synced = c.sync.ensures.moves tells in
     let written = write_stands (length c.args.bytes) writes named (ap length c.deref.ensures) (c.write_at.ensures.moves tells) in
+    let has =
+    each_piece (g.D.Disk.state c.args.disk.now) c.args.self.now.base (c.as_str-name.ensures ∙ c.of-file.ensures)
+    (subst (λ (l : List ℕ). c.args.self.now.offset ≤ length (bytes_of (g.D.Disk.state c.args.disk.now).reads l)) (sym (c.as_str-name.ensures ∙ c.of-file.ensures)) (c.requires.inside tells))
+    (c.in_ok-write_at.ensures.written tells ∙ ap (λ (l : List ℕ). Some (overwritten c.args.self.now.offset l (bytes_of (g.D.Disk.state c.args.disk.now).reads c.as_str-name.result.now))) c.deref.ensures)
+    (c.sync.ensures.moves tells)
+    (c.in_ok-sync.ensures.durable tells c.args.self.now.offset (length c.args.bytes)
+    (subst (λ (n : ℕ). (g.D.Disk.state c.write_at.new.self).fresh c.as_str-name.result.now c.args.self.now.offset n) (ap length c.deref.ensures) (c.in_ok-write_at.ensures.fresh tells).piece)) in
     subst (λ (n : ℕ). WritesAt (stored S log (flushed + count)) (shape_of S (take (flushed + count) log)) (max reach (c.args.self.now.offset + length c.args.bytes)) c.args.self.now.base
     (c.args.self.now.offset + n) (g.D.Disk.state c.freeze.new.self)) (sym c.len.ensures.value)
-    (writes_same (writes_batch writes is (freeze-requires g c tells) (at_end (same_on written synced))) (c.freeze.ensures.moves tells))
+    (writes_same (writes_batch writes is has (at_end (same_on written synced))) (c.freeze.ensures.moves tells))
 
 pub returns-clause-still : goal.returns-clause-still
 returns-clause-still g c tells S log flushed count shape reach writes is =
