@@ -4,7 +4,8 @@ use mq_outside::{Disk, MemDisk, MemKeep, Room};
 use std::alloc::{AllocError, Global};
 use std::test::Fail;
 use store_open::{
-    AskedSizes, Command, ServeCommand, Sizes, Status, open_format, read_serve_words, read_words,
+    AskedSizes, Command, ServeCommand, Sizes, Status, Unfit, open_format, read_serve_words,
+    read_words, unfit_at,
 };
 
 const LOG: &str = "commitlog/00000000000000000000";
@@ -25,12 +26,15 @@ const DEFAULTS: Command = Command {
     sync: true,
     sizes: NOTHING,
     host: [127, 0, 0, 1, 0, 0, 42, 159],
+    store: "store",
 };
 
 const SERVE_DEFAULTS: ServeCommand = ServeCommand {
     sync: true,
     sizes: NOTHING,
     host: [127, 0, 0, 1, 0, 0, 42, 159],
+    store: "store",
+    listen: [127, 0, 0, 1, 0, 0, 42, 159],
     links: 1024,
     connections: None,
 };
@@ -78,6 +82,8 @@ fn all_options_of_pipe_are_read_together(rt: HostRuntime) -> Result<(), Fail> {
         "65536",
         "--flush",
         "async",
+        "--store",
+        "/var/lib/mq",
     ];
     let said = Command {
         sync: false,
@@ -87,6 +93,7 @@ fn all_options_of_pipe_are_read_together(rt: HostRuntime) -> Result<(), Fail> {
             entries: Some(9),
         },
         host: [10, 2, 30, 255, 0, 0, 255, 255],
+        store: "/var/lib/mq",
     };
     assert!(rt; read_words(&all) == Ok(said));
     Ok(())
@@ -97,6 +104,7 @@ fn the_first_word_of_pipe_that_does_not_fit_is_told(rt: HostRuntime) -> Result<(
     assert!(rt; read_words(&[]) == Err(0));
     assert!(rt; read_words(&["dump"]) == Err(0));
     assert!(rt; read_words(&["pipe", "--links", "1"]) == Err(1));
+    assert!(rt; read_words(&["pipe", "--listen", "1.2.3.4:5"]) == Err(1));
     assert!(rt; read_words(&["pipe", "--flush"]) == Err(2));
     assert!(rt; read_words(&["pipe", "--segment", "4096", "--segment", "4096"]) == Err(3));
     let rows = [
@@ -112,6 +120,7 @@ fn the_first_word_of_pipe_that_does_not_fit_is_told(rt: HostRuntime) -> Result<(
         ("--entries", "1"),
         ("--entries", "20000001"),
         ("--host", "1.2.3.4:0"),
+        ("--store", ""),
     ];
     for (option, value) in rows {
         assert!(rt;
@@ -159,10 +168,56 @@ fn the_options_of_links_are_read(rt: HostRuntime) -> Result<(), Fail> {
             ..NOTHING
         },
         host: [1, 2, 3, 4, 0, 0, 1, 0],
+        store: "store",
+        listen: [1, 2, 3, 4, 0, 0, 1, 0],
         links: 3,
         connections: Some(2),
     };
     assert!(rt; read_serve_words(&all) == Ok(said));
+    Ok(())
+}
+
+#[test]
+fn the_address_to_listen_at_is_the_host_unless_another_is_given(
+    rt: HostRuntime,
+) -> Result<(), Fail> {
+    let said = ServeCommand {
+        host: [1, 2, 3, 4, 0, 0, 0, 5],
+        listen: [1, 2, 3, 4, 0, 0, 0, 5],
+        ..SERVE_DEFAULTS
+    };
+    assert!(rt; read_serve_words(&["serve", "--host", "1.2.3.4:5"]) == Ok(said));
+    let said = ServeCommand {
+        listen: [0, 0, 0, 0, 0, 0, 0, 6],
+        store: "elsewhere",
+        ..said
+    };
+    let all = [
+        "serve",
+        "--listen",
+        "0.0.0.0:6",
+        "--host",
+        "1.2.3.4:5",
+        "--store",
+        "elsewhere",
+    ];
+    assert!(rt; read_serve_words(&all) == Ok(said));
+    Ok(())
+}
+
+#[test]
+fn what_is_wrong_with_the_first_argument_that_does_not_fit_is_named(
+    rt: HostRuntime,
+) -> Result<(), Fail> {
+    assert!(rt; unfit_at(&[], 0) == Unfit::NoCommand);
+    assert!(rt; unfit_at(&["dump"], 0) == Unfit::NotACommand("dump"));
+    assert!(rt; unfit_at(&["pipe", "x"], 1) == Unfit::NotAnOption("x"));
+    assert!(rt; unfit_at(&["pipe", "--links"], 1) == Unfit::NotAnOption("--links"));
+    assert!(rt; unfit_at(&["pipe", "--flush"], 2) == Unfit::NoValue("--flush"));
+    assert!(rt; unfit_at(&["serve", "--links", "1", "--links", "1"], 3) == Unfit::Twice("--links"));
+    assert!(rt;
+        unfit_at(&["serve", "--links", "0"], 2) == Unfit::NotAValue("--links", "0", "1..4096")
+    );
     Ok(())
 }
 
@@ -186,6 +241,8 @@ fn the_first_word_of_serve_that_does_not_fit_is_told(rt: HostRuntime) -> Result<
         ("--links", "+1"),
         ("--connections", "0"),
         ("--connections", "4097"),
+        ("--listen", "0.0.0.0"),
+        ("--store", ""),
     ];
     for (option, value) in rows {
         assert!(rt;
