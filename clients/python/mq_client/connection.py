@@ -260,7 +260,11 @@ class Connection:
                 continue  # nothing was written, and `_connected` ends at the deadline
 
     def _connected(self, deadline: float) -> _Link:
-        """A link that was there a moment ago. `BrokerUnavailable` where none can be made in time."""
+        """A link that was there a moment ago. `BrokerUnavailable` where none can be made in time.
+
+        That is the connection's own timeout also for a request that may take longer, as a pull that the broker holds.
+        """
+        deadline = min(deadline, time.monotonic() + self.timeout)
         while True:
             if self._is_closed:
                 raise ConnectionClosed(f"the connection to {self.address} was closed by this program")
