@@ -70,8 +70,8 @@ class _Link:
         self._guard = threading.Lock()  # of the two below
         self._waiting: Dict[int, _Waiting] = {}
         self._fault: Optional[ReplyLost] = None
-        self._heard_at = time.monotonic()
-        self.has_heard = False
+        self._heard_at = time.monotonic()  # the last bytes
+        self.frame_at = 0.0  # the last whole frame, 0 where none came
         threading.Thread(target=self._read, name=f"mq_client reads {name}", daemon=True).start()
 
     @property
@@ -137,10 +137,11 @@ class _Link:
                         next_look = time.monotonic() + TICK
         except ReplyLost as fault:
             self.end(fault)
-        except (OSError, ValueError) as fault:
+        except Exception as fault:
             self.end(ConnectionLost(f"the connection to {self._name} failed: {fault}"))
         finally:
-            self._stream.close()
+            with self._writing:  # nobody writes to a number that may be another file's by then
+                self._stream.close()
 
     def _hear(self, reader: FrameReader) -> None:
         piece = self._stream.recv(1 << 18)
@@ -149,7 +150,7 @@ class _Link:
             raise ConnectionLost(f"{self._name} ended the connection{where}")
         self._heard_at = time.monotonic()
         for frame in reader.feed(piece):
-            self.has_heard = True
+            self.frame_at = self._heard_at
             if not frame.is_reply:
                 self._on_request(frame)
                 continue
@@ -186,7 +187,7 @@ class Connection:
         self._making = threading.Lock()  # of a link, and of what follows
         self._link: Optional[_Link] = None
         self._is_closed = False
-        self._made = 0
+        self._made, self._heard_at = 0, 0.0
         self._pause, self._next_try = 0.0, 0.0
         self._fault: Optional[BaseException] = None
 
@@ -194,6 +195,12 @@ class Connection:
     def times_made(self) -> int:
         """How often the connection was made. Where it grew, the broker has forgotten this client's locks and heartbeats."""
         return self._made
+
+    @property
+    def heard_at(self) -> float:
+        """When the last reply or request came, by `time.monotonic`; 0 where none has."""
+        link = self._link
+        return max(self._heard_at, link.frame_at if link is not None else 0.0)
 
     def on_request(self, code: RequestCode, handler: Handler) -> None:
         """Has this called with each request of that code that the broker makes, by the thread that reads: it mustn't wait."""
@@ -286,11 +293,11 @@ class Connection:
         if self._is_closed or (old is not None and not old.is_ended):
             return 0.0
         if old is not None:
-            self._link = None
-            if old.has_heard:
-                self._pause, self._next_try = 0.0, 0.0
+            if old.frame_at > 0:
+                self._heard_at, self._pause, self._next_try = old.frame_at, 0.0, 0.0
             else:
                 self._wait_longer()
+            self._link = None
         if self._next_try > now:
             return self._next_try - now
         try:

@@ -9,31 +9,31 @@ several of a group either have queues of their own (`queues`), or share by locks
 """
 from __future__ import annotations
 
-import json
 import logging
 import queue as queues_of_events
 import threading
 import time
-from concurrent.futures import Future, ThreadPoolExecutor
+from concurrent.futures import Future
 from types import TracebackType
 from typing import Callable, Dict, Iterator, List, Mapping, Optional, Sequence, Tuple, Type, Union
 
 from .codes import RETRY_PREFIX, PullFlag, ReplyCode, RequestCode
-from .connection import Connection, shared
-from .errors import BrokerError, ClientError, ConnectionClosed, NotSupported, ProtocolError, refusal
+from .connection import Connection, fault_of, shared
+from .errors import BrokerError, ClientError, ConnectionClosed, ProtocolError, refusal
 from .frame import Frame
 from .heartbeat import Heartbeats
 from .locks import RENEW_SECONDS, TRUST_SECONDS, QueueLocks
 from .message import Message, read_records
 from .queue_state import QueueName, QueueState
 from .queues import KEEP_SECONDS, count_queues
+from .workers import Workers
 
 SUSPEND_SECONDS = 15.0  # how long a broker that can do so may hold a pull that finds nothing
 MOST_A_PULL = 32
 ENOUGH_HELD = 64  # messages of a queue that wait; with more it isn't pulled from
 COMMIT_SECONDS = 1.0
 LOOK_SECONDS = 0.5  # between looks for a topic that isn't there yet, and for locks that somebody else has
-LONGEST_PAUSE = 5.0  # before a message whose function failed is given again
+RETRY_LOOK_SECONDS = 5.0  # between looks for the topic of messages that were sent back
 
 log = logging.getLogger("mq_client")
 
@@ -48,6 +48,8 @@ class Consumer:
 
     `ordered`: messages of a queue are worked on one after another, by one consumer of the group at a time, which has the queue's
     lock; this one takes locks of at most `max_queues` queues. Where it ends, or dies and a minute is over, others get them.
+
+    A consumer of topics that isn't ordered takes what its group sent back (`send_back`), too.
 
     A group that has stored no offset begins at the `start` of its queues: `first` or `last`.
 
@@ -64,6 +66,10 @@ class Consumer:
         self.connection, self._is_own = shared(connection)
         self.group = group
         self._topics = _topics(topics)
+        self._sends_back = bool(topics) and not ordered
+        self._retry_topic = RETRY_PREFIX + group
+        if self._sends_back:
+            self._topics[self._retry_topic] = "*"
         self._ordered, self._max_queues, self._start, self._patience = ordered, max_queues, start, patience
         self._states: Dict[QueueName, QueueState] = {}
         self._turn = 0
@@ -84,6 +90,11 @@ class Consumer:
         self._begin()
 
     # what the program calls
+
+    @property
+    def is_closed(self) -> bool:
+        """Whether this consumer has ended."""
+        return self._closing.is_set()
 
     def poll(self, timeout: float = 1.0) -> Optional[Message]:
         """The next message, which is in work until `done` or `again` is called with it; None where none comes in time.
@@ -142,13 +153,10 @@ class Consumer:
 
         A message whose call raises is sent back to the broker where that serves it, and else given again a little later.
         """
-        retry = _Retry(self)
-        with ThreadPoolExecutor(workers, "mq_client worker") as pool:
-            for worker in [pool.submit(retry.work, handler, idle) for _ in range(workers)]:
-                worker.result()
+        Workers(self, handler, idle, self._sends_back).run(workers)
 
     def send_back(self, message: Message, delay_level: int = 0) -> None:
-        """Gives the message back to the broker, which gives it to the group later, and at last puts it aside.
+        """Gives the message back to the broker, which gives it to the group later, by the topic `%RETRY%` and its name.
 
         `NotSupported` where the broker doesn't serve that. The message is still in work: call `done` then.
         """
@@ -217,9 +225,8 @@ class Consumer:
         while not self._closing.is_set():
             try:
                 self._step()
-                self._failing_since = None
             except BrokerError as fault:
-                self._fail(fault)
+                self._refused(fault)
             except ConnectionClosed as fault:
                 self._fail(fault)
                 return
@@ -244,7 +251,7 @@ class Consumer:
     def _wait(self) -> None:
         """Until something came of a pull, or something else may be due."""
         try:
-            event = self._events.get(timeout=0.02)
+            event = self._events.get(timeout=0.05)
             while True:
                 if event is not None:
                     event()
@@ -257,12 +264,19 @@ class Consumer:
             self._fault = fault
             self._changed.notify_all()
 
+    def _refused(self, fault: BrokerError) -> None:
+        """A refusal that would come again and again ends the consumer; others are passing troubles of the broker."""
+        if fault.code == ReplyCode.NO_MEMORY or (fault.code == ReplyCode.REFUSED and fault.remark.startswith("read ")):
+            log.warning("%s", fault)
+        else:
+            self._fail(fault)
+
     def _lose_patience(self, fault: ClientError) -> None:
         now = time.monotonic()
-        if self._failing_since is None:
+        if self._failing_since is None or self.connection.heard_at > self._failing_since:
             self._failing_since = now
             log.warning("a consumer of %s lost its broker: %s", self.group, fault)
-        if now - self._failing_since > self._patience:
+        elif now - self._failing_since > self._patience:
             self._fail(fault)
 
     def _start_anew(self) -> None:
@@ -288,7 +302,8 @@ class Consumer:
             count = count_queues(self.connection, topic)
             for number in range(count or 0):
                 self._add((topic, number), tags)
-            self._topics_due[topic] = now + (LOOK_SECONDS if count is None else KEEP_SECONDS)
+            look = RETRY_LOOK_SECONDS if topic == self._retry_topic else LOOK_SECONDS
+            self._topics_due[topic] = now + (look if count is None else KEEP_SECONDS)
 
     def _keep_locks(self) -> None:
         """Renews the locks that this consumer has, and asks for more while it has fewer than it may have."""
@@ -296,6 +311,9 @@ class Consumer:
         if not self._ordered or now < self._locks_due:
             return
         with self._changed:
+            for state in self._states.values():
+                if 0 < state.locked_until <= now:
+                    state.forget()  # somebody else may have had it meanwhile
             mine = [name for name, state in self._states.items() if state.locked_until > 0]
             others = [name for name in self._states if name not in mine]
         got = self._lock(mine)
@@ -382,28 +400,28 @@ class Consumer:
             lambda: self._pulled(state, this_round, undone, asked_at, done)))
 
     def _pulled(self, state: QueueState, this_round: int, undone: Optional[int], asked_at: float, reply: Future[Frame]) -> None:
-        now = time.monotonic()
+        now, fault = time.monotonic(), fault_of(reply)
         with self._changed:
             if state.round != this_round:
                 return  # the queue was begun anew meanwhile
             state.is_pulling = False
+            if fault is not None:
+                state.found_nothing(now, 0.0)
+                return self._lose_patience(fault)
             try:
                 self._take_in(state, reply.result(), now, now - asked_at)
                 state.stored = undone
-            except ProtocolError as fault:
-                self._fail(fault)
-            except BrokerError as fault:
-                log.warning("%s", fault)
+            except BrokerError as refused:
                 state.found_nothing(now, 0.0)
-            except ClientError as fault:
-                state.found_nothing(now, 0.0)
-                log.debug("a pull failed: %s", fault)
+                self._refused(refused)
+            except ProtocolError as damaged:
+                self._fail(damaged)
             self._changed.notify_all()
 
     def _take_in(self, state: QueueState, reply: Frame, now: float, seconds: float) -> None:
         if reply.code == ReplyCode.OK:
             state.found(read_records(reply.body), int(reply.fields["nextBeginOffset"]))
-        elif reply.code == ReplyCode.NOTHING_YET:
+        elif reply.code in (ReplyCode.NOTHING_YET, ReplyCode.NO_TOPIC):
             state.found_nothing(now, seconds)
         elif reply.code in (ReplyCode.NOTHING_MATCHES, ReplyCode.OUTSIDE_QUEUE):
             state.found([], int(reply.fields["nextBeginOffset"]))
@@ -418,8 +436,8 @@ class Consumer:
             message = state.take(now)
             if message is not None:
                 self._turn = (self._turn + step + 1) % len(states)
-                if state.held < ENOUGH_HELD:
-                    self._events.put(None)
+                if state.held == ENOUGH_HELD - 1:
+                    self._events.put(None)  # it may be pulled from again
                 return message
         return None
 
@@ -429,50 +447,6 @@ class Consumer:
             now = time.monotonic()
             undone = [(state, state.next_undone()) for state in self._states.values() if now < state.locked_until]
             return [(state, offset) for state, offset in undone if offset is not None and offset != state.stored]
-
-
-class _Retry:
-    """The workers of `run`, and what they do with a message whose call failed."""
-
-    def __init__(self, consumer: Consumer) -> None:
-        self._consumer = consumer
-        self._is_served = True  # that messages are sent back, as far as is known
-        self._pauses: Dict[Tuple[str, int, int], float] = {}
-
-    def work(self, handler: Callable[[Message], None], idle: Optional[float]) -> None:
-        last = time.monotonic()
-        while idle is None or time.monotonic() < last + idle:
-            message = self._consumer.poll(0.5 if idle is None else min(0.5, idle))
-            if message is None:
-                if self._consumer._closing.is_set():
-                    return
-                continue
-            try:
-                handler(message)
-            except Exception:
-                log.exception("message %s of queue %s of %s", message.queue_offset, message.queue, message.topic)
-                self._try_later(message)
-            else:
-                self._pauses.pop(_name(message), None)
-                self._consumer.done(message)
-            last = time.monotonic()
-
-    def _try_later(self, message: Message) -> None:
-        if self._is_served and not self._consumer._ordered:
-            try:
-                self._consumer.send_back(message)
-                return self._consumer.done(message)
-            except NotSupported:
-                self._is_served = False
-            except ClientError as fault:
-                log.warning("%s", fault)
-        pause = min(LONGEST_PAUSE, 2 * self._pauses.get(_name(message), 0.05))
-        self._pauses[_name(message)] = pause
-        self._consumer.again(message, pause)
-
-
-def _name(message: Message) -> Tuple[str, int, int]:
-    return message.topic, message.queue, message.queue_offset
 
 
 def _topics(topics: Topics) -> Dict[str, str]:

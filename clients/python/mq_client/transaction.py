@@ -69,8 +69,8 @@ class TransactionProducer(Producer):
                             queue: Optional[int] = None, timeout: Optional[float] = None) -> TransactionResult:
         """Stores a half message, lets the listener do its part, and tells the broker what it decided.
 
-        The errors are those of `send`; then the listener wasn't asked. What the listener itself raises is raised once the broker
-        was told that the decision is unknown.
+        The errors are those of `send`; then the listener wasn't asked (after a `SendUnknown` the broker may ask it later). What the
+        listener itself raises is raised once the broker was told that the decision is unknown.
         """
         message = Outgoing(body, tags, keys, properties or {})
         more = {"TRAN_MSG": "true", "PGROUP": self.group}

@@ -129,13 +129,15 @@ class Connections(unittest.TestCase):
         with Port() as port:
             address = port.address
 
-        def come(found=[]):
+        def come():
             time.sleep(0.5)
             door = socket.create_server(parse_address(address))
             stream, _ = door.accept()
             stream.recv(65536)
             stream.sendall(Frame(0, 1, {}, b"", 1).encode())
-            found += [door, stream]
+            stream.recv(1)  # the end
+            for one in (door, stream):
+                one.close()
         thread = threading.Thread(target=come)
         thread.start()
         with Connection(address) as connection:

@@ -3,9 +3,10 @@ import json
 import threading
 import time
 import unittest
+from unittest import mock
 
 from fake import MemoryBroker, Port, Speaker, reply, until
-from mq_client import BrokerUnavailable, Connection, Consumer, NotSupported, ProtocolError
+from mq_client import BrokerError, BrokerUnavailable, Connection, Consumer, NotSupported, ProtocolError
 from mq_client.message import Message
 from mq_client.queue_state import QueueState
 
@@ -197,6 +198,44 @@ class Consumers(unittest.TestCase):
                 self.assertEqual(consumer.poll(3).body, b"b")
 
 
+class Failures(unittest.TestCase):
+    def test_a_refusal_that_stays_ends_a_consumer_and_one_that_passes_does_not(self):
+        with MemoryBroker(1) as broker, Connection(broker.address) as connection:
+            broker.put(0, b"a")
+            pull, passing = broker.answers[11], [(901, "memory"), (1, "read 1"), (17, "no topic")]
+
+            def refuse(request):
+                if passing:
+                    code, remark = passing.pop()
+                    return reply(request, code=code, remark=remark)
+                return pull(request)
+            broker.answers[11] = refuse
+            with self.assertLogs("mq_client", "WARNING"), Consumer(connection, "G", "T") as consumer:
+                self.assertEqual(consumer.poll(3).body, b"a")
+                passing.append((16, "system topic"))
+                with self.assertRaises(BrokerError) as caught:
+                    consumer.poll(3)
+                self.assertEqual(caught.exception.code, 16)
+
+    def test_damaged_messages_end_a_consumer(self):
+        with MemoryBroker(1) as broker, Connection(broker.address) as connection:
+            broker.answers[11] = lambda request: reply(request, {"nextBeginOffset": "1"}, b"no record")
+            with Consumer(connection, "G", "T") as consumer, self.assertRaises(ProtocolError):
+                consumer.poll(3)
+
+    def test_a_close_ends_the_threads_of_run_and_an_error_of_the_broker_is_raised_by_it(self):
+        with MemoryBroker(1) as broker, Connection(broker.address) as connection:
+            consumer = Consumer(connection, "G", "T")
+            thread = threading.Thread(target=consumer.run, args=(lambda one: None,), kwargs={"workers": 3})
+            thread.start()
+            consumer.close()
+            thread.join(5)
+            self.assertFalse(thread.is_alive())
+            broker.answers[11] = lambda request: reply(request, code=16)
+            with Consumer(connection, "G", "T") as consumer, self.assertRaises(BrokerError):
+                consumer.run(lambda one: None, workers=3)
+
+
 class Locks(unittest.TestCase):
     def setUp(self):
         self.broker = MemoryBroker(4)
@@ -240,6 +279,21 @@ class Locks(unittest.TestCase):
             self.assertEqual([one.body for one in consumer.messages(idle=0.8)], [b"mine"])
             del self.owners[0]
             self.assertEqual([one.body for one in consumer.messages(idle=1.5)], [b"theirs"])
+
+    def test_locks_are_renewed(self):
+        with mock.patch("mq_client.consumer.RENEW_SECONDS", 0.2), Connection(self.broker.address) as connection:
+            with self.consumer(connection):
+                self.assertTrue(until(lambda: len(self.broker.of(41)) >= 5))
+                asked = [{one["queueId"] for one in json.loads(request.body)["mqSet"]} for request in self.broker.of(41)]
+                self.assertEqual(asked, [{0, 1, 2, 3}] * len(asked))
+
+    def test_a_lock_that_could_not_be_renewed_is_not_relied_on(self):
+        with mock.patch("mq_client.consumer.TRUST_SECONDS", 1.0), Connection(self.broker.address) as connection:
+            with self.consumer(connection) as consumer:
+                self.assertTrue(until(lambda: len(consumer.owned()) == 4))
+                self.assertTrue(until(lambda: not consumer.owned()))
+                self.broker.put(0, b"late")
+                self.assertIsNone(consumer.poll(0.5))
 
     def test_after_the_connection_was_lost_locks_are_asked_for_before_more_is_given(self):
         with Connection(self.broker.address) as connection, self.consumer(connection) as consumer:
