@@ -1,9 +1,9 @@
-"""How far one consumer has come in one queue. Not for many threads: the consumer's lock is held.
+"""How far one consumer has come in one queue.
 
     to be pulled -> held -> [take] in work -> [finish] done
-                     ^--- [put back, with a pause] ---'
+                     ^--- [put_back, with a pause] ---'
 
-All offsets below `next_undone` are done: that is what is stored for the group.
+All offsets below `next_undone` are done; that is the offset that is stored for the group.
 """
 from __future__ import annotations
 
@@ -15,23 +15,30 @@ from .message import Message
 QueueName = Tuple[str, int]  # the topic and the queue's number
 
 SHORTEST_WAIT, LONGEST_WAIT = 0.05, 0.5  # seconds between pulls that find nothing
+HELD_SECONDS = 1.0  # a pull that took so long and found nothing was held by the broker
 
 
 class QueueState:
-    """One queue of a topic. Times are those of `time.monotonic`."""
+    """One queue of a topic, for one thread at a time. Times are those of `time.monotonic`."""
 
     def __init__(self, name: QueueName, tags: str, is_ordered: bool) -> None:
         self.name, self.tags = name, tags
         self._wanted = frozenset(tag.strip() for tag in tags.split("||")) - {"*", ""}
         self._is_ordered = is_ordered
-        self._held: List[Message] = []  # by offset
+
+        # messages, by offset
+        self._held: List[Message] = []
         self._in_work: Dict[int, Message] = {}
-        self._not_before: Dict[int, float] = {}
-        self.position: Optional[int] = None  # where the next pull begins, once that is known
+        self._not_before: Dict[int, float] = {}  # of those held that pause
+
+        # offsets
+        self.position: Optional[int] = None  # where the next pull begins; None where it isn't known where to begin
         self.floor = 0  # where this consumer would begin again by what it has done itself
-        self.stored: Optional[int] = None  # what the broker has for the group, as far as is known
+        self.stored: Optional[int] = None  # what the broker has stored for the group, as far as is known
+
+        # pulls
         self.locked_until = 0.0 if is_ordered else float("inf")
-        self.round = 0  # of pulls: those of earlier rounds don't count any more
+        self.round = 0  # answers to pulls of earlier rounds are ignored
         self.is_pulling = False
         self.due = 0.0
         self._wait = 0.0
@@ -43,11 +50,11 @@ class QueueState:
 
     @property
     def is_idle(self) -> bool:
-        """Whether no message of it is in work."""
+        """Whether no message is in work."""
         return not self._in_work
 
     def next_undone(self) -> Optional[int]:
-        """The first offset that isn't done; None where the queue wasn't begun."""
+        """The first offset that isn't done; None where it isn't known where to begin."""
         if self.position is None:
             return None
         first_held = [self._held[0].queue_offset] if self._held else []
@@ -59,7 +66,7 @@ class QueueState:
         self.due = 0.0
 
     def forget(self) -> None:
-        """Drops what is held: the queue may be somebody else's now. It has to begin again."""
+        """The queue may be another consumer's now: what is held is dropped, and the queue has to begin again."""
         undone = self.next_undone()
         if undone is not None:
             self.floor = undone
@@ -72,21 +79,20 @@ class QueueState:
     def found(self, messages: List[Message], following: int) -> None:
         """A pull found these, and the next one begins at `following`."""
         assert self.position is not None
-        wanted = [one for one in messages if one.queue_offset >= self.position and self._is_wanted(one)]
-        self._held += wanted
+        self._held += [one for one in messages if one.queue_offset >= self.position and self._is_wanted(one)]
         self.position = following
         self.due = self._wait = 0.0
 
     def found_nothing(self, now: float, seconds: float) -> None:
-        """A pull found nothing after so many seconds. Where the broker didn't hold it back the next one waits, longer each time."""
-        if seconds >= 1.0:
+        """A pull found nothing after so many seconds. The next one waits, longer each time, if the broker didn't hold this one."""
+        if seconds >= HELD_SECONDS:
             self.due = self._wait = 0.0
             return
         self._wait = min(LONGEST_WAIT, max(SHORTEST_WAIT, 1.5 * self._wait))
         self.due = now + self._wait
 
     def take(self, now: float) -> Optional[Message]:
-        """The next message that may be worked on, which is in work from now on. In order one at a time."""
+        """The next message that isn't pausing, in work from now on; in order, one at a time."""
         if now >= self.locked_until or (self._is_ordered and self._in_work):
             return None
         for at, message in enumerate(self._held):
@@ -100,23 +106,22 @@ class QueueState:
         return None
 
     def finish(self, message: Message) -> None:
-        """It is done. One that isn't in work is ignored."""
+        """The message is done. One that isn't in work is ignored."""
         if self._in_work.pop(message.queue_offset, None) is None:
             return
-        after = self.next_undone()
-        if after is not None:
-            self.floor = after
+        undone = self.next_undone()
+        if undone is not None:
+            self.floor = undone
         elif self._is_ordered:
             self.floor = max(self.floor, message.queue_offset + 1)
 
     def put_back(self, message: Message, not_before: float) -> None:
-        """It is to be worked on again, once that time has come."""
+        """The message is taken again, from that time on. One that isn't in work is ignored."""
         if self._in_work.pop(message.queue_offset, None) is None or self.position is None:
-            return  # it will be pulled again
-        if message.queue_offset >= self.floor:
-            offsets = [one.queue_offset for one in self._held]
-            self._held.insert(bisect.bisect(offsets, message.queue_offset), message)
-            self._not_before[message.queue_offset] = not_before
+            return  # in the second case it is pulled again
+        offsets = [one.queue_offset for one in self._held]
+        self._held.insert(bisect.bisect(offsets, message.queue_offset), message)
+        self._not_before[message.queue_offset] = not_before
 
     def _is_wanted(self, message: Message) -> bool:
         """The broker chooses by a hash of the tag, which other tags may have too."""

@@ -281,14 +281,14 @@ class Locks(unittest.TestCase):
             self.assertEqual([one.body for one in consumer.messages(idle=1.5)], [b"theirs"])
 
     def test_locks_are_renewed(self):
-        with mock.patch("mq_client.consumer.RENEW_SECONDS", 0.2), Connection(self.broker.address) as connection:
+        with mock.patch("mq_client.fetcher.RENEW_SECONDS", 0.2), Connection(self.broker.address) as connection:
             with self.consumer(connection):
                 self.assertTrue(until(lambda: len(self.broker.of(41)) >= 5))
                 asked = [{one["queueId"] for one in json.loads(request.body)["mqSet"]} for request in self.broker.of(41)]
                 self.assertEqual(asked, [{0, 1, 2, 3}] * len(asked))
 
     def test_a_lock_that_could_not_be_renewed_is_not_relied_on(self):
-        with mock.patch("mq_client.consumer.TRUST_SECONDS", 1.0), Connection(self.broker.address) as connection:
+        with mock.patch("mq_client.fetcher.TRUST_SECONDS", 1.0), Connection(self.broker.address) as connection:
             with self.consumer(connection) as consumer:
                 self.assertTrue(until(lambda: len(consumer.owned()) == 4))
                 self.assertTrue(until(lambda: not consumer.owned()))
