@@ -1,9 +1,11 @@
 #!/usr/bin/env python3
 """Uses the real program through the client of clients/python: checks/client.py PROGRAM [--seconds N].
 
-First come the client's own tests, which want no broker, then the lines of examples/tour.md with what they print, and at last a soak
-of N seconds (20 where nothing is said) in which the broker is killed twice. Each check prints its name; the first that fails ends it.
+First come the client's own tests, which need no broker, then checks of single calls, the commands of examples/tour.md
+with what they print, and at last a soak of N seconds (default: 20) in which the broker is killed twice. Each check
+prints its name; the first that fails ends it.
 """
+import logging
 import os
 import random
 import re
@@ -19,16 +21,17 @@ CLIENT = os.path.join(HERE, "..", "clients", "python")
 TOUR = os.path.join(HERE, "..", "examples", "tour.md")
 sys.path.insert(0, CLIENT)
 
-from mq_client import (Admin, BrokerUnavailable, ClientError, Connection, Consumer, Decision, Form, NotFound, NotSupported, Producer,  # noqa: E402
-                       ProtocolError, SendUnknown, TopicNotFound, TransactionProducer)
+from mq_client import (Admin, BrokerUnavailable, ClientError, Connection, Consumer, Decision, Form,  # noqa: E402
+                       NotSupported, Producer, ProtocolError, SendUnknown, TopicNotFound, TransactionProducer)
 from wire import PROGRAM, check  # noqa: E402
 
 SECONDS = float(sys.argv[sys.argv.index("--seconds") + 1]) if "--seconds" in sys.argv else 20.0
 WAIT = 20  # seconds until what has to come is missed
+logging.disable(logging.WARNING)  # that a consumer lost its broker is what is checked here
 
 
 def free_port():
-    """A port outside the range from which the system gives ports by itself, since it has to stay free while nobody listens."""
+    """A port that the system gives nobody by itself, since it has to stay free while the broker is killed."""
     while True:
         port = random.randrange(20000, 32000)
         with socket.socket() as door:
@@ -84,8 +87,8 @@ def until(holds, missed):
 
 @check("the client's own tests hold, without a broker")
 def _(folder):
-    done = subprocess.run([sys.executable, "-m", "unittest", "discover", "-q", "-s", os.path.join(CLIENT, "tests")], cwd=CLIENT,
-                          stdout=subprocess.PIPE, stderr=subprocess.STDOUT, timeout=300, text=True)
+    command = [sys.executable, "-m", "unittest", "discover", "-q", "-s", os.path.join(CLIENT, "tests")]
+    done = subprocess.run(command, cwd=CLIENT, stdout=subprocess.PIPE, stderr=subprocess.STDOUT, timeout=300, text=True)
     assert done.returncode == 0, done.stdout
 
 
@@ -95,16 +98,19 @@ def _(folder):
         for form in Form:
             with Connection(broker.address, form=form) as connection:
                 producer, topic = Producer(connection, "P", queues=3), f"T{form.name}"
-                sent = [producer.send(topic, b"body %d" % k, tags="AB"[k % 2], keys=["k", str(k)], properties={"x": "\u00e4"}) for k in range(9)]
+                sent = [producer.send(topic, b"body %d" % k, tags="AB"[k % 2], keys=["k", str(k)],
+                                      properties={"x": "\u00e4"}) for k in range(9)]
                 assert [(one.queue, one.queue_offset) for one in sent] == [(k % 3, k // 3) for k in range(9)]
                 with Consumer(connection, "C", {topic: "B"}) as consumer:
                     found = sorted(consumer.messages(count=4, idle=WAIT), key=lambda one: one.body)
-                assert [one.body for one in found] == [b"body %d" % k for k in (1, 3, 5, 7)]
-                assert [(one.tags, one.keys, one.properties["x"]) for one in found] == [("B", ("k", str(k)), "\u00e4") for k in (1, 3, 5, 7)]
-                assert [(one.message_id, one.unique_key) for one in found] == [(sent[k].message_id, sent[k].unique_key) for k in (1, 3, 5, 7)]
+                assert len(found) == 4, found
+                for k, one in zip((1, 3, 5, 7), found):
+                    assert (one.body, one.tags, one.keys) == (b"body %d" % k, "B", ("k", str(k))), one
+                    assert (one.message_id, one.unique_key) == (sent[k].message_id, sent[k].unique_key), one
+                    assert one.properties["x"] == "\u00e4", one
 
 
-@check("topics, offsets and times are told, and refusals have their code")
+@check("topics, offsets and times are answered, and refusals have their code")
 def _(folder):
     with Broker(folder) as broker, Connection(broker.address) as connection:
         admin, producer = Admin(connection), Producer(connection)
@@ -116,15 +122,18 @@ def _(folder):
             producer.send("Q1", str(k))
         until(lambda: admin.max_offset("Q1", 0) == 3, "the messages aren't seen")
         first = admin.pull("Q1", 0, 0, most=2)
-        assert [one.text() for one in first.messages] == ["0", "1"] and (first.next_offset, first.min_offset, first.max_offset) == (2, 0, 3)
+        assert [one.text() for one in first.messages] == ["0", "1"], first
+        assert (first.next_offset, first.min_offset, first.max_offset) == (2, 0, 3), first
         assert admin.search_offset("Q1", 0, first.messages[1].store_time) in (0, 1)
         assert admin.search_offset("Q1", 0, 2 ** 61) == 3 and admin.min_offset("Q1", 0) == 0
         assert admin.consumer_offset("G", "Q1", 0) is None
         admin.set_consumer_offset("G", "Q1", 0, 2)
         assert admin.consumer_offset("G", "Q1", 0) == 2
-        for call, kind, code in ((lambda: admin.max_offset("None", 0), TopicNotFound, 17), (lambda: admin.max_offset("Q1", 1), ClientError, 1),
-                                 (lambda: producer.send("a b", "x", queue=0), ClientError, 13),
-                                 (lambda: producer.send("SCHEDULE_TOPIC_XXXX", "x", queue=0), ClientError, 16)):
+        rows = [(lambda: admin.max_offset("None", 0), TopicNotFound, 17),
+                (lambda: admin.max_offset("Q1", 1), ClientError, 1),
+                (lambda: producer.send("a b", "x", queue=0), ClientError, 13),
+                (lambda: producer.send("SCHEDULE_TOPIC_XXXX", "x", queue=0), ClientError, 16)]
+        for call, kind, code in rows:
             try:
                 call()
             except kind as fault:
@@ -143,36 +152,41 @@ class Commits:
         return Decision.COMMIT
 
 
-@check("what a broker doesn't serve is told as such, and what it serves holds")
+def transaction(connection):
+    with TransactionProducer(connection, "G", Commits()) as producer:
+        assert producer.send_in_transaction("T", "x").fault is None
+
+
+def has_key(admin):
+    until(lambda: [one.body for one in admin.query("T", "k")] == [b"hi"], "the message isn't found by its key")
+
+
+@check("what the broker doesn't serve is reported as such, and what it serves works")
 def _(folder):
-    def transaction():
-        with TransactionProducer(connection, "G", Commits()) as transactions:
-            assert transactions.send_in_transaction("T", "x").fault is None
     missing = []
     with Broker(folder) as broker, Connection(broker.address) as connection:
         admin, producer = Admin(connection), Producer(connection)
         sent = producer.send("T", "hi", keys="k")
         with Consumer(connection, "C", "T") as consumer:
             message = consumer.poll(WAIT)
-            assert message.body == b"hi"
-            for name, call in (("transactions", transaction), ("delays", lambda: producer.send("T", "x", delay_level=1)),
-                               ("batches", lambda: producer.send_batch("T", ["x", "y"])), ("send_back", lambda: consumer.send_back(message)),
-                               ("query", lambda: until(lambda: [one.body for one in admin.query("T", "k")] == [b"hi"], "it has no such key")),
-                               ("view", lambda: admin.view(sent.message_id))):
+            assert message.body == b"hi", message
+            rows = [("transactions", lambda: transaction(connection)),
+                    ("delays", lambda: producer.send("T", "x", delay_level=1)),
+                    ("batches", lambda: producer.send_batch("T", ["x", "y"])),
+                    ("sending back", lambda: consumer.send_back(message)),
+                    ("queries by key", lambda: has_key(admin)),
+                    ("views by id", lambda: admin.view(sent.message_id))]
+            for name, call in rows:
                 try:
                     call()
                 except NotSupported as fault:
                     assert fault.code == 3, fault
                     missing.append(name)
-        try:
-            admin.view("7F00000100002A9F" + "F" * 16)
-        except (NotSupported, NotFound, ClientError):
-            pass
     if missing:
         print("    not served:", ", ".join(missing))
 
 
-@check("a broker that is gone, and a port that speaks something else, are told in time")
+@check("a broker that is gone, and a port that speaks something else, are reported in time")
 def _(folder):
     with Broker(folder) as broker, Connection(broker.address, timeout=1.0) as connection:
         Producer(connection).send("T", "x")
@@ -202,13 +216,14 @@ def _(folder):
                 raise AssertionError("a web server was taken for a broker")
 
 
-@check("a consumer that is killed is followed by one that goes on at its offset, once the lock is over or given back")
+@check("a consumer that ends is followed by one that waited for its lock and continues at its offset")
 def _(folder):
     with Broker(folder) as broker, Connection(broker.address) as connection:
         producer = Producer(connection, queues=1)
         for k in range(20):
             producer.send("T", str(k))
-        with Consumer(broker.address, "G", "T", ordered=True) as first, Consumer(broker.address, "G", "T", ordered=True) as second:
+        with Consumer(broker.address, "G", "T", ordered=True) as first, \
+                Consumer(broker.address, "G", "T", ordered=True) as second:
             mine = [one.text() for one in first.messages(count=10, idle=WAIT)]
             assert second.poll(0.5) is None and (len(first.owned()), len(second.owned())) == (1, 0)
             first.close()
@@ -241,9 +256,10 @@ def _(folder):
         file.write(f"#!/bin/sh\nexec {shlex.quote(PROGRAM)} \"$@\"\n")
     os.chmod(file.name, 0o755)
     os.symlink(sys.executable, os.path.join(bin_folder, "python3"))
-    script = "trap 'kill -9 $broker' EXIT\n" + "".join(f"echo '@@ {k}'\n{command}\n" for k, (command, _) in enumerate(steps))
-    environment = {**os.environ, "PATH": bin_folder + os.pathsep + os.environ["PATH"], "PYTHONPATH": os.path.abspath(CLIENT),
-                   "MQ_BROKER": f"127.0.0.1:{free_port()}"}
+    script = "trap 'kill -9 $broker' EXIT\n"
+    script += "".join(f"echo '@@ {k}'\n{command}\n" for k, (command, _) in enumerate(steps))
+    environment = {**os.environ, "PATH": bin_folder + os.pathsep + os.environ["PATH"],
+                   "PYTHONPATH": os.path.abspath(CLIENT), "MQ_BROKER": f"127.0.0.1:{free_port()}"}
     with open(os.path.join(folder, "said"), "w+") as said:
         subprocess.run(["bash", "-c", script], cwd=folder, env=environment, stdin=subprocess.DEVNULL, stdout=said,
                        stderr=subprocess.STDOUT, timeout=180)
@@ -252,7 +268,8 @@ def _(folder):
     assert len(parts) == len(steps), parts
     for (command, wanted), part in zip(steps, parts):
         lines = [line for line in part.splitlines() if not re.search(r"Killed +mq_broker", line)]
-        assert len(lines) == len(wanted) and all(map(matches, wanted, lines)), f"$ {command}\nwanted {wanted}\ncame   {lines}"
+        is_so = len(lines) == len(wanted) and all(map(matches, wanted, lines))
+        assert is_so, f"$ {command}\nshould print {wanted}\nand prints   {lines}"
 
 
 class Soak:
@@ -340,7 +357,8 @@ def one_soak(broker):
     soak.sending.clear()
     for thread in producers:
         thread.join(WAIT)
-    until(lambda: not soak.missing() or soak.faults, lambda: f"of {len(soak.stored)} stored messages {len(soak.missing())} aren't consumed")
+    until(lambda: not soak.missing() or soak.faults,
+          lambda: f"of {len(soak.stored)} stored messages {len(soak.missing())} aren't consumed")
     soak.consuming.clear()
     for thread in consumers:
         thread.join(WAIT)
@@ -349,7 +367,7 @@ def one_soak(broker):
     return soak
 
 
-@check(f"in a soak of {SECONDS:g} s with two kills each message that was answered is consumed, in the order of its queue")
+@check(f"in a soak of {SECONDS:g} s with two kills each message that was answered is consumed, in its queue's order")
 def _(folder):
     with Broker(folder) as broker:
         soak = one_soak(broker)
@@ -358,7 +376,8 @@ def _(folder):
     for number, seen in enumerate(soak.seen):
         last = {}
         for queue, offset, _ in seen:
-            assert offset > last.get(queue, -1), f"consumer {number} gets offset {offset} of queue {queue} after {last[queue]}"
+            before = last.get(queue, -1)
+            assert offset > before, f"consumer {number} gets offset {offset} of queue {queue} after {before}"
             last[queue] = offset
     count = len(soak.stored)
     assert count > 10 * SECONDS and soak.unknown + soak.unsent > 0, (count, soak.unknown, soak.unsent)

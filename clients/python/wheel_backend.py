@@ -48,9 +48,9 @@ def _version() -> str:
 
 
 def _metadata() -> str:
-    return (f"Metadata-Version: 2.1\nName: {PACKAGE}\nVersion: {_version()}\nSummary: A client of the message broker mq_broker\n"
-            f"License: Apache-2.0\nRequires-Python: >=3.9\nDescription-Content-Type: text/markdown\n\n"
-            + (HERE / "README.md").read_text())
+    return (f"Metadata-Version: 2.1\nName: {PACKAGE}\nVersion: {_version()}\n"
+            "Summary: A client of the message broker mq_broker\nLicense: Apache-2.0\nRequires-Python: >=3.9\n"
+            "Description-Content-Type: text/markdown\n\n" + (HERE / "README.md").read_text())
 
 
 def _write_wheel(folder: str, files: Dict[str, bytes]) -> str:

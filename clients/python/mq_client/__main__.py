@@ -8,7 +8,7 @@ import argparse
 import logging
 import sys
 import time
-from typing import Any, Callable, List, NoReturn, Optional, Sequence
+from typing import Any, Callable, Dict, List, NoReturn, Optional, Sequence
 
 from . import __version__
 from .admin import Admin, queues_of
@@ -35,7 +35,8 @@ def main(arguments: Optional[Sequence[str]] = None) -> int:
     said = _parser().parse_args(arguments)
     logging.basicConfig(format="%(message)s", level=logging.DEBUG if said.verbose else logging.ERROR)
     try:
-        with Connection(said.broker, timeout=said.timeout, form=Form.BINARY if said.binary else Form.JSON) as connection:
+        form = Form.BINARY if said.binary else Form.JSON
+        with Connection(said.broker, timeout=said.timeout, form=form) as connection:
             said.run(connection, said)
         return 0
     except (ClientError, ValueError) as fault:
@@ -48,13 +49,15 @@ def main(arguments: Optional[Sequence[str]] = None) -> int:
 def _parser() -> argparse.ArgumentParser:
     parser = _Parser(prog="mq_client", description="Sends and takes messages of an mq_broker, and asks about them.")
     parser.add_argument("--broker", default=default_broker(), metavar="HOST:PORT",
-                        help="the broker's address (default: %(default)s, which the environment's MQ_BROKER sets)")
-    parser.add_argument("--timeout", type=float, default=3.0, metavar="SECONDS", help="for each request (default: %(default)s)")
-    parser.add_argument("--binary", action="store_true", help="spell headers in the binary form rather than in JSON")
-    parser.add_argument("--verbose", action="store_true", help="say on standard error what happens on the connection")
+                        help="the broker's address (default: %(default)s, or what MQ_BROKER is in the environment)")
+    parser.add_argument("--timeout", type=float, default=3.0, metavar="SECONDS",
+                        help="for each request (default: %(default)s)")
+    parser.add_argument("--binary", action="store_true", help="use the binary form of headers rather than JSON")
+    parser.add_argument("--verbose", action="store_true", help="log on standard error what happens on the connection")
     parser.add_argument("--version", action="version", version=f"mq_client {__version__}")
     commands = parser.add_subparsers(dest="command", required=True, metavar="COMMAND", parser_class=_Parser)
-    for add in (_add_send, _add_pull, _add_consume, _add_transaction, _add_delay, _add_query, _add_view, _add_topics, _add_offsets):
+    for add in (_add_send, _add_pull, _add_consume, _add_transaction, _add_delay, _add_query, _add_view, _add_topics,
+                _add_offsets):
         add(commands)
     return parser
 
@@ -92,24 +95,27 @@ def _add_pull(commands: Any) -> None:
 
 
 def _add_consume(commands: Any) -> None:
-    parser = _command(commands, "consume", _consume, "print messages for a group, which goes on where it was")
+    parser = _command(commands, "consume", _consume, "print messages for a group, which continues where it stopped")
     parser.add_argument("topic", nargs="+")
     parser.add_argument("--group", default="consumers", help="the consumer group (default: %(default)s)")
     parser.add_argument("--tags", default="*", help="only those with such a tag, as 'A || B'")
     parser.add_argument("--count", type=int, help="end after so many")
     parser.add_argument("--idle", type=float, metavar="SECONDS", help="end once none came for so long (default: never)")
-    parser.add_argument("--ordered", action="store_true", help="have locks of the queues, so that nobody else of the group works on them")
-    parser.add_argument("--max-queues", type=int, help="with --ordered: have locks of at most so many queues")
-    parser.add_argument("--start", choices=("first", "last"), default="first", help="where a new group begins (default: %(default)s)")
+    parser.add_argument("--ordered", action="store_true",
+                        help="lock the queues, so that no other consumer of the group works on them")
+    parser.add_argument("--max-queues", type=int, metavar="N", help="with --ordered: lock at most so many queues")
+    parser.add_argument("--start", choices=("first", "last"), default="first",
+                        help="where a new group begins (default: %(default)s)")
 
 
 def _add_transaction(commands: Any) -> None:
     parser = _command(commands, "transaction", _transaction, "send a half message, and then decide about it")
     _add_message(parser, "?")
     parser.set_defaults(text="", group="transactions")
-    parser.add_argument("--decide", choices=("commit", "rollback", "unknown"), default="commit",
+    decisions = [decision.name.lower() for decision in Decision]
+    parser.add_argument("--decide", choices=decisions, default="commit",
                         help="at once; after `unknown` the broker asks (default: %(default)s)")
-    parser.add_argument("--check", choices=("commit", "rollback", "unknown"), default="commit",
+    parser.add_argument("--check", choices=decisions, default="commit",
                         help="what the broker is answered when it asks (default: %(default)s)")
     parser.add_argument("--stay", type=float, default=0.0, metavar="SECONDS", help="wait so long for the broker to ask")
 
@@ -117,8 +123,9 @@ def _add_transaction(commands: Any) -> None:
 def _add_delay(commands: Any) -> None:
     parser = _command(commands, "delay", _delay, "send messages that consumers see later")
     _add_message(parser, "+")
-    parser.add_argument("--seconds", type=float, default=10.0, help="at least so long; the delays are 1 5 10 30 s, 1 to 10 20 30 min, "
-                        "1 2 h (default: %(default)s)")
+    parser.add_argument("--seconds", type=float, default=10.0,
+                        help="at least so much later: there are delays of 1, 5, 10 and 30 s, 1 to 10, 20 and 30 min, "
+                        "and 1 and 2 h (default: %(default)s)")
 
 
 def _add_query(commands: Any) -> None:
@@ -143,23 +150,27 @@ def _add_offsets(commands: Any) -> None:
     parser = _command(commands, "offsets", _offsets, "print how far a group has come in a topic, or set it")
     parser.add_argument("topic")
     parser.add_argument("--group", default="consumers", help="the consumer group (default: %(default)s)")
-    parser.add_argument("--time", type=int, metavar="MILLIS", help="print where the first message since that time is, too")
-    parser.add_argument("--reset", choices=("first", "last"), help="have the group go on at that end of each queue")
+    parser.add_argument("--time", type=int, metavar="MILLIS",
+                        help="print the offset of the first message since that time (milliseconds since 1970), too")
+    parser.add_argument("--reset", choices=("first", "last"), help="have the group continue at that end of each queue")
 
 
-def _properties(said: Any) -> dict[str, str]:
+def _message(said: Any) -> Dict[str, Any]:
+    """What all sends of the command have, but for their texts."""
     pairs = [pair.partition("=") for pair in said.property]
     for name, equals, _ in pairs:
         if not equals or not name:
             raise ValueError(f"no property: {name!r} (wanted NAME=VALUE)")
-    return {name: value for name, _, value in pairs}
+    properties = {name: value for name, _, value in pairs}
+    return {"tags": said.tags, "keys": said.keys, "properties": properties, "queue": said.queue}
 
 
 def _send(connection: Connection, said: Any) -> None:
     with Producer(connection, said.group) as producer:
         for text in said.text:
-            _print_sent(text, producer.send(said.topic, text, tags=said.tags, keys=said.keys, properties=_properties(said),
-                                            queue=said.queue, wait=not said.no_wait))
+            sent = producer.send(said.topic, text, wait=not said.no_wait, **_message(said))
+            where = f"{sent.topic}, queue {sent.queue}, offset {sent.queue_offset}, id {sent.message_id}"
+            print(f"sent {text!r} to {where}", flush=True)
 
 
 def _delay(connection: Connection, said: Any) -> None:
@@ -168,8 +179,7 @@ def _delay(connection: Connection, said: Any) -> None:
         raise ValueError(f"a message is held back for at most {DELAYS[-1] // 1000} seconds")
     with Producer(connection, said.group) as producer:
         for text in said.text:
-            producer.send(said.topic, text, tags=said.tags, keys=said.keys, properties=_properties(said), queue=said.queue,
-                          delay_level=level)
+            producer.send(said.topic, text, delay_level=level, **_message(said))
             print(f"sent {text!r} to {said.topic}: consumers see it in {DELAYS[level - 1] // 1000} s", flush=True)
 
 
@@ -191,10 +201,9 @@ class _Script:
 def _transaction(connection: Connection, said: Any) -> None:
     listener = _Script(Decision[said.decide.upper()], Decision[said.check.upper()])
     with TransactionProducer(connection, said.group, listener) as producer:
-        result = producer.send_in_transaction(said.topic, said.text, tags=said.tags, keys=said.keys, properties=_properties(said),
-                                              queue=said.queue)
+        result = producer.send_in_transaction(said.topic, said.text, **_message(said))
         if result.fault is not None:
-            print(f"the broker couldn't be told, and will ask: {result.fault}", flush=True)
+            print(f"the broker didn't get the decision, and will ask for it: {result.fault}", flush=True)
         time.sleep(said.stay)
 
 
@@ -212,7 +221,8 @@ def _pull(connection: Connection, said: Any) -> None:
 
 def _consume(connection: Connection, said: Any) -> None:
     topics = {topic: said.tags for topic in said.topic}
-    with Consumer(connection, said.group, topics, ordered=said.ordered, max_queues=said.max_queues, start=said.start) as consumer:
+    with Consumer(connection, said.group, topics, ordered=said.ordered, max_queues=said.max_queues,
+                  start=said.start) as consumer:
         for message in consumer.messages(count=said.count, idle=said.idle):
             _print_message(message)
 
@@ -247,21 +257,22 @@ def _topics(connection: Connection, said: Any) -> None:
 
 def _offsets(connection: Connection, said: Any) -> None:
     admin = Admin(connection)
-    rows: List[List[str]] = [["queue", "first", "next", said.group, "left"] + (["since"] if said.time is not None else [])]
-    for queue in range(queues_of(admin, said.topic)):
-        first, last = admin.min_offset(said.topic, queue), admin.max_offset(said.topic, queue)
-        if said.reset:
-            admin.set_consumer_offset(said.group, said.topic, queue, first if said.reset == "first" else last)
-        stored = admin.consumer_offset(said.group, said.topic, queue)
-        row = [str(queue), str(first), str(last), "-" if stored is None else str(stored), str(last - (stored or first))]
-        rows.append(row + ([str(admin.search_offset(said.topic, queue, said.time))] if said.time is not None else []))
-    widths = [max(len(row[k]) for row in rows) for k in range(len(rows[0]))]
+    heads = ["queue", "first", "next", said.group, "left"] + (["since"] if said.time is not None else [])
+    rows = [heads, *(_offsets_of(admin, said, queue) for queue in range(queues_of(admin, said.topic)))]
+    widths = [max(len(row[k]) for row in rows) for k in range(len(heads))]
     for row in rows:
         print("  ".join(text.rjust(width) for text, width in zip(row, widths)))
 
 
-def _print_sent(text: str, result: SendResult) -> None:
-    print(f"sent {text!r} to {result.topic}, queue {result.queue}, offset {result.queue_offset}, id {result.message_id}", flush=True)
+def _offsets_of(admin: Admin, said: Any, queue: int) -> List[str]:
+    """The row of one queue."""
+    first, last = admin.min_offset(said.topic, queue), admin.max_offset(said.topic, queue)
+    if said.reset:
+        admin.set_consumer_offset(said.group, said.topic, queue, first if said.reset == "first" else last)
+    stored = admin.consumer_offset(said.group, said.topic, queue)
+    left = last - (first if stored is None else stored)
+    row = [str(queue), str(first), str(last), "-" if stored is None else str(stored), str(left)]
+    return row if said.time is None else [*row, str(admin.search_offset(said.topic, queue, said.time))]
 
 
 def _print_message(message: Message) -> None:

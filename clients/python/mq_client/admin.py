@@ -17,7 +17,7 @@ FAR_FUTURE = 2 ** 62 - 1  # milliseconds, after any message
 
 @dataclass(frozen=True)
 class PullResult:
-    """What one pull found: the messages, where to go on, and the least and the next offset of the queue."""
+    """What one pull found: the messages, where to continue, and the least and the next offset of the queue."""
 
     messages: Sequence[Message]
     next_offset: int
@@ -52,20 +52,21 @@ class Admin:
         return self._offset(RequestCode.GET_MAX_OFFSET, topic, queue, {})
 
     def search_offset(self, topic: str, queue: int, time_millis: int) -> int:
-        """The offset of the first message stored at this time or later; the queue's `max_offset` where there is none."""
+        """The offset of the first message stored at this time or later; where there is none, `max_offset`."""
         return self._offset(RequestCode.SEARCH_OFFSET_BY_TIMESTAMP, topic, queue, {"timestamp": str(time_millis)})
 
     def consumer_offset(self, group: str, topic: str, queue: int) -> Optional[int]:
-        """Where the group goes on in the queue, or None where it has stored no offset."""
+        """Where the group continues in the queue, or None where it has stored no offset."""
         try:
             return self._offset(RequestCode.QUERY_CONSUMER_OFFSET, topic, queue, {"consumerGroup": group})
         except NotFound:
             return None
 
     def set_consumer_offset(self, group: str, topic: str, queue: int, offset: int) -> None:
-        """Has the group go on there. An offset past the queue's end counts as its end."""
+        """Has the group continue there. An offset past the queue's end counts as its end."""
         fields = {"consumerGroup": group, "topic": topic, "queueId": str(queue), "commitOffset": str(offset)}
-        self._ask(f"store an offset of {group} in {topic}", RequestCode.UPDATE_CONSUMER_OFFSET, fields, is_repeatable=False)
+        what = f"store an offset of {group} in {topic}"
+        self._ask(what, RequestCode.UPDATE_CONSUMER_OFFSET, fields, is_repeatable=False)
 
     def pull(self, topic: str, queue: int, offset: int, *, most: int = 32, tags: str = "*",
              group: str = "admin") -> PullResult:
@@ -83,14 +84,15 @@ class Admin:
 
         `NotSupported` where the broker keeps no keys.
         """
-        fields = {"topic": topic, "key": key, "maxNum": str(most), "beginTimestamp": str(begin), "endTimestamp": str(end)}
+        fields = {"topic": topic, "key": key, "maxNum": str(most), "beginTimestamp": str(begin),
+                  "endTimestamp": str(end)}
         try:
             return read_records(self._ask(f"query {topic} by key", RequestCode.QUERY_MESSAGE, fields).body)
         except NotFound:
             return []
 
     def view(self, message_id: str) -> Message:
-        """The message with this id. `NotFound` where there is none, `NotSupported` where the broker doesn't look for them."""
+        """The message with this id. `NotFound` where there is none, `NotSupported` where the broker doesn't look."""
         fields = {"offset": str(place_of(message_id))}
         found = read_records(self._ask(f"view {message_id}", RequestCode.VIEW_MESSAGE_BY_ID, fields).body)
         if len(found) != 1:

@@ -1,8 +1,8 @@
 """One connection to a broker, which many threads may use at once.
 
-Requests are pipelined: each has a number of its own, a thread reads the replies, and each reply goes to whoever waits for
-its number. Nothing waits longer than its timeout. Where the connection ends, the next request makes it again; tries that
-fail are spaced out more and more, 50 ms to 2 s.
+Requests are pipelined: each has a number of its own, a thread reads the replies, and each reply goes to whoever waits
+for its number. Nothing waits longer than its timeout. When the connection has ended, the next request makes it again;
+tries that fail are spaced out more and more, 50 ms to 2 s.
 
     closed by the peer, cut, or mute -> ConnectionLost    | for each request that waits for its reply
     bytes that are no frame          -> ProtocolError     |
@@ -193,7 +193,7 @@ class Connection:
 
     @property
     def times_made(self) -> int:
-        """How often the connection was made. Where it grew, the broker has forgotten this client's locks and heartbeats."""
+        """How often the connection was made. When it grows, the broker may have forgotten this client's locks."""
         return self._made
 
     @property
@@ -203,7 +203,10 @@ class Connection:
         return max(self._heard_at, link.frame_at if link is not None else 0.0)
 
     def on_request(self, code: RequestCode, handler: Handler) -> None:
-        """Has this called with each request of that code that the broker makes, by the thread that reads: it mustn't wait."""
+        """Has this called with each request of that code that the broker makes, by the thread that reads.
+
+        So it mustn't wait for anything. There is one handler for a code: the last one given.
+        """
         self._handlers[code] = handler
 
     def request(self, code: RequestCode, fields: Mapping[str, str], body: bytes = b"", *,
@@ -227,7 +230,7 @@ class Connection:
                       timeout: Optional[float] = None) -> Future[Frame]:
         """The same without waiting for the reply. Callbacks of the future are called by the thread that reads.
 
-        It waits where the connection has to be made, or takes no more bytes for now, and raises what `request` raises then.
+        It does wait while the connection has to be made or takes no more bytes, and raises what `request` raises then.
         """
         return self._ask(code, fields, body, time.monotonic() + (self.timeout if timeout is None else timeout))
 
@@ -280,7 +283,8 @@ class Connection:
             if link is not None and not link.is_ended and now < deadline:
                 return link
             if now >= deadline or not self._making.acquire(timeout=deadline - now):
-                raise BrokerUnavailable(f"no broker at {self.address}: {self._fault or 'no connection in time'}") from self._fault
+                why = self._fault or "no connection in time"
+                raise BrokerUnavailable(f"no broker at {self.address}: {why}") from self._fault
             try:
                 pause = self._make(deadline)
             finally:

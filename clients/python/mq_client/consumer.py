@@ -1,11 +1,11 @@
 """Consumers: the messages of topics for a group, which continues where it stopped.
 
-A program takes messages by `poll` or a loop, or has a function called with each. Each message is given at least once. It is
-done when the program says so (`done`), when the loop asks for the next one, or when the function returns; where the program
-ends before that, the message is given again.
+A program takes messages by `poll` or a loop, or has a function called with each. Each message is given at least once.
+It is done when the program says so (`done`), when the loop asks for the next one, or when the function returns; where
+the program ends before that, the message is given again.
 
-The broker has no list of a group's consumers. So several consumers of a group either have queues of their own (`queues`),
-or share the queues by locks (`ordered`).
+The broker has no list of a group's consumers. So several consumers of a group either have queues of their own
+(`queues`), or share the queues by locks (`ordered`).
 """
 from __future__ import annotations
 
@@ -36,13 +36,13 @@ _STARTS = {"first": RequestCode.GET_MIN_OFFSET, "last": RequestCode.GET_MAX_OFFS
 class Consumer:
     """Takes the messages of topics for a group. Many threads may use one consumer.
 
-    `topics` is a topic, a list of them, or a map of topics to the tags that are wanted (`TagA || TagB`, or `*`): messages
-    come from all their queues, and from those that the group sent back (`send_back`). `queues` in its place are single
-    queues, as `[("Orders", 0)]`, with `tags`.
+    `topics` is a topic, a list of them, or a map of topics to the tags that are wanted (`TagA || TagB`, or `*`).
+    Messages come from all their queues; unless `ordered`, those that the group sent back (`send_back`) come too.
+    `queues` in its place are single queues, as `[("Orders", 0)]`, with `tags`.
 
-    `ordered`: the messages of a queue are given one after another, to one consumer of the group at a time, which has the
-    queue's lock. This one takes the locks of at most `max_queues` queues. Other consumers get them once it ends, or a minute
-    after it died.
+    `ordered`: the messages of a queue are given one after another, to one consumer of the group at a time, which has
+    the queue's lock. This one takes the locks of at most `max_queues` queues. Other consumers get them once it ends,
+    or a minute after it died.
 
     A group that has stored no offset begins at the `start` of its queues, `first` or `last`.
 
@@ -115,14 +115,14 @@ class Consumer:
     def run(self, handler: Callable[[Message], None], *, workers: int = 1, idle: Optional[float] = None) -> None:
         """Calls this with each message, by so many threads, until `close`, or for `idle` seconds without a message.
 
-        A message whose call raises is sent back to the broker where that serves it, and else given again a little later.
+        A message whose call raises is sent back to the broker if that serves it, and else given again a little later.
         """
         Workers(self, handler, idle, self._sends_back).run(workers)
 
     def send_back(self, message: Message, delay_level: int = 0) -> None:
-        """Gives the message back to the broker, from which the group gets it later, by the topic `%RETRY%` and its name.
+        """Gives the message back to the broker; the group gets it later, from the topic `%RETRY%` and the group's name.
 
-        `NotSupported` where the broker doesn't serve that. The message is still in work: call `done` once it was sent back.
+        `NotSupported` where the broker doesn't serve that. The message is still in work: call `done` after this.
         """
         fields = {"offset": str(message.place), "group": self.group, "delayLevel": str(delay_level),
                   "originMsgId": message.unique_key or message.message_id, "originTopic": message.topic,

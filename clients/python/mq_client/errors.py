@@ -58,9 +58,9 @@ class RequestTimeout(ReplyLost):
 class SendUnknown(ClientError):
     """Whether the message was stored is not known. It is never sent again by this package.
 
-    Either its reply was lost, and `__cause__` says how, or the broker itself said that it doesn't know: with code 10 where
-    the disk failed while the message was on its way to it, and with 901 where there was no memory for the reply.
-    A message that is sent again may be stored twice; its consumers can tell by a key or a number of your own.
+    Either its reply was lost, and `__cause__` says how, or the broker itself doesn't know: it replied with code 10
+    since its disk failed while it wrote the message, or with 901 since it had no memory for the reply. A message that
+    is sent again may be stored twice; its consumers can see that by a key or a number of your own.
     """
 
 

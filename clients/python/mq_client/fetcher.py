@@ -1,7 +1,8 @@
 """The thread of a consumer: it asks the broker for all that the consumer needs.
 
-Over and over it finds the topics' queues, renews locks, asks where to begin in queues that are new, pulls from all queues at
-once, and stores the offsets of what is done. A broker that is gone is asked again until the consumer's patience is over.
+Over and over it finds the topics' queues, renews locks, asks where to begin in queues that are new, pulls from all
+queues at once, and stores the offsets of what is done. A broker that is gone is asked again until the consumer's
+patience is over.
 """
 from __future__ import annotations
 
@@ -33,7 +34,10 @@ log = logging.getLogger("mq_client")
 
 @dataclass(frozen=True)
 class Plan:
-    """What a consumer consumes: `topics` with the tags wanted of each, and `looks`, seconds between looks for one of them."""
+    """What a consumer consumes: topics with the tags that are wanted, and single queues, which the table has already.
+
+    `looks` has the seconds between looks for a topic that isn't there yet, where they aren't the usual ones.
+    """
 
     group: str
     topics: Mapping[str, str]

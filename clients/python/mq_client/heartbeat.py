@@ -27,7 +27,7 @@ def new_client_id() -> str:
 
 
 class Heartbeats:
-    """Sends a client's heartbeats by a thread of its own: every half a minute, and whenever the connection was made again.
+    """Sends a client's heartbeats, by a thread: every half a minute, and whenever the connection was made again.
 
     `subscriptions` has for each topic the tags that the consumer group wants, as `TagA || TagB`, or `*`.
     """
@@ -50,9 +50,10 @@ class Heartbeats:
         self._closing.set()
         if self._thread.is_alive():
             self._thread.join(self._connection.timeout + 1)
-        for group, name in [(group, "producerGroup") for group in self._producers] + [(self._consumer, "consumerGroup")]:
-            if group is not None:
-                self._leave({"clientID": self.client_id, name: group})
+        for group in self._producers:
+            self._leave({"clientID": self.client_id, "producerGroup": group})
+        if self._consumer is not None:
+            self._leave({"clientID": self.client_id, "consumerGroup": self._consumer})
 
     def _leave(self, fields: Mapping[str, str]) -> None:
         try:
@@ -73,12 +74,10 @@ class Heartbeats:
             self._closing.wait(LOOK_SECONDS)
 
     def _beat(self) -> None:
+        subscriptions = [{"topic": topic, "subString": tags} for topic, tags in self._subscriptions.items()]
+        consumers = [] if self._consumer is None else [self._consumer]
         said = {"clientID": self.client_id, "producerDataSet": [{"groupName": group} for group in self._producers],
-                "consumerDataSet": []}
-        if self._consumer is not None:
-            said["consumerDataSet"] = [{
-                "groupName": self._consumer,
-                "subscriptionDataSet": [{"topic": topic, "subString": tags} for topic, tags in self._subscriptions.items()]}]
+                "consumerDataSet": [{"groupName": group, "subscriptionDataSet": subscriptions} for group in consumers]}
         reply = self._connection.request(RequestCode.HEART_BEAT, {}, json.dumps(said).encode())
         if reply.code != ReplyCode.OK:
             log.warning("a heartbeat is refused with code %s, %s", reply.code, reply.remark)

@@ -149,7 +149,7 @@ def read_record(record: bytes) -> Message:
 
 
 def message_id(store_host: bytes, place: int) -> str:
-    """The id of the message at this place of the broker's log: its host's address and port, and the place, in hexadecimal."""
+    """The id of the message at this place of the log: the broker's address, its port and the place, in hexadecimal."""
     return f"{store_host.hex().upper()}{place:016X}"
 
 

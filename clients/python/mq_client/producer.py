@@ -39,7 +39,8 @@ class Producer:
     `queues` is with how many queues, 1 to 8, a topic is made that the broker doesn't know.
     """
 
-    def __init__(self, connection: Union[Connection, str, None] = None, group: str = "producers", *, queues: int = 4) -> None:
+    def __init__(self, connection: Union[Connection, str, None] = None, group: str = "producers", *,
+                 queues: int = 4) -> None:
         if not 1 <= queues <= MOST_QUEUES_OF_A_NEW_TOPIC:
             raise ValueError(f"a topic is made with 1 to {MOST_QUEUES_OF_A_NEW_TOPIC} queues, not with {queues}")
         self.connection, self._is_own = shared(connection)
@@ -54,11 +55,11 @@ class Producer:
              wait: bool = True, timeout: Optional[float] = None) -> SendResult:
         """Sends a message, and says where it is stored once it is.
 
-        A body that is a text is sent as UTF-8. Without a `queue` the topic's queues take turns. `delay_level` 1 to 18 holds the
-        message back for 1 s to 2 h. With `wait=False` the broker answers before the message is on its disk.
+        A body that is a text is sent as UTF-8. Without a `queue` the topic's queues take turns. `delay_level` 1 to 18
+        holds the message back for 1 s to 2 h. With `wait=False` the broker answers before the message is on its disk.
 
-        `SendUnknown` where it may or may not have been stored: it isn't sent again. `BrokerError` where the broker refused it,
-        `BrokerUnavailable` where it couldn't be sent: it isn't stored then.
+        `SendUnknown` where it may or may not have been stored: it isn't sent again. `BrokerError` where the broker
+        refused it, `BrokerUnavailable` where it couldn't be sent: it isn't stored then.
         """
         future = self.send_async(topic, body, tags=tags, keys=keys, properties=properties, queue=queue,
                                  delay_level=delay_level, wait=wait, timeout=timeout)
@@ -69,8 +70,8 @@ class Producer:
                    wait: bool = True, timeout: Optional[float] = None) -> Future[SendResult]:
         """The same without waiting for the reply: the future gets the result, or the error that `send` would raise.
 
-        It waits only where the connection has to be made, and where the topic's queues aren't known yet. Callbacks of the future
-        are called by the thread that reads the connection, and mustn't wait for it.
+        It waits only while the connection has to be made, or the topic's queues aren't known yet. Callbacks of the
+        future are called by the thread that reads the connection, and mustn't wait for it.
         """
         message = Outgoing(body, tags, keys, properties or {})
         more = {}
@@ -84,7 +85,8 @@ class Producer:
                    timeout: Optional[float] = None) -> List[SendResult]:
         """Sends messages that are stored one after another in one queue, all or none of them.
 
-        `NotSupported` where the broker doesn't take batches; the other errors are those of `send`, for all messages together.
+        `NotSupported` where the broker doesn't take batches; other errors are those of `send`, for all of them
+        together.
         """
         if not messages:
             return []
@@ -138,9 +140,11 @@ class Producer:
         if reply.code == ReplyCode.REFUSED and reply.remark == "queue":
             self._counts.forget(topic)
         _want_stored(what, reply)
-        return SendResult(topic, int(reply.fields["queueId"]), int(reply.fields["queueOffset"]), reply.fields["msgId"], key)
+        fields = reply.fields
+        return SendResult(topic, int(fields["queueId"]), int(fields["queueOffset"]), fields["msgId"], key)
 
-    def _ask(self, what: str, code: RequestCode, fields: Mapping[str, str], body: bytes, timeout: Optional[float]) -> Frame:
+    def _ask(self, what: str, code: RequestCode, fields: Mapping[str, str], body: bytes,
+             timeout: Optional[float]) -> Frame:
         """The reply to a request that stores something, where it did."""
         try:
             reply = self.connection.request(code, fields, body, timeout=timeout)

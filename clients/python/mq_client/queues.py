@@ -1,7 +1,7 @@
 """How many queues a topic has.
 
-No request of the broker tells it. But a queue that isn't one of the topic is refused, so asking for some queues' least offset
-finds the first that isn't there: 0, 1, 3, 7, .. in one round trip, and then between the last two by halves.
+No request asks for it. But a queue that the topic doesn't have is refused, so asking for the least offset of some
+queues finds the first that isn't there: of 0, 1, 3, 7, .. in one round trip, and then between the last two by halves.
 """
 from __future__ import annotations
 
@@ -63,7 +63,7 @@ def _is_queue(topic: str, reply: Future[Frame]) -> Optional[bool]:
 
 
 class QueueCounts:
-    """The numbers of queues of topics, each asked for again after half a minute. For many threads."""
+    """How many queues topics have, each asked for again after half a minute. For many threads."""
 
     def __init__(self, connection: Connection) -> None:
         self._connection = connection

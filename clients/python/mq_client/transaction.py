@@ -1,10 +1,12 @@
 """Transactions: a message that consumers see once its producer has done its own part, or never.
 
-    half message stored -> listener.execute -> COMMIT: consumers see it | ROLLBACK: nobody does | UNKNOWN: the broker asks later
-    the producer died in between                                        -> the broker asks: listener.check
+    the half message is stored -> listener.execute
+        COMMIT    -> consumers see the message
+        ROLLBACK  -> nobody does
+        UNKNOWN, or the producer died before it decided -> the broker asks: listener.check
 
-The broker asks (a check-back) the producers of the group that it has heard of, so a producer says every few seconds that it is
-there. A broker that doesn't serve transactions refuses the half message: `NotSupported`, and nothing was executed.
+The broker asks (a check-back) a producer of the group that it knows by a heartbeat. A broker that doesn't serve
+transactions refuses the half message: `NotSupported`, and nothing was executed.
 """
 from __future__ import annotations
 
@@ -37,15 +39,15 @@ class TransactionListener(Protocol):
     """The producer's own part of a transaction."""
 
     def execute(self, message: SendResult, argument: Any) -> Decision:
-        """Does it, once the half message is stored. `argument` is what `send_in_transaction` was given."""
+        """Does it, after the half message was stored. `argument` is what `send_in_transaction` was given."""
 
     def check(self, message: Message) -> Decision:
-        """What became of it: the broker asks, since it heard nothing. Called by a thread of the producer's own."""
+        """What became of it: the broker asks, since it got no decision. Called by a thread of the producer's own."""
 
 
 @dataclass(frozen=True)
 class TransactionResult:
-    """What a transaction led to. Where the broker couldn't be told (`fault`), it will ask for the decision by itself."""
+    """What a transaction led to. With a `fault` the broker didn't get the decision, and will ask for it."""
 
     half: SendResult
     decision: Decision
@@ -53,7 +55,7 @@ class TransactionResult:
 
 
 class TransactionProducer(Producer):
-    """A producer of messages whose transactions this listener decides. It has its connection's check-backs for itself."""
+    """A producer of messages whose transactions this listener decides. One connection has one such producer."""
 
     def __init__(self, connection: Union[Connection, str, None], group: str, listener: TransactionListener, *,
                  queues: int = 4) -> None:
@@ -67,10 +69,10 @@ class TransactionProducer(Producer):
     def send_in_transaction(self, topic: str, body: Body, argument: Any = None, *, tags: Optional[str] = None,
                             keys: Union[str, Sequence[str]] = (), properties: Optional[Mapping[str, str]] = None,
                             queue: Optional[int] = None, timeout: Optional[float] = None) -> TransactionResult:
-        """Stores a half message, lets the listener do its part, and tells the broker what it decided.
+        """Stores a half message, lets the listener do its part, and sends the broker its decision.
 
-        The errors are those of `send`; then the listener wasn't asked (after a `SendUnknown` the broker may ask it later). What the
-        listener itself raises is raised once the broker was told that the decision is unknown.
+        The errors are those of `send`; then the listener wasn't asked (after a `SendUnknown` the broker may ask it
+        later). What the listener itself raises is raised after the broker was sent that the decision is unknown.
         """
         message = Outgoing(body, tags, keys, properties or {})
         more = {"TRAN_MSG": "true", "PGROUP": self.group}
@@ -92,8 +94,9 @@ class TransactionProducer(Producer):
     def _settle_half(self, half: SendResult, decision: Decision) -> Optional[ClientError]:
         return self._settle(half.queue_offset, place_of(half.message_id), half.unique_key, decision, False)
 
-    def _settle(self, queue_offset: int, place: int, key: str, decision: Decision, is_asked: bool) -> Optional[ClientError]:
-        """Tells the broker the decision, which may be told any number of times. Why it couldn't be told, if so."""
+    def _settle(self, queue_offset: int, place: int, key: str, decision: Decision,
+                is_asked: bool) -> Optional[ClientError]:
+        """Sends the broker the decision, which may be repeated. None, or why the broker didn't take it."""
         fields = {"producerGroup": self.group, "tranStateTableOffset": str(queue_offset), "commitLogOffset": str(place),
                   "commitOrRollback": str(int(decision)), "fromTransactionCheck": str(is_asked).lower(), "msgId": key,
                   "transactionId": key}

@@ -67,7 +67,8 @@ class Workers:
         try:
             self._handler(message)
         except Exception:
-            log.exception("offset %s of queue %s of %s couldn't be worked on", message.queue_offset, message.queue, message.topic)
+            log.exception("the message at offset %s of queue %s of %s failed", message.queue_offset, message.queue,
+                          message.topic)
             if not self._is_sent_back(message):
                 pause = self._pauses[name] = min(LONGEST_PAUSE, 2 * self._pauses.get(name, FIRST_PAUSE / 2))
                 return self._source.again(message, pause)

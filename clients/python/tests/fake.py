@@ -104,7 +104,8 @@ class Broker(Port):
         self.streams[-1].sendall(frame.encode())
 
 
-def reply(request: Frame, fields: Optional[Dict[str, str]] = None, body: bytes = b"", code: int = 0, remark: str = "") -> Frame:
+def reply(request: Frame, fields: Optional[Dict[str, str]] = None, body: bytes = b"", code: int = 0,
+          remark: str = "") -> Frame:
     return Frame(code, request.opaque, fields or {}, body, 1, remark, request.form)
 
 
@@ -113,15 +114,15 @@ def unknown(request: Frame) -> Frame:
 
 
 class MemoryBroker(Broker):
-    """One topic `T` in memory, with some queues, whose messages are pulled, offsets are stored and queues are locked."""
+    """Has one topic `T`, in memory: takes and gives its messages, and stores offsets of groups."""
 
     def __init__(self, queues: int = 2) -> None:
         self.queues: List[List[bytes]] = [[] for _ in range(queues)]
         self.tags: Dict[Tuple[int, int], str] = {}
         self.offsets: Dict[Tuple[str, int], int] = {}
         self.holds = False  # a pull that finds nothing is never answered
-        super().__init__({10: self._send, 11: self._pull, 14: self._offset, 15: self._commit, 30: self._ends, 31: self._ends,
-                          34: reply, 35: reply})
+        super().__init__({10: self._send, 11: self._pull, 14: self._offset, 15: self._commit, 30: self._ends,
+                          31: self._ends, 34: reply, 35: reply})
 
     def put(self, queue: int, *bodies: bytes, tags: str = "") -> None:
         with self.guard:
@@ -140,7 +141,8 @@ class MemoryBroker(Broker):
         queue = int(request.fields["queueId"])
         self.queues[queue].append(request.body)
         offset = len(self.queues[queue]) - 1
-        return reply(request, {"msgId": "7F00000100002A9F%016X" % offset, "queueId": str(queue), "queueOffset": str(offset)})
+        return reply(request, {"msgId": "7F00000100002A9F%016X" % offset, "queueId": str(queue),
+                               "queueOffset": str(offset)})
 
     def _pull(self, request: Frame) -> Optional[Frame]:
         refused = self._refused(request)
@@ -152,7 +154,8 @@ class MemoryBroker(Broker):
         found = self.queues[queue][at:at + int(request.fields["maxMsgNums"])]
         if not found and self.holds:
             return None
-        body = b"".join(record("T", one, queue, at + k, self.tags.get((queue, at + k), "")) for k, one in enumerate(found))
+        body = b"".join(record("T", one, queue, at + k, self.tags.get((queue, at + k), ""))
+                        for k, one in enumerate(found))
         said = {"nextBeginOffset": at + len(found), "minOffset": 0, "maxOffset": len(self.queues[queue])}
         return reply(request, {name: str(value) for name, value in said.items()}, body, 0 if found else 19)
 
@@ -161,7 +164,8 @@ class MemoryBroker(Broker):
         return reply(request, code=22) if found is None else reply(request, {"offset": str(found)})
 
     def _commit(self, request: Frame) -> Frame:
-        self.offsets[request.fields["consumerGroup"], int(request.fields["queueId"])] = int(request.fields["commitOffset"])
+        name = request.fields["consumerGroup"], int(request.fields["queueId"])
+        self.offsets[name] = int(request.fields["commitOffset"])
         return reply(request)
 
     def _ends(self, request: Frame) -> Frame:
@@ -173,9 +177,10 @@ class MemoryBroker(Broker):
 def record(topic: str, body: bytes, queue: int = 0, offset: int = 0, tags: str = "", properties: str = "") -> bytes:
     """A record as the broker would have it, but for its seal."""
     text = (properties + (f"TAGS\x01{tags}\x02" if tags else "")).encode()
-    rest = struct.pack(">IIIiQQIQ8sQ8siQ", 0xDAA320A7, zlib.crc32(body) & 0x7FFFFFFF, queue, 0, offset, 1000 * queue + offset, 0, 1000,
-                       b"\x7f\0\0\1\0\0\0\0", 2000, b"\x7f\0\0\1\0\0\x2a\x9f", 0, 0)
-    rest += struct.pack(">I", len(body)) + body + bytes([len(topic)]) + topic.encode() + struct.pack(">H", len(text)) + text
+    rest = struct.pack(">IIIiQQIQ8sQ8siQ", 0xDAA320A7, zlib.crc32(body) & 0x7FFFFFFF, queue, 0, offset,
+                       1000 * queue + offset, 0, 1000, b"\x7f\0\0\1\0\0\0\0", 2000, b"\x7f\0\0\1\0\0\x2a\x9f", 0, 0)
+    rest += struct.pack(">I", len(body)) + body + bytes([len(topic)]) + topic.encode()
+    rest += struct.pack(">H", len(text)) + text
     return struct.pack(">I", 4 + len(rest)) + rest
 
 

@@ -5,7 +5,8 @@ import time
 import unittest
 
 from fake import Broker, Port, Speaker, reply, until
-from mq_client import BrokerUnavailable, Connection, ConnectionClosed, ConnectionLost, Form, ProtocolError, RequestTimeout
+from mq_client import (BrokerUnavailable, Connection, ConnectionClosed, ConnectionLost, Form, ProtocolError,
+                       RequestTimeout)
 from mq_client.connection import parse_address
 from mq_client.frame import Frame
 

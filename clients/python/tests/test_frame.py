@@ -9,15 +9,17 @@ from mq_client.message import Outgoing, message_id, place_of, property_text, rea
 # the two documented samples: a binary header without a body, and the record of `hi`
 SAMPLE = bytes.fromhex("00000021 01 00001D 000A 00 018B 00000007 00000000 00000000 00000008 0001 65 00000001 30")
 RECORD = bytes.fromhex(
-    "0000006C DAA320A7 58932AAC 00000000 00000000 0000000000000000 0000000000000000 00000000 00000000000003E8 7F00000100000000"
-    "00000000000007D0 7F00000100002A9F 00000000 0000000000000000 00000002 6869 01 54 000E 5345414C01 3232464539303934 02")
+    "0000006C DAA320A7 58932AAC 00000000 00000000 0000000000000000 0000000000000000 00000000 00000000000003E8"
+    "7F00000100000000 00000000000007D0 7F00000100002A9F 00000000 0000000000000000 00000002 6869 01 54 000E 5345414C01"
+    "3232464539303934 02")
 
 
 class Frames(unittest.TestCase):
     def test_what_is_written_reads_back_in_both_forms(self):
         for form in Form:
             for body in (b"", b"hi", bytes(range(256)) * 40):
-                frame = Frame(-5, 2 ** 31 - 1, {"topic": "T\u00e4", "e": "", "properties": "a\x01b\x02"}, body, 3, "no \u4f60", form)
+                fields = {"topic": "T\u00e4", "e": "", "properties": "a\x01b\x02"}
+                frame = Frame(-5, 2 ** 31 - 1, fields, body, 3, "no \u4f60", form)
                 self.assertEqual(decode(frame.encode()), frame)
                 self.assertTrue(frame.is_reply and frame.is_one_way)
 
@@ -47,7 +49,7 @@ class Frames(unittest.TestCase):
         self.assertEqual(reader.missing, "20 of its 37 bytes")
 
     def test_bytes_of_other_protocols_are_refused_with_what_they_were(self):
-        for said in (b"HTTP/1.1 400 Bad Request\r\n", b"SSH-2.0-OpenSSH_9.6\r\n", b"-ERR unknown command\r\n", b"\0\0\0\3"):
+        for said in (b"HTTP/1.1 400 Bad Request\r\n", b"SSH-2.0-OpenSSH_9.6\r\n", b"-ERR unknown\r\n", b"\0\0\0\3"):
             with self.assertRaisesRegex(ProtocolError, "doesn't speak"):
                 FrameReader().feed(said)
 
@@ -70,8 +72,8 @@ class Frames(unittest.TestCase):
 class Records(unittest.TestCase):
     def test_the_documented_record_is_read(self):
         message = read_record(RECORD)
-        self.assertEqual((message.topic, message.body, message.queue, message.queue_offset, message.born_time, message.store_time),
-                         ("T", b"hi", 0, 0, 1000, 2000))
+        self.assertEqual((message.topic, message.body, message.queue, message.queue_offset), ("T", b"hi", 0, 0))
+        self.assertEqual((message.born_time, message.store_time), (1000, 2000))
         self.assertEqual((message.message_id, message.properties), ("7F00000100002A9F0000000000000000", {}))
 
     def test_several_stand_one_after_another(self):

@@ -4,14 +4,15 @@ import time
 import unittest
 
 from fake import Broker, MemoryBroker, Port, record, reply, unknown, until
-from mq_client import (BrokerError, BrokerUnavailable, Connection, Decision, NotSupported, Outgoing, Producer, SendUnknown, TopicNotFound,
-                       TransactionProducer)
+from mq_client import (BrokerError, BrokerUnavailable, Connection, Decision, NotSupported, Outgoing, Producer,
+                       SendUnknown, TopicNotFound, TransactionProducer)
 from mq_client.frame import Frame
 from mq_client.message import read_properties
 
 
 def stored(request):
-    return reply(request, {"msgId": "7F00000100002A9F0000000000000064", "queueId": request.fields["queueId"], "queueOffset": "7"})
+    return reply(request, {"msgId": "7F00000100002A9F0000000000000064", "queueId": request.fields["queueId"],
+                           "queueOffset": "7"})
 
 
 def no_topic(request):
@@ -21,15 +22,16 @@ def no_topic(request):
 class Sends(unittest.TestCase):
     def test_a_send_has_its_fields_and_says_where_it_is_stored(self):
         with Broker({10: stored, 31: no_topic}) as broker, Producer(broker.address, "shop") as producer:
-            result = producer.send("T", "h\u00e4", tags="A", keys=["k1", "k2"], properties={"x": "y"}, queue=2, wait=False)
+            result = producer.send("T", "h\u00e4", tags="A", keys=["k1", "k2"], properties={"x": "y"}, queue=2,
+                                   wait=False)
             request = broker.of(10)[0]
         self.assertEqual((result.topic, result.queue, result.queue_offset, result.message_id),
                          ("T", 2, 7, "7F00000100002A9F0000000000000064"))
         self.assertEqual(request.body, "h\u00e4".encode())
         self.assertEqual(read_properties(request.fields["properties"]),
                          {"x": "y", "TAGS": "A", "KEYS": "k1 k2", "UNIQ_KEY": result.unique_key, "WAIT": "false"})
-        self.assertEqual({name: request.fields[name] for name in ("producerGroup", "topic", "queueId", "sysFlag", "defaultTopic")},
-                         {"producerGroup": "shop", "topic": "T", "queueId": "2", "sysFlag": "0", "defaultTopic": "TBW102"})
+        wanted = {"producerGroup": "shop", "topic": "T", "queueId": "2", "sysFlag": "0", "defaultTopic": "TBW102"}
+        self.assertEqual({name: request.fields[name] for name in wanted}, wanted)
 
     def test_queues_take_turns(self):
         for count in (1, 2, 3, 4, 5, 7, 8, 9, 100, 1023, 1024):
@@ -40,7 +42,8 @@ class Sends(unittest.TestCase):
             self.assertEqual([producer.send("New", "x").queue for _ in range(6)], [0, 1, 2, 0, 1, 2])
 
     def test_refusals_have_the_code_and_the_remark(self):
-        rows = [(1, "queue", BrokerError), (3, "code 10", NotSupported), (13, "topic", BrokerError), (17, "no topic", TopicNotFound)]
+        rows = [(1, "queue", BrokerError), (3, "code 10", NotSupported), (13, "topic", BrokerError),
+                (17, "no topic", TopicNotFound)]
         for code, remark, kind in rows:
             with Broker({10: lambda request: reply(request, code=code, remark=remark)}) as broker, \
                     Producer(broker.address) as producer, self.assertRaises(kind) as caught:
@@ -132,12 +135,14 @@ class Transactions(unittest.TestCase):
         for decision in Decision:
             listener = Listener(decision)
             result, broker = self.run_one(listener)
-            self.assertEqual((result.decision, result.fault, listener.executed), (decision, None, [(result.half, "argument")]))
-            half, end = broker.of(10)[0], broker.of(37)[0].fields
-            self.assertEqual((half.fields["sysFlag"], read_properties(half.fields["properties"])["TRAN_MSG"]), ("4", "true"))
-            self.assertEqual((end["producerGroup"], end["tranStateTableOffset"], end["commitLogOffset"], end["commitOrRollback"],
-                              end["fromTransactionCheck"], end["msgId"]),
-                             ("G", "7", "100", str(int(decision)), "false", result.half.unique_key))
+            self.assertEqual((result.decision, result.fault), (decision, None))
+            self.assertEqual(listener.executed, [(result.half, "argument")])
+            half, end = broker.of(10)[0].fields, broker.of(37)[0].fields
+            self.assertEqual((half["sysFlag"], read_properties(half["properties"])["TRAN_MSG"]), ("4", "true"))
+            wanted = {"producerGroup": "G", "tranStateTableOffset": "7", "commitLogOffset": "100",
+                      "commitOrRollback": str(int(decision)), "fromTransactionCheck": "false",
+                      "msgId": result.half.unique_key, "transactionId": result.half.unique_key}
+            self.assertEqual(end, wanted)
 
     def test_a_listener_that_raises_leaves_it_undecided(self):
         with self.assertRaisesRegex(RuntimeError, "as planned"):
@@ -150,7 +155,8 @@ class Transactions(unittest.TestCase):
 
     def test_where_transactions_are_not_served_nothing_is_executed(self):
         listener = Listener(Decision.COMMIT)
-        with Broker({31: no_topic, 34: reply, 35: reply}) as broker, TransactionProducer(broker.address, "G", listener) as producer:
+        with Broker({31: no_topic, 34: reply, 35: reply}) as broker, \
+                TransactionProducer(broker.address, "G", listener) as producer:
             with self.assertRaises(NotSupported):
                 producer.send_in_transaction("T", "hi")
         self.assertEqual(listener.executed, [])
@@ -163,8 +169,10 @@ class Transactions(unittest.TestCase):
             broker.say(Frame(39, 0, {"commitLogOffset": "178", "tranStateTableOffset": "1", "msgId": "u"}, body, 2))
             self.assertTrue(until(lambda: len(broker.of(37)) == 1))
             end = broker.of(37)[0].fields
-        self.assertEqual(([one.body for one in listener.checked], end["commitOrRollback"], end["tranStateTableOffset"],
-                          end["commitLogOffset"], end["fromTransactionCheck"], end["msgId"]), ([b"half"], "12", "1", "178", "true", "u"))
+        self.assertEqual([one.body for one in listener.checked], [b"half"])
+        wanted = {"producerGroup": "G", "tranStateTableOffset": "1", "commitLogOffset": "178", "commitOrRollback": "12",
+                  "fromTransactionCheck": "true", "msgId": "u", "transactionId": "u"}
+        self.assertEqual(end, wanted)
 
 
 if __name__ == "__main__":
