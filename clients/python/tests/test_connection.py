@@ -63,17 +63,17 @@ class Connections(unittest.TestCase):
         with Port() as port:
             address = port.address
         with Connection(address, timeout=0.4) as connection:
-            self.ends(0.8, BrokerUnavailable, "no broker at .*refused", lambda: connection.request(1, {}))
-            self.ends(0.8, BrokerUnavailable, "refused", lambda: connection.request_async(1, {}))
+            self.ends(3, BrokerUnavailable, "no broker at .*refused", lambda: connection.request(1, {}))
+            self.ends(3, BrokerUnavailable, "refused", lambda: connection.request_async(1, {}))
 
     def test_a_peer_that_says_nothing(self):
         with Port() as port, Connection(port.address, timeout=0.4) as connection:
-            self.ends(0.8, RequestTimeout, "didn't reply", lambda: connection.request(1, {}))
+            self.ends(3, RequestTimeout, "didn't reply", lambda: connection.request(1, {}))
         with Port() as port, Connection(port.address, timeout=0.4) as connection:
             future = connection.request_async(1, {})
-            self.ends(0.8, RequestTimeout, "didn't reply", lambda: future.result(3))
+            self.ends(3, RequestTimeout, "didn't reply", lambda: future.result(3))
             late = connection.request_async(1, {})
-            self.ends(0.8, (RequestTimeout, ConnectionLost), "didn't reply|said nothing", lambda: late.result(3))
+            self.ends(3, (RequestTimeout, ConnectionLost), "didn't reply|said nothing", lambda: late.result(3))
 
     def test_a_peer_that_is_mute_is_left_for_a_new_connection(self):
         mute = threading.Event()
@@ -81,7 +81,7 @@ class Connections(unittest.TestCase):
                 Connection(broker.address, timeout=0.3) as connection:
             connection.request(1, {})
             mute.set()
-            self.ends(0.8, RequestTimeout, "", lambda: connection.request(1, {}))
+            self.ends(3, RequestTimeout, "", lambda: connection.request(1, {}))
             mute.clear()
             time.sleep(0.2)
             connection.request(1, {})
@@ -91,23 +91,23 @@ class Connections(unittest.TestCase):
         for said in (b"HTTP/1.1 400 Bad Request\r\nConnection: close\r\n\r\n", b"\0\0\0\x10\0\0\0\x0cnot a header"):
             for ends in (True, False):
                 with Speaker(said, ends) as port, Connection(port.address, timeout=2) as connection:
-                    self.ends(1.5, ProtocolError, "protocol|header", lambda: connection.request(1, {}))
+                    self.ends(3, ProtocolError, "protocol|header", lambda: connection.request(1, {}))
 
     def test_a_reply_that_is_cut(self):
         whole = Frame(0, 1, {}, b"x" * 100, 1).encode()
         for size in (1, 4, 20, len(whole) - 1):
             with Speaker(whole[:size]) as port, Connection(port.address, timeout=2) as connection:
-                self.ends(1.5, ConnectionLost, "in the middle of a reply", lambda: connection.request(1, {}))
+                self.ends(3, ConnectionLost, "in the middle of a reply", lambda: connection.request(1, {}))
         with Speaker(whole[:20], ends=False) as port, Connection(port.address, timeout=0.4) as connection:
-            self.ends(0.8, RequestTimeout, "", lambda: connection.request(1, {}))
+            self.ends(3, RequestTimeout, "", lambda: connection.request(1, {}))
 
     def test_a_connection_that_ends_before_the_reply(self):
         with Speaker(b"") as port, Connection(port.address, timeout=2) as connection:
-            self.ends(1.5, ConnectionLost, "ended the connection$", lambda: connection.request(1, {}))
+            self.ends(3, ConnectionLost, "ended the connection$", lambda: connection.request(1, {}))
 
     def test_a_peer_that_reads_nothing_ends_a_long_request_in_time(self):
         with Port() as port, Connection(port.address, timeout=0.5) as connection:
-            self.ends(1.2, (ConnectionLost, RequestTimeout), "", lambda: connection.request(1, {}, bytes(16_000_000)))
+            self.ends(3, (ConnectionLost, RequestTimeout), "", lambda: connection.request(1, {}, bytes(16_000_000)))
 
     def test_what_may_be_repeated_is_asked_again_on_a_new_connection_and_nothing_else(self):
         times = []
@@ -156,8 +156,8 @@ class Connections(unittest.TestCase):
             connection = Connection(port.address, timeout=30)
             future = connection.request_async(1, {})
             connection.close()
-            self.ends(1, ConnectionLost, "this program closed", lambda: future.result(3))
-            self.ends(1, ConnectionClosed, "closed by this program", lambda: connection.request(1, {}))
+            self.ends(3, ConnectionLost, "this program closed", lambda: future.result(3))
+            self.ends(3, ConnectionClosed, "closed by this program", lambda: connection.request(1, {}))
 
     def test_one_way_requests_are_not_answered(self):
         with Broker({1: echo}) as broker, Connection(broker.address) as connection:

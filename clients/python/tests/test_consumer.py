@@ -87,7 +87,7 @@ class Consumers(unittest.TestCase):
             self.assertEqual([broker.offsets["G", queue] for queue in (0, 2)], [100, 5])
             broker.put(1, b"new")
             with Consumer(connection, "G", "T") as consumer:
-                self.assertEqual([one.body for one in consumer.messages(idle=0.6)], [b"new"])
+                self.assertEqual([one.body for one in consumer.messages(idle=1.5)], [b"new"])
 
     def test_what_was_in_work_is_given_again(self):
         with MemoryBroker(1) as broker, Connection(broker.address) as connection:
@@ -97,7 +97,7 @@ class Consumers(unittest.TestCase):
                     if one.body == b"b":
                         break
             with Consumer(connection, "G", "T") as consumer:
-                self.assertEqual([one.body for one in consumer.messages(idle=0.6)], [b"b", b"c"])
+                self.assertEqual([one.body for one in consumer.messages(idle=1.5)], [b"b", b"c"])
 
     def test_given_queues_tags_and_the_last_start(self):
         with MemoryBroker(3) as broker, Connection(broker.address) as connection:
@@ -105,12 +105,12 @@ class Consumers(unittest.TestCase):
             broker.put(1, b"a", tags="A")
             broker.put(1, b"b", tags="B")
             with Consumer(connection, "G", queues=[("T", 1)], tags="B") as consumer:
-                self.assertEqual([one.body for one in consumer.messages(idle=0.6)], [b"b"])
+                self.assertEqual([one.body for one in consumer.messages(idle=1.5)], [b"b"])
             with Consumer(connection, "H", "T", start="last") as consumer:
                 self.assertTrue(until(lambda: len(consumer.owned()) == 3))
                 time.sleep(0.3)
                 broker.put(0, b"later")
-                self.assertEqual([one.body for one in consumer.messages(idle=1)], [b"later"])
+                self.assertEqual([one.body for one in consumer.messages(idle=2)], [b"later"])
 
     def test_a_topic_that_comes_later_is_found(self):
         with MemoryBroker(1) as broker, Connection(broker.address) as connection:
@@ -161,7 +161,7 @@ class Consumers(unittest.TestCase):
                     consumer.send_back(message(0))
                 broker.answers[36] = reply
                 with self.assertLogs("mq_client", "ERROR"):
-                    consumer.run(fail, idle=0.6)
+                    consumer.run(fail, idle=1.5)
             back = broker.of(36)
             self.assertEqual((len(back), back[1].fields["group"], back[1].fields["originTopic"]), (2, "G", "T"))
             self.assertEqual(broker.offsets["G", 0], 1)
@@ -279,7 +279,7 @@ class Locks(unittest.TestCase):
         self.broker.put(0, b"theirs")
         self.broker.put(1, b"mine")
         with Connection(self.broker.address) as connection, self.consumer(connection) as consumer:
-            self.assertEqual([one.body for one in consumer.messages(idle=0.8)], [b"mine"])
+            self.assertEqual([one.body for one in consumer.messages(idle=1.5)], [b"mine"])
             del self.owners[0]
             self.assertEqual([one.body for one in consumer.messages(idle=1.5)], [b"theirs"])
 
