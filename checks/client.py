@@ -88,7 +88,8 @@ def until(holds, missed):
 @check("the client's own tests hold, without a broker")
 def _(folder):
     names = sorted(name[:-3] for name in os.listdir(os.path.join(CLIENT, "tests")) if name.startswith("test_"))
-    environment = {**os.environ, "PYTHONPATH": os.pathsep.join([os.path.abspath(CLIENT), os.path.join(CLIENT, "tests")])}
+    folders = [os.path.abspath(CLIENT), os.path.abspath(os.path.join(CLIENT, "tests"))]
+    environment = {**os.environ, "PYTHONPATH": os.pathsep.join(folders)}
     tests = [subprocess.Popen([sys.executable, "-m", "unittest", "-q", name], env=environment, stdout=subprocess.PIPE,
                               stderr=subprocess.STDOUT, text=True) for name in names]
     for name, test in zip(names, tests):
@@ -234,6 +235,33 @@ def _(folder):
             first.close()
             theirs = [one.text() for one in second.messages(count=10, idle=WAIT)]
         assert mine + theirs == [str(k) for k in range(20)], (mine, theirs)
+
+
+@check("each command of the shell has help, and ends with status 0 or 1 and says why")
+def _(folder):
+    def run(*arguments, address="127.0.0.1:1"):
+        done = subprocess.run([sys.executable, "-m", "mq_client", "--broker", address, "--timeout", "1", *arguments],
+                              env={**os.environ, "PYTHONPATH": os.path.abspath(CLIENT)}, cwd=folder,
+                              stdin=subprocess.DEVNULL,
+                              stdout=subprocess.PIPE, stderr=subprocess.PIPE, timeout=60, text=True)
+        return done.returncode, done.stdout.splitlines(), done.stderr.splitlines()
+    for command in ("send", "pull", "consume", "transaction", "delay", "query", "view", "topics", "offsets"):
+        status, said, _ = run(command, "--help")
+        assert status == 0 and said[0].startswith(f"usage: mq_client {command}"), (command, said)
+        status, said, complaint = run(command)
+        assert (status, said) == (1, []) and "required" in complaint[-1], (command, complaint)
+    for arguments in (("send", "T", "x"), ("topics", "T"), ("consume", "T"), ("view", "F" * 32)):
+        status, said, complaint = run(*arguments)
+        assert (status, said) == (1, []) and "no broker at 127.0.0.1:1" in complaint[-1], (arguments, complaint)
+    with Broker(folder) as broker:
+        assert run("send", "T", "x", "y", "--tags", "A", "--property", "a=b", address=broker.address)[0] == 0
+        wanted = (0, ["T, queue 0, offset 0: 'x'"], [])
+        until(lambda: run("pull", "T", address=broker.address) == wanted, "nothing is pulled")
+        assert run("offsets", "T", "--reset", "last", address=broker.address)[0] == 0
+        for arguments in (("topics", "None"), ("view", "x"), ("send", "T", "x", "--property", "a"),
+                          ("pull", "T", "--queue", "9")):
+            status, said, complaint = run(*arguments, address=broker.address)
+            assert (status, said) == (1, []) and complaint[-1].startswith("mq_client: "), (arguments, complaint)
 
 
 def tour():

@@ -6,6 +6,7 @@ from __future__ import annotations
 
 import argparse
 import logging
+import os
 import sys
 import time
 from typing import Any, Callable, Dict, List, NoReturn, Optional, Sequence
@@ -42,7 +43,10 @@ def main(arguments: Optional[Sequence[str]] = None) -> int:
     except (ClientError, ValueError) as fault:
         print(f"mq_client: {fault}", file=sys.stderr)
         return 1
-    except (KeyboardInterrupt, BrokenPipeError):
+    except KeyboardInterrupt:
+        return 1
+    except BrokenPipeError:
+        os.dup2(os.open(os.devnull, os.O_WRONLY), sys.stdout.fileno())  # else Python complains when it ends
         return 1
 
 

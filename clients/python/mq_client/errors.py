@@ -32,7 +32,7 @@ class ClientError(Exception):
 
 
 class BrokerUnavailable(ClientError):
-    """No connection to the broker could be made in time. Nothing was sent."""
+    """No connection to a broker could be made in time. Nothing was sent."""
 
 
 class ConnectionClosed(ClientError):

@@ -13,7 +13,7 @@ from typing import Callable, Dict, List, Mapping, Optional, Sequence, Type, Type
 
 from .codes import DEFAULT_TOPIC, MOST_QUEUES_OF_A_NEW_TOPIC, ReplyCode, RequestCode
 from .connection import Connection, TICK, shared
-from .errors import ClientError, ReplyLost, RequestTimeout, SendUnknown, refusal
+from .errors import BrokerUnavailable, ClientError, ReplyLost, RequestTimeout, SendUnknown, refusal
 from .frame import Frame
 from .message import Body, Outgoing, property_text
 from .queues import QueueCounts
@@ -131,7 +131,10 @@ class Producer:
         """The queue that was asked for, or the one whose turn it is."""
         if queue is not None:
             return queue
-        count = self._counts.of(topic) or self._new_queues
+        try:
+            count = self._counts.of(topic) or self._new_queues
+        except ReplyLost as fault:
+            raise BrokerUnavailable(f"send to {topic}: nothing was sent, its queues aren't known: {fault}") from fault
         with self._guard:
             turn = self._turns.setdefault(topic, itertools.count())
         return next(turn) % count

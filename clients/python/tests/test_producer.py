@@ -3,7 +3,7 @@ import struct
 import time
 import unittest
 
-from fake import Broker, MemoryBroker, Port, record, reply, unknown, until
+from fake import Broker, MemoryBroker, Port, Speaker, record, reply, unknown, until
 from mq_client import (BrokerError, BrokerUnavailable, Connection, Decision, NotSupported, Outgoing, Producer,
                        SendUnknown, TopicNotFound, TransactionProducer)
 from mq_client.frame import Frame
@@ -75,6 +75,16 @@ class Sends(unittest.TestCase):
             address = port.address
         with Connection(address, timeout=0.3) as connection, self.assertRaises(BrokerUnavailable):
             Producer(connection).send("T", "x", queue=0)
+
+    def test_where_the_queues_cannot_be_asked_for_nothing_is_sent(self):
+        with Broker({10: stored, 31: lambda request: None}) as broker, \
+                Connection(broker.address, timeout=0.3) as connection:
+            with self.assertRaisesRegex(BrokerUnavailable, "nothing was sent"):
+                Producer(connection).send("T", "x")
+            self.assertEqual(broker.of(10), [])
+        with Speaker(b"HTTP/1.1 400 Bad Request\r\n\r\n") as port, Connection(port.address) as connection:
+            with self.assertRaisesRegex(BrokerUnavailable, "HTTP"):
+                Producer(connection).send("T", "x")
 
     def test_thousands_are_sent_without_waiting(self):
         with MemoryBroker(4) as broker, Producer(broker.address) as producer:
