@@ -98,6 +98,19 @@ def _(folder):
     assert len(names) >= 4, names
 
 
+@check("the package is built without a network, and what is built runs")
+def _(folder):
+    build = "import sys; from wheel_backend import *; print(build_wheel(sys.argv[1]), build_sdist(sys.argv[1]))"
+    done = subprocess.run([sys.executable, "-B", "-c", build, folder], cwd=CLIENT, stdout=subprocess.PIPE, check=True,
+                          text=True)
+    wheel, sources = done.stdout.split()
+    assert {wheel, sources} == set(os.listdir(folder)), os.listdir(folder)
+    environment = {**os.environ, "PYTHONPATH": os.path.join(folder, wheel)}
+    done = subprocess.run([sys.executable, "-m", "mq_client", "--version"], cwd=folder, env=environment,
+                          stdout=subprocess.PIPE, check=True, text=True)
+    assert wheel.startswith(done.stdout.strip().replace(" ", "-") + "-"), (wheel, done.stdout)
+
+
 @check("what is sent is consumed with its tags, keys and properties, in both forms of headers")
 def _(folder):
     with Broker(folder) as broker:

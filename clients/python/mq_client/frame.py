@@ -58,7 +58,7 @@ class Frame:
         return bool(self.flag & ONE_WAY_FLAG)
 
     def encode(self) -> bytes:
-        """The bytes of this frame. `ValueError` where they would be more than a frame can have."""
+        """The bytes of this frame. `ValueError` where they are too many, or a text can't be UTF-8."""
         header = _binary_header(self) if self.form is Form.BINARY else _json_header(self)
         size = 4 + len(header) + len(self.body)
         if size > LONGEST:
@@ -72,7 +72,7 @@ def _json_header(frame: Frame) -> bytes:
         "opaque": frame.opaque, "serializeTypeCurrentRPC": "JSON", "version": VERSION}
     if frame.remark:
         header["remark"] = frame.remark
-    return json.dumps(header, separators=(",", ":")).encode()
+    return json.dumps(header, ensure_ascii=False, separators=(",", ":")).encode()
 
 
 def _binary_header(frame: Frame) -> bytes:

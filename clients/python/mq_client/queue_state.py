@@ -84,7 +84,7 @@ class QueueState:
         self.due = self._wait = 0.0
 
     def found_nothing(self, now: float, seconds: float) -> None:
-        """A pull found nothing after so many seconds. If the broker didn't hold it the next one waits, each time more."""
+        """A pull found nothing after so many seconds. If the broker didn't hold it, the next one waits."""
         if seconds >= HELD_SECONDS:
             self.due = self._wait = 0.0
             return

@@ -64,9 +64,11 @@ class Frames(unittest.TestCase):
             with self.assertRaises(ProtocolError, msg=data):
                 decode(data)
 
-    def test_a_frame_that_is_too_long_is_not_made(self):
-        with self.assertRaises(ValueError):
-            Frame(10, 1, {}, bytes(16_777_216)).encode()
+    def test_a_frame_that_nobody_could_read_is_not_made(self):
+        for form in Form:
+            for frame in (Frame(10, 1, {}, bytes(16_777_216), form=form), Frame(10, 1, {"topic": "\ud800"}, form=form)):
+                with self.assertRaises(ValueError):
+                    frame.encode()
 
 
 class Records(unittest.TestCase):
