@@ -135,7 +135,7 @@ fn is_refused(rt: HostRuntime, root: &str, why: &str) -> Result<bool, AllocError
     Ok(is_silent && len == Err(Failed) && disk.fault_text() == Some(why))
 }
 
-// Whether a second disk is refused: while the store has no format as another program's, and then since the first has it.
+// Whether a second disk is refused: without a format as another program's, and then since the first one has the store.
 fn refuses_second(rt: HostRuntime, root: &str) -> Result<bool, Fail> {
     let foreign =
         "mq_outside_store: it has files and no config/format, so it is not this program's";
