@@ -51,7 +51,7 @@ class Broker:
         self.start()
 
     def start(self):
-        """It listens behind this."""
+        """Starts it, and returns once it listens."""
         end = time.time() + WAIT
         self.child = self.run()
         while True:
@@ -127,6 +127,18 @@ def _(folder):
                     assert (one.body, one.tags, one.keys) == (b"body %d" % k, "B", ("k", str(k))), one
                     assert (one.message_id, one.unique_key) == (sent[k].message_id, sent[k].unique_key), one
                     assert one.properties["x"] == "\u00e4", one
+
+
+@check("the example of the client's README runs")
+def _(folder):
+    code = re.search(r"^```python\n(.*?)^```", open(os.path.join(CLIENT, "README.md")).read(), re.MULTILINE | re.DOTALL)
+    with Broker(folder) as broker:
+        example = code.group(1).replace("127.0.0.1:10911", broker.address)
+        done = subprocess.run([sys.executable, "-c", example], timeout=60, stdout=subprocess.PIPE, text=True,
+                              env={**os.environ, "PYTHONPATH": os.path.abspath(CLIENT)})
+    said = done.stdout.splitlines()
+    assert done.returncode == 0 and said[0].startswith("on the broker's disk: queue 0, offset 0, id 7F000001"), said
+    assert said[1] == "10 more" and sorted(said[2:])[0] == "0 0 three apples" and len(said) == 13, said
 
 
 @check("topics, offsets and times are answered, and refusals have their code")
@@ -290,7 +302,7 @@ def tour():
 
 
 def matches(wanted, line):
-    """Whether the line is that one, in which `...` stands for anything."""
+    """Whether the line is the wanted one, in which `...` is any text."""
     return re.fullmatch(".*".join(re.escape(part) for part in wanted.split("...")), line) is not None
 
 

@@ -34,7 +34,7 @@ class _Parser(argparse.ArgumentParser):
 def main(arguments: Optional[Sequence[str]] = None) -> int:
     """Runs one command; its exit status."""
     said = _parser().parse_args(arguments)
-    logging.basicConfig(format="%(message)s", level=logging.DEBUG if said.verbose else logging.ERROR)
+    logging.basicConfig(format="mq_client: %(message)s", level=logging.DEBUG if said.verbose else logging.WARNING)
     try:
         form = Form.BINARY if said.binary else Form.JSON
         with Connection(said.broker, timeout=said.timeout, form=form) as connection:

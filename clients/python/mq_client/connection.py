@@ -111,7 +111,7 @@ class _Link:
             self._writing.release()
 
     def end(self, fault: ReplyLost) -> None:
-        """Ends the connection. All who wait are told why."""
+        """Ends the connection. All requests that wait for their replies fail with this."""
         with self._guard:
             if self._fault is not None:
                 return
@@ -160,7 +160,7 @@ class _Link:
                 waiting.reply.set_result(frame)
 
     def _expire(self) -> None:
-        """Tells those whose time is over. A peer that said nothing since one of them asked isn't there any more."""
+        """Fails the requests whose time is over. A peer that sent nothing since one of them was made is gone."""
         now = time.monotonic()
         with self._guard:
             overdue = {number: one for number, one in self._waiting.items() if one.deadline <= now}
@@ -175,7 +175,7 @@ class _Link:
 class Connection:
     """A connection to the broker at `HOST:PORT`, made at the first request and again whenever it was lost.
 
-    `timeout` is how many seconds a request may take that says nothing else, and `form` how its header is spelled.
+    `timeout` is how many seconds a request may take by default, and `form` how its header is spelled.
     """
 
     def __init__(self, broker: Optional[str] = None, *, timeout: float = 3.0, form: Form = Form.JSON) -> None:
@@ -193,7 +193,7 @@ class Connection:
 
     @property
     def times_made(self) -> int:
-        """How often the connection was made. When it grows, the broker may have forgotten this client's locks."""
+        """How often the connection was made. When it rises, the broker may have forgotten this client's locks."""
         return self._made
 
     @property
@@ -203,9 +203,9 @@ class Connection:
         return max(self._heard_at, link.frame_at if link is not None else 0.0)
 
     def on_request(self, code: RequestCode, handler: Handler) -> None:
-        """Has this called with each request of that code that the broker makes, by the thread that reads.
+        """Calls this with each request of that code that the broker makes, by the thread that reads: it mustn't wait.
 
-        So it mustn't wait for anything. There is one handler for a code: the last one given.
+        There is one handler for a code: the last one given.
         """
         self._handlers[code] = handler
 
@@ -234,7 +234,7 @@ class Connection:
         """
         return self._ask(code, fields, body, time.monotonic() + (self.timeout if timeout is None else timeout))
 
-    def tell(self, code: RequestCode, fields: Mapping[str, str], body: bytes = b"") -> None:
+    def request_one_way(self, code: RequestCode, fields: Mapping[str, str], body: bytes = b"") -> None:
         """A request that isn't answered. Nothing says whether it arrived."""
         deadline = time.monotonic() + self.timeout
         frame = Frame(code, self._number(), fields, body, flag=ONE_WAY_FLAG, form=self.form)
@@ -292,7 +292,7 @@ class Connection:
             time.sleep(min(pause, max(0.0, deadline - time.monotonic())))
 
     def _make(self, deadline: float) -> float:
-        """Makes a link where there is none and the last try is long enough ago. How many seconds to wait else."""
+        """Makes a link if there is none and the last try was long enough ago, else how many seconds to wait."""
         now, old = time.monotonic(), self._link
         if self._is_closed or (old is not None and not old.is_ended):
             return 0.0

@@ -115,7 +115,7 @@ def _read_binary(header: bytes, body: bytes) -> Frame:
     size, = struct.unpack_from(">I", header, at)
     pairs, end = _cut(header, at + 4, size)
     if end != len(header):
-        raise ValueError("the header goes on after its fields")
+        raise ValueError("the header has more after its fields")
     return Frame(code, opaque, _read_pairs(pairs), body, flag, remark.decode(), Form.BINARY)
 
 

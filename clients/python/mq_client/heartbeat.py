@@ -46,7 +46,7 @@ class Heartbeats:
         self._thread.start()
 
     def close(self) -> None:
-        """Ends them, and tells the broker that the client leaves, if it can be reached at once."""
+        """Ends them, and unregisters the client if the broker can be reached at once."""
         self._closing.set()
         if self._thread.is_alive():
             self._thread.join(self._connection.timeout + 1)
@@ -59,7 +59,7 @@ class Heartbeats:
         try:
             self._connection.request(RequestCode.UNREGISTER_CLIENT, fields, timeout=min(1.0, self._connection.timeout))
         except ClientError as fault:
-            log.debug("a client left without a word: %s", fault)
+            log.debug("a client could not be unregistered: %s", fault)
 
     def _run(self) -> None:
         made, due = 0, 0.0

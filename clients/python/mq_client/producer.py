@@ -159,7 +159,7 @@ class Producer:
     def _await(self, what: str, future: Future[SendResult], timeout: Optional[float]) -> SendResult:
         seconds = self.connection.timeout if timeout is None else timeout
         try:
-            return future.result(seconds + 5 * TICK)  # the connection itself tells it by then
+            return future.result(seconds + 5 * TICK)  # by then the connection itself has failed it
         except concurrent.futures.TimeoutError:
             raise _unknown(what, RequestTimeout("no reply came in time")) from None
 

@@ -161,7 +161,7 @@ class Connections(unittest.TestCase):
 
     def test_one_way_requests_are_not_answered(self):
         with Broker({1: echo}) as broker, Connection(broker.address) as connection:
-            connection.tell(1, {"say": "a"})
+            connection.request_one_way(1, {"say": "a"})
             self.assertEqual(connection.request(1, {"say": "b"}).fields["said"], "b")
             self.assertEqual([request.flag for request in broker.of(1)], [2, 0])
 

@@ -51,7 +51,7 @@ class States(unittest.TestCase):
         self.assertEqual([state.take(0).queue_offset, state.take(0).queue_offset, state.take(0)], [1, 2, None])
         self.assertEqual((state.next_undone(), state.take(10).queue_offset), (0, 0))
 
-    def test_a_queue_that_was_lost_begins_behind_what_was_done(self):
+    def test_a_queue_that_was_lost_begins_after_what_was_done(self):
         state = state_with(3, True)
         state.finish(state.take(0))
         second = state.take(0)
@@ -76,7 +76,7 @@ class States(unittest.TestCase):
 
 
 class Consumers(unittest.TestCase):
-    def test_all_queues_are_given_and_the_next_consumer_goes_on(self):
+    def test_all_queues_are_given_and_the_next_consumer_continues(self):
         with MemoryBroker(3) as broker, Connection(broker.address) as connection:
             broker.put(0, *(b"0 %d" % k for k in range(100)))
             broker.put(2, *(b"2 %d" % k for k in range(5)))
@@ -175,7 +175,7 @@ class Consumers(unittest.TestCase):
             with self.assertRaises(ProtocolError):
                 Consumer(connection, "G", "T")
 
-    def test_a_broker_that_stays_away_is_told_once_patience_is_over(self):
+    def test_a_broker_that_stays_away_is_reported_once_patience_is_over(self):
         with self.assertLogs("mq_client", "WARNING"):
             with MemoryBroker(1) as broker:
                 broker.put(0, b"a")
