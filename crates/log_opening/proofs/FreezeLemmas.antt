@@ -155,9 +155,9 @@ reached_is_there segment end k files some has low =
     let up : end / segment * segment ≤ k * segment = mul-le-mul_right segment last in
     let left : 0 < end % segment = omega (arith, up, low, all) in
     let no_more : k ≤ end / segment = ⊎_elim
-        (λ (past : end / segment < k). absurd (let none : ⊥ = omega (arith, ends_first (end / segment) k segment past, low, all, mod-lt end {m = segment} some) in none))
-        (λ (within : k ≤ end / segment). within)
-        (cases_lt (end / segment) k) in
+    (λ (past : end / segment < k). absurd (let none : ⊥ = omega (arith, ends_first (end / segment) k segment past, low, all, mod-lt end {m = segment} some) in none))
+    (λ (within : k ≤ end / segment). within)
+    (cases_lt (end / segment) k) in
     let same : end / segment ≡ k = omega (arith, last, no_more) in
     subst (λ (j : ℕ). 0 < length (bytes_of files (segment_file (whole segment) j))) same (omega (arith, left, has.last)))
     (cases_lt k (end / segment)))
