@@ -54,11 +54,11 @@ fn read_both<R: Reader>(reader: &mut R, four: &Frozen, six: &Frozen) -> Result<[
     Ok(out)
 }
 
-// Writes a log file, syncs it, and reads a frozen piece of it, and one that was frozen at once.
+// Writes a log file, renews it, and reads a frozen piece of it, and one that was frozen at once.
 fn read_pieces<D: Disk>(alloc: Global, disk: &mut D) -> Result<[u8; 5], Fail> {
     let file = LogFile::of(0);
     disk.write_at(file.as_str(), 0, b"abcdef")?;
-    disk.sync(file.as_str())?;
+    disk.renew(file.as_str())?;
     let four = disk.freeze_stored(alloc, 0, 1, 5)?;
     let six = disk.freeze(0, 0, Bytes::copy_from_slice(alloc, b"abcdef")?);
     let mut reader = disk.reader(alloc)?;
@@ -88,11 +88,11 @@ fn read_found<R: Reader>(
     Ok(out)
 }
 
-// Writes a log file, syncs it, and reads what is found of two pieces of it.
+// Writes a log file, renews it, and reads what is found of two pieces of it.
 fn find_pieces<D: Disk>(alloc: Global, disk: &mut D) -> Result<[u8; 3], Fail> {
     let file = LogFile::of(0);
     disk.write_at(file.as_str(), 0, b"abcdef")?;
-    disk.sync(file.as_str())?;
+    disk.renew(file.as_str())?;
     let first = disk.freeze_stored(alloc, 0, 0, 3)?;
     let second = disk.freeze_stored(alloc, 0, 3, 6)?;
     let mut reader = disk.reader(alloc)?;

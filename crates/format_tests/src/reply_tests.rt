@@ -41,7 +41,7 @@ fn piece_of_digits<D: Disk>(alloc: Global, disk: &mut D) -> Result<Frozen, Fail>
 {
     let file = LogFile::of(0);
     disk.write_at(file.as_str(), 0, b"0123456789")?;
-    disk.sync(file.as_str())?;
+    disk.renew(file.as_str())?;
     let piece = disk.freeze_stored(alloc, 0, 0, 10)?;
     Ok(piece)
 }

@@ -1,8 +1,10 @@
 -- A file's bytes, once its piece was added.
-use Rattle.std.proofs.Common.{◌≡◌, ◌⊎◌, ⊎_elim, inl, inr, ap, sym, ◌∙◌, subst, arith, ℕ, ◌+◌, ◌-◌, ◌*◌, ◌/◌, ◌%◌, ◌<◌, ◌≤◌, List, [], length, take, drop, Option, Some, None, IfSome, IsSome, refl}
+use Rattle.std.proofs.Common.{◌≡◌, ◌≢◌, ◌^◌, ◌⊎◌, ⊎_elim, inl, inr, ap, sym, ◌∙◌, subst, arith, ℕ, ◌+◌, ◌-◌, ◌*◌, ◌/◌, ◌%◌, ◌<◌, ◌≤◌, List, [], length, take, drop, Option, Some, None, IfSome, IsSome, refl}
 use Rattle.std.proofs.lemmas.Bool.{cases_lt}
 use Rattle.std.proofs.lemmas.List.{drop-take, take-take}
 use Rattle.std.proofs.Math.Nat.{mul-le-mul_right, div-add-mod, mod-lt}
+use Rattle.mq_bytes.specs.Names.{log_file}
+use Rattle.mq_bytes.proofs.NameLaws.{log_file-injective}
 use Rattle.mq_outside.specs.Covers.{piece_start, piece_end, Covers, HasRange, HoldsRange, PieceHolds}
 use Rattle.mq_outside.specs.Readings.{HasAt}
 use Rattle.mq_outside.specs.Files.{Files, bytes_in, bytes_of}
@@ -153,9 +155,15 @@ reached_is_there segment end k files some has low =
     let up : end / segment * segment ≤ k * segment = mul-le-mul_right segment last in
     let left : 0 < end % segment = omega (arith, up, low, all) in
     let no_more : k ≤ end / segment = ⊎_elim
-    (λ (past : end / segment < k). absurd (let none : ⊥ = omega (arith, ends_first (end / segment) k segment past, low, all, mod-lt end {segment} some) in none))
+    (λ (past : end / segment < k). absurd (let none : ⊥ = omega (arith, ends_first (end / segment) k segment past, low, all, mod-lt end {m = segment} some) in none))
     (λ (within : k ≤ end / segment). within)
     (cases_lt (end / segment) k) in
     let same : end / segment ≡ k = omega (arith, last, no_more) in
     subst (λ (j : ℕ). 0 < length (bytes_of files (segment_file (whole segment) j))) same (omega (arith, left, has.last)))
     (cases_lt k (end / segment)))
+
+-- files that begin at different places have different names
+pub files_apart : (a b : ℕ) → a < b → b < 2 ^ 64 → log_file a ≢ log_file b
+files_apart a b less low same =
+    let is : a ≡ b = log_file-injective a b (omega (arith, less, low)) low same in
+    let none : ⊥ = omega (arith, is, less) in none
