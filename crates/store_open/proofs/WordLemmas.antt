@@ -137,7 +137,7 @@ one_said : {A : Type 0} (f : Setting → Option A) → ((v w : Bor (List ℕ)) �
 one_said f folders verb [] [] fit also e = refl
 one_said f folders verb [] (t ∷ other) fit also e = let words : [] ≡ spelled (choice_of t) ∷ value_text t ∷ flat_map written other = e in absurd cc
 one_said f folders verb (s ∷ said) [] fit also e = let words : spelled (choice_of s) ∷ value_text s ∷ flat_map written said ≡ [] = e in absurd cc
-one_said f folders verb (s ∷ said) (t ∷ other) fit also e =
+one_said {A = A} f folders verb (s ∷ said) (t ∷ other) fit also e =
     let words : spelled (choice_of s) ∷ value_text s ∷ flat_map written said ≡ spelled (choice_of t) ∷ value_text t ∷ flat_map written other = e in
     let names : spelled (choice_of s) ≡ spelled (choice_of t) = cc in
     let values : value_text s ≡ value_text t = cc in
@@ -177,15 +177,15 @@ one_meaning verb words a b are also =
     let both : word_of verb ∷ flat_map written are.said ≡ word_of verb ∷ flat_map written also.said = sym are.words_are ∙ also.words_are in
     let tails : flat_map written are.said ≡ flat_map written also.said = cc in
     record {
-      sync = one_value sync_in _ _ _ _ (one_said sync_in (λ v w e. refl) verb _ _ are.fit also.fit tails) are.once.sync also.once.sync;
-      segment = one_value segment_in _ _ _ _ (one_said segment_in (λ v w e. refl) verb _ _ are.fit also.fit tails) are.once.segment also.once.segment;
-      slots = one_value slots_in _ _ _ _ (one_said slots_in (λ v w e. refl) verb _ _ are.fit also.fit tails) are.once.slots also.once.slots;
-      entries = one_value entries_in _ _ _ _ (one_said entries_in (λ v w e. refl) verb _ _ are.fit also.fit tails) are.once.entries also.once.entries;
-      host = one_value host_in _ _ _ _ (one_said host_in (λ v w e. refl) verb _ _ are.fit also.fit tails) are.once.host also.once.host;
-      store = one_value store_in _ _ _ _ (one_said store_in (λ v w e. ap Some e) verb _ _ are.fit also.fit tails) are.once.store also.once.store;
-      listen = one_value listen_in _ _ _ _ (one_said listen_in (λ v w e. refl) verb _ _ are.fit also.fit tails) are.once.listen also.once.listen;
-      links = one_value links_in _ _ _ _ (one_said links_in (λ v w e. refl) verb _ _ are.fit also.fit tails) are.once.links also.once.links;
-      connections = one_value connections_in _ _ _ _ (one_said connections_in (λ v w e. refl) verb _ _ are.fit also.fit tails) are.once.connections also.once.connections;
+      sync = one_value sync_in are.said also.said _ _ (one_said sync_in (λ v w e. refl) verb are.said also.said are.fit also.fit tails) are.once.sync also.once.sync;
+      segment = one_value segment_in are.said also.said _ _ (one_said segment_in (λ v w e. refl) verb are.said also.said are.fit also.fit tails) are.once.segment also.once.segment;
+      slots = one_value slots_in are.said also.said _ _ (one_said slots_in (λ v w e. refl) verb are.said also.said are.fit also.fit tails) are.once.slots also.once.slots;
+      entries = one_value entries_in are.said also.said _ _ (one_said entries_in (λ v w e. refl) verb are.said also.said are.fit also.fit tails) are.once.entries also.once.entries;
+      host = one_value host_in are.said also.said _ _ (one_said host_in (λ v w e. refl) verb are.said also.said are.fit also.fit tails) are.once.host also.once.host;
+      store = one_value store_in are.said also.said _ _ (one_said store_in (λ v w e. ap Some e) verb are.said also.said are.fit also.fit tails) are.once.store also.once.store;
+      listen = one_value listen_in are.said also.said _ _ (one_said listen_in (λ v w e. refl) verb are.said also.said are.fit also.fit tails) are.once.listen also.once.listen;
+      links = one_value links_in are.said also.said _ _ (one_said links_in (λ v w e. refl) verb are.said also.said are.fit also.fit tails) are.once.links also.once.links;
+      connections = one_value connections_in are.said also.said _ _ (one_said connections_in (λ v w e. refl) verb are.said also.said are.fit also.fit tails) are.once.connections also.once.connections;
     }
 
 one_sizes : (a b : Settings) → SaySame a b → sizes_of a ≡ sizes_of b

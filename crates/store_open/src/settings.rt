@@ -121,7 +121,7 @@ pub(crate) struct About {
 
 impl About {
     fn new(value: &'static str, default: &'static str, text: &'static str) -> About
-        ensures { result.value ≡ value }
+        ensures { result.value.now ≡ value.now }
     {
         About {
             value,
@@ -335,7 +335,7 @@ impl<'a> Settings<'a> {
     /// This option too has its value.
     pub(crate) fn put(&mut self, setting: Setting<'a>)
         requires { IsFree (choice_of setting) self.now }
-        ensures { (said : List Setting) → AreSaid said self.old → AreSaid (said ++ setting ∷ []) self.new }
+        ensures { (said : List Setting) → AreSaid said self.old → AreSaid (said ++ setting.entry ∷ []) self.new }
     {
         match setting {
             Setting::FlushAs(sync) => self.sync = Some(sync),
