@@ -1,6 +1,6 @@
 use Rattle.std.proofs.Common.{refl}
 use Rattle.link_service.proofs.Went.{unread_none, unread_same, same_bytes}
-use Rattle.link_service.proofs.drain.Linked.shut.Goals as goal
+use Rattle.link_service.proofs.linked.Linked.shut.Goals as goal
 
 pub returns-then-is_some : goal.returns-then-is_some
 returns-then-is_some g c = record { went = unread_same _ _ }
