@@ -1,6 +1,6 @@
 //! The line that a run prints where its status isn't 0: the program's name, what happened and where, the status, and what to do.
 
-ghost use Rattle.std.specs.Prelude.{◌≡◌, ◌≤◌, ◌×◌, ◌++◌, IfOk, string_bytes};
+ghost use Rattle.std.specs.Prelude.{◌≡◌, ◌≤◌, ◌++◌, IfOk, string_bytes};
 ghost use Rattle.mq_bytes.specs.Decimal.{digits_of};
 ghost use Rattle.exit_status.specs.Lines.{code_of, device_text, folder_of, line_text, path_text, what_text, told};
 ghost use Rattle.exit_status.specs.declared.end.End.{End as TheEnd};
