@@ -124,6 +124,46 @@ fn tell_lost_log(rt: HostRuntime, alloc: Global, store: &str) -> Result<u8, Allo
     Ok(DAMAGED)
 }
 
+// Prints how a run in this folder ended, whose devices these are, and answers the exit status.
+fn tell_run<'a>(
+    rt: HostRuntime,
+    alloc: Global,
+    verb: Verb,
+    folder: &'a str,
+    address: &'a str,
+    store: &'a FolderStore,
+    status: &Status,
+) -> Result<u8, AllocError> {
+    if is_log_lost(status, store) {
+        return tell_lost_log(rt, alloc, folder);
+    }
+    let scene = Scene {
+        store: folder,
+        address,
+        cause: cause_in(store, status),
+    };
+    tell_end(rt, alloc, verb, status, &scene)?;
+    Ok(status.code)
+}
+
+// Prints that the system gives nothing that waits for connections, and answers the exit status.
+fn tell_no_world<'a>(
+    rt: HostRuntime,
+    alloc: Global,
+    verb: Verb,
+    folder: &'a str,
+    address: &'a str,
+) -> Result<u8, AllocError> {
+    let status = no_world(alloc)?;
+    let scene = Scene {
+        store: folder,
+        address,
+        cause: None,
+    };
+    tell_end(rt, alloc, verb, &status, &scene)?;
+    Ok(status.code)
+}
+
 /// Runs as the arguments ask, over the real devices, and answers the exit status. These are the arguments of this target.
 pub(crate) fn run_target<W: Wait + Threads + Sync>(
     threads: &W,
@@ -132,31 +172,25 @@ pub(crate) fn run_target<W: Wait + Threads + Sync>(
     words: &[&str],
     target: &Target,
 ) -> Result<u8, AllocError> {
-    let address = address_text(alloc, &target.listen)?;
-    let scene = Scene {
-        store: target.store,
-        address: address.as_str(),
-        cause: None,
-    };
+    let text = address_text(alloc, &target.listen)?;
+    let address = text.as_str();
     let Some(world) = world_at(rt, alloc, &target.listen) else {
-        let status = no_world(alloc)?;
-        tell_end(rt, alloc, target.verb, &status, &scene)?;
-        return Ok(status.code);
+        return tell_no_world(rt, alloc, target.verb, target.store, address);
     };
     let store = store_in(rt, alloc, target.store)?;
     let streams = Streams {
         source: StdSource::new(rt),
         sink: StdSink::new(rt),
     };
-    tell_start(rt, alloc, target, address.as_str())?;
+    tell_start(rt, alloc, target, address)?;
     let ended = run(threads, alloc, words, streams, world, store).ended;
-    if is_log_lost(&ended.status, &ended.store) {
-        return tell_lost_log(rt, alloc, target.store);
-    }
-    let scene = Scene {
-        cause: cause_in(&ended.store, &ended.status),
-        ..scene
-    };
-    tell_end(rt, alloc, target.verb, &ended.status, &scene)?;
-    Ok(ended.status.code)
+    tell_run(
+        rt,
+        alloc,
+        target.verb,
+        target.store,
+        address,
+        &ended.store,
+        &ended.status,
+    )
 }
