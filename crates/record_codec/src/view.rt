@@ -1,8 +1,10 @@
 //! A record in place: its bytes are borrowed, and read where they stand.
 
-ghost use Rattle.std.specs.Prelude.{◌≡◌, ◌<◌, ◌^◌, IfOk, option_map};
+ghost use Rattle.std.specs.Prelude.{◌≡◌, ◌<◌, ◌≤◌, ◌^◌, Some, IfOk, length, option_map};
 ghost use Rattle.record_codec.specs.Drafts.{entry_of, IsDraftOf};
-ghost use Rattle.record_codec.specs.Layout.{size as size_of};
+ghost use Rattle.record_codec.specs.Entry.{Entry};
+ghost use Rattle.record_codec.specs.Layout.{layout as layout_of, size as size_of};
+ghost use Rattle.record_codec.specs.Parsed.{parsed};
 ghost use Rattle.record_codec.specs.Props.{value_of};
 
 use crate::draft::{Draft, Place, Record};
@@ -34,7 +36,22 @@ impl<'a> Model for View<'a> {
     ghost invariant = { λ v. IsView v.bytes.now (record { body = v.body; topic = v.topic; props = v.props }) };
 }
 
+// The first so many bytes: the layout of a record that they hold.
+fn front_of(bytes: &[u8], size: u32) -> &[u8]
+    requires { size ≤ length bytes.now }
+    ensures { (r : Entry) → parsed bytes.now ≡ Some r → size ≡ size_of r → result.now ≡ layout_of r }
+{
+    &bytes[..size as usize]
+}
+
 impl<'a> View<'a> {
+    /// The record as it stands in the log, from its first byte to its last.
+    pub fn layout(&self) -> &[u8]
+        ensures { result.now ≡ layout_of self.now }
+    {
+        front_of(self.bytes, self.size())
+    }
+
     /// How many bytes the record has.
     pub fn size(&self) -> u32
         ensures { result ≡ size_of self.now }
