@@ -1,5 +1,5 @@
 -- The level that is due is that of the log.
-use Rattle.std.proofs.Common.{◌≡◌, ◌∙◌, ℕ, zero, suc, ◌+◌, ◌-◌, Bool, true, false, cond, nat_le, nat_lt, List, [], ◌∷◌, map, length, take, drop, slice_get, Option, Some, None, refl, sym, ap, subst, arith}
+use Rattle.std.proofs.Common.{◌≡◌, ◌∙◌, ℕ, zero, suc, ◌+◌, ◌-◌, Bool, true, false, cond, is_some, ◌||◌, nat_le, nat_lt, List, [], ◌∷◌, map, length, take, drop, slice_get, Option, Some, None, refl, sym, ap, subst, arith}
 use Rattle.std.specs.Prelude.{filter, option_map}
 use Rattle.std.proofs.lemmas.List.{take-append-drop, take_at, take-map}
 use Rattle.std.proofs.lemmas.List.Elements.{filter-append}
@@ -8,7 +8,7 @@ use Rattle.record_codec.specs.Entry.{Entry}
 use Rattle.log_model.specs.Admissible.{level_topic}
 use Rattle.log_model.specs.Numbered.{Log, below, queue_min, records_of}
 use Rattle.log_model.specs.Delays.{progress, next_delayed, due_here, due_among, due_delayed, levels}
-use Rattle.delay_view.specs.Levels.{Level, next_time, has_come, due_from, due_of, empty_level}
+use Rattle.delay_view.specs.Levels.{Level, next_time, has_come, is_any_due, due_from, due_of, empty_level}
 use Rattle.delay_view.specs.OfLog.{delivery_time, IsLevelOf, AreLevelsOf}
 
 -- the front of what a filter leaves is what it leaves of the front
@@ -92,3 +92,24 @@ due_of_log log d now ls are =
 -- none of these levels has a message
 pub AreEmpty : List Level → Type 0
 AreEmpty ls = (k : ℕ) (l : Level) → slice_get ls k ≡ Some l → l ≡ empty_level l.spare
+
+-- ---- when one is due
+
+some_by : (b : Bool) (x : ℕ × ℕ) (more : Option (ℕ × ℕ)) → is_some (cond b (Some x) more) ≡ (b || is_some more)
+some_by true x more = refl
+some_by false x more = refl
+
+-- a level is due where the time of one has come
+pub any_due : (now n : ℕ) (ls : List Level) → is_some (due_from now n ls) ≡ is_any_due now ls
+any_due now n [] = refl
+any_due now n (l ∷ ls) =
+    some_by (has_come now (next_time l)) (n, l.copied) (due_from now (n + 1) ls)
+    ∙ ap (λ (b : Bool). has_come now (next_time l) || b) (any_due now (n + 1) ls)
+
+some_mapped : (log : Log) (o : Option (ℕ × Entry)) → is_some (option_map (offset_of log) o) ≡ is_some o
+some_mapped log None = refl
+some_mapped log (Some next) = refl
+
+-- a level is due where one of the log is
+pub is_due_in_log : (log : Log) (d now : ℕ) (ls : List Level) → AreLevelsOf log d ls → is_some (due_of now ls) ≡ is_some (due_delayed log d now)
+is_due_in_log log d now ls are = ap (λ (o : Option (ℕ × ℕ)). is_some o) (due_of_log log d now ls are) ∙ some_mapped log (due_delayed log d now)

@@ -1,5 +1,5 @@
 -- What contracts see of the delay levels, and which is due.
-use Rattle.std.specs.Prelude.{ℕ, Bool, false, ◌+◌, ◌-◌, nat_lt, nat_le, List, [], ◌∷◌, ◌++◌}
+use Rattle.std.specs.Prelude.{ℕ, Bool, false, ◌||◌, ◌+◌, ◌-◌, nat_lt, nat_le, List, [], ◌∷◌, ◌++◌}
 use Rattle.std.specs.Prelude.{take, drop, slice_get, Option, Some, None, if◌then◌else◌}
 
 -- A delay level: how many of its messages were removed, the delivery times of those that stand, how many of these were
@@ -56,3 +56,8 @@ due_from now level (l ∷ more) = if has_come now (next_time l) then Some (level
 -- the lowest level that is due
 abbrev pub due_of : ℕ → List Level → Option (ℕ × ℕ)
 due_of now levels = due_from now 1 levels
+
+-- the time of one of these levels has come
+abbrev pub is_any_due : ℕ → List Level → Bool
+is_any_due now [] = false
+is_any_due now (l ∷ more) = has_come now (next_time l) || is_any_due now more

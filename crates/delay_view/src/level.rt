@@ -142,7 +142,7 @@ impl LevelTable {
     }
 
     // When the next message is to be delivered, `None` where it isn't seen or was removed.
-    fn next_time(&self) -> Option<u64>
+    pub(crate) fn next_time(&self) -> Option<u64>
         ensures { result ≡ next_time self.now }
     {
         if self.copied < self.low {

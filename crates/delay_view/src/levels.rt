@@ -1,7 +1,7 @@
 //! One level among all, and the lowest that is due.
 
-ghost use Rattle.std.specs.Prelude.{◌≡◌, ◌≢◌, ◌<◌, ◌≤◌, ◌+◌, ◌^◌, ℕ, drop, length, slice_get, slice_set, Some, true, OnOk, vec_len};
-ghost use Rattle.delay_view.specs.Levels.{Level, started, with_room, with_time, with_next_seen, with_next_copied, cut_at, due_from};
+ghost use Rattle.std.specs.Prelude.{◌≡◌, ◌≢◌, ◌<◌, ◌≤◌, ◌+◌, ◌^◌, ℕ, ◌||◌, drop, length, slice_get, slice_set, Some, true, OnOk, vec_len};
+ghost use Rattle.delay_view.specs.Levels.{Level, started, with_room, with_time, with_next_seen, with_next_copied, cut_at, due_from, has_come, is_any_due};
 ghost use Rattle.delay_view.specs.Rooms.{is_idle};
 
 use crate::level::LevelTable;
@@ -116,4 +116,27 @@ pub(crate) fn lowest_from(levels: &Vec<LevelTable>, idle: usize, now: u64) -> Op
         number += 1;
     }
     None
+}
+
+// The earlier of two times, or the only one.
+fn sooner(time: Option<u64>, other: Option<u64>) -> Option<u64>
+    ensures { (now : ℕ) → has_come now result ≡ (has_come now time || has_come now other) }
+{
+    match (time, other) {
+        (Some(time), Some(other)) => Some(time.min(other)),
+        (None, _) => other,
+        (_, None) => time,
+    }
+}
+
+// The earliest time at which a level but for the first `idle` ones is due, if one is at any time.
+pub(crate) fn soonest_from(levels: &Vec<LevelTable>, idle: usize) -> Option<u64>
+    requires { idle ≤ vec_len levels.now }
+    ensures { (now : ℕ) → has_come now result ≡ is_any_due now (drop idle levels.now.items) }
+{
+    let mut time = None;
+    for level in &levels[idle..] {
+        time = sooner(time, level.next_time());
+    }
+    time
 }

@@ -1,18 +1,19 @@
 //! The table of the delay levels. Which level is due is found in eighteen steps, however many messages wait.
 
-ghost use Rattle.std.specs.Prelude.{◌≡◌, ◌<◌, ◌≤◌, ◌+◌, ◌-◌, ◌^◌, ◌∷◌, [], ℕ, length, slice_get, slice_set, Some, OnOk, IfOk, option_map};
+ghost use Rattle.std.specs.Prelude.{◌≡◌, ◌<◌, ◌≤◌, ◌+◌, ◌-◌, ◌^◌, ◌∷◌, [], ℕ, length, slice_get, slice_set, Some, OnOk, IfOk, option_map, is_some};
 ghost use Rattle.record_codec.specs.Entry.{Entry};
 ghost use Rattle.log_model.specs.Admissible.{level_topic};
 ghost use Rattle.log_model.specs.Bases.{Base, no_base};
 ghost use Rattle.log_model.specs.Numbered.{Log, above, below, count_of, queue_min, record_at, records_of, with_appended};
 ghost use Rattle.log_model.specs.Delays.{progress as progress_of, due_delayed};
 ghost use Rattle.delay_view.specs.Levels.{Level, empty_level, started, with_room, with_time};
-ghost use Rattle.delay_view.specs.Levels.{with_next_seen, with_next_copied, cut_at, due_of};
+ghost use Rattle.delay_view.specs.Levels.{with_next_seen, with_next_copied, cut_at, due_of, has_come};
 ghost use Rattle.delay_view.specs.OfLog.{AreLevelsOf, CutsLevels, IsLevelOf, IsMessageOf, IsCopyOf, delivery_time, empty_log};
 
 use crate::level::LevelTable;
 use crate::levels::{
-    add_time, copy_one, cut_one, idle_after, lowest_from, make_room, see_one, start_one,
+    add_time, copy_one, cut_one, idle_after, lowest_from, make_room, see_one, soonest_from,
+    start_one,
 };
 use std::alloc::{AllocError, Global};
 use std::marker::Model;
@@ -195,5 +196,21 @@ impl DelayView {
             → result ≡ option_map (λ next. (next.0, progress_of log next.0)) (due_delayed log d now) }
     {
         self.lowest_due(now)
+    }
+
+    // The earliest time at which a level is due. Those that are passed over have nothing to deliver.
+    fn soonest_due(&self) -> Option<u64>
+        ensures { (now : ℕ) → has_come now result ≡ is_some (due_of now self.now) }
+    {
+        soonest_from(&self.levels, self.idle)
+    }
+
+    /// The earliest time at which a level is due, in milliseconds: `due` answers a level from that time on, and none before it.
+    /// `None` where it answers none at any time.
+    pub fn next_due(&self) -> Option<u64>
+        ensures levels { (now : ℕ) → has_come now result ≡ is_some (due_of now self.now) }
+        ensures records { (log : Log) (d now : ℕ) → AreLevelsOf log d self.now → has_come now result ≡ is_some (due_delayed log d now) }
+    {
+        self.soonest_due()
     }
 }

@@ -8,7 +8,7 @@ use Rattle.std.proofs.lemmas.List.Elements.{filter-append}
 use Rattle.mq_bytes.specs.Decimal.{digits_of}
 use Rattle.record_codec.specs.Entry.{Entry}
 use Rattle.log_model.specs.declared.origin.OriginState.{OriginState}
-use Rattle.log_model.specs.declared.origin.OriginState.TheVariants.{Committed as IsCommitted, RolledBack as IsRolledBack, Discarded as IsDiscarded}
+use Rattle.log_model.specs.declared.origin.OriginState.TheVariants.{Open as IsOpen, Committed as IsCommitted, RolledBack as IsRolledBack, Discarded as IsDiscarded}
 use Rattle.log_model.specs.Admissible.{IsAdmissible, half_topic, op_topic, discard_topic, names_half}
 use Rattle.log_model.specs.Bases.{geometry}
 use Rattle.log_model.specs.Kinds.{is_half, is_op, is_copy, is_discard, is_text, origin_text}
@@ -152,7 +152,7 @@ build-marked false false false e renewed settled number state = with_state (buil
 
 -- ---- the table at an index
 
-get-changed : (f : HalfRow → HalfRow) (n : ℕ) (t : HalfTable) (k : ℕ) → slice_get (changed f n t).halves k ≡ cond (nat_eq n (t.low + k)) (option_map f (slice_get t.halves k)) (slice_get t.halves k)
+pub get-changed : (f : HalfRow → HalfRow) (n : ℕ) (t : HalfTable) (k : ℕ) → slice_get (changed f n t).halves k ≡ cond (nat_eq n (t.low + k)) (option_map f (slice_get t.halves k)) (slice_get t.halves k)
 get-changed f n t k = elim (cases_lt n t.low) [
   | inl less ↦ ap (λ (b : Bool). slice_get (cond b t (record t { halves = change f (n - t.low) t.halves })).halves k) (below n t.low less)
       ∙ sym (ap (λ (b : Bool). cond b (option_map f (slice_get t.halves k)) (slice_get t.halves k)) (ne_eqb n (t.low + k) (λ same. omega (arith, same, less))))
@@ -171,7 +171,7 @@ get-changed f n t k = elim (cases_lt n t.low) [
       | inr is ↦ is
     ]
 
-low-changed : (f : HalfRow → HalfRow) (n : ℕ) (t : HalfTable) → (changed f n t).low ≡ t.low
+pub low-changed : (f : HalfRow → HalfRow) (n : ℕ) (t : HalfTable) → (changed f n t).low ≡ t.low
 low-changed f n t = by_test (nat_lt n t.low)
   where
     by_test : (b : Bool) → (cond b t (record t { halves = change f (n - t.low) t.halves })).low ≡ t.low
@@ -252,10 +252,10 @@ module _ (segment : ℕ) (log : Log) (r : Entry) (t : HalfTable) (well : IsWellF
   row_is : (k : ℕ) → slice_get t.halves k ≡ option_map (half_of log) (slice_get (filter is_half log.records) k)
   row_is k = ap (λ (rows : List HalfRow). slice_get rows k) are.halves ∙ get-map (half_of log) (filter is_half log.records) k
 
-  number_is_at : (k : ℕ) (e : Entry) → slice_get (filter is_half log.records) k ≡ Some e → e.queue_offset ≡ t.low + k
+  pub number_is_at : (k : ℕ) (e : Entry) → slice_get (filter is_half log.records) k ≡ Some e → e.queue_offset ≡ t.low + k
   number_is_at k e got = numbers (geometry segment log.base) log.records well k e got ∙ ap (λ (n : ℕ). n + k) (sym are.low)
 
-  small_number : (k : ℕ) (e : Entry) → slice_get (filter is_half log.records) k ≡ Some e → e.queue_offset < 2 ^ 64
+  pub small_number : (k : ℕ) (e : Entry) → slice_get (filter is_half log.records) k ≡ Some e → e.queue_offset < 2 ^ 64
   small_number k e got =
       let was = kept_was is_half log.records k e got in
       let low = low_number e (well.each was.0 e was.1).layout in
@@ -372,17 +372,17 @@ module _ (segment : ℕ) (log : Log) (r : Entry) (t : HalfTable) (well : IsWellF
   -- ---- a half message
 
   module _ (is : is_half r ≡ true) where
-    own_number : r.queue_offset ≡ log.base.queues half_topic 0 + length (filter is_half log.records)
+    pub own_number : r.queue_offset ≡ log.base.queues half_topic 0 + length (filter is_half log.records)
     own_number = half_number (geometry segment log.base) log.records r well follows is
 
-    own_next : r.queue_offset ≡ t.low + length t.halves
+    pub own_next : r.queue_offset ≡ t.low + length t.halves
     own_next =
         let counted : length t.halves ≡ length (filter is_half log.records) = ap length are.halves ∙ length-map (filter is_half log.records) (half_of log) in
         let low = are.low in
         let number = own_number in
         omega (arith, counted, low, number)
 
-    own_small : log.base.queues half_topic 0 + length (filter is_half log.records) < 2 ^ 64
+    pub own_small : log.base.queues half_topic 0 + length (filter is_half log.records) < 2 ^ 64
     own_small = let low = low_number r follows.layout in let number = own_number in omega (arith, low, number)
 
     no_op : is_op r ≡ false
@@ -443,7 +443,7 @@ module _ (segment : ℕ) (log : Log) (r : Entry) (t : HalfTable) (well : IsWellF
         ∙ sym (get-map (half_of (with_appended log (r ∷ []))) (filter is_half log.records) k))
 
     -- nothing is said of it yet
-    unrenewed_itself : is_renewal r.queue_offset r ≡ false
+    pub unrenewed_itself : is_renewal r.queue_offset r ≡ false
     unrenewed_itself =
         let low = low_number r follows.layout in
         not_renewed segment r r.queue_offset follows.admissible (omega (arith, low))
@@ -464,6 +464,19 @@ module _ (segment : ℕ) (log : Log) (r : Entry) (t : HalfTable) (well : IsWellF
     new_there : half_of (with_appended log (r ∷ [])) r ≡ new_row (t.low + length t.halves) (names_or (t.low + length t.halves) (named_by r)) r.offset r.store
     unfolding renewed_by
     new_there = half_row r false unrenewed_itself ∙ new_is ∙ ap (λ (n : ℕ). new_row n (names_or n (named_by r)) r.offset r.store) own_next
+
+    -- what became of an origin that stood before stays
+    pub state_stays : (e : Entry) → told_state (transaction_state (log.records ++ r ∷ []) e.queue_offset) ≡ told_state (transaction_state log.records e.queue_offset)
+    unfolding renewed_by
+    state_stays e = ap (λ (row : HalfRow). row.state) (half_row e (is_renewal e.queue_offset r) refl) ∙ by_test (is_renewal e.queue_offset r)
+      where
+        by_test : (b : Bool) → (cond b (renewed_row r.queue_offset r.store (half_of log e)) (half_of log e)).state ≡ told_state (transaction_state log.records e.queue_offset)
+        by_test true = refl
+        by_test false = refl
+
+    -- the half message itself is open
+    pub new_is_open : told_state (transaction_state (log.records ++ r ∷ []) r.queue_offset) ≡ IsOpen
+    new_is_open = ap (λ (row : HalfRow). row.state) new_there
 
     pub half_follows : (spare : ℕ) → AreHalvesOf (with_appended log (r ∷ [])) (with_half t (named_by r) r.offset r.store spare)
     half_follows spare = record {

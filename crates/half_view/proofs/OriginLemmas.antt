@@ -18,7 +18,7 @@ use Rattle.half_view.proofs.LogLemmas.{and_false}
 use Rattle.half_view.proofs.DueLemmas.{find-filter, find-agree, and_assoc, each_half, row_there, only_there, origin_is}
 
 -- what is found passes
-found_passes : (p : Entry → Bool) (xs : List Entry) (x : Entry) → find p xs ≡ Some x → p x ≡ true
+pub found_passes : (p : Entry → Bool) (xs : List Entry) (x : Entry) → find p xs ≡ Some x → p x ≡ true
 found_passes p [] x found = cc found
 found_passes p (y ∷ xs) x found = by_test (λ there. found_passes p xs x there) (p y) refl found
   where
@@ -27,7 +27,7 @@ found_passes p (y ∷ xs) x found = by_test (λ there. found_passes p xs x there
     by_test rest false is there = rest there
 
 -- what is there, where it passes
-if_passes : (Entry → Bool) → Option Entry → Option Entry
+unfoldable pub if_passes : (Entry → Bool) → Option Entry → Option Entry
 if_passes p None = None
 if_passes p (Some e) = cond (p e) (Some e) None
 
@@ -35,7 +35,7 @@ module _ (segment : ℕ) (log : Log) (t : HalfTable) (well : IsWellFormed (geome
   -- ---- the half message of a number
 
   -- of the half messages with this number there is one at most
-  only_one : (h k : ℕ) (o : Option Entry) (p : Entry → Bool) → h ≡ t.low + k → slice_get (filter is_half log.records) k ≡ o
+  pub only_one : (h k : ℕ) (o : Option Entry) (p : Entry → Bool) → h ≡ t.low + k → slice_get (filter is_half log.records) k ≡ o
       → find (λ x. nat_eq x.queue_offset h && p x) (filter is_half log.records) ≡ if_passes p o
   unfolding if_passes
   only_one h k None p is got = find_none (λ x. nat_eq x.queue_offset h && p x) (filter is_half log.records)
@@ -57,7 +57,7 @@ module _ (segment : ℕ) (log : Log) (t : HalfTable) (well : IsWellFormed (geome
             | inr differs ↦ ap (λ (b : Bool). b && p y) differs
           ])
 
-  half_there : (h place : ℕ) → half_at log.records h place ≡ find (λ x. nat_eq x.queue_offset h && nat_eq x.offset place) (filter is_half log.records)
+  pub half_there : (h place : ℕ) → half_at log.records h place ≡ find (λ x. nat_eq x.queue_offset h && nat_eq x.offset place) (filter is_half log.records)
   half_there h place =
       sym (find-filter (λ x. nat_eq x.queue_offset h && nat_eq x.offset place) is_half log.records
       ∙ find-agree (λ x. is_half x && (nat_eq x.queue_offset h && nat_eq x.offset place)) (λ x. is_half x && nat_eq x.queue_offset h && nat_eq x.offset place)

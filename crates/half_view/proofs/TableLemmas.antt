@@ -1,5 +1,6 @@
 -- The table: what is changed of it, and what is due.
 use Rattle.std.proofs.Common.{◌≡◌, ◌∙◌, ℕ, zero, suc, ◌+◌, ◌-◌, ◌<◌, ◌≤◌, Bool, true, false, cond, nat_lt, List, [], ◌∷◌, length, slice_get, Option, Some, None, refl, sym, ap, subst, arith}
+use Rattle.std.specs.Prelude.{IsSome}
 use Rattle.std.proofs.lemmas.Bool.{ltb-false}
 use Rattle.std.proofs.lemmas.Option.{same_Some}
 use Rattle.half_view.specs.declared.check.Check.{Check}
@@ -53,3 +54,21 @@ due_here now own (x ∷ xs) (suc k) row at due none =
 pub due_absent : (now own : ℕ) (rows : List HalfRow) → NoneIsDue now own rows 0 (length rows) → due_from now own rows ≡ None
 due_absent now own [] none = refl
 due_absent now own (x ∷ xs) none = let parts = next_none now own x xs (length xs) none in due_later now own x xs None parts.0 (due_absent now (own + 1) xs parts.1)
+
+-- where one of them is due, one is found
+pub due_some : (now own : ℕ) (rows : List HalfRow) (k : ℕ) (row : HalfRow) → slice_get rows k ≡ Some row → is_due_row now (own + k) row ≡ true → IsSome (due_from now own rows)
+due_some now own [] k row at due = cc at
+due_some now own (x ∷ xs) k row at due = by_first (λ j there is. due_some now (own + 1) xs j row there is) (is_due_row now own x) refl k at due
+  where
+    by_first : ((j : ℕ) → slice_get xs j ≡ Some row → is_due_row now (own + 1 + j) row ≡ true → IsSome (due_from now (own + 1) xs))
+        → (b : Bool) → is_due_row now own x ≡ b → (i : ℕ) → slice_get (x ∷ xs) i ≡ Some row → is_due_row now (own + i) row ≡ true
+        → IsSome (cond b (Some (check_row own x)) (due_from now (own + 1) xs))
+    by_first rest true first i there is = refl
+    by_first rest false first zero there is =
+        let e : own + 0 ≡ own = omega arith in
+        let same : x ≡ row = same_Some x row there in
+        let here : is_due_row now own x ≡ true = ap (λ (y : HalfRow). is_due_row now own y) same ∙ ap (λ (n : ℕ). is_due_row now n row) (sym e) ∙ is in
+        absurd (cc (sym first ∙ here))
+    by_first rest false first (suc i) there is =
+        let e : own + suc i ≡ own + 1 + i = omega arith in
+        rest i there (subst (λ (n : ℕ). is_due_row now n row ≡ true) e is)

@@ -2,7 +2,7 @@
 use Rattle.std.proofs.Common.{◌≡◌, ◌∙◌, ◌≢◌, ◌⊎◌, inl, inr, ℕ, zero, suc, ◌+◌, ◌-◌, ◌*◌, ◌/◌, ◌^◌, ◌<◌, ◌≤◌, min, List, length, get_or, drop, slice_get, Some, refl, sym, ap, subst, arith, length-drop}
 use Rattle.std.proofs.lemmas.Bool.{cases_lt}
 use Rattle.std.proofs.lemmas.List.{get_or-drop}
-use Rattle.std.proofs.lemmas.Option.{get_or_from_slice_get, slice_get_within, slice_get_read}
+use Rattle.std.proofs.lemmas.Option.{get_or_from_slice_get, slice_get_within, slice_get_read, slice_get-get_or}
 use Rattle.std.proofs.Math.Nat.{pow-succ'}
 use Rattle.std.proofs.Math.Pow.{pow_mono}
 use Rattle.std.proofs.lemmas.Nat.{pow_pos}
@@ -149,6 +149,17 @@ way_ends now nodes height node way j from within before =
     let e : height - height ≡ 0 = omega arith in
     subst (λ (t : ℕ). ArePassed now nodes (2 ^ height) t node) e way.passed j from within before
 
+-- the way goes on to a time that has come
+pub way_goes_on : (now : ℕ) (nodes : List ℕ) (height left steps node : ℕ) → length nodes ≡ 2 * 2 ^ height → AreLeast nodes → steps + left ≡ height
+    → IsOnWay now nodes height steps node → (n : ℕ) × IsOnWay now nodes height height n
+way_goes_on now nodes height zero steps node size least is way = (node, subst (λ (s : ℕ). IsOnWay now nodes height s node) (omega (arith, is)) way)
+way_goes_on now nodes height (suc left) steps node size least is way = elim (cases_lt now (get_or nodes (2 * node) 0)) [
+  | inl late ↦ way_goes_on now nodes height left (steps + 1) (2 * node + 1) size least (omega (arith, is))
+      (way_right now nodes height steps node (2 * node) size least (omega (arith, is)) way refl late)
+  | inr come ↦ way_goes_on now nodes height left (steps + 1) (2 * node) size least (omega (arith, is))
+      (way_left now nodes height steps node (2 * node) (omega (arith, is)) way refl come)
+]
+
 -- where the root has not come, no time has
 pub none_come : (now : ℕ) (nodes : List ℕ) (height : ℕ) → length nodes ≡ 2 * 2 ^ height → AreLeast nodes → now < get_or nodes 1 0
     → (j : ℕ) → 2 ^ height ≤ j → j < length nodes → now < get_or nodes j 0
@@ -176,6 +187,20 @@ time_found nodes half node time behind at =
     let e : half + (node - half) ≡ node = omega (arith, behind) in
     slice_get_read (drop half nodes) (length (drop half nodes)) (node - half) time refl (omega (arith, size, within, behind))
     (sym (get_or-drop half nodes (node - half) time ∙ ap (λ (n : ℕ). get_or nodes n time) e ∙ get_or_from_slice_get nodes node time time at))
+
+-- one time is that of the root, or earlier
+pub root_comes : (nodes : List ℕ) (height : ℕ) → length nodes ≡ 2 * 2 ^ height → AreLeast nodes
+    → (k : ℕ) × (time : ℕ) × (slice_get (drop (length nodes / 2) nodes) k ≡ Some time) × (time ≤ get_or nodes 1 0)
+root_comes nodes height size least =
+    let root = get_or nodes 1 0 in
+    let end = way_goes_on root nodes height height 0 1 size least (omega arith) (way_begins root nodes height (omega arith)) in
+    let low = end.1.low in
+    let high = end.1.high in (
+      end.0 - length nodes / 2,
+      get_or nodes end.0 0,
+      time_found nodes (length nodes / 2) end.0 (get_or nodes end.0 0) (omega (arith, low, size)) (slice_get-get_or nodes end.0 0 (omega (arith, high, size))),
+      end.1.come,
+    )
 
 pub none_of_none : (now : ℕ) (nodes : List ℕ) → length nodes ≡ 0 → AreAllLater now (drop (length nodes / 2) nodes) (length (drop (length nodes / 2) nodes))
 none_of_none now nodes none k time less at = let size = length-drop (length nodes / 2) nodes in absurd (omega (arith, size, none, less))

@@ -1,15 +1,15 @@
 -- The times of half messages, and what they say of what is due.
 use Rattle.std.proofs.Common.{◌≡◌, ◌∙◌, inl, inr, ℕ, ◌+◌, ◌-◌, ◌^◌, ◌<◌, ◌≤◌, ◌&&◌, Bool, true, false, cond, nat_le, min, List, [], ◌∷◌, ◌++◌, length, set, slice_get, Some, refl, sym, ap, subst, arith, length-set}
-use Rattle.std.specs.Prelude.{◌==◌}
+use Rattle.std.specs.Prelude.{◌==◌, IsSome}
 use Rattle.std.proofs.lemmas.Bool.{cases_lt, cases_Bool, leb-true, le-leb}
 use Rattle.std.proofs.lemmas.List.{length_push}
 use Rattle.std.proofs.lemmas.Option.{same_Some}
 use Rattle.half_view.specs.declared.row.HalfRow.{HalfRow}
-use Rattle.half_view.specs.Halves.{is_due_row, is_open}
+use Rattle.half_view.specs.Halves.{is_due_row, is_open, due_from}
 use Rattle.half_view.specs.Due.{due_time, AreTimed}
 use Rattle.half_view.specs.Times.{AreAllLater}
 use Rattle.half_view.proofs.ListLemmas.{get_there, get_within, at_set, at_push}
-use Rattle.half_view.proofs.TableLemmas.{NoneIsDue}
+use Rattle.half_view.proofs.TableLemmas.{NoneIsDue, due_some}
 
 -- ---- what changes
 
@@ -133,4 +133,16 @@ found_due now limit low rows times k time are is at come later = elim (cases_lt 
         later_none now low rows times k k are (omega arith) (subst (λ (n : ℕ). AreAllLater n times k) is later),
       ))
   | inr past ↦ absurd (let never = are.rest k time past at in omega (arith, never, is, come))
+]
+
+-- where a time has come before the one that never does, one is due
+pub some_due : (now low : ℕ) (rows : List HalfRow) (times : List ℕ) (k time : ℕ) → AreTimed low rows times → now < 2 ^ 64 - 1 → slice_get times k ≡ Some time → time ≤ now
+    → IsSome (due_from now low rows)
+some_due now low rows times k time are small at come = elim (cases_lt k (length rows)) [
+  | inl within ↦
+      (let row = get_there rows k within in
+      let time_is = are.each k time row.0 row.1 at in
+      let most : due_time (low + k) row.0 ≤ min now (2 ^ 64 - 2) = omega (arith, time_is, small, come) in
+      due_some now low rows k row.0 row.1 (come_is_due (row.0.names == low + k) (is_open row.0.state) row.0.due now most))
+  | inr past ↦ absurd (let never = are.rest k time past at in omega (arith, never, small, come))
 ]

@@ -38,7 +38,8 @@ pub(crate) fn is_copy_flag(sysflag: u32) -> bool
 
 // ---- records
 
-pub(crate) fn is_half(view: &View<'_>) -> bool
+/// The record is a half message: an origin or a renewal.
+pub fn is_half(view: &View<'_>) -> bool
     ensures { result ≡ is_half_entry view.now }
 {
     is_half_topic(view.topic())
@@ -98,15 +99,15 @@ fn number_of(bytes: &[u8]) -> Option<u64>
     }
 }
 
-// The queue offset that a half message names.
-pub(crate) fn named_half(view: &View<'_>) -> Option<u64>
+/// The queue offset that a half message names: a renewal that of its origin.
+pub fn named_half(view: &View<'_>) -> Option<u64>
     ensures { result ≡ number_at (origin_text view.now) }
 {
     number_in(view.prop("TRAN_PREPARED_QUEUE_OFFSET")?)
 }
 
-// The queue offset that an op record names.
-pub(crate) fn rolled_back(view: &View<'_>) -> Option<u64>
+/// The queue offset that an op record names. `None` of each other record.
+pub fn rolled_back(view: &View<'_>) -> Option<u64>
     ensures { result ≡ rolled_back_by view.now }
 {
     if is_op(view) {

@@ -15,5 +15,6 @@ mod view;
 
 pub use check::Check;
 pub use head::Head;
+pub use kinds::{is_half, named_half, rolled_back};
 pub use row::HalfRow;
 pub use view::HalfView;

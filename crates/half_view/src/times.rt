@@ -133,6 +133,18 @@ impl Times {
         Some(node - self.nodes.len() / 2)
     }
 
+    // The earliest of the times, where there are any.
+    pub(crate) fn earliest(&self) -> Option<u64>
+        ensures none { IfNone result (length self.now ≡ 0) }
+        ensures later { IfSome result (λ earliest. (now : ℕ) → now < earliest → AreAllLater now self.now (length self.now)) }
+        ensures come { IfSome result (λ earliest. (k : ℕ) × (time : ℕ) × (slice_get self.now k ≡ Some time) × (time ≤ earliest)) }
+    {
+        if self.nodes.is_empty() {
+            return None;
+        }
+        Some(self.nodes[1])
+    }
+
     // A tree of so many nodes, whose times never come.
     fn of_never(alloc: Global, count: usize, height: u32) -> Result<Times, AllocError>
         requires { count ≡ 2 * 2 ^ height }

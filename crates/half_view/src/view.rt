@@ -1,18 +1,18 @@
 //! The table of the half messages. A half message is a row; a record that settles an origin, or a renewal of it, changes its
 //! row. All is told of the whole log: what is appended counts at once.
 
-ghost use Rattle.std.specs.Prelude.{◌≡◌, ◌<◌, ◌≤◌, ◌+◌, ◌∷◌, [], ◌^◌, ℕ, OnOk, Some, true, false, find, option_map, IfSome};
+ghost use Rattle.std.specs.Prelude.{◌≡◌, ◌<◌, ◌≤◌, ◌+◌, ◌∷◌, [], ◌^◌, ℕ, OnOk, Some, None, true, false, find, option_map, IfSome, IsSome};
 ghost use Rattle.std.specs.List.Sorted.{IsNonDecreasingBy};
 ghost use Rattle.record_codec.specs.Entry.{Entry};
 ghost use Rattle.log_model.specs.Admissible.{half_topic, number_at};
 ghost use Rattle.log_model.specs.Bases.{Base, geometry, no_base};
 ghost use Rattle.log_model.specs.Kinds.{is_half as is_half_entry, origin_text};
 ghost use Rattle.log_model.specs.Log.{Follows, IsWellFormed};
-ghost use Rattle.log_model.specs.Numbered.{Log, above, count_of, with_appended};
+ghost use Rattle.log_model.specs.Numbered.{Log, above, count_of, queue_max, with_appended};
 ghost use Rattle.log_model.specs.Origins.{told_state};
 ghost use Rattle.log_model.specs.Transactions.{half_at, is_origin, transaction_state};
 ghost use Rattle.half_view.specs.declared.row.HalfRow.{HalfRow};
-ghost use Rattle.half_view.specs.Halves.{HalfTable, row_at, index_of, renewed_row, changed, with_half, with_settled, cut_at};
+ghost use Rattle.half_view.specs.Halves.{HalfTable, next_of, row_at, index_of, renewed_row, changed, with_half, with_settled, cut_at};
 ghost use Rattle.half_view.specs.Halves.{family_at, due_of, place_of, if_at, origin_at, origin_named, settling_number};
 ghost use Rattle.half_view.specs.OfLog.{AreHalvesOf, CutsHalves, empty_log, origin_in};
 ghost use Rattle.half_view.specs.OfLog.{due_origin, check_of as check_of_origin, settling_in};
@@ -68,6 +68,15 @@ impl HalfView {
             halves: Vec::new(alloc),
             times: Times::new(alloc),
         }
+    }
+
+    /// The queue offset of the next half message.
+    pub fn end(&self) -> u64
+        ensures table { result ≡ next_of self.now }
+        ensures records { (segment : ℕ) (log : Log) → IsWellFormed (geometry segment log.base) log.records → AreHalvesOf log self.now
+            → result ≡ queue_max log half_topic 0 }
+    {
+        self.low + self.halves.len() as u64
     }
 
     /// Makes room for a half message more. Nothing else changes, at `Err` either.
@@ -188,8 +197,8 @@ impl HalfView {
         named_at(&self.halves, place)
     }
 
-    // The queue offset that the half message names of which this record is a copy.
-    fn committed(&self, view: &View<'_>) -> Option<u64>
+    /// The queue offset that the half message names of which this record is a committed copy; the places must not fall.
+    pub fn committed(&self, view: &View<'_>) -> Option<u64>
         ensures { IsNonDecreasingBy place_of self.now.halves → result ≡ committed_by self.now view.now }
     {
         if is_copy(view) {
@@ -199,8 +208,8 @@ impl HalfView {
         }
     }
 
-    // The same of a discarded copy.
-    fn discarded(&self, view: &View<'_>) -> Option<u64>
+    /// The same of a discarded copy.
+    pub fn discarded(&self, view: &View<'_>) -> Option<u64>
         ensures { IsNonDecreasingBy place_of self.now.halves → result ≡ discarded_by self.now view.now }
     {
         if is_discard(view) {
@@ -339,5 +348,27 @@ impl HalfView {
             → result ≡ option_map (check_of_origin log.records) (due_origin log.records now) }
     {
         self.due_check(now)
+    }
+
+    // The earliest time at which an origin is due.
+    fn earliest_due(&self) -> Option<u64>
+        ensures before { (now : ℕ) → IfSome result (λ time. now < time) → due_of now self.now ≡ None }
+        ensures at { IfSome result (λ time. IsSome (due_of time self.now)) }
+    {
+        let time = self.times.earliest()?;
+        if time == NEVER { None } else { Some(time) }
+    }
+
+    /// The earliest time at which an origin is due for a check-back, as things are, in milliseconds: none is due before it, and
+    /// one is at it. `None` exactly where no origin is open.
+    pub fn next_due(&self) -> Option<u64>
+        ensures before { (now : ℕ) → IfSome result (λ time. now < time) → due_of now self.now ≡ None }
+        ensures at { IfSome result (λ time. IsSome (due_of time self.now)) }
+        ensures records { (segment : ℕ) (log : Log) → IsWellFormed (geometry segment log.base) log.records → AreHalvesOf log self.now
+            → (now : ℕ) → IfSome result (λ time. now < time) → due_origin log.records now ≡ None }
+        ensures found { (segment : ℕ) (log : Log) → IsWellFormed (geometry segment log.base) log.records → AreHalvesOf log self.now
+            → IfSome result (λ time. IsSome (due_origin log.records time)) }
+    {
+        self.earliest_due()
     }
 }
