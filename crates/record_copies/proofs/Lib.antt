@@ -1,0 +1,3 @@
+pub mod NumberLemmas
+mod Pairs
+mod WholeLemmas
