@@ -25,6 +25,8 @@ use Rattle.pending_log.specs.Rows.{AreAlike, AreRowsOf}
 use Rattle.pending_log.specs.declared.rows.Row.{Row}
 use Rattle.pending_log.proofs.LogLemmas.{place_past}
 use Rattle.broker_core.specs.declared.parts.Parts.{Parts}
+use Rattle.level_records.specs.declared.levels.Levels.{Levels}
+use Rattle.level_records.specs.OfLog.{HasLevels}
 use Rattle.broker_core.specs.Represents.{Represents, AreOut, AreTabled, AreCovered, HasRoom, turn_of}
 use Rattle.broker_core.specs.Appends.{HasRoomFor, MayStand}
 use Rattle.broker_core.proofs.TableLemmas.{MoreRoom, NewTable, room_made, there_is, as_added, is_its_table, to_view, from_view, map_push, tabled_kept, tabled_push}
@@ -66,6 +68,7 @@ represents_roomier old rows queues s are first items kept tables =
       locks = are.locks;
       names = are.names;
       kept = are.kept;
+      levels = are.levels;
     }
 
 -- there is room for one record more of the queue
@@ -133,13 +136,14 @@ covered_longer old s r within are =
     }
 
 -- the parts with a record more
-pub represents_appended : (old : Parts) (s : State) (d : Draft) (p : Place) (table : ℕ) (pending : PendingPart) (queues : List Table) (rows : RowTable)
+pub represents_appended : (old : Parts) (s : State) (d : Draft) (p : Place) (table : ℕ) (pending : PendingPart) (queues : List Table) (rows : RowTable) (levels : Levels)
     → Represents old s → MayStand s d p → IsRecord (entry_of d p) → number_of old.queues d.topic d.queue ≡ Some table
     → pending ≡ appended old.pending (entry_of d p) → IsPendingOf (with_appended s.log (entry_of d p ∷ [])) pending
     → HasUnit old.queues table (entry_of d p) queues
     → rows.items ≡ old.rows.items ++ record { place = p.offset; size = draft_size d; table = table } ∷ [] → AreRowsOf (with_appended s.log (entry_of d p ∷ [])) rows
-    → Represents (record old { pending = pending; queues = queues; rows = rows; now = p.store }) (with_records s p.store (entry_of d p ∷ []))
-represents_appended old s d p table pending queues rows are may layout mine pending_is is_pending unit items are_rows =
+    → HasLevels (with_appended s.log (entry_of d p ∷ [])) s.dispatched levels
+    → Represents (record old { pending = pending; queues = queues; rows = rows; now = p.store; levels = levels }) (with_records s p.store (entry_of d p ∷ []))
+represents_appended old s d p table pending queues rows levels are may layout mine pending_is is_pending unit items are_rows whole =
     let r : Entry = entry_of d p in
     let n = s.dispatched - s.log.base.records in
     let numbers = are.numbers in
@@ -193,4 +197,5 @@ represents_appended old s d p table pending queues rows are may layout mine pend
       locks = are.locks;
       names = are.names;
       kept = are.kept;
+      levels = whole;
     }

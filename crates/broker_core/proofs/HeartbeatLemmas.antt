@@ -40,6 +40,7 @@ represents_clients old clients s table are has =
       locks = are.locks;
       names = are.names;
       kept = are.kept;
+      levels = are.levels;
     }
 
 pub does_beat : (old : Parts) (link : ℕ) (host : List ℕ) (now : ℕ) (b : Said)

@@ -27,3 +27,11 @@ pub mod TopicLemmas
 pub mod TurnLemmas
 pub mod GroupLemmas
 pub mod HeartbeatLemmas
+mod PairLemmas
+mod LevelLemmas
+mod SeenLevelLemmas
+mod DelayedLemmas
+mod DeliverLemmas
+mod DueLemmas
+mod MadeLemmas
+mod MessageLemmas

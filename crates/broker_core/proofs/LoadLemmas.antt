@@ -1,22 +1,30 @@
 -- One record more is loaded.
-use Rattle.std.proofs.Common.{◌≡◌, ⊎_elim, refl, ap, sym, ◌∙◌, subst, arith, ℕ, zero, suc, ◌+◌, ◌<◌, ◌≤◌, ◌^◌, ◌==◌, ◌&&◌, max, min, cond, find, is_some, Bool, true, false, List, [], ◌∷◌, ◌++◌, length, map, codes, slice_get, slice_set, Option, Some, None, Result, Ok, Err, OnOk}
-use Rattle.std.specs.Str.{bytes_eq}
+use Rattle.std.proofs.Common.{◌≡◌, ⊎_elim, refl, ap, sym, ◌∙◌, subst, arith, ℕ, zero, suc, ◌+◌, ◌-◌, ◌<◌, ◌≤◌, ◌^◌, ◌==◌, ◌&&◌, max, min, cond, find, is_some, Bool, true, false, List, [], ◌∷◌, ◌++◌, length, map, codes, slice_get, slice_set, Option, Some, None, Result, Ok, Err, OnOk}
+use Rattle.std.specs.Prelude.{ℤ, pos, neg_ℤ, nat_lt, nat_le, drop, if◌then◌else◌}
+use Rattle.std.specs.Str.{bytes_eq, all_ascii_digits}
 use Rattle.std.proofs.lemmas.Bool.{cases_Bool, false_from_ne_true}
 use Rattle.std.specs.Option.{option_map, option_or, unwrap_or}
 use Rattle.std.proofs.lemmas.List.{length-map}
 use Rattle.std.proofs.lemmas.List.Elements.{All-cons, All-push}
 use Rattle.std.proofs.lemmas.Slice.Eq.{bytes_eq-Decides}
+use Rattle.std.proofs.Math.Seq.{take-append_seam}
+use Rattle.std.specs.Str.Parse.{digits_value, starts_with_minus}
+use Rattle.mq_bytes.specs.Decimal.{decimal_value, number_up_to}
 use Rattle.record_codec.specs.Entry.{Entry}
 use Rattle.record_codec.specs.Layout.{size, is_legal}
 use Rattle.record_codec.specs.Props.{value_of}
 use Rattle.record_codec.specs.Units.{unit_of}
 use Rattle.record_codec.specs.declared.unit.Unit.{Unit as QueueUnit}
 use Rattle.log_model.specs.Admissible.{is_system_topic}
-use Rattle.log_model.specs.Bases.{no_base}
-use Rattle.log_model.specs.Numbered.{queue_max}
+use Rattle.log_model.specs.Bases.{no_base, geometry}
+use Rattle.log_model.specs.Drafts.{text_in}
+use Rattle.log_model.specs.Kinds.{is_delayed}
+use Rattle.log_model.specs.Log.{IsWellFormed}
+use Rattle.log_model.specs.Numbered.{Log, IsLawful, queue_max, with_appended}
 use Rattle.log_model.specs.Queues.{queue_of}
 use Rattle.log_model.specs.Transactions.{last_of}
-use Rattle.log_model.proofs.Places.{end_of-append}
+use Rattle.log_model.proofs.Places.{end_of-append, well_formed_take}
+use Rattle.level_records.specs.OfLog.{HasLevels}
 use Rattle.pending_log.specs.Rows.{AreAlike, AreRowsOf}
 use Rattle.pending_log.specs.declared.rows.Row.{Row}
 use Rattle.queue_view.specs.Added as view
@@ -34,7 +42,7 @@ use Rattle.group_tables.specs.declared.groups.Groups.{Groups}
 use Rattle.group_tables.proofs.OffsetLemmas.{in_turn}
 use Rattle.broker_core.specs.declared.loaded.Loaded.{Loaded}
 use Rattle.broker_core.specs.Represents.{AreTabled, AreTablesOf, stored_unit, IsNamed}
-use Rattle.broker_core.specs.Loads.{whole_log, topic_row, known_with, own_with, AreForOwnTopics, IsLoadedFrom, IsLoadedWith}
+use Rattle.broker_core.specs.Loads.{whole_log, topic_row, known_with, own_with, real_with, AreForOwnTopics, IsLoadedFrom, IsLoadedWith}
 use Rattle.broker_core.proofs.TableLemmas.{there_is, as_added, is_its_table, to_view, from_view, map_push, tabled_kept, tabled_push}
 use Rattle.broker_core.proofs.SeenLemmas.{number_at, none_of}
 use Rattle.broker_core.proofs.TopicLemmas.{made_count}
@@ -71,15 +79,48 @@ queues_with_own topic queue rows other = ⊎_elim
     (λ (plain : is_system_topic topic ≡ false). rw plain (queues_with_queue topic queue rows other))
     (cases_Bool (is_system_topic topic))
 
+queues_with_real : (o : Option (List ℕ)) (r : Entry) (rows : List TopicRow) (other : List ℕ) → queues_in (with_real_queue o r rows) other ≡ real_with (queues_in rows) o r other
+queues_with_real None r rows other = refl
+queues_with_real (Some topic) r rows other = queues_with_own topic (digits_value 10 (text_in (codes "REAL_QID") r.props)) rows other
+
 -- the topics of one record more
-pub topics_push : (records : List Entry) (r : Entry) (rows : List TopicRow) → value_of (codes "REAL_TOPIC") r.props ≡ None
-    → with_topics_of (records ++ r ∷ []) rows ≡ with_own_queue r.topic r.queue (with_topics_of records rows)
-topics_push [] r rows own = ap (λ (o : Option (List ℕ)). with_real_queue o r (with_own_queue r.topic r.queue rows)) own
-topics_push (q ∷ records) r rows own = topics_push records r (with_real_queue (value_of (codes "REAL_TOPIC") q.props) q (with_own_queue q.topic q.queue rows)) own
+topics_push : (records : List Entry) (r : Entry) (rows : List TopicRow) → with_topics_of (records ++ r ∷ []) rows
+    ≡ with_real_queue (value_of (codes "REAL_TOPIC") r.props) r (with_own_queue r.topic r.queue (with_topics_of records rows))
+topics_push [] r rows = refl
+topics_push (q ∷ records) r rows = topics_push records r (with_real_queue (value_of (codes "REAL_TOPIC") q.props) q (with_own_queue q.topic q.queue rows))
 
 -- two tables of topics that say the same say the same with a queue more
 own_same : (some other : List ℕ → Option ℕ) → ((topic : List ℕ) → some topic ≡ other topic) → (topic : List ℕ) (queue : ℕ) (at : List ℕ) → own_with some topic queue at ≡ own_with other topic queue at
 own_same some other same topic queue at = rw (same topic, same at) refl
+
+pub real_same : (some other : List ℕ → Option ℕ) → ((topic : List ℕ) → some topic ≡ other topic) → (o : Option (List ℕ)) (r : Entry) (at : List ℕ) → real_with some o r at ≡ real_with other o r at
+real_same some other same None r at = same at
+real_same some other same (Some topic) r at = own_same some other same topic (digits_value 10 (text_in (codes "REAL_QID") r.props)) at
+
+-- a table of topics that says what the topics of some records are says it with one record more
+pub topics_with : (counts : List ℕ → Option ℕ) (records : List Entry) (rows : List TopicRow) (r : Entry) → ((topic : List ℕ) → counts topic ≡ queues_in (with_topics_of records rows) topic)
+    → (other : List ℕ) → real_with (own_with counts r.topic r.queue) (value_of (codes "REAL_TOPIC") r.props) r other ≡ queues_in (with_topics_of (records ++ r ∷ []) rows) other
+topics_with counts records rows r same other =
+    let before = with_topics_of records rows in
+    let real = value_of (codes "REAL_TOPIC") r.props in
+    real_same (own_with counts r.topic r.queue) (queues_in (with_own_queue r.topic r.queue before))
+    (λ topic. own_same counts (queues_in before) same r.topic r.queue topic ∙ sym (queues_with_own r.topic r.queue before topic)) real r other
+    ∙ sym (queues_with_real real r (with_own_queue r.topic r.queue before) other)
+    ∙ ap (λ (ts : List TopicRow). queues_in ts other) (sym (topics_push records r rows))
+
+-- ---- the queue that a message is for
+
+read_plain : (minus digits : Bool) (x : Option ℤ) (m : ℕ) (n : ℤ) → minus ≡ false → (if minus then x else option_map pos (if digits then Some m else None)) ≡ Some n → n ≡ pos m
+read_plain true digits x m n plain is = absurd (cc)
+read_plain false true x m n plain is = cc
+read_plain false false x m n plain is = absurd (cc)
+
+-- a text without a sign that is read as a number is read as the value of its digits
+pub digits_read : (text : List ℕ) (n : ℤ) → starts_with_minus text ≡ false → decimal_value text ≡ Some n → n ≡ pos (digits_value 10 text)
+unfolding decimal_value
+digits_read text n plain is =
+    read_plain (starts_with_minus text) (nat_lt 0 (length text) && all_ascii_digits text && nat_le (digits_value 10 text) (2 ^ 63 - 1))
+    (option_map (λ k. neg_ℤ (pos k)) (number_up_to (2 ^ 63) (drop 1 text))) (digits_value 10 text) n plain is
 
 -- ---- lists
 
@@ -88,8 +129,8 @@ last_push [] r = refl
 last_push (q ∷ []) r = refl
 last_push (q ∷ s ∷ records) r = last_push (s ∷ records) r
 
-own_push : (records : List Entry) (r : Entry) → AreForOwnTopics records → value_of (codes "REAL_TOPIC") r.props ≡ None → AreForOwnTopics (records ++ r ∷ [])
-own_push [] r are own zero q at = let same : r ≡ q = some_one at in subst (λ (e : Entry). value_of (codes "REAL_TOPIC") e.props ≡ None) same own
+own_push : (records : List Entry) (r : Entry) → AreForOwnTopics records → (is_delayed r ≡ false → value_of (codes "REAL_TOPIC") r.props ≡ None) → AreForOwnTopics (records ++ r ∷ [])
+own_push [] r are own zero q at = let same : r ≡ q = some_one at in subst (λ (e : Entry). is_delayed e ≡ false → value_of (codes "REAL_TOPIC") e.props ≡ None) same own
 own_push [] r are own (suc k) q at = cc at
 own_push (p ∷ records) r are own zero q at = are zero q at
 own_push (p ∷ records) r are own (suc k) q at = own_push records r (λ j s there. are (suc j) s there) own k q at
@@ -125,22 +166,30 @@ unit_added records rows r row mid new u store is_unit is_store alike tabled tabl
 
 -- ---- all of it
 
+-- a log without its last record is one
+lawful_before : (segment : ℕ) (records : List Entry) (r : Entry) → IsLawful segment (whole_log (records ++ r ∷ [])) → IsLawful segment (whole_log records)
+lawful_before segment records r lawful =
+    let S = geometry segment no_base in
+    subst (λ (rs : List Entry). IsWellFormed S rs) (take-append_seam records (r ∷ [])) (well_formed_take S (length records) (records ++ r ∷ []) lawful)
+
 -- what a load of a record did
-pub loads : (saved : List TopicRow) (records : List Entry) (r : Entry) (old new : Loaded) (row : Row) → IsLoadedFrom saved records old → value_of (codes "REAL_TOPIC") r.props ≡ None
+pub loads : (saved : List TopicRow) (records : List Entry) (r : Entry) (old new : Loaded) (row : Row) → IsLoadedFrom saved records old
+    → (is_delayed r ≡ false → value_of (codes "REAL_TOPIC") r.props ≡ None)
     → AreRowsOf (whole_log (records ++ r ∷ [])) new.rows → new.rows.items ≡ old.rows.items ++ row ∷ []
     → AreTabled new.queues (records ++ r ∷ []) (old.rows.items ++ row ∷ []) × AreTablesOf no_base (records ++ r ∷ []) 0 new.queues
-    → ((other : List ℕ) → queues_of new.topics other ≡ own_with (queues_of old.topics) r.topic r.queue other)
+    → ((other : List ℕ) → queues_of new.topics other ≡ real_with (own_with (queues_of old.topics) r.topic r.queue) (value_of (codes "REAL_TOPIC") r.props) r other)
+    → ((segment : ℕ) (log : Log) → HasLevels log 0 old.levels → IsLawful segment (with_appended log (r ∷ [])) → HasLevels (with_appended log (r ∷ [])) 0 new.levels)
     → new.end ≡ r.offset + size r → new.store ≡ r.store → new.store < 2 ^ 62 → new.groups ≡ old.groups
     → IsLoadedFrom saved (records ++ r ∷ []) new
-loads saved records r old new row is own rows items tables topics end store low groups = record {
+loads saved records r old new row is own rows items tables topics levels end store low groups = record {
   rows = rows;
   tabled = subst (λ (xs : List Row). AreTabled new.queues (records ++ r ∷ []) xs) (sym items) tables.0;
   queues = tables.1;
-  topics = λ other. topics other ∙ own_same (queues_of old.topics) (queues_in (with_topics_of records saved)) is.topics r.topic r.queue other
-      ∙ sym (queues_with_own r.topic r.queue (with_topics_of records saved) other) ∙ ap (λ (ts : List TopicRow). queues_in ts other) (sym (topics_push records r saved own));
+  topics = λ other. topics other ∙ topics_with (queues_of old.topics) records saved r is.topics other;
   plain = is.plain;
   names = is.names;
   own = own_push records r is.own own;
+  levels = λ segment lawful. levels segment (whole_log records) (is.levels segment (lawful_before segment records r lawful)) lawful;
   end = end ∙ sym (end_of-append no_base records r);
   store = store ∙ ap store_time (sym (last_push records r));
   low = low;
@@ -198,6 +247,7 @@ loads_known saved old topic n is plain legal known = record {
   plain = All-push IsTopic saved (topic_row topic n) is.plain plain;
   names = All-push IsNamed saved (topic_row topic n) is.names legal;
   own = is.own;
+  levels = is.levels;
   end = is.end;
   store = is.store;
   low = is.low;
@@ -224,6 +274,7 @@ loads_topic saved old new topic n is plain legal unknown others made =
       plain = All-push IsTopic saved (topic_row topic n) is.plain plain;
       names = All-push IsNamed saved (topic_row topic n) is.names legal;
       own = is.own;
+      levels = is.levels;
       end = is.end;
       store = is.store;
       low = is.low;
@@ -282,6 +333,7 @@ loads_offset saved records kept old groups group topic queue offset end cut (Ok 
       plain = is.plain;
       names = is.names;
       own = is.own;
+      levels = is.levels;
       end = is.end;
       store = is.store;
       low = is.low;

@@ -17,8 +17,8 @@ use Rattle.broker_model.specs.Lawful.{IsTopic}
 use Rattle.broker_model.specs.Events as model
 use Rattle.broker_model.specs.Refusals.{plain_reply, refusal_of, send_queues, made_queues}
 use Rattle.broker_model.specs.Appended.{request_drafts}
-use Rattle.broker_model.specs.Sends.{is_half_send, level_of, plain_draft}
-use Rattle.broker_model.specs.Answers.{answer_of, request_answer}
+use Rattle.broker_model.specs.Sends.{is_half_send, level_of, queue_named, plain_draft, delayed_or_plain}
+use Rattle.broker_model.specs.Answers.{answer_of, append_answer, reply_with, request_answer}
 use Rattle.broker_model.specs.Step.{after, request_changed}
 use Rattle.broker_events.specs.Replies.{IsReplyOf}
 use Rattle.broker_events.specs.Steps.{Says}
@@ -30,11 +30,11 @@ use Rattle.broker_core.specs.declared.send_rows.Refusal.TheVariants.{Topic, SysF
 use Rattle.broker_core.specs.SendRows.{refusal_by, refused}
 use Rattle.broker_core.specs.Represents.{Represents}
 use Rattle.broker_core.specs.Asked.{CarriesRequest}
-use Rattle.broker_core.specs.Stores.{IsPlainDraft, IsStored, IsSent, is_past, is_over, stored_reply, stored_state, sent_reply, sent_state}
+use Rattle.broker_core.specs.Stores.{IsStorable, IsStored, IsSent, sent_fields, is_past, is_over, stored_reply, stored_state, sent_reply, sent_state}
 use Rattle.broker_core.proofs.AnswerLemmas.{is_plain_reply, carries_refused}
 use Rattle.broker_core.proofs.EventLemmas.{log_end_answer, full_answer, stored_says, stored_after}
-use Rattle.broker_core.proofs.SendLemmas.{rows_are, is_taken, plain_is}
-use Rattle.broker_core.proofs.SendDraftLemmas.{writable}
+use Rattle.broker_core.proofs.SendLemmas.{rows_are, is_taken, kept_is}
+use Rattle.broker_core.proofs.DelayedLemmas.{storable, waits_stay}
 use Rattle.broker_core.proofs.StoreLemmas.{found_topic}
 
 -- ---- the model
@@ -46,36 +46,42 @@ one_of true over x a b c first second third = first refl
 one_of false true x a b c first second third = second refl refl
 one_of false false x a b c first second third = third refl refl
 
-module _ (s : State) (link : ℕ) (host : List ℕ) (now : ℕ) (send : SendSaid) (taken : refusal_of s (Send send) ≡ None) (half : is_half_send send ≡ false) (level : level_of send ≡ None) where
+module _ (s : State) (link : ℕ) (host : List ℕ) (now : ℕ) (send : SendSaid) (taken : refusal_of s (Send send) ≡ None) (half : is_half_send send ≡ false) where
   abbrev a : model.Asked
   a = record { link = link; host = host; now = now; request = Send send }
 
   abbrev d : Draft
-  d = plain_draft s.setup.host host send
+  d = delayed_or_plain (level_of send) (plain_draft s.setup.host host send)
 
   abbrev r : Entry
   r = next_record s.setup.segment (max now s.now) s.log d
 
   drafts : request_drafts s (max now s.now) host (Send send) ≡ d ∷ []
-  drafts = ap (λ (x : Draft). x ∷ []) (plain_is s.setup.host host send half level)
+  drafts = ap (λ (x : Draft). x ∷ []) (kept_is s.setup.host host send half)
 
-  pub send_says : answer_of s (model.Asks a) ≡ sent_reply s d r
+  -- what is asked of the disk, and the host, are as the send has them
+  says : stored_reply s d (queue_named send.queue) r ≡ request_answer s (max now s.now) (Send send) (r ∷ [])
   unfolding request_answer
-  send_says = one_of (is_past r) (is_over s r) (answer_of s (model.Asks a)) (model.Replies (plain_reply 14 (codes "log end"))) (model.Full s.flushed) (stored_reply s d r)
+  says =
+      ap (λ (b : Bool). append_answer s b (reply_with (sent_fields d.store_host r.offset (queue_named send.queue) r.queue_offset) []) 1)
+      (waits_stay (level_of send) (plain_draft s.setup.host host send))
+
+  pub send_says : answer_of s (model.Asks a) ≡ sent_reply s d (queue_named send.queue) r
+  send_says = one_of (is_past r) (is_over s r) (answer_of s (model.Asks a)) (model.Replies (plain_reply 14 (codes "log end"))) (model.Full s.flushed) (stored_reply s d (queue_named send.queue) r)
       (λ past. (log_end_answer s a d taken drafts past).0)
       (λ low over. (full_answer s a d taken drafts low over).0)
-      (λ low short. stored_says s a d taken drafts low short)
+      (λ low short. stored_says s a d taken drafts low short ∙ sym says)
 
-  pub send_leaves : after s (model.Asks a) ≡ sent_state s d (send_queues s send) (max now s.now)
+  pub send_leaves : after s (model.Asks a) ≡ sent_state s d send.topic (send_queues s send) (max now s.now)
   unfolding request_changed
-  send_leaves = one_of (is_past r) (is_over s r) (after s (model.Asks a)) s s (stored_state s d (send_queues s send) (max now s.now))
+  send_leaves = one_of (is_past r) (is_over s r) (after s (model.Asks a)) s s (stored_state s d send.topic (send_queues s send) (max now s.now))
       (λ past. (log_end_answer s a d taken drafts past).1)
       (λ low over. (full_answer s a d taken drafts low over).1)
       (λ low short. stored_after s a d taken drafts low short)
 
 -- ---- the rows
 
-segment_is : (core : Parts) (s : State) → Represents core s → core.setup.segment ≡ s.setup.segment
+pub segment_is : (core : Parts) (s : State) → Represents core s → core.setup.segment ≡ s.setup.segment
 segment_is core s are = ap (λ (x : Setup). x.segment) are.numbers.setup
 
 -- the parts refuse as the model does
@@ -116,37 +122,39 @@ few_queues : (rows : List TopicRow) (topic : List ℕ) (o : Option ℕ) (asked :
 few_queues rows topic None asked all is = made_few asked
 few_queues rows topic (Some n) asked all is = (found_topic rows topic n all is).few
 
--- the draft of a send that isn't refused is a plain one
-pub draft_is_plain : (core : Parts) (s : State) (store_host born_host : List ℕ) (send : SendSaid) (known : Option ℕ) → Represents core s → known ≡ queues_of core.topics send.topic
-    → refusal_by core.setup.segment known send ≡ None → send.born < 2 ^ 62 → IsPlainDraft core.setup.segment (plain_draft store_host born_host send)
-draft_is_plain core s store_host born_host send known are is none born =
+-- the draft of a send that isn't refused can be stored
+pub draft_is_storable : (core : Parts) (s : State) (store_host born_host : List ℕ) (send : SendSaid) (known : Option ℕ) → Represents core s → known ≡ queues_of core.topics send.topic
+    → refusal_by core.setup.segment known send ≡ None → send.born < 2 ^ 62 → IsStorable core.setup.segment (level_of send) (delayed_or_plain (level_of send) (plain_draft store_host born_host send))
+draft_is_storable core s store_host born_host send known are is none born =
     let fine = is_taken core.setup.segment known send none in
     let few = few_queues s.topics send.topic known send.default_queues are.state.topics (sym (are.topics send.topic) ∙ sym is) in
     let queue = fine.queue in
-    writable core.setup.segment known store_host born_host send fine (omega (arith, few, queue)) born
+    storable core.setup.segment known store_host born_host send fine (omega (arith, few, queue)) born
 
 -- what is said of the send is said of its draft
-pub carries_sent : (old new : Parts) (host : List ℕ) (now : ℕ) (send : SendSaid) (what : Said) (known : Option ℕ) → is_half_send send ≡ false → level_of send ≡ None
+pub carries_sent : (old new : Parts) (host : List ℕ) (now : ℕ) (send : SendSaid) (what : Said) (known : Option ℕ) → is_half_send send ≡ false
     → known ≡ queues_of old.topics send.topic → refusal_by old.setup.segment known send ≡ None
-    → ((s : State) → Represents old s → IsSent s (plain_draft old.setup.host host send) (unwrap_or known (made_queues send.default_queues)) (max now s.now) what new)
+    → ((s : State) → Represents old s → IsSent s (delayed_or_plain (level_of send) (plain_draft old.setup.host host send)) send.topic (queue_named send.queue) (unwrap_or known (made_queues send.default_queues)) (max now s.now) what new)
     → CarriesRequest old host now (Send send) what new
-carries_sent old new host now send what known half level is none sent link s are =
+carries_sent old new host now send what known half is none sent link s are =
     let taken : refusal_of s (Send send) ≡ None = refusal_is old s known send are is ∙ ap (λ (o : Option Refusal). option_map refused o) none in
     let hosts : old.setup.host ≡ s.setup.host = ap (λ (x : Setup). x.host) are.numbers.setup in
     let counts : known ≡ queues_in s.topics send.topic = is ∙ are.topics send.topic in
-    let it = subst (λ (o : Option ℕ). IsSent s (plain_draft s.setup.host host send) (unwrap_or o (made_queues send.default_queues)) (max now s.now) what new) counts
-    (subst (λ (h : List ℕ). IsSent s (plain_draft h host send) (unwrap_or known (made_queues send.default_queues)) (max now s.now) what new) hosts (sent s are)) in (
-      subst (λ (answer : model.Answer). Says what answer) (sym (send_says s link host now send taken half level)) it.answer,
-      subst (λ (t : State). Represents new t) (sym (send_leaves s link host now send taken half level)) it.state,
+    let draft = λ (h : List ℕ). delayed_or_plain (level_of send) (plain_draft h host send) in
+    let queue = queue_named send.queue in
+    let it = subst (λ (o : Option ℕ). IsSent s (draft s.setup.host) send.topic queue (unwrap_or o (made_queues send.default_queues)) (max now s.now) what new) counts
+    (subst (λ (h : List ℕ). IsSent s (draft h) send.topic queue (unwrap_or known (made_queues send.default_queues)) (max now s.now) what new) hosts (sent s are)) in (
+      subst (λ (answer : model.Answer). Says what answer) (sym (send_says s link host now send taken half)) it.answer,
+      subst (λ (t : State). Represents new t) (sym (send_leaves s link host now send taken half)) it.state,
     )
 
 -- ---- the three cases
 
-module _ (core : Parts) (s : State) (d : Draft) (n time : ℕ) (what : Said) (new : Parts) (bytes : ℕ) (are : Represents core s) (bytes_is : bytes ≡ draft_size d) where
+module _ (core : Parts) (s : State) (d : Draft) (topic : List ℕ) (queue n time : ℕ) (what : Said) (new : Parts) (bytes : ℕ) (are : Represents core s) (bytes_is : bytes ≡ draft_size d) where
   abbrev its : Entry
   its = next_record s.setup.segment time s.log d
 
-  past_is : nat_lt (2 ^ 62) (place_after core.pending.segment core.pending.end bytes + bytes) ≡ is_past its
+  pub past_is : nat_lt (2 ^ 62) (place_after core.pending.segment core.pending.end bytes + bytes) ≡ is_past its
   past_is =
       ap (λ (k : ℕ). nat_lt (2 ^ 62) (place_after k core.pending.end bytes + bytes)) are.numbers.segment
       ∙ ap (λ (k : ℕ). nat_lt (2 ^ 62) (place_after s.setup.segment k bytes + bytes)) are.pending.end
@@ -157,41 +165,41 @@ module _ (core : Parts) (s : State) (d : Draft) (n time : ℕ) (what : Said) (ne
       ap (λ (l : List ℕ). length l) are.pending.bytes ∙ layouts_size (records_from s.log core.pending.flushed)
       ∙ ap (λ (k : ℕ). pending_bytes (record s { flushed = k })) are.numbers.flushed
 
-  over_is : nat_lt 67108864 (length core.pending.bytes + bytes) ≡ is_over s its
+  pub over_is : nat_lt 67108864 (length core.pending.bytes + bytes) ≡ is_over s its
   over_is =
       ap (λ (k : ℕ). nat_lt 67108864 (k + bytes)) pending_is ∙ ap (λ (k : ℕ). nat_lt 67108864 (pending_bytes s + k)) bytes_is
 
   -- it would end past all places
-  pub sent_past : nat_lt (2 ^ 62) (place_after core.pending.segment core.pending.end bytes + bytes) ≡ true → Says what (model.Replies (plain_reply 14 (codes "log end"))) → Represents new s → IsSent s d n time what new
+  pub sent_past : nat_lt (2 ^ 62) (place_after core.pending.segment core.pending.end bytes + bytes) ≡ true → Says what (model.Replies (plain_reply 14 (codes "log end"))) → Represents new s → IsSent s d topic queue n time what new
   sent_past past says stays =
       let h : is_past its ≡ true = sym past_is ∙ past in
       record {
-        answer = subst (λ (b : Bool). Says what (if b then model.Replies (plain_reply 14 (codes "log end")) else (if is_over s its then model.Full s.flushed else stored_reply s d its))) (sym h) says;
-        state = subst (λ (b : Bool). Represents new (if b then s else (if is_over s its then s else stored_state s d n time))) (sym h) stays;
+        answer = subst (λ (b : Bool). Says what (if b then model.Replies (plain_reply 14 (codes "log end")) else (if is_over s its then model.Full s.flushed else stored_reply s d queue its))) (sym h) says;
+        state = subst (λ (b : Bool). Represents new (if b then s else (if is_over s its then s else stored_state s d topic n time))) (sym h) stays;
       }
 
   -- the buffer has no room
   pub sent_full : nat_lt (2 ^ 62) (place_after core.pending.segment core.pending.end bytes + bytes) ≡ false → nat_lt 67108864 (length core.pending.bytes + bytes) ≡ true
-      → Says what (model.Full s.flushed) → Represents new s → IsSent s d n time what new
+      → Says what (model.Full s.flushed) → Represents new s → IsSent s d topic queue n time what new
   sent_full low over says stays =
       let h : is_past its ≡ false = sym past_is ∙ low in
       let f : is_over s its ≡ true = sym over_is ∙ over in
       record {
-        answer = subst (λ (b : Bool). Says what (if b then model.Replies (plain_reply 14 (codes "log end")) else (if is_over s its then model.Full s.flushed else stored_reply s d its))) (sym h)
-            (subst (λ (b : Bool). Says what (if b then model.Full s.flushed else stored_reply s d its)) (sym f) says);
-        state = subst (λ (b : Bool). Represents new (if b then s else (if is_over s its then s else stored_state s d n time))) (sym h)
-            (subst (λ (b : Bool). Represents new (if b then s else stored_state s d n time)) (sym f) stays);
+        answer = subst (λ (b : Bool). Says what (if b then model.Replies (plain_reply 14 (codes "log end")) else (if is_over s its then model.Full s.flushed else stored_reply s d queue its))) (sym h)
+            (subst (λ (b : Bool). Says what (if b then model.Full s.flushed else stored_reply s d queue its)) (sym f) says);
+        state = subst (λ (b : Bool). Represents new (if b then s else (if is_over s its then s else stored_state s d topic n time))) (sym h)
+            (subst (λ (b : Bool). Represents new (if b then s else stored_state s d topic n time)) (sym f) stays);
       }
 
   -- it is stored
   pub sent_stored : nat_lt (2 ^ 62) (place_after core.pending.segment core.pending.end bytes + bytes) ≡ false → nat_lt 67108864 (length core.pending.bytes + bytes) ≡ false
-      → IsStored s d n time what new → IsSent s d n time what new
+      → IsStored s d topic queue n time what new → IsSent s d topic queue n time what new
   sent_stored low short is =
       let h : is_past its ≡ false = sym past_is ∙ low in
       let f : is_over s its ≡ false = sym over_is ∙ short in
       record {
-        answer = subst (λ (b : Bool). Says what (if b then model.Replies (plain_reply 14 (codes "log end")) else (if is_over s its then model.Full s.flushed else stored_reply s d its))) (sym h)
-            (subst (λ (b : Bool). Says what (if b then model.Full s.flushed else stored_reply s d its)) (sym f) is.answer);
-        state = subst (λ (b : Bool). Represents new (if b then s else (if is_over s its then s else stored_state s d n time))) (sym h)
-            (subst (λ (b : Bool). Represents new (if b then s else stored_state s d n time)) (sym f) is.state);
+        answer = subst (λ (b : Bool). Says what (if b then model.Replies (plain_reply 14 (codes "log end")) else (if is_over s its then model.Full s.flushed else stored_reply s d queue its))) (sym h)
+            (subst (λ (b : Bool). Says what (if b then model.Full s.flushed else stored_reply s d queue its)) (sym f) is.answer);
+        state = subst (λ (b : Bool). Represents new (if b then s else (if is_over s its then s else stored_state s d topic n time))) (sym h)
+            (subst (λ (b : Bool). Represents new (if b then s else stored_state s d topic n time)) (sym f) is.state);
       }

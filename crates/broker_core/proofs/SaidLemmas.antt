@@ -1,4 +1,4 @@
--- What may be said to a request that is served: a reply, one that waits, or that the buffer is full.
+-- What may be said to a request that is served: a reply, one that waits, or that the buffer is full; and to a delivery.
 use Rattle.std.proofs.Common.{◌≡◌, subst, ℕ, ◌+◌, ◌-◌, ◌&&◌, Bool, true, false, List, [], max, Option, Some, None, Result, Ok, Err, IfOk, if◌then◌else◌}
 use Rattle.record_codec.specs.Entry.{Entry}
 use Rattle.log_model.specs.Numbered.{count_of}
@@ -10,10 +10,12 @@ use Rattle.broker_model.specs.Sends.{waits, kept_props}
 use Rattle.broker_model.specs.Refusals.{refusal_of}
 use Rattle.broker_model.specs.Appended.{is_refused, is_past_end, appended}
 use Rattle.broker_model.specs.Answers.{answer_of, append_answer, reply_with, send_ext, request_answer, carried_out_answer, refused_answer, end_of_log, or_refused}
+use Rattle.reply_fields.specs.Parts.{ReplyParts}
+use Rattle.broker_events.specs.Replies.{IsToldAs}
 use Rattle.broker_events.specs.Served.{is_served}
 use Rattle.broker_events.specs.declared.said.Said.{Said}
 use Rattle.broker_events.specs.declared.said.Said.TheVariants as said
-use Rattle.broker_events.specs.Steps.{IsOfRequest, Says}
+use Rattle.broker_events.specs.Steps.{IsOfDelivery, IsOfRequest, Says}
 use Rattle.broker_core.specs.declared.parts.Parts.{Parts}
 use Rattle.broker_core.specs.Carries.{Carries, RepresentsSome}
 
@@ -77,6 +79,8 @@ is_of_request (said.Batch batch) answer says is = absurd (subst (λ (a : events.
 is_of_request said.Done answer says is = absurd (subst (λ (a : events.Answer). IsRequestAnswer a) says is)
 is_of_request (said.Awaited what) answer says is = absurd (subst (λ (a : events.Answer). IsRequestAnswer a) says is)
 is_of_request (said.Moved number) answer says is = absurd (subst (λ (a : events.Answer). IsRequestAnswer a) says is)
+is_of_request said.LogEnd answer says is = absurd (subst (λ (a : events.Answer). IsRequestAnswer a) says is)
+is_of_request (said.Delivered what) answer says is = absurd (subst (λ (a : events.Answer). IsRequestAnswer a) says is)
 
 -- a request's call says what may be said to it
 pub request_says : {E : Type 0} (old new : Parts) (link : ℕ) (host : List ℕ) (now : ℕ) (request : ARequest) (result : Result Said E) → is_served request ≡ true
@@ -84,3 +88,60 @@ pub request_says : {E : Type 0} (old new : Parts) (link : ℕ) (host : List ℕ)
 request_says old new link host now request (Ok what) served carries some =
     is_of_request what _ (carries some.0 some.1).0 (asked_answer some.0 (record { link = link; host = host; now = now; request = request }) served)
 request_says old new link host now request (Err fault) served carries some = tt
+
+-- ---- deliveries
+
+-- the model answers a delivery so
+abbrev IsDeliveryAnswer : events.Answer → Type 0
+IsDeliveryAnswer (events.Replies reply) = ⊥
+IsDeliveryAnswer (events.After reply number turn) = ⊥
+IsDeliveryAnswer (events.Locked queues) = ⊥
+IsDeliveryAnswer (events.Full pending) = Unit {0}
+IsDeliveryAnswer events.LogEnd = Unit {0}
+IsDeliveryAnswer (events.Batch batch) = ⊥
+IsDeliveryAnswer events.Done = ⊥
+IsDeliveryAnswer (events.Looked what) = ⊥
+IsDeliveryAnswer (events.Moved number) = ⊥
+IsDeliveryAnswer (events.Delivered what) = Unit {0}
+IsDeliveryAnswer (events.Checked what) = ⊥
+
+one_of_both : (b : Bool) (x y : events.Answer) → IsDeliveryAnswer x → IsDeliveryAnswer y → IsDeliveryAnswer (if b then x else y)
+one_of_both true x y first second = first
+one_of_both false x y first second = second
+
+delivery_answer : (s : State) (now : ℕ) → IsDeliveryAnswer (answer_of s (events.Deliver now))
+unfolding answer_of carried_out_answer
+delivery_answer s now =
+    let e = events.Deliver now in
+    one_of_both (is_refused s e) (refused_answer s e) (carried_out_answer s e (appended s e))
+    (one_of_both (is_past_end s e) (end_of_log e) (events.Full s.flushed) tt tt) tt
+
+not_told : (reply : ReplyParts) (answer : events.Answer) → IsToldAs reply answer → IsDeliveryAnswer answer → ⊥
+not_told reply (events.Replies told) says is = is
+not_told reply (events.Locked queues) says is = is
+not_told reply (events.After told number turn) says is = is
+not_told reply (events.Full pending) says is = says
+not_told reply events.LogEnd says is = says
+not_told reply (events.Batch batch) says is = says
+not_told reply events.Done says is = says
+not_told reply (events.Looked what) says is = says
+not_told reply (events.Moved number) says is = says
+not_told reply (events.Delivered what) says is = says
+not_told reply (events.Checked what) says is = says
+
+is_of_delivery : (what : Said) (answer : events.Answer) → Says what answer → IsDeliveryAnswer answer → IsOfDelivery what
+is_of_delivery (said.Reply reply) answer says is = absurd (not_told reply answer says is)
+is_of_delivery (said.After reply number turn) answer says is = absurd (subst (λ (a : events.Answer). IsDeliveryAnswer a) says.1 is)
+is_of_delivery (said.Full pending) answer says is = tt
+is_of_delivery (said.Batch batch) answer says is = absurd (subst (λ (a : events.Answer). IsDeliveryAnswer a) says.1 is)
+is_of_delivery said.Done answer says is = absurd (subst (λ (a : events.Answer). IsDeliveryAnswer a) says is)
+is_of_delivery (said.Awaited what) answer says is = absurd (subst (λ (a : events.Answer). IsDeliveryAnswer a) says is)
+is_of_delivery (said.Moved number) answer says is = absurd (subst (λ (a : events.Answer). IsDeliveryAnswer a) says is)
+is_of_delivery said.LogEnd answer says is = tt
+is_of_delivery (said.Delivered what) answer says is = tt
+
+-- a delivery's call says what may be said to it
+pub delivery_says : {E : Type 0} (old new : Parts) (now : ℕ) (result : Result Said E)
+    → IfOk result (λ what. Carries old (events.Deliver now) (Says what) new) → RepresentsSome old → IfOk result IsOfDelivery
+delivery_says old new now (Ok what) carries some = is_of_delivery what _ (carries some.0 some.1).0 (delivery_answer some.0 now)
+delivery_says old new now (Err fault) carries some = tt

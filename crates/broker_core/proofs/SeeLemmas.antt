@@ -30,6 +30,8 @@ use Rattle.broker_model.specs.Events as events
 use Rattle.broker_model.specs.Appended.{is_refused, drafts_of}
 use Rattle.broker_model.specs.Answers.{answer_of, carried_out_answer}
 use Rattle.broker_model.specs.Step.{after, changed}
+use Rattle.level_records.specs.declared.levels.Levels.{Levels}
+use Rattle.level_records.specs.OfLog.{HasLevels}
 use Rattle.broker_core.specs.declared.parts.Parts.{Parts}
 use Rattle.broker_core.specs.Represents.{Represents, AreTablesOf, AreTabled, stored_unit}
 use Rattle.broker_core.proofs.StateLemmasTurns.{dispatched_state}
@@ -136,7 +138,7 @@ row_leads tables records rows n row alike tabled at =
     }
 
 -- its table has a unit that isn't seen
-more_units : (records : List Entry) (n : ℕ) (r : Entry) (topic : List ℕ) (queue : ℕ) → slice_get records n ≡ Some r → r.topic ≡ topic → r.queue ≡ queue
+pub more_units : (records : List Entry) (n : ℕ) (r : Entry) (topic : List ℕ) (queue : ℕ) → slice_get records n ≡ Some r → r.topic ≡ topic → r.queue ≡ queue
     → length (queue_of (take n records) topic queue) < length (queue_of records topic queue)
 more_units records n r topic queue at same_topic same_queue =
     let test : Entry → Bool = λ q. bytes_eq q.topic topic && (q.queue == queue) in
@@ -199,6 +201,9 @@ answer_dispatch s most = refl
 pub seen_now : (old : Parts) (s : State) → Represents old s → AreTablesOf s.log.base s.log.records (old.dispatched - s.log.base.records) old.queues
 seen_now old s are = subst (λ n. AreTablesOf s.log.base s.log.records (n - s.log.base.records) old.queues) (sym are.numbers.dispatched) are.queues
 
+pub levels_now : (old : Parts) (s : State) → Represents old s → HasLevels s.log old.dispatched old.levels
+levels_now old s are = subst (λ n. HasLevels s.log n old.levels) (sym are.numbers.dispatched) are.levels
+
 -- the numbers up to which more are seen lie in the rows
 pub record IsRange (old : Parts) (to : ℕ) : Type 0 where
   pub kept : old.rows.first ≤ old.dispatched
@@ -220,10 +225,10 @@ range_of old s most to are is =
       within = omega (arith, is, end, flushed, high);
     }
 
-represents_dispatched : (old : Parts) (s : State) (to : ℕ) (tables : List Table) → Represents old s → s.dispatched ≤ to → to ≤ s.flushed
+represents_dispatched : (old : Parts) (s : State) (to : ℕ) (tables : List Table) (levels : Levels) → HasLevels s.log to levels → Represents old s → s.dispatched ≤ to → to ≤ s.flushed
     → AreTabled tables s.log.records old.rows.items → AreTablesOf s.log.base s.log.records (to - s.log.base.records) tables
-    → Represents (record old { queues = tables; dispatched = to }) (record s { dispatched = to })
-represents_dispatched old s to tables are more within tabled queues = record {
+    → Represents (record old { queues = tables; dispatched = to; levels = levels }) (record s { dispatched = to })
+represents_dispatched old s to tables levels has are more within tabled queues = record {
   state = dispatched_state s to are.state more within;
   numbers = record { setup = are.numbers.setup; segment = are.numbers.segment; flushed = are.numbers.flushed; dispatched = refl; turns = are.numbers.turns; bounded = are.numbers.bounded; now = are.numbers.now; few = are.numbers.few; low = are.numbers.low };
   pending = are.pending;
@@ -240,19 +245,20 @@ represents_dispatched old s to tables are more within tabled queues = record {
   locks = are.locks;
   names = are.names;
   kept = are.kept;
+  levels = has;
 }
 
-pub dispatches : (old : Parts) (s : State) (most to : ℕ) (tables : List Table) → Represents old s → to ≡ min old.pending.flushed (old.dispatched + most)
+pub dispatches : (old : Parts) (s : State) (most to : ℕ) (tables : List Table) (levels : Levels) → HasLevels s.log to levels → Represents old s → to ≡ min old.pending.flushed (old.dispatched + most)
     → AreTabled tables s.log.records old.rows.items → AreTablesOf s.log.base s.log.records (to - s.log.base.records) tables
-    → (answer_of s (events.Dispatch most) ≡ events.Moved to) × Represents (record old { queues = tables; dispatched = to }) (after s (events.Dispatch most))
-dispatches old s most to tables are is tabled queues =
+    → (answer_of s (events.Dispatch most) ≡ events.Moved to) × Represents (record old { queues = tables; dispatched = to; levels = levels }) (after s (events.Dispatch most))
+dispatches old s most to tables levels has are is tabled queues =
     let flushed = are.numbers.flushed in
     let dispatched = are.numbers.dispatched in
     let mid = are.state.dispatched in
     let same : min s.flushed (s.dispatched + most) ≡ to = omega (arith, is, flushed, dispatched) in (
       answer_dispatch s most ∙ ap (λ n. events.Moved n) same,
-      subst (λ (t : State). Represents (record old { queues = tables; dispatched = to }) t) (sym (after_dispatch s most ∙ ap (λ (n : ℕ). record s { dispatched = n }) same))
-          (represents_dispatched old s to tables are (omega (arith, is, flushed, dispatched, mid)) (omega (arith, is, flushed)) tabled queues),
+      subst (λ (t : State). Represents (record old { queues = tables; dispatched = to; levels = levels }) t) (sym (after_dispatch s most ∙ ap (λ (n : ℕ). record s { dispatched = n }) same))
+          (represents_dispatched old s to tables levels has are (omega (arith, is, flushed, dispatched, mid)) (omega (arith, is, flushed)) tabled queues),
     )
 
 -- the number that a dispatch computes, which doesn't overflow

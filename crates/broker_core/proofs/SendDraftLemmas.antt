@@ -10,13 +10,26 @@ use Rattle.record_codec.specs.Props.{written, pair_text, pair_in, with_prop, wit
 use Rattle.record_codec.specs.LaxProps.{in_front, pieces, with_all, read_props}
 use Rattle.record_codec.specs.Layout.{is_named, are_hosts_short}
 use Rattle.record_codec.specs.Drafts.{draft_fault, draft_size}
+use Rattle.record_codec.specs.declared.draft.Draft.{Draft}
+use Rattle.log_model.specs.Admissible.{is_system_topic}
 use Rattle.record_codec.proofs.PairTexts.{pair_takes}
 use Rattle.record_codec.proofs.LastLemmas.{value_of-dropped}
 use Rattle.log_model.specs.Drafts.{plain_flag}
 use Rattle.request_fields.specs.Requests.{SendSaid}
 use Rattle.broker_model.specs.Sends.{flag_of, queue_named, kept_props, plain_draft}
-use Rattle.broker_core.specs.Stores.{IsPlainDraft}
 use Rattle.broker_core.proofs.SendLemmas.{IsTaken, no_bits}
+
+-- A draft that can be written into a segment, and is a plain message to one of 1,024 queues and no copy of a half message.
+pub record IsPlainDraft (segment : ℕ) (d : Draft) : Type 0 where
+  pub passes : draft_fault segment d ≡ None
+  pub born : d.born < 2 ^ 62
+  pub prepared : d.prepared < 2 ^ 62
+  pub unsealed : has_name (codes "SEAL") d.props ≡ false
+  pub queue : d.queue < 1024
+  pub bits : bit_and d.sysflag 12 ≡ 0
+  pub topic : is_system_topic d.topic ≡ false
+  pub delivery : value_of (codes "DELAY_FROM") d.props ≡ None
+  pub renewal : value_of (codes "TRAN_PREPARED_QUEUE_OFFSET") d.props ≡ None
 
 -- the lengths of the pieces together, where one byte is counted behind each
 abbrev weight : List (List ℕ) → ℕ
@@ -57,7 +70,7 @@ pairs_within : (ps : List (List ℕ)) → length (written (filter_map pair_in ps
 pairs_within [] = omega arith
 pairs_within (piece ∷ ps) = pair_within piece (filter_map pair_in ps) (weight ps) (pair_in piece) refl (pairs_within ps)
 
-with_prop_within : (name value : List ℕ) (ps : List (List ℕ × List ℕ)) → length (written (with_prop name value ps)) ≤ length (written ps) + length name + length value + 2
+pub with_prop_within : (name value : List ℕ) (ps : List (List ℕ × List ℕ)) → length (written (with_prop name value ps)) ≤ length (written ps) + length name + length value + 2
 with_prop_within name value [] = omega (arith, length-written (name, value) [])
 with_prop_within name value (p ∷ ps) = ⊎_elim
     (λ (here : bytes_eq name p.0 ≡ true).
@@ -83,7 +96,7 @@ filter_within keep (p ∷ ps) = ⊎_elim
     (cases_Bool (keep p))
 
 -- the properties that a record keeps are no longer than the text
-kept_within : (text : List ℕ) → length (written (kept_props text)) ≤ length text + 1
+pub kept_within : (text : List ℕ) → length (written (kept_props text)) ≤ length text + 1
 kept_within text =
     let drop = λ (name : List ℕ) (p : List ℕ × List ℕ). not (bytes_eq name p.0) in
     let a = without (codes "TRANSACTION_CHECK_TIMES") (read_props text) in
@@ -123,7 +136,7 @@ stays_none name keep (p ∷ ps) none = ⊎_elim
     (cases_Bool (bytes_eq name p.0))
 
 -- without the bits of a transaction, and the other bits as they were
-hosts_stay : (flag : ℕ) → are_hosts_short flag ≡ true → are_hosts_short (plain_flag flag) ≡ true
+pub hosts_stay : (flag : ℕ) → are_hosts_short flag ≡ true → are_hosts_short (plain_flag flag) ≡ true
 hosts_stay flag short =
     let none : bit_and flag 48 ≡ 0 = eqb-true (bit_and flag 48) 0 short in
     eq-eqb (bit_and (plain_flag flag) 48) 0 (and_assoc 48 flag 0xFFFF_FFF3 ∙ none)

@@ -65,11 +65,11 @@ is_taken segment known send h =
       queue = ltb-true _ _ (not-false _ queue.0);
     }
 
--- a send that is neither a half message nor a delayed one is stored as it is
-pub plain_is : (store_host born_host : List ℕ) (send : SendSaid) → is_half_send send ≡ false → level_of send ≡ None → send_draft store_host born_host send ≡ plain_draft store_host born_host send
-plain_is store_host born_host send half level =
+-- a send that is no half message is stored as a delayed message or as it is
+pub kept_is : (store_host born_host : List ℕ) (send : SendSaid) → is_half_send send ≡ false
+    → send_draft store_host born_host send ≡ delayed_or_plain (level_of send) (plain_draft store_host born_host send)
+kept_is store_host born_host send half =
     ap (λ b. cond b (half_draft send.group (plain_draft store_host born_host send)) (delayed_or_plain (level_of send) (plain_draft store_host born_host send))) half
-    ∙ ap (λ o. delayed_or_plain o (plain_draft store_host born_host send)) level
 
 -- a record has no bit of a transaction
 pub no_bits : (flag : ℕ) → bit_and (plain_flag flag) 12 ≡ 0

@@ -127,6 +127,20 @@ asked_keeps s a =
     let kept = event_keeps s a in
     record { more = appended s (events.Asks a); log = log_grows s (events.Asks a) (λ removal. removal); setup = kept.0; flushed = kept.1; out = kept.2 }
 
+deliver_keeps : (s : State) (now : ℕ) → AreKept s (after s (events.Deliver now))
+unfolding after changed
+deliver_keeps s now =
+    elim (is_refused s (events.Deliver now)) as (λ b. AreKept s (if b then s else with_records s (moment s (events.Deliver now)) (made_by s (events.Deliver now)))) [
+      | true ↦ (refl, refl, refl)
+      | false ↦ records_keep s (moment s (events.Deliver now)) (made_by s (events.Deliver now))
+    ]
+
+-- a delivery does, too
+delivery_keeps : (s : State) (now : ℕ) → KeepsTurn s (after s (events.Deliver now))
+delivery_keeps s now =
+    let kept = deliver_keeps s now in
+    record { more = appended s (events.Deliver now); log = log_grows s (events.Deliver now) (λ removal. removal); setup = kept.0; flushed = kept.1; out = kept.2 }
+
 -- and so does nothing at all
 none_keeps : (s : State) → KeepsTurn s s
 none_keeps s = record { more = []; log = with_appended-nil s.log; setup = refl; flushed = refl; out = refl }
@@ -146,3 +160,8 @@ request_shown old new link host now request (Ok what) carries stays some =
     let a : events.Asked = record { link = link; host = host; now = now; request = request } in
     shown_keeps old new some.0 (after some.0 (events.Asks a)) (asked_keeps some.0 a) some.1 (carries some.0 some.1).1
 request_shown old new link host now request (Err fault) carries stays some = shown_keeps old new some.0 some.0 (none_keeps some.0) some.1 (stays some.0 some.1)
+
+pub delivery_shown : {E : Type 0} (old new : Parts) (now : ℕ) (result : Result Said E)
+    → IfOk result (λ what. Carries old (events.Deliver now) (Says what) new) → OnErr result (Stays old new) → RepresentsSome old → shown_of new ≡ shown_of old
+delivery_shown old new now (Ok what) carries stays some = shown_keeps old new some.0 (after some.0 (events.Deliver now)) (delivery_keeps some.0 now) some.1 (carries some.0 some.1).1
+delivery_shown old new now (Err fault) carries stays some = shown_keeps old new some.0 some.0 (none_keeps some.0) some.1 (stays some.0 some.1)

@@ -1,8 +1,8 @@
--- A plain message that is stored.
+-- A message that is stored.
 use Rattle.std.proofs.Common.{◌≡◌, ⊎_elim, refl, ap, sym, ◌∙◌, subst, arith, ℕ, ◌+◌, ◌-◌, ◌^◌, ◌<◌, ◌≤◌, ◌==◌, ◌&&◌, max, Bool, true, false, List, [], ◌∷◌, length, slice_get, Option, Some, None, All, is_some, Result, Ok, Err, OnOk, OnErr, if◌then◌else◌}
 use Rattle.std.specs.Option.{unwrap_or}
 use Rattle.std.specs.Str.{bytes_eq}
-use Rattle.std.proofs.lemmas.Bool.{cases_Bool, and_from, lt-ltb}
+use Rattle.std.proofs.lemmas.Bool.{cases_Bool}
 use Rattle.std.proofs.lemmas.Slice.Eq.{bytes_eq-Decides}
 use Rattle.std.proofs.lemmas.List.{length-map}
 use Rattle.std.proofs.lemmas.List.Elements.{All-head, All-tail}
@@ -16,7 +16,6 @@ use Rattle.log_model.specs.Admissible.{is_system_topic, half_topic}
 use Rattle.log_model.specs.Log.{place_after}
 use Rattle.log_model.specs.Numbered.{count_of, place_end, queue_max, next_record}
 use Rattle.log_model.specs.Queues.{queue_of}
-use Rattle.log_model.proofs.AdmissibleLemmas.{plain_admissible, plain_names}
 use Rattle.broker_model.specs.Tables.{TopicRow, queues_in}
 use Rattle.broker_model.specs.State.{State, Setup}
 use Rattle.broker_model.specs.Events as model
@@ -31,7 +30,7 @@ use Rattle.client_tables.specs.Counts.{queues_of}
 use Rattle.broker_core.specs.declared.parts.Parts.{Parts}
 use Rattle.broker_core.specs.Represents.{Represents, stored_unit, IsNamed}
 use Rattle.broker_core.specs.Appends.{IsNextPlace, MayStand}
-use Rattle.broker_core.specs.Stores.{IsPlainDraft}
+use Rattle.broker_core.specs.Stores.{IsStorable}
 use Rattle.broker_events.specs.declared.event.Setup.{Setup as BootSetup}
 use Rattle.pending_log.specs.Parts.{PendingPart}
 use Rattle.broker_core.proofs.TableLemmas.{there_is, is_its_table}
@@ -71,15 +70,9 @@ found_named (row ∷ rows) topic n all found = ⊎_elim
     (λ (another : bytes_eq row.topic topic ≡ false). found_named rows topic n (All-tail IsNamed row rows all) (rest_found row rows topic n another found))
     (cases_Bool (bytes_eq row.topic topic))
 
--- the topic of a draft that can be written has a legal name
-pub legal_draft : (segment : ℕ) (d : Draft) → IsPlainDraft segment d → is_legal d.topic ≡ true
-legal_draft segment d plain =
-    let none = HasNoFault-from segment d plain.passes in
-    and_from _ _ none.named (lt-ltb (length d.topic) 128 (omega (arith, none.topic)))
-
 -- ---- the place
 
-queue_few : (topic : List ℕ) (queue : ℕ) (records : List Entry) → length (queue_of records topic queue) ≤ length records
+pub queue_few : (topic : List ℕ) (queue : ℕ) (records : List Entry) → length (queue_of records topic queue) ≤ length records
 queue_few topic queue [] = omega arith
 queue_few topic queue (r ∷ records) =
     let rest = queue_few topic queue records in
@@ -122,23 +115,23 @@ is_next core s d p table size now are mine offset place size_is store time =
       time = omega (arith, store, same, time, before);
     }
 
--- a plain message may stand there
-pub may_stand : (s : State) (d : Draft) (p : Place) → IsPlainDraft s.setup.segment d → IsNextPlace s d p → p.offset + draft_size d ≤ 2 ^ 62 → MayStand s d p
-may_stand s d p plain next low = record {
+-- a message may stand there
+pub may_stand : (s : State) (level : Option ℕ) (d : Draft) (p : Place) → IsStorable s.setup.segment level d → IsNextPlace s d p → p.offset + draft_size d ≤ 2 ^ 62 → MayStand s d p
+may_stand s level d p is next low = record {
   next = next;
-  room = (HasNoFault-from s.setup.segment d plain.passes).fits;
+  room = (HasNoFault-from s.setup.segment d is.passes).fits;
   low = low;
-  admissible = plain_admissible s.setup.segment (entry_of d p) plain.topic plain.queue (λ eight. let bad : 0 ≡ 8 = sym plain.bits ∙ eight in absurd (let none : ⊥ = omega (arith, bad) in none)) plain.delivery plain.renewal;
-  names = plain_names s.setup.segment (entry_of d p) plain.topic (queue_max s.log half_topic 0);
+  admissible = is.admissible p;
+  names = is.names p (queue_max s.log half_topic 0);
 }
 
 -- and can be written
-pub can_be_written : (core : Parts) (s : State) (d : Draft) (p : Place) → Represents core s → IsPlainDraft s.setup.segment d → MayStand s d p → IsEncodable d p
-can_be_written core s d p are plain may =
+pub can_be_written : (core : Parts) (s : State) (level : Option ℕ) (d : Draft) (p : Place) → Represents core s → IsStorable s.setup.segment level d → MayStand s d p → IsEncodable d p
+can_be_written core s level d p are is may =
     let number = offset_low core s d.topic d.queue are in
     let same = may.next.queue_offset in
     let low = may.low in
-    IsEncodable-from s.setup.segment d p are.state.log.segment.high plain.passes plain.born plain.prepared (omega (arith, number, same)) (omega (arith, low)) may.next.time plain.unsealed
+    IsEncodable-from s.setup.segment d p are.state.log.segment.high is.passes is.born is.prepared (omega (arith, number, same)) (omega (arith, low)) may.next.time is.unsealed
 
 -- its record is the next one
 pub is_next_record : (s : State) (d : Draft) (p : Place) (time : ℕ) → IsNextPlace s d p → p.store ≡ time → entry_of d p ≡ next_record s.setup.segment time s.log d
@@ -183,6 +176,10 @@ pub on_ok : {A E P Q : Type 0} (r : Result A E) → OnOk r P → (P → Q) → O
 on_ok (Ok a) p f = f p
 on_ok (Err e) p f = tt
 
+pub err_then : {A E P Q : Type 0} (r : Result A E) → OnErr r P → (P → Q) → OnErr r Q
+err_then (Ok a) p f = tt
+err_then (Err e) p f = f p
+
 -- the reply waits for the record with the next number
 pub waits_for : (core : Parts) (s : State) (awaited : Bool) (told : model.Reply) (number turn : ℕ) → Represents core s → core.setup.sync ≡ true → awaited ≡ true → number ≡ core.rows.first + length core.rows.items → turn ≡ core.pending.turns
     → append_answer s awaited told 1 ≡ model.After told number turn
@@ -199,14 +196,14 @@ waits_for core s awaited told number turn are sync wait number_is turn_is =
 -- ---- what the parts find for a record
 
 -- all that a place owes, where the parts found it
-pub found_place : (old core : Parts) (s : State) (d : Draft) (p : Place) (table size now : ℕ) → Represents core s → core.setup ≡ old.setup → core.pending ≡ old.pending → core.now ≡ old.now → IsPlainDraft old.setup.segment d
+pub found_place : (old core : Parts) (s : State) (level : Option ℕ) (d : Draft) (p : Place) (table size now : ℕ) → Represents core s → core.setup ≡ old.setup → core.pending ≡ old.pending → core.now ≡ old.now → IsStorable old.setup.segment level d
     → number_of core.queues d.topic d.queue ≡ Some table → ((t : Table) → slice_get core.queues table ≡ Some t → p.queue_offset ≡ added_of t) → p.offset ≡ place_after core.pending.segment core.pending.end size
     → p.store ≡ max now core.now → size ≡ draft_size d → place_after old.pending.segment old.pending.end size + size ≤ 2 ^ 62 → now < 2 ^ 62 → (IsEncodable d p) × MayStand s d p × (p.store ≡ max now s.now)
-found_place old core s d p table size now are setup pending clock plain mine offset place store size_is low time =
+found_place old core s level d p table size now are setup pending clock storable mine offset place store size_is low time =
     let segment : old.setup.segment ≡ s.setup.segment = ap (λ (x : BootSetup). x.segment) (sym setup) ∙ ap (λ (x : Setup). x.segment) are.numbers.setup in
-    let plain_here = subst (λ (n : ℕ). IsPlainDraft n d) segment plain in
+    let here_too = subst (λ (n : ℕ). IsStorable n level d) segment storable in
     let next = is_next core s d p table size now are mine offset place size_is store time in
     let here : p.offset ≡ place_after old.pending.segment old.pending.end size = place ∙ ap (λ (x : PendingPart). place_after x.segment x.end size) pending in
-    let may = may_stand s d p plain_here next (omega (arith, low, here, size_is)) in
+    let may = may_stand s level d p here_too next (omega (arith, low, here, size_is)) in
     let same = are.numbers.now in
-    (can_be_written core s d p are plain_here may, may, omega (arith, store, same))
+    (can_be_written core s level d p are here_too may, may, omega (arith, store, same))

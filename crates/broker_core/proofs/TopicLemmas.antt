@@ -130,6 +130,7 @@ represents_later old s now are later time =
       locks = are.locks;
       names = are.names;
       kept = are.kept;
+      levels = are.levels;
     }
 
 numbers_topics : (old : Parts) (topics : Topics) (s : State) → HasNumbers old s → HasNumbers (record old { topics = topics }) s
@@ -164,6 +165,7 @@ represents_same_topics old topics s are same = record {
   locks = are.locks;
   names = are.names;
   kept = are.kept;
+  levels = are.levels;
 }
 
 named_with : (topic : List ℕ) (n : ℕ) (rows : List TopicRow) → is_legal topic ≡ true → All IsNamed rows → All IsNamed (with_topic topic n rows)
@@ -209,6 +211,7 @@ represents_made old topics s topic n are plain legal made =
       locks = are.locks;
       names = named_with topic n s.topics legal are.names;
       kept = are.kept;
+      levels = are.levels;
     }
 
 pub row_is : (read write : ℕ) → (0 < read) × (read ≤ 1024) → (0 < write) × (write ≤ 1024) → (0 < max read write) × (max read write ≤ 1024)

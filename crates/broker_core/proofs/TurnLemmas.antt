@@ -116,6 +116,7 @@ represents_room old s stored none items end are = record {
   locks = are.locks;
   names = are.names;
   kept = are.kept;
+  levels = are.levels;
 }
 
 empty_list : {A : Type 0} (xs : List A) → length xs ≡ 0 → xs ≡ []
@@ -202,6 +203,7 @@ represents_turn old s stored b count end are none items ends room pending same s
   locks = are.locks;
   names = are.names;
   kept = are.kept;
+  levels = are.levels;
 }
 
 -- what a call that may begin a turn says, by its batch
@@ -305,6 +307,7 @@ represents_failed old s count turn out are there is held pending = record {
   locks = are.locks;
   names = are.names;
   kept = are.kept;
+  levels = are.levels;
 }
 
 fails_one : (old : Parts) (s : State) (count : ℕ) (p : Option Out) (o : Option model.Out) → Represents old s → old.pending.out ≡ p → s.out ≡ o → IsSome p → AreOut p o → IsPendingOf s.log (with_failed old.pending count p)

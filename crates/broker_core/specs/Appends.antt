@@ -1,5 +1,7 @@
 -- When a record may be appended, and that there is room for it.
-use Rattle.std.specs.Prelude.{◌≡◌, ℕ, ◌+◌, ◌^◌, ◌<◌, ◌≤◌, slice_get, Some}
+use Rattle.std.specs.Prelude.{◌≡◌, ℕ, ◌+◌, ◌-◌, ◌^◌, ◌<◌, ◌≤◌, slice_get, Some}
+use Rattle.delay_view.specs.Levels.{Level}
+use Rattle.level_records.specs.declared.levels.Levels.{Levels}
 use Rattle.record_codec.specs.Drafts.{entry_of, draft_size}
 use Rattle.record_codec.specs.declared.draft.Draft.{Draft}
 use Rattle.record_codec.specs.declared.draft.Place.{Place}
@@ -29,3 +31,7 @@ pub record MayStand (s : State) (d : Draft) (p : Place) : Type 0 where
   pub low : p.offset + draft_size d ≤ 2 ^ 62
   pub admissible : IsAdmissible s.setup.segment (entry_of d p)
   pub names : NamesEarlier (queue_max s.log half_topic 0) (entry_of d p)
+
+-- few messages of the level were delivered
+abbrev pub HasFewDelivered : Levels → ℕ → Type 0
+HasFewDelivered levels level = (l : Level) → slice_get levels.view (level - 1) ≡ Some l → l.copied < 2 ^ 62

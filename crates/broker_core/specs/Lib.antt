@@ -2,11 +2,13 @@ pub mod Appends
 pub mod Asked
 pub mod Carries
 pub mod Counts
+pub mod Delivers
 pub mod Loads
 pub mod Makes
 pub mod Owner
 pub mod Pieces
 pub mod Reads
 pub mod Represents
+pub mod Sees
 pub mod SendRows
 pub mod Stores

@@ -25,6 +25,7 @@ use Rattle.client_tables.specs.Counts.{queues_of}
 use Rattle.client_tables.specs.Held.{HasClients}
 use Rattle.group_tables.specs.Held.{HasLocks}
 use Rattle.group_tables.specs.Offsets.{HasOffsets, IsOffset}
+use Rattle.level_records.specs.OfLog.{HasLevels}
 use Rattle.broker_core.specs.declared.parts.Parts.{Parts}
 
 -- ---- numbers
@@ -124,3 +125,4 @@ pub record Represents (core : Parts) (s : State) : Type 0 where
   pub locks : HasLocks core.groups s.locks
   pub names : All IsNamed s.topics
   pub kept : All IsOffset s.offsets
+  pub levels : HasLevels s.log s.dispatched core.levels

@@ -1,14 +1,18 @@
--- A plain message that is stored, and the reply to its send.
-use Rattle.std.specs.Prelude.{◌≡◌, ℕ, ◌+◌, ◌^◌, ◌<◌, nat_lt, bit_and, List, [], ◌∷◌, codes, Bool, false, None, if◌then◌else◌}
+-- A message that is stored, and the reply to its send.
+use Rattle.std.specs.Prelude.{◌≡◌, ℕ, ◌+◌, ◌^◌, ◌<◌, ◌≤◌, nat_lt, List, [], ◌∷◌, codes, Bool, true, false, Option, None, Some, if◌then◌else◌}
 use Rattle.mq_bytes.specs.Decimal.{digits_of}
 use Rattle.mq_bytes.specs.Ids.{message_id_of}
 use Rattle.record_codec.specs.Entry.{Entry}
-use Rattle.record_codec.specs.Layout.{size}
-use Rattle.record_codec.specs.Props.{value_of, has_name}
-use Rattle.record_codec.specs.Drafts.{draft_fault}
+use Rattle.record_codec.specs.Layout.{size, is_legal}
+use Rattle.record_codec.specs.Props.{has_name}
+use Rattle.record_codec.specs.Drafts.{draft_fault, entry_of}
 use Rattle.record_codec.specs.declared.draft.Draft.{Draft}
-use Rattle.log_model.specs.Admissible.{is_system_topic}
+use Rattle.record_codec.specs.declared.draft.Place.{Place}
+use Rattle.log_model.specs.Admissible.{is_system_topic, IsAdmissible, NamesEarlier}
 use Rattle.log_model.specs.Numbered.{next_record}
+use Rattle.delay_view.specs.OfLog.{IsMessageOf, IsOther}
+use Rattle.client_tables.specs.declared.topics.Topics.{Topics}
+use Rattle.client_tables.specs.Counts.{queues_of}
 use Rattle.broker_model.specs.State.{State, pending_bytes}
 use Rattle.broker_model.specs.Events as model
 use Rattle.broker_model.specs.Refusals.{plain_reply}
@@ -25,37 +29,49 @@ abbrev pub sent_fields : List ℕ → ℕ → ℕ → ℕ → List (List ℕ × 
 sent_fields host place queue queue_offset =
     (codes "msgId", message_id_of host place) ∷ (codes "queueId", digits_of queue) ∷ (codes "queueOffset", digits_of queue_offset) ∷ []
 
--- A draft whose record may stand behind any log where there is room: it can be written into a segment, and is a plain message
--- to one of 1,024 queues and no copy of a half message.
-pub record IsPlainDraft (segment : ℕ) (d : Draft) : Type 0 where
+-- A message may be for this topic, which has so many queues where it is known and is made with this number where it isn't.
+pub record IsTarget (topics : Topics) (topic : List ℕ) (known : Option ℕ) (made : ℕ) : Type 0 where
+  pub found : known ≡ queues_of topics topic
+  pub some : 0 < made
+  pub few : made ≤ 8
+  pub legal : is_legal topic ≡ true
+  pub plain : is_system_topic topic ≡ false
+
+-- the record is kept as a delayed message of this level, or else as one that counts for no level
+abbrev pub IsKeptAs : Option ℕ → Entry → Type 0
+IsKeptAs None r = IsOther r
+IsKeptAs (Some level) r = (1 ≤ level) × (level ≤ 18) × IsMessageOf level r
+
+-- A draft whose record may stand behind any log where there is room, kept as a delayed message of this level or as none: it can
+-- be written into a segment, and a log may have its record wherever it stands.
+pub record IsStorable (segment : ℕ) (level : Option ℕ) (d : Draft) : Type 0 where
   pub passes : draft_fault segment d ≡ None
   pub born : d.born < 2 ^ 62
   pub prepared : d.prepared < 2 ^ 62
   pub unsealed : has_name (codes "SEAL") d.props ≡ false
-  pub queue : d.queue < 1024
-  pub bits : bit_and d.sysflag 12 ≡ 0
-  pub topic : is_system_topic d.topic ≡ false
-  pub delivery : value_of (codes "DELAY_FROM") d.props ≡ None
-  pub renewal : value_of (codes "TRAN_PREPARED_QUEUE_OFFSET") d.props ≡ None
+  pub admissible : (p : Place) → IsAdmissible segment (entry_of d p)
+  pub names : (p : Place) (halves : ℕ) → NamesEarlier halves (entry_of d p)
+  pub kept : (p : Place) → IsKeptAs level (entry_of d p)
 
--- the model's answer to the send of a record that is stored
-abbrev pub stored_reply : State → Draft → Entry → model.Answer
-stored_reply s d r = append_answer s (waits d.props) (reply_with (sent_fields d.store_host r.offset d.queue r.queue_offset) []) 1
+-- the model's answer to the send of a message to this queue, whose record is stored
+abbrev pub stored_reply : State → Draft → ℕ → Entry → model.Answer
+stored_reply s d queue r = append_answer s (waits d.props) (reply_with (sent_fields d.store_host r.offset queue r.queue_offset) []) 1
 
 -- the answer to the send of a record
-abbrev pub stored_answer : State → Draft → Entry → (Said → Type 0)
-stored_answer s d r said = Says said (stored_reply s d r)
+abbrev pub stored_answer : State → Draft → ℕ → Entry → (Said → Type 0)
+stored_answer s d queue r said = Says said (stored_reply s d queue r)
 
--- the state with a record in a topic that has at least so many queues
-abbrev pub stored_state : State → Draft → ℕ → ℕ → State
-stored_state s d n time = with_records (with_made s d.topic n) time (next_record s.setup.segment time s.log d ∷ [])
+-- the state with a record, and with this topic, which has at least so many queues
+abbrev pub stored_state : State → Draft → List ℕ → ℕ → ℕ → State
+stored_state s d topic n time = with_records (with_made s topic n) time (next_record s.setup.segment time s.log d ∷ [])
 
--- the draft's record was stored at this time in a topic that has at least so many queues, and its send is answered so
-pub record IsStored (s : State) (d : Draft) (n time : ℕ) (said : Said) (new : Parts) : Type 0 where
-  pub answer : stored_answer s d (next_record s.setup.segment time s.log d) said
-  pub state : Represents new (stored_state s d n time)
+-- the draft's record was stored at this time, for this topic, which has at least so many queues, and this queue, and its send is
+-- answered so
+pub record IsStored (s : State) (d : Draft) (topic : List ℕ) (queue n time : ℕ) (said : Said) (new : Parts) : Type 0 where
+  pub answer : stored_answer s d queue (next_record s.setup.segment time s.log d) said
+  pub state : Represents new (stored_state s d topic n time)
 
--- ---- a plain message that is stored where there is room
+-- ---- a message that is stored where there is room
 
 -- the record would end past all places
 abbrev pub is_past : Entry → Bool
@@ -66,18 +82,18 @@ abbrev pub is_over : State → Entry → Bool
 is_over s r = nat_lt 67108864 (pending_bytes s + size r)
 
 -- the model's answer to the send of a record: there is no place for it, or no room in the buffer, or it is stored
-abbrev pub sent_reply : State → Draft → Entry → model.Answer
-sent_reply s d r =
+abbrev pub sent_reply : State → Draft → ℕ → Entry → model.Answer
+sent_reply s d queue r =
     if is_past r then model.Replies (plain_reply 14 (codes "log end"))
-    else (if is_over s r then model.Full s.flushed else stored_reply s d r)
+    else (if is_over s r then model.Full s.flushed else stored_reply s d queue r)
 
 -- the state afterwards: the same, unless it is stored
-abbrev pub sent_state : State → Draft → ℕ → ℕ → State
-sent_state s d n time =
+abbrev pub sent_state : State → Draft → List ℕ → ℕ → ℕ → State
+sent_state s d topic n time =
     if is_past (next_record s.setup.segment time s.log d) then s
-    else (if is_over s (next_record s.setup.segment time s.log d) then s else stored_state s d n time)
+    else (if is_over s (next_record s.setup.segment time s.log d) then s else stored_state s d topic n time)
 
--- the send of a draft at this time, to a topic that has at least so many queues then, is answered so
-pub record IsSent (s : State) (d : Draft) (n time : ℕ) (said : Said) (new : Parts) : Type 0 where
-  pub answer : Says said (sent_reply s d (next_record s.setup.segment time s.log d))
-  pub state : Represents new (sent_state s d n time)
+-- the send of a draft at this time, for a topic that has at least so many queues then, and for this queue, is answered so
+pub record IsSent (s : State) (d : Draft) (topic : List ℕ) (queue n time : ℕ) (said : Said) (new : Parts) : Type 0 where
+  pub answer : Says said (sent_reply s d queue (next_record s.setup.segment time s.log d))
+  pub state : Represents new (sent_state s d topic n time)

@@ -2,9 +2,13 @@
 
 ghost use Rattle.std.specs.Prelude.{◌≡◌, ◌<◌, ◌≤◌, ◌+◌, ◌^◌, ◌∷◌, [], length, slice_get, Some, IfOk, OnOk, OnErr};
 ghost use Rattle.record_codec.specs.Drafts.{draft_size, entry_of, IsEncodable};
+ghost use Rattle.record_codec.specs.Layout.{IsRecord};
 ghost use Rattle.record_codec.specs.Units.{unit_of};
 ghost use Rattle.log_model.specs.Log.{place_after};
 ghost use Rattle.queue_view.specs.Tables.{Table, added_of, number_of};
+ghost use Rattle.level_records.specs.declared.levels.Levels.{Levels};
+ghost use Rattle.level_records.specs.OfLog.{HasLevels};
+ghost use Rattle.log_model.specs.Numbered.{with_appended};
 ghost use Rattle.broker_model.specs.State.{State};
 ghost use Rattle.broker_model.specs.Step.{with_records};
 ghost use Rattle.broker_core.specs.Carries.{Stays, RepresentsSome};
@@ -76,8 +80,15 @@ impl Parts {
         requires room { HasRoomFor self.old table }
         requires size { size ≡ draft_size draft.now }
         requires short { length self.old.pending.bytes + size ≤ 67108864 }
-        ensures appended { OnOk result ((s : State) → Represents self.old s → MayStand s draft.now place.now
+        ensures appended { OnOk result ((s : State) (levels : Levels) → Represents self.old s
+            → MayStand s draft.now place.now
+            → (IsRecord (entry_of draft.now place.now) → HasLevels (with_appended s.log (entry_of draft.now place.now ∷ [])) s.dispatched levels)
+            → Represents (record self.new { levels = levels }) (with_records s place.now.store (entry_of draft.now place.now ∷ []))) }
+        ensures plain { OnOk result ((s : State) → Represents self.old s → MayStand s draft.now place.now
+            → (IsRecord (entry_of draft.now place.now)
+            → HasLevels (with_appended s.log (entry_of draft.now place.now ∷ [])) s.dispatched self.old.levels)
             → Represents self.new (with_records s place.now.store (entry_of draft.now place.now ∷ []))) }
+        ensures levels { self.new.levels ≡ self.old.levels }
         ensures topics { self.new.topics ≡ self.old.topics }
         ensures same { OnErr result (self.new ≡ self.old) }
     {

@@ -87,7 +87,7 @@ impl Core {
         self.parts.counts()
     }
 
-    /// Makes one step. Want of memory comes only at a request and at `Take`, and changes nothing.
+    /// Makes one step. Want of memory comes only at a request, at `Take` and at a delivery, and changes nothing.
     pub fn apply(&mut self, alloc: Global, event: &Event) -> Result<Said, AllocError>
         requires accepted { Accepts (shown_of self.old) event.now }
         ensures step { (s : State) → Represents self.old s → Makes s event.now (said_in result) self.new }
@@ -116,6 +116,7 @@ impl Core {
             }
             Event::Look { number, turn } => Ok(Said::Awaited(self.parts.look(*number, *turn))),
             Event::Dispatch { most } => Ok(Said::Moved(self.parts.dispatch(*most))),
+            Event::Deliver { now } => self.parts.deliver(alloc, *now),
             Event::Leave { link } => {
                 self.parts.leave(*link);
                 Ok(Said::Done)

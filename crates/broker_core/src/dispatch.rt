@@ -2,14 +2,17 @@
 
 ghost use Rattle.std.specs.Prelude.{◌≡◌, ◌≤◌, ◌<◌, ◌+◌, ◌-◌, ◌^◌, ℕ, List, length};
 ghost use Rattle.record_codec.specs.Entry.{Entry};
-ghost use Rattle.log_model.specs.Numbered.{Log};
+ghost use Rattle.log_model.specs.Numbered.{Log, IsLawful};
 ghost use Rattle.pending_log.specs.Rows.{AreRowsOf};
 ghost use Rattle.broker_model.specs.Events as model;
 ghost use Rattle.broker_core.specs.Carries.{Carries, RepresentsSome};
 ghost use Rattle.broker_core.specs.Makes.{shown_of};
+ghost use Rattle.level_records.specs.OfLog.{HasLevels};
 ghost use Rattle.broker_core.specs.Represents.{AreTabled, AreTablesOf};
+ghost use Rattle.broker_core.specs.Sees.{IsNextSeen};
 
 use crate::parts::Parts;
+use level_records::Levels;
 use pending_log::Rows;
 use queue_view::QueueView;
 
@@ -29,6 +32,32 @@ pub(crate) fn see(queues: &mut QueueView, rows: &Rows, from: u64, to: u64)
     }
 }
 
+// A record of the queue with this table is seen: where it is a delayed message, its level has one more.
+fn see_record(queues: &QueueView, levels: &mut Levels, table: u32)
+    requires there { table < length queues.now }
+    requires some { (segment d : ℕ) × (log : Log) × (r : Entry) × IsNextSeen segment log d r queues.now table levels.old }
+    ensures { (segment d : ℕ) (log : Log) (r : Entry) → IsNextSeen segment log d r queues.now table levels.old → HasLevels log (d + 1) levels.new }
+{
+    if queues.topic(table) == "SCHEDULE_TOPIC_XXXX" {
+        levels.see(queues.queue(table) as u8 + 1);
+    }
+}
+
+// The delayed messages among the records with these numbers are seen.
+pub(crate) fn see_levels(queues: &QueueView, levels: &mut Levels, rows: &Rows, from: u64, to: u64)
+    requires some { (segment : ℕ) × (log : Log) × IsLawful segment log × AreRowsOf log rows.now
+        × AreTabled queues.now log.records rows.now.items × HasLevels log from levels.old }
+    requires kept { rows.now.first ≤ from }
+    requires ordered { from ≤ to }
+    requires within { to ≤ rows.now.first + length rows.now.items }
+    ensures { (segment : ℕ) (log : Log) → IsLawful segment log → AreRowsOf log rows.now → AreTabled queues.now log.records rows.now.items
+        → HasLevels log from levels.old → HasLevels log to levels.new }
+{
+    for number in from..to {
+        see_record(queues, levels, rows.at(number).table);
+    }
+}
+
 impl Parts {
     /// Consumers see at most so many records more, of those that are on the disk; how many they see then. Takes no memory.
     pub(crate) fn dispatch(&mut self, most: u32) -> u64
@@ -40,6 +69,7 @@ impl Parts {
         let flushed = self.pending.flushed_count();
         let to = flushed.min(from.saturating_add(u64::from(most)));
         see(&mut self.queues, &self.rows, from, to);
+        see_levels(&self.queues, &mut self.levels, &self.rows, from, to);
         self.dispatched = to;
         to
     }

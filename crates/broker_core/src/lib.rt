@@ -4,9 +4,11 @@
 
 mod alone;
 mod append;
+mod append_kept;
 mod broker;
 mod consumer_offsets;
 mod counts;
+mod delivery;
 mod dispatch;
 mod heartbeats;
 mod loaded;

@@ -1,19 +1,26 @@
 //! What is loaded before the broker opens: each record's row, the tables of queues, the topics, and the offsets that were kept.
 
 ghost use Rattle.std.specs.Prelude.{◌≡◌, ◌<◌, ◌≤◌, ◌+◌, ◌^◌, ◌++◌, ◌∷◌, [], ℕ, List, Some, false, true};
-ghost use Rattle.std.specs.Prelude.{OnOk, IsTrue, if◌then◌else◌};
+ghost use Rattle.std.specs.Prelude.{IfOk, IfSome, OnOk, IsTrue, None, codes, if◌then◌else◌};
+ghost use Rattle.std.specs.Str.Parse.{digits_value};
 ghost use Rattle.record_codec.specs.Entry.{Entry};
 ghost use Rattle.record_codec.specs.Layout.{is_legal};
+ghost use Rattle.record_codec.specs.Props.{value_of};
 ghost use Rattle.log_model.specs.Admissible.{is_system_topic as is_system};
+ghost use Rattle.log_model.specs.Drafts.{text_in};
+ghost use Rattle.log_model.specs.Kinds.{is_delayed};
 ghost use Rattle.log_model.specs.Numbered.{queue_max};
 ghost use Rattle.broker_model.specs.Tables.{TopicRow, OffsetRow};
 ghost use Rattle.group_tables.specs.Offsets.{offset_row, IsOffset};
 ghost use Rattle.client_tables.specs.Counts.{queues_of};
-ghost use Rattle.broker_core.specs.Loads.{IsLoadedFrom, IsLoadedWith, whole_log, topic_row, count_with, known_with, own_with};
+ghost use Rattle.broker_core.specs.Loads.{IsLoadedFrom, IsLoadedWith, whole_log, topic_row};
+ghost use Rattle.broker_core.specs.Loads.{count_with, known_with, own_with, real_with};
 
 use client_tables::Topics;
 use group_tables::Groups;
+use level_records::Levels;
 use log_model::is_system_topic;
+use mq_bytes::read_decimal;
 use pending_log::{Row, Rows};
 use queue_view::QueueView;
 use record_codec::{View, unit_of};
@@ -29,6 +36,7 @@ const RECORDS_MAX: u64 = 1 << 61;
 #[derive(Drop)]
 pub struct Loaded {
     pub(crate) rows: Rows,
+    pub(crate) levels: Levels,
     pub(crate) queues: QueueView,
     pub(crate) topics: Topics,
     pub(crate) groups: Groups,
@@ -85,19 +93,59 @@ fn know_own(topics: &mut Topics, alloc: Global, topic: &str, queue: u32) -> Resu
     know(topics, alloc, topic, queue)
 }
 
+// The queue that digits name, of which a topic has 1,024 at most.
+fn queue_in(text: &str) -> Option<u32>
+    ensures { IfSome result (λ queue. queue ≡ digits_value 10 text.now) }
+{
+    if text.starts_with('-') {
+        return None;
+    }
+    match read_decimal(text) {
+        Some(queue) if queue >= 0 && queue < 1024 => Some(queue as u32),
+        _ => None,
+    }
+}
+
+// The queue that a message is for which waits.
+fn real_queue(view: &View<'_>) -> Option<u32>
+    ensures { IfSome result (λ queue. queue ≡ digits_value 10 (text_in (codes "REAL_QID") view.now.props)) }
+{
+    queue_in(view.prop("REAL_QID")?)
+}
+
+// The topic that a delayed message is for has the queue that it is for. `Err` comes for want of memory, for another record that
+// is for another topic than its own, and where the queue isn't told.
+fn know_real(topics: &mut Topics, alloc: Global, view: &View<'_>) -> Result<(), AllocError>
+    ensures topics { OnOk result ((other : List ℕ)
+        → queues_of topics.new other ≡ real_with (queues_of topics.old) (value_of (codes "REAL_TOPIC") view.now.props) view.now other) }
+    ensures own { OnOk result (is_delayed view.now ≡ false → value_of (codes "REAL_TOPIC") view.now.props ≡ None) }
+{
+    let Some(topic) = view.prop("REAL_TOPIC") else {
+        return Ok(());
+    };
+    if view.topic() != "SCHEDULE_TOPIC_XXXX" {
+        return Err(AllocError);
+    }
+    match real_queue(view) {
+        Some(queue) => know_own(topics, alloc, topic, queue),
+        None => Err(AllocError),
+    }
+}
+
 impl Loaded {
-    /// Nothing is loaded yet; takes no memory.
-    pub fn new(alloc: Global) -> Loaded
-        ensures { IsLoadedFrom [] [] result }
+    /// Nothing is loaded yet.
+    pub fn new(alloc: Global) -> Result<Loaded, AllocError>
+        ensures { IfOk result (IsLoadedFrom [] []) }
     {
-        Loaded {
+        Ok(Loaded {
             rows: Rows::new(alloc, 0),
+            levels: Levels::new(alloc)?,
             queues: QueueView::new(alloc),
             topics: Topics::new(alloc),
             groups: Groups::new(alloc),
             end: 0,
             store: 0,
-        }
+        })
     }
 
     /// Loads a topic of the kept file, before all records. One that was loaded already stays as it is.
@@ -118,15 +166,12 @@ impl Loaded {
         Ok(())
     }
 
-    /// Loads the next record. `Err` comes for want of memory, and for a record that is kept for another topic than its own, as
-    /// half and delayed messages are: these aren't served yet. What is loaded serves for nothing then.
+    /// Loads the next record. `Err` comes for want of memory, for a half message, since these aren't served yet, and for a record
+    /// that no log has. What is loaded serves for nothing then.
     pub fn add(&mut self, alloc: Global, view: &View<'_>) -> Result<(), AllocError>
         ensures { (saved : List TopicRow) (records : List Entry) → IsLoadedFrom saved records self.old
             → OnOk result (IsLoadedFrom saved (records ++ view.now ∷ []) self.new) }
     {
-        if view.prop("REAL_TOPIC").is_some() {
-            return Err(AllocError);
-        }
         if self.rows.end() >= RECORDS_MAX {
             return Err(AllocError);
         }
@@ -138,6 +183,8 @@ impl Loaded {
         self.rows.reserve(alloc, 1)?;
         let table = self.queues.reserve(alloc, topic, queue, 1)?;
         know_own(&mut self.topics, alloc, topic, queue)?;
+        know_real(&mut self.topics, alloc, view)?;
+        self.levels.load(alloc, view)?;
         self.queues.add(table, unit_of(view), store);
         self.rows.push(Row { place, size, table });
         self.end = place + u64::from(size);

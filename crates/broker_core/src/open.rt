@@ -11,7 +11,7 @@ ghost use Rattle.broker_core.specs.Loads.{MayOpen, whole_log};
 ghost use Rattle.broker_core.specs.Makes.{shown_of};
 ghost use Rattle.broker_core.specs.Represents.{Represents, setup_of};
 
-use crate::dispatch::see;
+use crate::dispatch::{see, see_levels};
 use crate::loaded::Loaded;
 use crate::parts::Parts;
 use broker_events::Setup;
@@ -43,12 +43,15 @@ impl Parts {
         let count = loaded.rows.end();
         let pending = Pending::new(alloc, setup.segment, count, loaded.end);
         let mut queues = loaded.queues;
+        let mut levels = loaded.levels;
         see(&mut queues, &loaded.rows, 0, count);
+        see_levels(&queues, &mut levels, &loaded.rows, 0, count);
         Parts {
             setup,
             rows: loaded.rows,
             pending,
             stored,
+            levels,
             queues,
             topics: loaded.topics,
             groups: loaded.groups,

@@ -3,6 +3,7 @@
 use broker_events::Setup;
 use client_tables::{Clients, Topics};
 use group_tables::Groups;
+use level_records::Levels;
 use mq_outside::FrozenRanges;
 use pending_log::{Pending, Rows};
 use queue_view::QueueView;
@@ -16,6 +17,8 @@ pub struct Parts {
     pub(crate) rows: Rows,
     pub(crate) pending: Pending,
     pub(crate) stored: FrozenRanges,
+    // The delayed messages of each level.
+    pub(crate) levels: Levels,
     // The tables of queues, and of topics.
     pub(crate) queues: QueueView,
     pub(crate) topics: Topics,

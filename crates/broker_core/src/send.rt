@@ -1,19 +1,19 @@
-//! A send of a plain message: the rows that refuse it, the end of all places, the full buffer, or the record.
+//! A send of a message, plain or delayed: the rows that refuse it, the end of all places, the full buffer, or the record.
 
 ghost use Rattle.std.specs.Prelude.{◌≡◌, ◌<◌, ◌≤◌, ◌+◌, ◌^◌, nat_lt, max, false, None, IfOk, OnErr, unwrap_or};
 ghost use Rattle.record_codec.specs.Drafts.{draft_fault, draft_size};
-ghost use Rattle.client_tables.specs.Counts.{queues_of};
 ghost use Rattle.request_fields.specs.declared.request.Request.TheVariants.{Send};
-ghost use Rattle.broker_model.specs.Sends.{is_half_send, level_of};
+ghost use Rattle.broker_model.specs.Sends.{is_half_send};
 ghost use Rattle.broker_model.specs.State.{State};
 ghost use Rattle.broker_core.specs.Represents.{Represents};
-ghost use Rattle.broker_core.specs.Stores.{IsPlainDraft, IsSent};
+ghost use Rattle.broker_core.specs.Stores.{IsSent, IsStorable, IsTarget};
 ghost use Rattle.broker_core.specs.Carries.{Stays, RepresentsSome};
 ghost use Rattle.broker_core.specs.Asked.{CarriesRequest};
 
 use crate::parts::Parts;
-use crate::send_draft::plain_draft;
-use crate::send_rows::{made_queues, refusal_of};
+use crate::send_draft::{kept_draft, level_of, plain_draft};
+use crate::send_rows::{made_queues, queue_named, refusal_of};
+use crate::store::Target;
 use broker_events::Said;
 use record_codec::Draft;
 use reply_fields::Reply;
@@ -23,15 +23,15 @@ use std::alloc::{AllocError, Global};
 /// Where the last record may end.
 const PLACE_MAX: u64 = 1 << 62;
 
-// A record of this size at this place would end past all places.
-fn is_past_end(place: u64, size: u32) -> bool
+/// A record of this size at this place would end past all places.
+pub(crate) fn is_past_end(place: u64, size: u32) -> bool
     ensures { result ≡ nat_lt (2 ^ 62) (place + size) }
 {
     place > PLACE_MAX - u64::from(size)
 }
 
-// The size of the record of a draft that fits into a segment.
-fn size_of(draft: &Draft, segment: u32) -> u32
+/// The size of the record of a draft that fits into a segment.
+pub(crate) fn size_of(draft: &Draft, segment: u32) -> u32
     requires { draft_fault segment draft.now ≡ None }
     ensures { result ≡ draft_size draft.now }
 {
@@ -42,23 +42,21 @@ fn size_of(draft: &Draft, segment: u32) -> u32
 }
 
 impl Parts {
-    // Stores a plain message in a topic that is made with so many queues where it isn't known, unless its record would end past
-    // all places, or the buffer has no room for it. At `Err` nothing changes.
+    // Stores a message, unless its record would end past all places, or the buffer has no room for it. At `Err` nothing changes that
+    // counts.
     fn try_store(
         &mut self,
         alloc: Global,
-        known: Option<u32>,
-        made: u32,
+        target: &Target<'_>,
         draft: &Draft,
         now: u64,
     ) -> Result<Said, AllocError>
         requires some { RepresentsSome self.old }
-        requires plain { IsPlainDraft self.old.setup.segment draft.now }
-        requires known { known ≡ queues_of self.old.topics draft.now.topic }
-        requires made { (0 < made) × (made ≤ 8) }
+        requires storable { IsStorable self.old.setup.segment target.now.level draft.now }
+        requires target { IsTarget self.old.topics target.now.topic.now target.now.known target.now.made }
         requires now { now < 2 ^ 62 }
         ensures sent { IfOk result (λ said. (s : State) → Represents self.old s
-            → IsSent s draft.now (unwrap_or known made) (max now s.now) said self.new) }
+            → IsSent s draft.now target.now.topic.now target.now.queue (unwrap_or target.now.known target.now.made) (max now s.now) said self.new) }
         ensures stays { OnErr result (Stays self.old self.new) }
     {
         let size = size_of(draft, self.setup.segment);
@@ -70,10 +68,10 @@ impl Parts {
                 pending: self.pending.flushed_count(),
             });
         }
-        self.store(alloc, known, made, draft, size, now)
+        self.store(alloc, target, draft, size, now)
     }
 
-    /// Answers a send of a message that is neither a half message nor a delayed one. At `Err` nothing changes.
+    /// Answers a send of a message that isn't a half message. At `Err` nothing changes that counts.
     pub(crate) fn send(
         &mut self,
         alloc: Global,
@@ -84,7 +82,6 @@ impl Parts {
         requires some { RepresentsSome self.old }
         requires now { now < 2 ^ 62 }
         requires half { is_half_send send.now ≡ false }
-        requires level { level_of send.now ≡ None }
         ensures carries { IfOk result (λ said. CarriesRequest self.old host now (Send send.now) said self.new) }
         ensures stays { OnErr result (Stays self.old self.new) }
     {
@@ -92,8 +89,15 @@ impl Parts {
         if let Some(refusal) = refusal_of(send, self.setup.segment, known) {
             return Ok(Said::Reply(refusal.reply(alloc)?));
         }
-        let draft = plain_draft(alloc, send, host, self.setup.host)?;
-        let made = made_queues(send.default_queues);
-        self.try_store(alloc, known, made, &draft, now)
+        let target = Target {
+            topic: send.topic.as_str(),
+            known,
+            made: made_queues(send.default_queues),
+            queue: queue_named(send.queue),
+            level: level_of(send),
+        };
+        let message = plain_draft(alloc, send, host, self.setup.host)?;
+        let draft = kept_draft(alloc, target.level, message)?;
+        self.try_store(alloc, &target, &draft, now)
     }
 }

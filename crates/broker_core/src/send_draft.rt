@@ -1,29 +1,20 @@
 //! What the record of a send says, and what a send asks for besides being stored.
 
-ghost use Rattle.std.specs.Prelude.{◌≡◌, ◌&&◌, not, is_none, IfOk};
+ghost use Rattle.std.specs.Prelude.{◌≡◌, ◌≤◌, true, IfSome, IfOk, OnOk};
+ghost use Rattle.record_codec.specs.Layout.{is_legal};
 ghost use Rattle.record_codec.specs.LaxProps.{read_props};
-ghost use Rattle.broker_model.specs.Sends.{is_half_send, level_of as level_of_send, waits as waits_of};
+ghost use Rattle.broker_model.specs.Sends.{level_of as level_of_send, waits as waits_of};
 ghost use Rattle.broker_model.specs.Sends.{kept_props as kept_props_of, plain_draft as plain_draft_of};
+ghost use Rattle.broker_model.specs.Sends.{with_real, delayed_or_plain, delayed_draft as delayed_draft_of};
 
 use crate::send_rows::queue_named;
 use mq_bytes::{Rows, Text, read_decimal};
-use record_codec::{Draft, PREPARED, Props, TRANSACTION_BITS};
+use record_codec::{Draft, Props, TRANSACTION_BITS};
 use request_fields::SendFields;
 use std::alloc::{AllocError, Global};
 
-// Whether it is a half message, by its property or by its system flag.
-fn is_half(send: &SendFields) -> bool
-    ensures { result ≡ is_half_send send.now }
-{
-    let says = match Props::value_in(send.props.as_str(), "TRAN_MSG") {
-        None => false,
-        Some(value) => value.eq_ignore_ascii_case("true"),
-    };
-    says || send.sysflag.cast_unsigned() & TRANSACTION_BITS == PREPARED
-}
-
 /// The delay level of a send, by its `DELAY`: 1 to 18, which stands for each greater number too.
-pub(crate) fn level_of(send: &SendFields) -> Option<u32>
+pub(crate) fn level_of(send: &SendFields) -> Option<u8>
     ensures { result ≡ level_of_send send.now }
 {
     match Props::value_in(send.props.as_str(), "DELAY") {
@@ -36,18 +27,11 @@ pub(crate) fn level_of(send: &SendFields) -> Option<u32>
                 } else if level > 18 {
                     Some(18)
                 } else {
-                    Some(level as u32)
+                    Some(level as u8)
                 }
             }
         },
     }
-}
-
-/// Whether it is neither a half message nor a delayed one.
-pub(crate) fn is_plain(send: &SendFields) -> bool
-    ensures { result ≡ (not (is_half_send send.now) && is_none (level_of_send send.now)) }
-{
-    !is_half(send) && level_of(send).is_none()
 }
 
 /// Whether a message with these properties is answered once it is on the disk.
@@ -102,4 +86,39 @@ pub(crate) fn plain_draft(
         body: Rows::of(Vec::from_slice(alloc, send.body.as_slice())?),
         props: kept_props(alloc, send.props.as_str())?,
     })
+}
+
+// Adds the topic and the queue that the message is for.
+fn put_real(alloc: Global, props: &mut Props, topic: &str, queue: u32) -> Result<(), AllocError>
+    requires { is_legal topic.now ≡ true }
+    ensures { OnOk result (props.new ≡ with_real topic.now queue props.old) }
+{
+    let digits = format!(in alloc; "{queue}")?;
+    props.put(alloc, "REAL_TOPIC", topic)?;
+    props.put(alloc, "REAL_QID", digits.as_str())
+}
+
+// The message as a delayed one of this level.
+fn delayed_draft(alloc: Global, level: u8, d: Draft) -> Result<Draft, AllocError>
+    requires low { 1 ≤ level }
+    requires legal { is_legal d.topic ≡ true }
+    ensures { IfOk result (λ draft. draft ≡ delayed_draft_of level d) }
+{
+    let mut draft = d;
+    put_real(alloc, &mut draft.props, draft.topic.as_str(), draft.queue)?;
+    draft.topic = text(alloc, "SCHEDULE_TOPIC_XXXX")?;
+    draft.queue = u32::from(level) - 1;
+    Ok(draft)
+}
+
+/// The message as it is kept: as a delayed one where it has a level.
+pub(crate) fn kept_draft(alloc: Global, level: Option<u8>, d: Draft) -> Result<Draft, AllocError>
+    requires level { IfSome level (λ level. 1 ≤ level) }
+    requires legal { is_legal d.topic ≡ true }
+    ensures { IfOk result (λ draft. draft ≡ delayed_or_plain level d) }
+{
+    match level {
+        None => Ok(d),
+        Some(level) => delayed_draft(alloc, level, d),
+    }
 }

@@ -1,11 +1,10 @@
-//! A plain message is stored: all that may take memory is done before anything changes.
+//! A message is stored: all that may take memory is done before anything changes.
 
 ghost use Rattle.std.specs.Prelude.{◌≡◌, ◌<◌, ◌≤◌, ◌+◌, ◌^◌, ◌∷◌, [], length, max, pos, Some, IfOk, OnOk, OnErr, unwrap_or};
 ghost use Rattle.record_codec.specs.Drafts.{draft_size, entry_of, IsEncodable};
 ghost use Rattle.remoting_frame.specs.Head.{IsInOrder, pairs_size};
 ghost use Rattle.log_model.specs.Log.{place_after};
 ghost use Rattle.queue_view.specs.Tables.{number_of};
-ghost use Rattle.client_tables.specs.Counts.{queues_of};
 ghost use Rattle.broker_model.specs.State.{State};
 ghost use Rattle.broker_model.specs.Events as model;
 ghost use Rattle.broker_model.specs.Step.{with_made, with_records};
@@ -15,7 +14,7 @@ ghost use Rattle.broker_events.specs.Steps.{Says};
 ghost use Rattle.broker_core.specs.Carries.{Stays, RepresentsSome};
 ghost use Rattle.broker_core.specs.Represents.{Represents};
 ghost use Rattle.broker_core.specs.Appends.{HasRoomFor, MayStand};
-ghost use Rattle.broker_core.specs.Stores.{IsPlainDraft, IsStored, sent_fields as sent_fields_of};
+ghost use Rattle.broker_core.specs.Stores.{IsKeptAs, IsStorable, IsStored, IsTarget, sent_fields as sent_fields_of};
 
 use crate::parts::Parts;
 use crate::send_draft::waits;
@@ -25,6 +24,20 @@ use record_codec::{Draft, Place};
 use remoting_frame::Fields;
 use reply_fields::Reply;
 use std::alloc::{AllocError, Global};
+
+/// Where a message belongs, and whether it is delayed.
+#[derive(Clone, Copy)]
+pub(crate) struct Target<'a> {
+    /// The topic that it is for, of clients, with its number of queues where it is known.
+    pub(crate) topic: &'a str,
+    pub(crate) known: Option<u32>,
+    /// With how many queues the topic is made where it isn't known: 1 to 8.
+    pub(crate) made: u32,
+    /// The queue that it is for.
+    pub(crate) queue: u32,
+    /// The level of a delayed message: 1 to 18.
+    pub(crate) level: Option<u8>,
+}
 
 // Room for the names and values of the fields that tell where a record stands.
 const SENT_ROOM: usize = 96;
@@ -89,12 +102,11 @@ impl Parts {
         }
     }
 
-    // Appends the record of this draft, and makes its topic with so many queues where it isn't known.
+    // Appends the record of this draft, and makes the target's topic where it isn't known.
     fn append_in(
         &mut self,
         alloc: Global,
-        known: Option<u32>,
-        made: u32,
+        target: &Target<'_>,
         table: u32,
         draft: &Draft,
         place: &Place,
@@ -102,56 +114,52 @@ impl Parts {
     ) -> Result<(), AllocError>
         requires some { (s : State) × Represents self.old s × MayStand s draft.now place.now }
         requires encodable { IsEncodable draft.now place.now }
-        requires plain { IsPlainDraft self.old.setup.segment draft.now }
-        requires known { known ≡ queues_of self.old.topics draft.now.topic }
-        requires made { (0 < made) × (made ≤ 8) }
+        requires kept { IsKeptAs target.now.level (entry_of draft.now place.now) }
+        requires target { IsTarget self.old.topics target.now.topic.now target.now.known target.now.made }
         requires table { number_of self.old.queues draft.now.topic draft.now.queue ≡ Some table }
         requires room { HasRoomFor self.old table }
         requires size { size ≡ draft_size draft.now }
         requires short { length self.old.pending.bytes + size ≤ 67108864 }
         ensures appended { OnOk result ((s : State) → Represents self.old s → MayStand s draft.now place.now
-            → Represents self.new (with_records (with_made s draft.now.topic (unwrap_or known made)) place.now.store
+            → Represents self.new (with_records (with_made s target.now.topic.now (unwrap_or target.now.known target.now.made)) place.now.store
             (entry_of draft.now place.now ∷ []))) }
         ensures stays { OnErr result (Stays self.old self.new) }
     {
-        if known.is_some() {
-            return self.append(table, draft, place, size);
+        if target.known.is_some() {
+            return self.append_message(alloc, table, draft, place, size, target.level);
         }
-        let name = String::from_str(alloc, draft.topic.as_str())?;
+        let name = String::from_str(alloc, target.topic)?;
         self.topics.reserve()?;
-        self.append(table, draft, place, size)?;
-        self.topics.make(name, made);
+        self.append_message(alloc, table, draft, place, size, target.level)?;
+        self.topics.make(name, target.made);
         Ok(())
     }
 
-    /// Stores a plain message for which there is room, in a topic that is made with so many queues where it isn't known. At
-    /// `Err` nothing changes.
+    /// Stores a message for which there is room. At `Err` nothing changes that counts.
     pub(crate) fn store(
         &mut self,
         alloc: Global,
-        known: Option<u32>,
-        made: u32,
+        target: &Target<'_>,
         draft: &Draft,
         size: u32,
         now: u64,
     ) -> Result<Said, AllocError>
         requires some { RepresentsSome self.old }
-        requires plain { IsPlainDraft self.old.setup.segment draft.now }
-        requires known { known ≡ queues_of self.old.topics draft.now.topic }
-        requires made { (0 < made) × (made ≤ 8) }
+        requires storable { IsStorable self.old.setup.segment target.now.level draft.now }
+        requires target { IsTarget self.old.topics target.now.topic.now target.now.known target.now.made }
         requires size { size ≡ draft_size draft.now }
         requires low { place_after self.old.pending.segment self.old.pending.end size + size ≤ 2 ^ 62 }
         requires short { length self.old.pending.bytes + size ≤ 67108864 }
         requires now { now < 2 ^ 62 }
         ensures stored { IfOk result (λ said. (s : State) → Represents self.old s
-            → IsStored s draft.now (unwrap_or known made) (max now s.now) said self.new) }
+            → IsStored s draft.now target.now.topic.now target.now.queue (unwrap_or target.now.known target.now.made) (max now s.now) said self.new) }
         ensures stays { OnErr result (Stays self.old self.new) }
     {
         let table = self.make_ready(alloc, draft.topic.as_str(), draft.queue)?;
         let place = self.next_place(table, size, now.max(self.now));
-        let reply = sent(alloc, draft.store_host, place, draft.queue)?;
+        let reply = sent(alloc, draft.store_host, place, target.queue)?;
         let said = self.answer(waits(&draft.props), reply);
-        self.append_in(alloc, known, made, table, draft, &place, size)?;
+        self.append_in(alloc, target, table, draft, &place, size)?;
         Ok(said)
     }
 }

@@ -1,18 +1,13 @@
 -- Which requests the core answers; its caller tells the others that they are not served.
-use Rattle.std.specs.Prelude.{◌&&◌, not, Bool, true, false, is_some}
-use Rattle.request_fields.specs.Requests.{SendSaid}
+use Rattle.std.specs.Prelude.{not, Bool, true, false}
 use Rattle.request_fields.specs.declared.request.Request.{Request}
 use Rattle.request_fields.specs.declared.request.Request.TheVariants.{Send, Pull, Query, OffsetOf, SetOffset, MakeTopic, Search, MaxOffset}
 use Rattle.request_fields.specs.declared.request.Request.TheVariants.{MinOffset, ViewById, Beat, Unregister, EndTransaction, Lock, Unlock}
-use Rattle.broker_model.specs.Sends.{is_half_send, level_of}
+use Rattle.broker_model.specs.Sends.{is_half_send}
 
--- the message is neither a half message nor a delayed one
-abbrev pub is_plain_send : SendSaid → Bool
-is_plain_send send = not (is_half_send send) && not (is_some (level_of send))
-
--- the request is of a kind that is answered
+-- the request is of a kind that is answered: no half message, no verdict on one, and none of the key index
 abbrev pub is_served : Request → Bool
-is_served (Send send) = is_plain_send send
+is_served (Send send) = not (is_half_send send)
 is_served (Pull p) = true
 is_served (Query q) = false
 is_served (OffsetOf q) = true

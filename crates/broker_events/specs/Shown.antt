@@ -1,10 +1,10 @@
 -- What the owner of the key sees: the end of the flushed records and the batch that is out, and how steps move them.
-use Rattle.std.specs.Prelude.{◌≡◌, true, ℕ, ◌+◌, ◌^◌, ◌<◌, List, length, Option, Some, None, IfSome}
+use Rattle.std.specs.Prelude.{◌≡◌, true, ℕ, ◌+◌, ◌^◌, ◌<◌, length, Option, Some, None}
 use Rattle.log_model.specs.declared.batch.Batch.{Batch}
 use Rattle.log_model.specs.Batches.{IsReceiptFor}
 use Rattle.broker_events.specs.Served.{is_served}
 use Rattle.broker_events.specs.declared.event.Event.{Event}
-use Rattle.broker_events.specs.declared.event.Event.TheVariants.{Request, Take, Flushed, FlushFailed, Look, Dispatch, Leave}
+use Rattle.broker_events.specs.declared.event.Event.TheVariants.{Request, Take, Flushed, FlushFailed, Look, Dispatch, Deliver, Leave}
 use Rattle.broker_events.specs.declared.said.Said.{Said}
 use Rattle.broker_events.specs.declared.said.Said.TheVariants as said
 
@@ -28,6 +28,7 @@ Accepts shown (Flushed receipt) = IsOut shown.out (λ batch. IsReceiptFor batch 
 Accepts shown (FlushFailed count) = IsOut shown.out (λ batch. Unit {0})
 Accepts shown (Look number turn) = Unit {0}
 Accepts shown (Dispatch most) = Unit {0}
+Accepts shown (Deliver now) = now < 2 ^ 62
 Accepts shown (Leave link) = Unit {0}
 
 -- the batch that is out after a turn was asked for: what was said, or what was out before
@@ -48,4 +49,5 @@ moved shown (Flushed receipt) what = after_batch shown shown.out
 moved shown (FlushFailed count) what = record shown { out = None }
 moved shown (Look number turn) what = shown
 moved shown (Dispatch most) what = shown
+moved shown (Deliver now) what = shown
 moved shown (Leave link) what = shown

@@ -5,7 +5,7 @@ use Rattle.log_model.specs.Segments.{layouts}
 use Rattle.log_model.specs.declared.batch.Batch.{Batch}
 use Rattle.broker_model.specs.Events as model
 use Rattle.broker_events.specs.declared.event.Event.{Event}
-use Rattle.broker_events.specs.declared.event.Event.TheVariants.{Request, Take, Flushed, FlushFailed, Look, Dispatch, Leave}
+use Rattle.broker_events.specs.declared.event.Event.TheVariants.{Request, Take, Flushed, FlushFailed, Look, Dispatch, Deliver, Leave}
 use Rattle.broker_events.specs.declared.said.Said.{Said}
 use Rattle.broker_events.specs.declared.said.Said.TheVariants as said
 use Rattle.broker_events.specs.declared.said.Awaited.{Awaited}
@@ -22,6 +22,7 @@ event_of (Flushed receipt) = model.Flushed receipt.count
 event_of (FlushFailed count) = model.FlushFailed count
 event_of (Look number turn) = model.Look number turn
 event_of (Dispatch most) = model.Dispatch most
+event_of (Deliver now) = model.Deliver now
 event_of (Leave link) = model.Leave link
 
 -- flush turns are begun and ended by the owner of the key alone
@@ -32,6 +33,7 @@ IsKeyed (Flushed receipt) = Unit {0}
 IsKeyed (FlushFailed count) = Unit {0}
 IsKeyed (Look number turn) = ⊥
 IsKeyed (Dispatch most) = ⊥
+IsKeyed (Deliver now) = ⊥
 IsKeyed (Leave link) = ⊥
 
 -- the event may run out of memory
@@ -42,6 +44,7 @@ MayTakeMemory (Flushed receipt) = ⊥
 MayTakeMemory (FlushFailed count) = ⊥
 MayTakeMemory (Look number turn) = ⊥
 MayTakeMemory (Dispatch most) = ⊥
+MayTakeMemory (Deliver now) = Unit {0}
 MayTakeMemory (Leave link) = ⊥
 
 -- ---- answers
@@ -55,6 +58,20 @@ IsOfRequest (said.Batch batch) = ⊥
 IsOfRequest said.Done = ⊥
 IsOfRequest (said.Awaited what) = ⊥
 IsOfRequest (said.Moved number) = ⊥
+IsOfRequest said.LogEnd = ⊥
+IsOfRequest (said.Delivered what) = ⊥
+
+-- this may be said to a delivery
+abbrev pub IsOfDelivery : Said → Type 0
+IsOfDelivery (said.Reply reply) = ⊥
+IsOfDelivery (said.After reply number turn) = ⊥
+IsOfDelivery (said.Full pending) = Unit {0}
+IsOfDelivery (said.Batch batch) = ⊥
+IsOfDelivery said.Done = ⊥
+IsOfDelivery (said.Awaited what) = ⊥
+IsOfDelivery (said.Moved number) = ⊥
+IsOfDelivery said.LogEnd = Unit {0}
+IsOfDelivery (said.Delivered what) = Unit {0}
 
 -- this may be said to the event: each event has its own answers
 abbrev pub IsAnswerTo : Event → Said → Type 0
@@ -64,6 +81,7 @@ IsAnswerTo (Flushed receipt) what = what ≡ said.Done
 IsAnswerTo (FlushFailed count) what = what ≡ said.Done
 IsAnswerTo (Look number turn) what = (awaited : Awaited) × (what ≡ said.Awaited awaited)
 IsAnswerTo (Dispatch most) what = (number : ℕ) × (what ≡ said.Moved number)
+IsAnswerTo (Deliver now) what = IsOfDelivery what
 IsAnswerTo (Leave link) what = what ≡ said.Done
 
 -- what was said, nothing where memory ran out
@@ -110,6 +128,8 @@ Says (said.Batch batch) answer = IsTakenAs batch answer
 Says said.Done answer = answer ≡ model.Done
 Says (said.Awaited what) answer = answer ≡ model.Looked (awaited_of what)
 Says (said.Moved number) answer = answer ≡ model.Moved number
+Says said.LogEnd answer = answer ≡ model.LogEnd
+Says (said.Delivered what) answer = answer ≡ model.Delivered what
 
 -- the same, where nothing was said since memory ran out
 abbrev pub SaysIn : Option Said → Option model.Answer → Type 0

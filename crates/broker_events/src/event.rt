@@ -39,6 +39,10 @@ pub enum Event {
     Dispatch {
         most: u32,
     },
+    /// A delayed message is delivered, if one is due at this reading of the clock.
+    Deliver {
+        now: u64,
+    },
     /// A link ended.
     Leave {
         link: u32,

@@ -25,7 +25,7 @@ pub enum Said {
         number: u64,
         turn: u64,
     },
-    /// The pending bytes and the request's records would pass 67,108,864, and nothing changed. The first pending record has
+    /// The pending bytes and the event's records would pass 67,108,864, and nothing changed. The first pending record has
     /// this number: ask again once it is on the disk.
     Full {
         pending: u64,
@@ -38,4 +38,8 @@ pub enum Said {
     Awaited(Awaited),
     /// The number of records that consumers see.
     Moved(u64),
+    /// A record would end past all places, and nothing changed. A request is told so by a reply.
+    LogEnd,
+    /// The level of the delivery, from 1 on, and its number in the level, or none where nothing is due.
+    Delivered(Option<(u8, u64)>),
 }

@@ -64,7 +64,7 @@ pub(crate) fn loaded_topics(alloc: Global, topics: &[TopicQueues]) -> Result<Loa
     requires { All IsKeptTopic topics.now }
     ensures { IfOk result (IsLoadedFrom topics.now []) }
 {
-    let mut loaded = Loaded::new(alloc);
+    let mut loaded = Loaded::new(alloc)?;
     add_topics(alloc, &mut loaded, topics)?;
     Ok(loaded)
 }

@@ -9,9 +9,9 @@ use Rattle.broker_events.specs.Steps.{IsAnswerTo, said_in}
 use Rattle.broker_core.specs.declared.parts.Parts.{Parts}
 use Rattle.broker_core.specs.Represents.{Represents}
 use Rattle.broker_core.specs.Makes.{Makes, shown_of}
-use Rattle.broker_core.proofs.SaidLemmas.{request_says}
-use Rattle.broker_core.proofs.ShownLemmas.{request_shown}
-use Rattle.broker_core.proofs.StepLemmas.{made, unmade, request_made, take_made, take_state, flush_possible, failure_possible}
+use Rattle.broker_core.proofs.SaidLemmas.{request_says, delivery_says}
+use Rattle.broker_core.proofs.ShownLemmas.{request_shown, delivery_shown}
+use Rattle.broker_core.proofs.StepLemmas.{made, unmade, request_made, delivery_made, take_made, take_state, flush_possible, failure_possible}
 use Rattle.broker_core.proofs.broker.Core.apply.Goals as goal
 use Rattle.broker_core.proofs.broker.Core.apply.Goals.{in-Ok, in-Err}
 
@@ -26,6 +26,11 @@ invariant_of-self-in-Take c = take_state c.self.inside.parts c.take.new.self c.t
 
 pub invariant_of-self-in-Dispatch : goal.invariant_of-self-in-Dispatch
 invariant_of-self-in-Dispatch c = (_, (c.dispatch.ensures.carries c.self.invariant.0 c.self.invariant.1).1)
+
+pub invariant_of-self-in-Deliver : goal.invariant_of-self-in-Deliver
+invariant_of-self-in-Deliver c =
+    let makes = delivery_made c.self.inside.parts c.deliver.new.self c.self.invariant.0 c.in-Deliver.now c.deliver.result c.deliver.ensures.carries c.deliver.ensures.stays c.self.invariant.1 in
+    (makes.reached, makes.represents)
 
 pub invariant_of-self-in-Leave : goal.invariant_of-self-in-Leave
 invariant_of-self-in-Leave c = (_, (c.leave.ensures.carries c.self.invariant.0 c.self.invariant.1).1)
@@ -121,3 +126,23 @@ returns-in-Dispatch-clause-answer c = subst (λ (e : Event). IsAnswerTo e (said.
 
 pub returns-in-Leave-clause-answer : goal.returns-in-Leave-clause-answer
 returns-in-Leave-clause-answer c = subst (λ (e : Event). IsAnswerTo e said.Done) (sym c.in-Leave.is) refl
+
+pub returns-in-Deliver-clause-step : goal.returns-in-Deliver-clause-step
+returns-in-Deliver-clause-step c s are =
+    let i = c.in-Deliver in
+    let before = subst (λ (p : Parts). Represents p s) (sym c.self.view_is) are in
+    subst (λ (e : Event). Makes s e (said_in c.deliver.result) c.deliver.new.self) (sym i.is)
+    (delivery_made c.self.inside.parts c.deliver.new.self s i.now c.deliver.result c.deliver.ensures.carries c.deliver.ensures.stays before)
+
+pub returns-in-Deliver-clause-shown : goal.returns-in-Deliver-clause-shown
+returns-in-Deliver-clause-shown c =
+    let i = c.in-Deliver in
+    subst (λ (e : Event). shown_of c.deliver.new.self ≡ moved (shown_of c.args.self.now) e (said_in c.deliver.result)) (sym i.is)
+    (delivery_shown c.self.inside.parts c.deliver.new.self i.now c.deliver.result c.deliver.ensures.carries c.deliver.ensures.stays c.self.invariant
+    ∙ ap (λ (p : Parts). shown_of p) c.self.view_is)
+
+pub returns-in-Deliver-clause-answer : goal.returns-in-Deliver-clause-answer
+returns-in-Deliver-clause-answer c =
+    let i = c.in-Deliver in
+    subst (λ (e : Event). IfOk c.deliver.result (IsAnswerTo e)) (sym i.is)
+    (delivery_says c.self.inside.parts c.deliver.new.self i.now c.deliver.result c.deliver.ensures.carries c.self.invariant)

@@ -10,7 +10,8 @@ use Rattle.broker_events.specs.Replies.{IsReplyOf}
 use Rattle.reply_fields.specs.Parts.{ReplyParts}
 use Rattle.broker_core.specs.declared.parts.Parts.{Parts}
 use Rattle.broker_core.specs.Represents.{Represents}
-use Rattle.broker_core.specs.Stores.{sent_fields, stored_answer}
+use Rattle.client_tables.specs.declared.topics.Topics.{Topics}
+use Rattle.broker_core.specs.Stores.{sent_fields, stored_answer, IsTarget}
 use Rattle.broker_core.proofs.StoreLemmas.{found_place, is_next_record}
 use Rattle.broker_core.proofs.parts.Parts.store.Goals as goal
 
@@ -22,8 +23,8 @@ append_in-requires-clause-some c =
     let are = c.in_ok-table.ensures.stays s c.requires.some.1 in
     let others = c.in_ok-table.ensures.others in
     let mine : number_of core.queues d.topic d.queue ≡ Some c.in_ok-table.table = search rules in
-    let found = found_place c.args.self.now core s d c.next_place-place.result c.in_ok-table.table c.args.size c.args.now are (ap (λ (x : Parts). x.setup) others) (ap (λ (x : Parts). x.pending) others)
-    (ap (λ (x : Parts). x.now) others) c.requires.plain mine c.next_place-place.ensures.queue_offset c.next_place-place.ensures.offset (c.next_place-place.ensures.store ∙ c.max.ensures) c.requires.size c.requires.low c.requires.now in
+    let found = found_place c.args.self.now core s c.args.target.now.level d c.next_place-place.result c.in_ok-table.table c.args.size c.args.now are (ap (λ (x : Parts). x.setup) others) (ap (λ (x : Parts). x.pending) others)
+    (ap (λ (x : Parts). x.now) others) c.requires.storable mine c.next_place-place.ensures.queue_offset c.next_place-place.ensures.offset (c.next_place-place.ensures.store ∙ c.max.ensures) c.requires.size c.requires.low c.requires.now in
     (s, are, found.1)
 
 pub append_in-requires-clause-encodable : goal.append_in-requires-clause-encodable
@@ -34,8 +35,8 @@ append_in-requires-clause-encodable c =
     let are = c.in_ok-table.ensures.stays s c.requires.some.1 in
     let others = c.in_ok-table.ensures.others in
     let mine : number_of core.queues d.topic d.queue ≡ Some c.in_ok-table.table = search rules in
-    let found = found_place c.args.self.now core s d c.next_place-place.result c.in_ok-table.table c.args.size c.args.now are (ap (λ (x : Parts). x.setup) others) (ap (λ (x : Parts). x.pending) others)
-    (ap (λ (x : Parts). x.now) others) c.requires.plain mine c.next_place-place.ensures.queue_offset c.next_place-place.ensures.offset (c.next_place-place.ensures.store ∙ c.max.ensures) c.requires.size c.requires.low c.requires.now in
+    let found = found_place c.args.self.now core s c.args.target.now.level d c.next_place-place.result c.in_ok-table.table c.args.size c.args.now are (ap (λ (x : Parts). x.setup) others) (ap (λ (x : Parts). x.pending) others)
+    (ap (λ (x : Parts). x.now) others) c.requires.storable mine c.next_place-place.ensures.queue_offset c.next_place-place.ensures.offset (c.next_place-place.ensures.store ∙ c.max.ensures) c.requires.size c.requires.low c.requires.now in
     found.0
 
 pub returns-clause-stored : goal.returns-clause-stored
@@ -46,17 +47,25 @@ returns-clause-stored c s are0 =
     let are = c.in_ok-table.ensures.stays s are0 in
     let others = c.in_ok-table.ensures.others in
     let mine : number_of core.queues d.topic d.queue ≡ Some c.in_ok-table.table = search rules in
-    let found = found_place c.args.self.now core s d p c.in_ok-table.table c.args.size c.args.now are (ap (λ (x : Parts). x.setup) others) (ap (λ (x : Parts). x.pending) others)
-    (ap (λ (x : Parts). x.now) others) c.requires.plain mine c.next_place-place.ensures.queue_offset c.next_place-place.ensures.offset (c.next_place-place.ensures.store ∙ c.max.ensures) c.requires.size c.requires.low c.requires.now in
+    let found = found_place c.args.self.now core s c.args.target.now.level d p c.in_ok-table.table c.args.size c.args.now are (ap (λ (x : Parts). x.setup) others) (ap (λ (x : Parts). x.pending) others)
+    (ap (λ (x : Parts). x.now) others) c.requires.storable mine c.next_place-place.ensures.queue_offset c.next_place-place.ensures.offset (c.next_place-place.ensures.store ∙ c.max.ensures) c.requires.size c.requires.low c.requires.now in
     let time = max c.args.now s.now in
     let is_record = is_next_record s d p time found.1.next found.2 in
-    let told = reply_with (sent_fields d.store_host p.offset d.queue p.queue_offset) [] in
+    let told = reply_with (sent_fields d.store_host p.offset c.args.target.now.queue p.queue_offset) [] in
     let is_reply : IsReplyOf c.in_ok-reply.reply told =
     subst (λ (r : ReplyParts). IsReplyOf r told) (sym c.in_ok-reply.ensures) (record { code = refl; remark = refl; ext = refl; body = tt }) in
-    let n = unwrap_or c.args.known c.args.made in
+    let target = c.args.target.now in
+    let n = unwrap_or target.known target.made in
     record {
-      answer = subst (λ (r : Entry). stored_answer s d r c.answer-said.result) is_record
+      answer = subst (λ (r : Entry). stored_answer s d target.queue r c.answer-said.result) is_record
           (subst (λ (b : Bool). Says c.answer-said.result (append_answer s b told 1)) c.waits.ensures (c.answer-said.ensures s told are is_reply));
-      state = subst (λ (r : Entry). Represents c.append_in.new.self (with_records (with_made s d.topic n) time (r ∷ []))) is_record
-          (subst (λ (t : ℕ). Represents c.append_in.new.self (with_records (with_made s d.topic n) t (entry_of d p ∷ []))) found.2 (c.in_ok-append_in.ensures.appended s are found.1));
+      state = subst (λ (r : Entry). Represents c.append_in.new.self (with_records (with_made s target.topic.now n) time (r ∷ []))) is_record
+          (subst (λ (t : ℕ). Represents c.append_in.new.self (with_records (with_made s target.topic.now n) t (entry_of d p ∷ []))) found.2 (c.in_ok-append_in.ensures.appended s are found.1));
     }
+
+pub append_in-requires-clause-target : goal.append_in-requires-clause-target
+append_in-requires-clause-target c =
+    subst (λ (t : Topics). IsTarget t c.args.target.now.topic.now c.args.target.now.known c.args.target.now.made) (sym (ap (λ (x : Parts). x.topics) c.in_ok-table.ensures.others)) c.requires.target
+
+pub append_in-requires-clause-kept : goal.append_in-requires-clause-kept
+append_in-requires-clause-kept c = c.requires.storable.kept c.next_place-place.result

@@ -18,7 +18,7 @@ returns-then-is_past_end-clause-sent c s are =
     let size = c.size_of-size.result in
     let past : nat_lt (2 ^ 62) (place_after core.pending.segment core.pending.end size + size) ≡ true =
     ap (λ (p : ℕ). nat_lt (2 ^ 62) (p + size)) (sym c.next_place.ensures) ∙ sym c.is_past_end.ensures ∙ c.if-is_past_end.true in
-    sent_past core s c.args.draft.now (unwrap_or c.args.known c.args.made) (max c.args.now s.now) (said.Reply c.in_ok-plain.field-0) core size are c.size_of-size.ensures past
+    sent_past core s c.args.draft.now c.args.target.now.topic.now c.args.target.now.queue (unwrap_or c.args.target.now.known c.args.target.now.made) (max c.args.now s.now) (said.Reply c.in_ok-plain.field-0) core size are c.size_of-size.ensures past
     (is_plain_reply c.in_ok-plain.field-0 14 (codes "log end") c.in_ok-plain.ensures) are
 
 pub returns-then-is_full-clause-sent : goal.returns-then-is_full-clause-sent
@@ -28,20 +28,21 @@ returns-then-is_full-clause-sent c s are =
     let low : nat_lt (2 ^ 62) (place_after core.pending.segment core.pending.end size + size) ≡ false =
     ap (λ (p : ℕ). nat_lt (2 ^ 62) (p + size)) (sym c.next_place.ensures) ∙ sym c.is_past_end.ensures ∙ c.if-is_past_end.false in
     let over : nat_lt 67108864 (length core.pending.bytes + size) ≡ true = search rules in
-    sent_full core s c.args.draft.now (unwrap_or c.args.known c.args.made) (max c.args.now s.now) (said.Full c.flushed_count.result) core size are c.size_of-size.ensures low over
+    sent_full core s c.args.draft.now c.args.target.now.topic.now c.args.target.now.queue (unwrap_or c.args.target.now.known c.args.target.now.made) (max c.args.now s.now) (said.Full c.flushed_count.result) core size are c.size_of-size.ensures low over
     (ap (λ (n : ℕ). model.Full n) (sym are.numbers.flushed ∙ sym c.flushed_count.ensures)) are
 
 pub returns-clause-sent : goal.returns-clause-sent
 returns-clause-sent c =
     let core = c.args.self.now in
     let d = c.args.draft.now in
-    let n = unwrap_or c.args.known c.args.made in
+    let target = c.args.target.now in
+    let n = unwrap_or target.known target.made in
     let new = c.store.new.self in
     let size = c.size_of-size.result in
     let low : nat_lt (2 ^ 62) (place_after core.pending.segment core.pending.end size + size) ≡ false =
     ap (λ (p : ℕ). nat_lt (2 ^ 62) (p + size)) (sym c.next_place.ensures) ∙ sym c.is_past_end.ensures ∙ c.if-is_past_end.false in
     let short : nat_lt 67108864 (length core.pending.bytes + size) ≡ false = search rules in
-    IfOk-weaker c.store.result (λ (what : Said). (s : State) → Represents core s → IsStored s d n (max c.args.now s.now) what new)
-    (λ (what : Said). (s : State) → Represents core s → IsSent s d n (max c.args.now s.now) what new)
-    (λ what stored s are. sent_stored core s d n (max c.args.now s.now) what new size are c.size_of-size.ensures low short (stored s are))
+    IfOk-weaker c.store.result (λ (what : Said). (s : State) → Represents core s → IsStored s d target.topic.now target.queue n (max c.args.now s.now) what new)
+    (λ (what : Said). (s : State) → Represents core s → IsSent s d target.topic.now target.queue n (max c.args.now s.now) what new)
+    (λ what stored s are. sent_stored core s d target.topic.now target.queue n (max c.args.now s.now) what new size are c.size_of-size.ensures low short (stored s are))
     c.store.ensures.stored
