@@ -30,8 +30,8 @@ use Rattle.log_opening.specs.Opens.{OpensWith, OpensKeptWith, OpensOursWith, Ope
 use Rattle.log_opening.specs.declared.opening.Opened.{Opened}
 use Rattle.worker_turns.specs.Acts.{Act, HasUnwritten, Acts, Acted, DiskView, Place, place_of, growing_at, turns_of, steps_of, change_of}
 use Rattle.worker_turns.specs.Turning.{AreAllTurns}
-use Rattle.pipe_stream.specs.Serving.{Sides, Point, point_of, acts_of, Begun, Nothing, Asked, begun_acts, Breaks}
-use Rattle.pipe_stream.specs.Piping.{RanBy, acts_in}
+use Rattle.pipe_stream.specs.Serving.{Sides, Point, point_of, acts_of, Begun, Nothing, Asked, Closing, begun_acts, Breaks}
+use Rattle.pipe_stream.specs.Piping.{RanToEnd, acts_in}
 use Rattle.log_recovery.specs.Recovered.{OnDamage, StaysFlushed}
 use Rattle.log_recovery.specs.declared.fault.RecoverFault.{RecoverFault}
 use Rattle.log_recovery.specs.declared.fault.RecoverFault.TheVariants.{Damaged, Failed as DiskFailed, Memory as NoMemory}
@@ -70,7 +70,7 @@ moves_of (it ∷ steps) s t before reaches =
 
 -- ---- what happened
 
-ran_happened : {C D A : Type 0} (sides : Sides C D) (result : Result A Halt) (frames : List Frame) (x y : C) (old new : Point D) (ran : RanBy sides result frames (change_of x old y new))
+ran_happened : {C D A : Type 0} (sides : Sides C D) (result : Result A Halt) (frames : List Frame) (x y : C) (old new : Point D) (ran : RanToEnd sides result frames (change_of x old y new))
     → Acts sides.makes sides.disk (acts_in sides result frames (change_of x old y new) ran) (change_of x old.place y new.place)
 ran_happened sides (Ok done) frames x y old new ran = ran.happened
 ran_happened sides (Err (BadFrame place)) frames x y old new ran = ran.happened
@@ -223,9 +223,10 @@ placed_for setup saved log it opens =
 begun_unwritten : (gives : Giving) (begun : Begun) (faults faults_then : ℕ) → Breaks gives stops.Misplaced begun faults faults_then → HasUnwritten (begun_acts begun)
 begun_unwritten gives Nothing faults faults_then breaks = absurd breaks
 begun_unwritten gives (Asked it) faults faults_then breaks = breaks.0
+begun_unwritten gives (Closing reading acts) faults faults_then breaks = breaks
 
 reads_placed : {D A : Type 0} (seen : Seen D) (result : Result A Halt) (frames : List Frame) (s : State) (x y : Alone) (old new : Point D) → Represents x.core s
-    → IsPlacedFor s old.place.file → RanBy (sides_for seen) result frames (change_of x old y new) → ReadsPlaced result
+    → IsPlacedFor s old.place.file → RanToEnd (sides_for seen) result frames (change_of x old y new) → ReadsPlaced result
 reads_placed seen (Ok done) frames s x y old new are here ran = tt
 reads_placed seen (Err (BadFrame place)) frames s x y old new are here ran = tt
 reads_placed seen (Err Read) frames s x y old new are here ran = tt

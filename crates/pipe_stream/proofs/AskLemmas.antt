@@ -1,5 +1,5 @@
 -- Requests that are given to the broker.
-use Rattle.std.proofs.Common.{◌≡◌, inl, inr, ℕ, ℤ, ◌++◌, List, [], ◌∷◌, Bool, true, false, Option, Some, None, Result, Ok, Err, IfOk, refl, sym, ap, ◌∙◌, subst, append-nil, append_assoc}
+use Rattle.std.proofs.Common.{◌≡◌, inl, inr, ℕ, ℤ, ◌++◌, List, [], ◌∷◌, Bool, true, false, Option, Some, None, Result, Ok, Err, refl, sym, ap, ◌∙◌, subst, append-nil, append_assoc}
 use Rattle.std.specs.declared.alloc.AllocError.{AllocError}
 use Rattle.request_fields.specs.declared.request.Request.{Request}
 use Rattle.request_fields.specs.declared.fault.RequestFault.{RequestFault}
@@ -11,16 +11,15 @@ use Rattle.broker_events.specs.declared.event.Event.TheVariants.{Look}
 use Rattle.broker_events.specs.declared.said.Said.{Said}
 use Rattle.broker_events.specs.declared.said.Said.TheVariants as said
 use Rattle.broker_events.specs.declared.said.Awaited.{Awaited}
-use Rattle.session.specs.Owing.{IsRequest, IsApplied, applied_of, IsTold}
+use Rattle.session.specs.Owing.{IsRequest, IsApplied, applied_of}
 use Rattle.session.specs.declared.owed.Awaits.{Awaits}
-use Rattle.session.specs.declared.owed.Applied.{Applied}
 use Rattle.session.specs.declared.owed.Applied.TheVariants.{Owes, Full}
 use Rattle.worker_turns.specs.Turns.{Steps}
 use Rattle.worker_turns.specs.declared.flush.FlushEnd.TheVariants.{Failed}
-use Rattle.worker_turns.specs.Acts.{Turn, Act, Made, Wrote, Missed, DiskView, Place, Acted, change_of}
+use Rattle.worker_turns.specs.Acts.{Act, Made, DiskView, Place, Acted, change_of}
 use Rattle.worker_turns.specs.Turning.{IsTurn, AreTurnsAndDispatch, BrokeBy}
 use Rattle.worker_turns.specs.declared.broken.Broken.{Broken}
-use Rattle.pipe_stream.specs.Asking.{Try, IsOneTry, try_of, tries_of, no_room, refusal, Refuses, IsSaid, IsGivenUp, IsLastTry, GivesUp, MakesRoom, IsTry, AreTries, IsAsked, Asks, IsRefused, Chooses, IsGiven, Gives, event_for, IsDue, IsLooked, Looks, Tells}
+use Rattle.pipe_stream.specs.Asking.{Try, IsOneTry, try_of, tries_of, Refuses, IsLastTry, GivesUp, MakesRoom, IsTry, AreTries, IsAsked, Asks, IsRefused, Chooses, Gives, event_for, Looks, Tells}
 use Rattle.pipe_stream.specs.declared.answer.Answer.{Answer}
 use Rattle.pipe_stream.proofs.RequestLemmas.{request_between, request_takes}
 use Rattle.worker_turns.proofs.ActLemmas.{acted_then, acted_as, acted_any, acted_none, one_step, takes_none, broke_behind, memory_broke}
@@ -35,6 +34,8 @@ full_said (Some (said.Batch batch)) pending told = absurd cc
 full_said (Some said.Done) pending told = absurd cc
 full_said (Some (said.Awaited what)) pending told = absurd cc
 full_said (Some (said.Moved number)) pending told = absurd cc
+full_said (Some said.LogEnd) pending told = absurd cc
+full_said (Some (said.Delivered what)) pending told = absurd cc
 
 tries_push : (event : Event) (tries : List Try) (t : Try) → tries_of event (tries ++ t ∷ []) ≡ tries_of event tries ++ try_of event t
 tries_push event [] t = append-nil (try_of event t)

@@ -1,5 +1,5 @@
 -- A stream that is served piece by piece.
-use Rattle.std.proofs.Common.{◌≡◌, inl, inr, ◌∙◌, ℕ, ◌+◌, ◌≤◌, ◌++◌, List, [], None, Result, Ok, Err, length, refl, ap, sym, subst, arith, append_assoc, append-nil, length-append}
+use Rattle.std.proofs.Common.{◌≡◌, inl, inr, ◌∙◌, ℕ, ◌+◌, ◌≤◌, ◌++◌, List, [], ◌∷◌, None, Result, Ok, Err, length, refl, ap, sym, subst, arith, append_assoc, append-nil, length-append}
 use Rattle.mq_outside.specs.Counts.{Rises}
 use Rattle.remoting_frame.specs.Held.{Held}
 use Rattle.remoting_frame.specs.Frames.{first_of, next_of}
@@ -7,14 +7,17 @@ use Rattle.remoting_frame.specs.Streams.{BeginsWith}
 use Rattle.remoting_frame.specs.declared.frame.Frame.{Frame}
 use Rattle.remoting_frame.proofs.StreamLaws.{begins_more}
 use Rattle.worker_turns.proofs.CountLemmas.{faults_grow}
-use Rattle.pipe_stream.specs.Serving.{Sides, Point, Ran, acts_of, begun_acts}
-use Rattle.pipe_stream.specs.Piping.{CountsHalt, CountsPipe, RanBy, ServesHeld, EndsBy, SourceSeen, source_of, Piped, SoFar, EndsHere, stream_limit, Gave}
+use Rattle.pipe_stream.specs.Serving.{Sides, Point, Ran, Broke, AreServed, Begun, Nothing, Closing, Breaks, IsNext, acts_of, begun_acts, begun_bytes, begun_readings, bytes_of, frames_of, readings_of}
+use Rattle.pipe_stream.specs.Piping.{Closes, CountsClosing, CountsHalt, CountsPipe, RanToEnd, ServesHeld, EndsBy, SourceSeen, source_of, Piped, SoFar, EndsHere, stream_limit, Gave}
+use Rattle.pipe_stream.specs.declared.stop.Stop.{Stop}
 use Rattle.pipe_stream.specs.declared.stop.Stop.TheVariants as stops
 use Rattle.pipe_stream.specs.declared.stop.Halt.{Halt}
 use Rattle.pipe_stream.specs.declared.stop.Halt.TheVariants.{BadFrame, Read, Stopped}
-use Rattle.pipe_stream.proofs.ServingLemmas.{ran_nothing, ran_then, broke_then, broke_idle, broke_memory}
+use Rattle.pipe_stream.proofs.ServingLemmas.{ran_nothing, ran_then, more_behind, broke_then, broke_idle, broke_memory}
+use Rattle.pipe_stream.proofs.TellingLemmas.{took_none}
+use Rattle.worker_turns.proofs.ActLemmas.{acts_then}
 use Rattle.pipe_stream.proofs.HeldLemmas.{begins_then}
-use Rattle.worker_turns.specs.Acts.{change_of}
+use Rattle.worker_turns.specs.Acts.{Acts, change_of}
 use Rattle.pipe_stream.specs.Telling.{fault_counts}
 
 pub none_waits : next_of 0 [] ≡ Ok None
@@ -35,7 +38,7 @@ module _ {C D : Type 0} (sides : Sides C D) (source : Type 0) (given : List ℕ)
 
   -- all frames of what was read were served, and what stands behind them ended the reading
   all_served : {A : Type 0} (result : Result A Halt) (total : ℕ) (held : Held) (given_mid given_then left_then : List ℕ) (y : C) (new : Point D)
-      → (far : SoFar sides total held (Gave source given given_mid) (change_of x old y new)) → (Ran sides far.frames (change_of x old y new) → RanBy sides result far.frames (change_of x old y new)) → (source → given_then ≡ given_mid)
+      → (far : SoFar sides total held (Gave source given given_mid) (change_of x old y new)) → (Ran sides far.frames (change_of x old y new) → RanToEnd sides result far.frames (change_of x old y new)) → (source → given_then ≡ given_mid)
       → EndsBy result held.at held.bytes far.bytes source left_then → Piped sides result (source_of source given given_then left_then) (change_of x old y new)
   all_served result total held given_mid given_then left_then y new far ran same ends = record {
     bytes = far.bytes;
@@ -66,17 +69,81 @@ module _ {C D : Type 0} (sides : Sides C D) (source : Type 0) (given : List ℕ)
       → next_of held.at held.bytes ≡ Ok None → (source → given_then ≡ given_mid) → Piped {A = Unit {0}} sides (Err Read) (source_of source given given_then left_then) (change_of x old y new)
   read_failed total held given_mid given_then left_then y new far waits same = all_served (Err Read) total held given_mid given_then left_then y new far (λ ran. ran) same waits
 
-  -- the source has no more
-  pub source_ended : (result : Result (Unit {0}) Halt) (total : ℕ) (held : Held) (given_mid given_then left_then : List ℕ) (y : C) (new : Point D)
-      → SoFar sides total held (Gave source given given_mid) (change_of x old y new) → next_of held.at held.bytes ≡ Ok None → (source → given_then ≡ given_mid) → (source → left_then ≡ []) → EndsHere held result
-      → Piped sides result (source_of source given given_then left_then) (change_of x old y new)
-  source_ended (Ok u) total held given_mid given_then left_then y new far waits same over ends =
-      all_served (Ok u) total held given_mid given_then left_then y new far (λ ran. ran) same (ends, over)
-  source_ended (Err (BadFrame place)) total held given_mid given_then left_then y new far waits same over ends =
+  -- the source has no more, and ended inside a frame
+  pub source_ended : (halt : Halt) (total : ℕ) (held : Held) (given_mid given_then left_then : List ℕ) (y : C) (new : Point D)
+      → SoFar sides total held (Gave source given given_mid) (change_of x old y new) → next_of held.at held.bytes ≡ Ok None → (source → given_then ≡ given_mid) → (source → left_then ≡ []) → EndsHere held (Err halt)
+      → Piped {A = Unit {0}} sides (Err halt) (source_of source given given_then left_then) (change_of x old y new)
+  source_ended (BadFrame place) total held given_mid given_then left_then y new far waits same over ends =
       all_served (Err (BadFrame place)) total held given_mid given_then left_then y new far (λ ran. ran) same
       (inr (inl (record { place_is = ends.0; some = ends.1; waits = waits; over = over })))
-  source_ended (Err Read) total held given_mid given_then left_then y new far waits same over ends = absurd ends
-  source_ended (Err (Stopped stop)) total held given_mid given_then left_then y new far waits same over ends = absurd ends
+  source_ended Read total held given_mid given_then left_then y new far waits same over ends = absurd ends
+  source_ended (Stopped stop) total held given_mid given_then left_then y new far waits same over ends = absurd ends
+
+  -- it ended between two frames, and something broke off behind the last request
+  broke_behind : (stop : Stop) (begun : Begun) (frames : List Frame) (y z : C) (mid new : Point D) → Ran sides frames (change_of x old y mid) → IsNext begun [] → Breaks sides.gives stop begun mid.reads new.reads
+      → Acts sides.makes sides.disk (begun_acts begun) (change_of y mid.place z new.place) → new.taken ≡ mid.taken → (sides.clock → new.readings ≡ mid.readings ++ begun_readings begun)
+      → Broke sides stop frames (change_of x old z new)
+  broke_behind stop begun frames y z mid new ran next breaks happened taken read = record {
+    served = ran.served;
+    begun = begun;
+    left = [];
+    mid = mid.reads;
+    asked = append-nil (frames_of ran.served) ∙ ran.asked;
+    next = next;
+    each = ran.each;
+    breaks = breaks;
+    happened = acts_then sides.makes sides.disk (acts_of ran.served) (begun_acts begun) x y z old.place mid.place new.place ran.happened happened;
+    answered = λ told. took_none (old.taken ++ bytes_of ran.served) new.taken (begun_bytes begun) (taken ∙ ran.answered told);
+    read = λ told. more_behind old.readings (readings_of ran.served) (begun_readings begun) mid.readings new.readings (read told) (ran.read told);
+  }
+
+  closed_ran : {A : Type 0} (result : Result A Halt) (frames : List Frame) (y z : C) (mid new : Point D) → Ran sides frames (change_of x old y mid)
+      → Closes sides.makes sides.disk sides.clock result (change_of y (mid.place, mid.readings) z (new.place, new.readings)) → new.reads ≡ mid.reads → new.taken ≡ mid.taken
+      → RanToEnd sides result frames (change_of x old z new)
+  closed_ran (Ok done) frames y z mid new ran closed reads taken = record {
+    served = ran.served;
+    reading = closed.reading;
+    last = closed.acts;
+    due = closed.kind;
+    asked = ran.asked;
+    each = subst (λ (n : ℕ). AreServed sides.gives old.reads ran.served n) (sym reads) ran.each;
+    happened = acts_then sides.makes sides.disk (acts_of ran.served) closed.acts x y z old.place mid.place new.place ran.happened closed.happened;
+    answered = λ told. taken ∙ ran.answered told;
+    read = λ told. more_behind old.readings (readings_of ran.served) (closed.reading ∷ []) mid.readings new.readings (closed.read told) (ran.read told);
+  }
+  closed_ran (Err (BadFrame place)) frames y z mid new ran closed reads taken = absurd closed
+  closed_ran (Err Read) frames y z mid new ran closed reads taken = absurd closed
+  closed_ran (Err (Stopped stops.Clock)) frames y z mid new ran closed reads taken =
+      broke_behind stops.Clock Nothing frames y z mid new ran tt refl closed.0 taken (λ told. closed.1 told ∙ sym (append-nil mid.readings))
+  closed_ran (Err (Stopped stops.Sink)) frames y z mid new ran closed reads taken = absurd closed
+  closed_ran (Err (Stopped stops.Memory)) frames y z mid new ran closed reads taken =
+      broke_behind stops.Memory (Closing closed.reading closed.acts) frames y z mid new ran refl tt closed.happened taken closed.read
+  closed_ran (Err (Stopped stops.Misplaced)) frames y z mid new ran closed reads taken =
+      broke_behind stops.Misplaced (Closing closed.reading closed.acts) frames y z mid new ran refl closed.kind closed.happened taken closed.read
+
+  closed_ends : {A : Type 0} (result : Result A Halt) (y z : C) (mid new : Point D) (at : ℕ) (rest bytes left_then : List ℕ)
+      → Closes sides.makes sides.disk sides.clock result (change_of y (mid.place, mid.readings) z (new.place, new.readings)) → rest ≡ [] → (source → left_then ≡ [])
+      → EndsBy result at rest bytes source left_then
+  closed_ends (Ok done) y z mid new at rest bytes left_then closed none over = (none, over)
+  closed_ends (Err (BadFrame place)) y z mid new at rest bytes left_then closed none over = absurd closed
+  closed_ends (Err Read) y z mid new at rest bytes left_then closed none over = absurd closed
+  closed_ends (Err (Stopped stop)) y z mid new at rest bytes left_then closed none over = tt
+
+  -- the last turns behind it
+  pub source_closed : {A : Type 0} (result : Result A Halt) (total : ℕ) (held : Held) (given_mid given_then left_then : List ℕ) (y z : C) (mid new : Point D)
+      → SoFar sides total held (Gave source given given_mid) (change_of x old y mid) → (source → given_then ≡ given_mid) → (source → left_then ≡ []) → held.bytes ≡ []
+      → Closes sides.makes sides.disk sides.clock result (change_of y (mid.place, mid.readings) z (new.place, new.readings)) → new.reads ≡ mid.reads → new.taken ≡ mid.taken
+      → Piped sides result (source_of source given given_then left_then) (change_of x old z new)
+  source_closed result total held given_mid given_then left_then y z mid new far same over none closed reads taken = record {
+    bytes = far.bytes;
+    frames = far.frames;
+    at = held.at;
+    rest = held.bytes;
+    given_is = λ told. same told ∙ far.given_is told;
+    cut = far.cut;
+    ends = closed_ends result y z mid new held.at held.bytes far.bytes left_then closed none over;
+    ran = closed_ran result far.frames y z mid new far.ran closed reads taken;
+  }
 
   -- as many bytes were read as a stream may have
   pub limit_reached : (total : ℕ) (held : Held) (given_then left : List ℕ) (y : C) (new : Point D) → SoFar sides total held (Gave source given given_then) (change_of x old y new) → total ≡ stream_limit
@@ -150,12 +217,21 @@ module _ {C D : Type 0} (sides : Sides C D) (source : Type 0) (given : List ℕ)
 
 -- ---- causes
 
-pub counts_end : (held : Held) (result : Result (Unit {0}) Halt) (source source_then sink sink_then clock clock_then : ℕ) → EndsHere held result
-    → CountsPipe result (fault_counts source source_then) (fault_counts sink sink_then) (fault_counts clock clock_then)
-counts_end held (Ok u) source source_then sink sink_then clock clock_then ends = tt
-counts_end held (Err (BadFrame place)) source source_then sink sink_then clock clock_then ends = tt
-counts_end held (Err Read) source source_then sink sink_then clock clock_then ends = absurd ends
-counts_end held (Err (Stopped stop)) source source_then sink sink_then clock clock_then ends = absurd ends
+pub counts_end : (held : Held) (halt : Halt) (source source_then sink sink_then clock clock_then : ℕ) → EndsHere held (Err halt)
+    → CountsPipe {A = Unit {0}} (Err halt) (fault_counts source source_then) (fault_counts sink sink_then) (fault_counts clock clock_then)
+counts_end held (BadFrame place) source source_then sink sink_then clock clock_then ends = tt
+counts_end held Read source source_then sink sink_then clock clock_then ends = absurd ends
+counts_end held (Stopped stop) source source_then sink sink_then clock clock_then ends = absurd ends
+
+pub counts_closed : {A : Type 0} (result : Result A Halt) (source source_then sink sink_then clock clock_mid clock_then : ℕ) → clock_mid ≡ clock
+    → CountsClosing result (fault_counts clock_mid clock_then) → CountsPipe result (fault_counts source source_then) (fault_counts sink sink_then) (fault_counts clock clock_then)
+counts_closed (Ok done) source source_then sink sink_then clock clock_mid clock_then same counts = tt
+counts_closed (Err (BadFrame place)) source source_then sink sink_then clock clock_mid clock_then same counts = absurd counts
+counts_closed (Err Read) source source_then sink sink_then clock clock_mid clock_then same counts = absurd counts
+counts_closed (Err (Stopped stops.Clock)) source source_then sink sink_then clock clock_mid clock_then same counts = subst (λ (n : ℕ). Rises n clock_then) same counts
+counts_closed (Err (Stopped stops.Sink)) source source_then sink sink_then clock clock_mid clock_then same counts = absurd counts
+counts_closed (Err (Stopped stops.Memory)) source source_then sink sink_then clock clock_mid clock_then same counts = tt
+counts_closed (Err (Stopped stops.Misplaced)) source source_then sink sink_then clock clock_mid clock_then same counts = tt
 
 pub counts_halt : (halt : Halt) (source source_then sink sink_mid sink_then clock clock_mid clock_then : ℕ) → sink_mid ≡ sink → clock_mid ≡ clock
     → CountsHalt {A = Unit {0}} (Err halt) (fault_counts sink_mid sink_then) (fault_counts clock_mid clock_then) → CountsPipe {A = Unit {0}} (Err halt) (fault_counts source source_then) (fault_counts sink sink_then) (fault_counts clock clock_then)
@@ -169,7 +245,7 @@ counts_halt (Stopped stops.Misplaced) source source_then sink sink_mid sink_then
 -- the disk's count of faults never falls
 pub piped_grows : {C D A : Type 0} (sides : Sides C D) (result : Result A Halt) (source : SourceSeen) (x y : C) (old new : Point D) → Piped sides result source (change_of x old y new)
     → sides.disk.faults old.place.disk ≤ sides.disk.faults new.place.disk
-piped_grows sides (Ok done) source x y old new piped = faults_grow sides.makes sides.disk (acts_of piped.ran.served) x y old.place new.place piped.ran.happened
+piped_grows sides (Ok done) source x y old new piped = faults_grow sides.makes sides.disk (acts_of piped.ran.served ++ piped.ran.last) x y old.place new.place piped.ran.happened
 piped_grows sides (Err (BadFrame place)) source x y old new piped = faults_grow sides.makes sides.disk (acts_of piped.ran.served) x y old.place new.place piped.ran.happened
 piped_grows sides (Err Read) source x y old new piped = faults_grow sides.makes sides.disk (acts_of piped.ran.served) x y old.place new.place piped.ran.happened
 piped_grows sides (Err (Stopped stop)) source x y old new piped =

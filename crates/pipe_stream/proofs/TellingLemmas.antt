@@ -14,6 +14,7 @@ use Rattle.session.specs.declared.heard.Heard.{Heard}
 use Rattle.session.specs.declared.owed.Awaits.{Awaits}
 use Rattle.worker_turns.specs.Acts.{Act, Acts, Acted, Place, change_of}
 use Rattle.worker_turns.specs.Turning.{AreTurnsAndDispatch, BrokeBy}
+use Rattle.worker_turns.specs.Delays.{AreDueTurns}
 use Rattle.worker_turns.specs.declared.broken.Broken.{Broken}
 use Rattle.worker_turns.specs.declared.broken.Broken.TheVariants as broken
 use Rattle.pipe_stream.specs.Asking.{Chooses, IsGiven, Gives, IsLooked}
@@ -264,7 +265,7 @@ module _ {C D : Type 0} (sides : Sides C D) (frame : Frame) (now : ℕ) where
       append_assoc before given (settled ++ followed) ∙ ap (λ (l : List Act). before ++ l) (sym (append_assoc given settled followed))
 
   partly : (stop : Stop) (request : Result Request RequestFault) (answer : Answer) (before given : List Act) (x y z : C) (old mid new : Point D)
-      → Reads request (request_of frame.header frame.body) → AreTurnsAndDispatch before → IsGiven frame.header.code now request answer given
+      → Reads request (request_of frame.header frame.body) → AreDueTurns now before → IsGiven frame.header.code now request answer given
       → Acts sides.makes sides.disk (before ++ given) (change_of x old.place y mid.place) → mid.reads ≡ old.reads → mid.taken ≡ old.taken
       → HasPartly sides stop (caller_of frame) answer (change_of y mid z new) → HasPartlyServed sides stop frame now (change_of x old z new)
   partly stop request answer before given x y z old mid new read turned is_given gave reads taken it = record {
@@ -296,7 +297,7 @@ module _ {C D : Type 0} (sides : Sides C D) (frame : Frame) (now : ℕ) where
 
   -- an answer that was told, or on which serving broke off
   either_broken : (stop : Stop) (request : Result Request RequestFault) (answer : Answer) (before given : List Act) (x y z : C) (old mid new : Point D)
-      → Reads request (request_of frame.header frame.body) → AreTurnsAndDispatch before → IsGiven frame.header.code now request answer given
+      → Reads request (request_of frame.header frame.body) → AreDueTurns now before → IsGiven frame.header.code now request answer given
       → Acts sides.makes sides.disk (before ++ given) (change_of x old.place y mid.place) → mid.reads ≡ old.reads → mid.taken ≡ old.taken
       → HasPartly sides stop (caller_of frame) answer (change_of y mid z new) ⊎ HasBroken sides stop (change_of y mid z new) → HasPartlyServed sides stop frame now (change_of x old z new) ⊎ HasBroken sides stop (change_of x old z new)
   either_broken stop request answer before given x y z old mid new read turned is_given gave reads taken = ⊎_elim
@@ -305,7 +306,7 @@ module _ {C D : Type 0} (sides : Sides C D) (frame : Frame) (now : ℕ) where
       (λ (none : HasBroken sides stop (change_of y mid z new)). inr (broken_on stop (before ++ given) x y z old mid new gave taken none))
 
   by_caller : {A : Type 0} (request : Result Request RequestFault) (answer : Answer) (before given : List Act) (result : Result A Stop) (x y z : C) (old mid new : Point D)
-      → Reads request (request_of frame.header frame.body) → AreTurnsAndDispatch before → IsGiven frame.header.code now request answer given
+      → Reads request (request_of frame.header frame.body) → AreDueTurns now before → IsGiven frame.header.code now request answer given
       → Acts sides.makes sides.disk (before ++ given) (change_of x old.place y mid.place) → mid.reads ≡ old.reads → mid.taken ≡ old.taken
       → Answers sides (caller_of frame) answer result (change_of y mid z new) → ServesAt sides frame now result (change_of x old z new)
   by_caller request answer before given (Ok done) x y z old mid new read turned is_given gave reads taken it = record {
@@ -348,15 +349,15 @@ module _ {C D : Type 0} (sides : Sides C D) (frame : Frame) (now : ℕ) where
 
   -- the same behind turns
   pub given_broken : (fault : Broken) (stop : Stop) (w x y : C) (place : Place D) (old new : Point D) → stop ≡ stopped_by fault
-      → Acted sides.makes sides.disk AreTurnsAndDispatch (change_of w old.place x place) → Acted sides.makes sides.disk (BrokeBy fault) (change_of x place y new.place) → new.taken ≡ old.taken
+      → Acted sides.makes sides.disk (AreDueTurns now) (change_of w old.place x place) → Acted sides.makes sides.disk (BrokeBy fault) (change_of x place y new.place) → new.taken ≡ old.taken
       → ServesAt {A = Unit {0}} sides frame now (Err stop) (change_of w old y new)
   given_broken fault stop w x y place old new by turned acted same =
-      served_broken fault stop w y old new by (acted_broke sides.makes sides.disk AreTurnsAndDispatch fault w x y old.place place new.place turned acted) same
+      served_broken fault stop w y old new by (acted_broke sides.makes sides.disk (AreDueTurns now) fault w x y old.place place new.place turned acted) same
 
   -- what was pending was flushed, and then what was heard was given to the broker, and its answer told
   pub served_by : {A : Type 0} (heard : Heard) (answer : Answer) (code : ℤ) (caller : Caller) (result : Result A Stop) (w x y z : C) (place : Place D) (old mid new : Point D) → code ≡ heard.code
       → caller ≡ record { form = heard.form; opaque = heard.opaque; one_way = heard.one_way } → IsHeard heard frame
-      → Acted sides.makes sides.disk AreTurnsAndDispatch (change_of w old.place x place) → Acted sides.makes sides.disk (Gives code now heard.request (Ok answer)) (change_of x place y mid.place)
+      → Acted sides.makes sides.disk (AreDueTurns now) (change_of w old.place x place) → Acted sides.makes sides.disk (Gives code now heard.request (Ok answer)) (change_of x place y mid.place)
       → mid.reads ≡ old.reads → mid.taken ≡ old.taken → Answers sides caller answer result (change_of y mid z new) → ServesAt sides frame now result (change_of w old z new)
   served_by heard answer code caller result w x y z place old mid new same waits is turned gave reads taken it =
       by_caller heard.request answer turned.acts gave.acts result w y z old mid new is.request turned.kind

@@ -1,5 +1,5 @@
 -- A stream of requests that was served, by what ended it.
-use Rattle.std.specs.Prelude.{◌≡◌, ◌≢◌, ◌⊎◌, ℕ, ◌^◌, ◌++◌, List, [], length, Option, Some, None, Result, Ok, Err}
+use Rattle.std.specs.Prelude.{◌≡◌, ◌≢◌, ◌⊎◌, ℕ, ◌^◌, ◌++◌, List, [], ◌∷◌, length, Option, Some, None, Result, Ok, Err}
 use Rattle.mq_outside.specs.Counts.{Rises}
 use Rattle.remoting_frame.specs.Held.{Held}
 use Rattle.remoting_frame.specs.Frames.{next_of}
@@ -9,9 +9,12 @@ use Rattle.remoting_frame.specs.declared.fault.FrameFault.{FrameFault}
 use Rattle.remoting_frame.specs.declared.fault.FrameFault.TheVariants as faults
 use Rattle.session.specs.Hearing.{HearsNext, HearsNone}
 use Rattle.session.specs.declared.heard.Heard.{Heard}
-use Rattle.worker_turns.specs.Acts.{Act, Change}
+use Rattle.worker_turns.specs.Turns.{Steps}
+use Rattle.worker_turns.specs.Acts.{Act, Acts, Change, DiskView, IsStill, Place, HasUnwritten, change_of}
+use Rattle.worker_turns.specs.Delays.{AreDueTurns}
 use Rattle.pipe_stream.specs.Telling.{FaultCounts}
-use Rattle.pipe_stream.specs.Serving.{Sides, Point, Ran, Broke, acts_of, begun_acts}
+use Rattle.pipe_stream.specs.Serving.{Sides, Point, Served, Ran, Broke, AreServed, acts_of, begun_acts, bytes_of, frames_of, places_of, readings_of}
+use Rattle.session.specs.Talks.{requests_of}
 use Rattle.pipe_stream.specs.declared.stop.Stop.{Stop}
 use Rattle.pipe_stream.specs.declared.stop.Stop.TheVariants.{Clock, Sink, Memory, Misplaced}
 use Rattle.pipe_stream.specs.declared.stop.Halt.{Halt}
@@ -33,6 +36,16 @@ CountsHalt (Ok done) sink clock = (sink.new ≡ sink.old) × (clock.new ≡ cloc
 CountsHalt (Err (BadFrame place)) sink clock = Unit {0}
 CountsHalt (Err Read) sink clock = ⊥
 CountsHalt (Err (Stopped stop)) sink clock = CountsStop {A = Unit {0}} (Err stop) sink clock
+
+-- of the last turns, the clock's alone
+abbrev pub CountsClosing : {A : Type 0} → Result A Halt → FaultCounts → Type 0
+CountsClosing (Ok done) clock = Unit {0}
+CountsClosing (Err (BadFrame place)) clock = ⊥
+CountsClosing (Err Read) clock = ⊥
+CountsClosing (Err (Stopped Clock)) clock = Rises clock.old clock.new
+CountsClosing (Err (Stopped Sink)) clock = ⊥
+CountsClosing (Err (Stopped Memory)) clock = Unit {0}
+CountsClosing (Err (Stopped Misplaced)) clock = Unit {0}
 
 -- of a whole stream
 abbrev pub CountsPipe : {A : Type 0} → Result A Halt → (source sink clock : FaultCounts) → Type 0
@@ -135,8 +148,27 @@ EndsBy (Err (BadFrame place)) at rest bytes source left = IsBadAt place at rest 
 EndsBy (Err Read) at rest bytes source left = next_of at rest ≡ Ok None
 EndsBy (Err (Stopped stop)) at rest bytes source left = Unit {0}
 
+-- All requests among the frames were served, in order, and behind them the last turns were made, at one more reading.
+pub record RanOut {C D : Type 0} (sides : Sides C D) (frames : List Frame) (change : Change C (Point D)) : Type 0 where
+  pub served : List Served
+  pub reading : ℕ
+  pub last : List Act
+  pub due : AreDueTurns reading last
+  pub asked : frames_of served ≡ requests_of frames
+  pub each : AreServed sides.gives change.place.reads served change.place_then.reads
+  pub happened : Acts sides.makes sides.disk (acts_of served ++ last) (places_of change)
+  pub answered : sides.sink → change.place_then.taken ≡ change.place.taken ++ bytes_of served
+  pub read : sides.clock → change.place_then.readings ≡ change.place.readings ++ (readings_of served ++ reading ∷ [])
+
+-- all requests were served, and the last turns made; or this ended it
+abbrev pub RanToEnd : {C D A : Type 0} → Sides C D → Result A Halt → List Frame → Change C (Point D) → Type 0
+RanToEnd sides (Ok done) frames change = RanOut sides frames change
+RanToEnd sides (Err (BadFrame place)) frames change = Ran sides frames change
+RanToEnd sides (Err Read) frames change = Ran sides frames change
+RanToEnd sides (Err (Stopped stop)) frames change = Broke sides stop frames change
+
 -- The bytes that were read are these frames and what stands behind them, and the requests among the frames were served in order,
--- or those before the one at which this ended it.
+-- with the last turns behind them, or those before the one at which this ended it.
 pub record Piped {C D A : Type 0} (sides : Sides C D) (result : Result A Halt) (source : SourceSeen)
     (change : Change C (Point D)) : Type 0 where
   pub bytes : List ℕ
@@ -146,7 +178,7 @@ pub record Piped {C D A : Type 0} (sides : Sides C D) (result : Result A Halt) (
   pub given_is : source.tells → source.given_then ≡ source.given ++ bytes
   pub cut : BeginsWith 0 bytes frames at rest
   pub ends : EndsBy result at rest bytes source.tells source.left_then
-  pub ran : RanBy sides result frames change
+  pub ran : RanToEnd sides result frames change
 
 -- the source gave these bytes, where it tells what it gives
 abbrev pub Gave : Type 0 → List ℕ → List ℕ → List ℕ → Type 0
@@ -169,10 +201,31 @@ EndsHere held (Err (BadFrame place)) = (place ≡ held.at) × (held.bytes ≢ []
 EndsHere held (Err Read) = ⊥
 EndsHere held (Err (Stopped stop)) = ⊥
 
--- what happened for the requests
+-- the last turns were made, at one more reading, and of what happened this is so
+pub record HasClosed {C D : Type 0} (makes : Steps C) (view : DiskView D) (clock : Type 0) (IsKind : ℕ → List Act → Type 0)
+    (change : Change C (Place D × List ℕ)) : Type 0 where
+  pub reading : ℕ
+  pub acts : List Act
+  pub kind : IsKind reading acts
+  pub happened : Acts makes view acts (change_of change.calls change.place.0 change.calls_then change.place_then.0)
+  pub read : clock → change.place_then.1 ≡ change.place.1 ++ reading ∷ []
+
+-- how they ended: whole, without a reading, or broken off
+abbrev pub Closes : {C D A : Type 0} → Steps C → DiskView D → Type 0 → Result A Halt → Change C (Place D × List ℕ) → Type 0
+Closes makes view clock (Ok done) change = HasClosed makes view clock AreDueTurns change
+Closes makes view clock (Err (BadFrame place)) change = ⊥
+Closes makes view clock (Err Read) change = ⊥
+Closes makes view clock (Err (Stopped Clock)) change =
+    IsStill (change_of change.calls change.place.0 change.calls_then change.place_then.0)
+    × (clock → change.place_then.1 ≡ change.place.1)
+Closes makes view clock (Err (Stopped Sink)) change = ⊥
+Closes makes view clock (Err (Stopped Memory)) change = HasClosed makes view clock (λ reading acts. Unit {0}) change
+Closes makes view clock (Err (Stopped Misplaced)) change = HasClosed makes view clock (λ reading acts. HasUnwritten acts) change
+
+-- what happened for the requests, and in the last turns
 abbrev pub acts_in : {C D A : Type 0} (sides : Sides C D) (result : Result A Halt) (frames : List Frame) (change : Change C (Point D))
-    → RanBy sides result frames change → List Act
-acts_in sides (Ok done) frames change ran = acts_of ran.served
+    → RanToEnd sides result frames change → List Act
+acts_in sides (Ok done) frames change ran = acts_of ran.served ++ ran.last
 acts_in sides (Err (BadFrame place)) frames change ran = acts_of ran.served
 acts_in sides (Err Read) frames change ran = acts_of ran.served
 acts_in sides (Err (Stopped stop)) frames change ran = acts_of ran.served ++ begun_acts ran.begun

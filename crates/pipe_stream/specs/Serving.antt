@@ -13,6 +13,7 @@ use Rattle.session.specs.declared.owed.Awaits.{Awaits}
 use Rattle.worker_turns.specs.Turns.{Steps}
 use Rattle.worker_turns.specs.Acts.{Act, Acts, Change, DiskView, Place, HasUnwritten, change_of}
 use Rattle.worker_turns.specs.Turning.{AreTurnsAndDispatch}
+use Rattle.worker_turns.specs.Delays.{AreDueTurns}
 use Rattle.pipe_stream.specs.Asking.{IsGiven, IsLooked}
 use Rattle.pipe_stream.specs.Telling.{FaultCounts, fault_counts, IsTold, TookPart}
 use Rattle.pipe_stream.specs.declared.answer.Answer.{Answer}
@@ -84,13 +85,14 @@ pub record IsAnswered (gives : Giving) (it : Served) (answer : Answer) (faults :
   pub told : IsTold gives (caller_of it.frame) reply faults it.bytes
   pub are_all : it.acts ≡ given ++ settled
 
--- what was pending was flushed, it was answered, and flush turns came behind a reply that was told at once
+-- what was due was delivered and what was pending flushed, it was answered, and flush turns came behind a reply that was told at
+-- once
 pub record IsServed (gives : Giving) (it : Served) (faults faults_then : ℕ) : Type 0 where
   pub answer : Answer
   pub before : List Act
   pub first : List Act
   pub later : List Act
-  pub turned : AreTurnsAndDispatch before
+  pub turned : AreDueTurns it.reading before
   pub answered : IsAnswered gives (served_as it.frame it.reading first it.bytes) answer (fault_counts faults faults_then)
   pub followed : IsFollowed answer.awaits later
   pub are_all : it.acts ≡ before ++ (first ++ later)
@@ -101,7 +103,7 @@ pub record IsPartly (gives : Giving) (it : Served) (faults faults_then : ℕ) : 
   pub before : List Act
   pub first : List Act
   pub later : List Act
-  pub turned : AreTurnsAndDispatch before
+  pub turned : AreDueTurns it.reading before
   pub answered : IsAnswered gives (served_as it.frame it.reading first it.bytes) answer (fault_counts faults faults_then)
   pub are_all : it.acts ≡ before ++ (first ++ later)
 
@@ -138,30 +140,35 @@ pub record Ran {C D : Type 0} (sides : Sides C D) (frames : List Frame) (change 
   pub answered : sides.sink → change.place_then.taken ≡ change.place.taken ++ bytes_of served
   pub read : sides.clock → change.place_then.readings ≡ change.place.readings ++ readings_of served
 
--- What was begun when serving broke off: nothing, where the clock failed or memory ran out between two requests; and else a
--- request with what happened for it. Its bytes are none, or those of its answer.
+-- What was begun when serving broke off: nothing, where the clock failed or memory ran out between two requests; a request with
+-- what happened for it, whose bytes are none or those of its answer; and behind the last one, at one more reading, the last turns.
 pub data Begun : Type 0 where
   Nothing : Begun
   Asked : Served → Begun
+  Closing : (reading : ℕ) → List Act → Begun
 
 -- The bytes that were to be written for it.
 abbrev pub begun_bytes : Begun → List ℕ
 begun_bytes Nothing = []
 begun_bytes (Asked it) = it.bytes
+begun_bytes (Closing reading acts) = []
 
 abbrev pub begun_acts : Begun → List Act
 begun_acts Nothing = []
 begun_acts (Asked it) = it.acts
+begun_acts (Closing reading acts) = acts
 
 abbrev pub begun_readings : Begun → List ℕ
 begun_readings Nothing = []
 begun_readings (Asked it) = it.reading ∷ []
+begun_readings (Closing reading acts) = reading ∷ []
 
--- it is the first of the requests that were not served
+-- it is the first of the requests that were not served, and none was left where the last turns were begun
 abbrev pub IsNext : Begun → List Frame → Type 0
 IsNext Nothing left = Unit {0}
 IsNext (Asked it) [] = ⊥
 IsNext (Asked it) (frame ∷ left) = it.frame ≡ frame
+IsNext (Closing reading acts) left = left ≡ []
 
 -- what the acts have where this broke them off: a batch that was taken and not written, where one was misplaced
 abbrev pub StoppedIn : Stop → List Act → Type 0
@@ -175,10 +182,13 @@ abbrev pub Breaks : Giving → Stop → Begun → ℕ → ℕ → Type 0
 Breaks gives Clock begun faults faults_then = begun ≡ Nothing
 Breaks gives Sink Nothing faults faults_then = ⊥
 Breaks gives Sink (Asked it) faults faults_then = IsPartly gives it faults faults_then
+Breaks gives Sink (Closing reading acts) faults faults_then = ⊥
 Breaks gives Memory Nothing faults faults_then = Unit {0}
 Breaks gives Memory (Asked it) faults faults_then = (it.bytes ≡ []) ⊎ IsPartly gives it faults faults_then
+Breaks gives Memory (Closing reading acts) faults faults_then = Unit {0}
 Breaks gives Misplaced Nothing faults faults_then = ⊥
 Breaks gives Misplaced (Asked it) faults faults_then = HasUnwritten it.acts × ((it.bytes ≡ []) ⊎ IsPartly gives it faults faults_then)
+Breaks gives Misplaced (Closing reading acts) faults faults_then = HasUnwritten acts
 
 -- The same where this ended it. What was written of the request that was begun is a front of its answer.
 pub record Broke {C D : Type 0} (sides : Sides C D) (stop : Stop) (frames : List Frame) (change : Change C (Point D)) : Type 0 where

@@ -3,6 +3,7 @@
 
 mod answer;
 mod asking;
+mod closing;
 mod held;
 mod looking;
 mod pipe;

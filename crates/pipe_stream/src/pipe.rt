@@ -9,6 +9,7 @@ ghost use Rattle.pipe_stream.specs.Serving.{sides_of, point_of};
 ghost use Rattle.pipe_stream.specs.Piping.{CountsPipe, EndsHere, Piped, source_of};
 ghost use Rattle.pipe_stream.specs.Telling.{fault_counts};
 
+use crate::closing::close;
 use crate::held::serve_held;
 use crate::stop::{Halt, Stop};
 use broker_events::Calls;
@@ -69,7 +70,7 @@ fn end_of(talk: &Talk) -> Result<(), Halt>
     }
 }
 
-// Serves what is read into the buffer, piece by piece.
+// Serves what is read into the buffer, piece by piece, and makes the last turns where the source ends between two frames.
 #[tactic(auto, using(log_model::proofs::OutsideLemmas::outside_start))]
 fn serve_stream<S: Source, C: Calls, D: Disk, R: Reader, K: Sink, T: Clock>(
     alloc: Global,
@@ -107,7 +108,10 @@ fn serve_stream<S: Source, C: Calls, D: Disk, R: Reader, K: Sink, T: Clock>(
             Ok(read) => read,
         };
         if read == 0 {
-            return end_of(talk);
+            match end_of(talk) {
+                Err(halt) => return Err(halt),
+                Ok(()) => return close(alloc, calls, flusher, disk, clock),
+            }
         }
         total += read as u64;
         match talk.feed(&input[..read]) {

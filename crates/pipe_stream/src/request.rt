@@ -21,7 +21,7 @@ use mq_outside::{Disk, Reader, Sink};
 use reply_fields::Reply;
 use session::{Awaits, Caller, Heard};
 use std::alloc::Global;
-use worker_turns::flush_and_dispatch;
+use worker_turns::{due_turns, flush_and_dispatch};
 
 // Tells a reply that waits for nothing. What it appended is flushed behind it.
 #[tactic(auto, using(log_model::proofs::OutsideLemmas::outside_start))]
@@ -127,7 +127,8 @@ fn answer_request<C: Calls, D: Disk, R: Reader, K: Sink>(
     }
 }
 
-/// Serves a request at this reading of the clock, in milliseconds. What is still pending is flushed before.
+/// Serves a request at this reading of the clock, in milliseconds. What is due then is delivered and what is still pending flushed
+/// before.
 #[tactic(auto, using(log_model::proofs::OutsideLemmas::outside_start))]
 pub(crate) fn serve_at<C: Calls, D: Disk, R: Reader, K: Sink>(
     alloc: Global,
@@ -154,7 +155,7 @@ pub(crate) fn serve_at<C: Calls, D: Disk, R: Reader, K: Sink>(
     ensures outside { D.tells → StaysOutside (D.state disk.old) (D.state disk.new) }
     ensures cause { CountsTelling result (K.faults sink.old) (K.faults sink.new) }
 {
-    match flush_and_dispatch(alloc, calls, flusher, disk) {
+    match due_turns(alloc, calls, flusher, disk, now) {
         Err(broken) => return Err(stop_of(broken)),
         Ok(()) => {}
     }

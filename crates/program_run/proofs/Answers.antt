@@ -20,8 +20,8 @@ use Rattle.session.specs.Talks.{requests_of}
 use Rattle.flush_story.specs.Keeping.{AreInOrder}
 use Rattle.worker_turns.specs.Acts.{Act, Change, turns_of}
 use Rattle.pipe_stream.specs.declared.answer.Answer.{Answer}
-use Rattle.pipe_stream.specs.Serving.{AreServed, Begun, Nothing, Asked, Breaks, Broke, IsAnswered, IsPartly, IsNext, Point, Ran, Served, Sides, acts_of, begun_acts, begun_bytes, bytes_of, frames_of, served_as}
-use Rattle.pipe_stream.specs.Piping.{RanBy, acts_in}
+use Rattle.pipe_stream.specs.Serving.{AreServed, Begun, Nothing, Asked, Closing, Breaks, Broke, IsAnswered, IsPartly, IsNext, Point, Ran, Served, Sides, acts_of, begun_acts, begun_bytes, bytes_of, frames_of, served_as}
+use Rattle.pipe_stream.specs.Piping.{RanToEnd, acts_in}
 use Rattle.pipe_stream.specs.Telling.{FaultCounts, TookPart, fault_counts}
 use Rattle.pipe_stream.specs.declared.stop.Halt.{Halt}
 use Rattle.pipe_stream.specs.declared.stop.Halt.TheVariants.{BadFrame, Read, Stopped}
@@ -120,16 +120,20 @@ by_breaks : (gives : Giving) (stop : Stop) (begun : Begun) (faults faults_then :
 by_breaks gives Clock begun faults faults_then is = inl (ap begun_bytes is)
 by_breaks gives Sink Nothing faults faults_then is = absurd is
 by_breaks gives Sink (Asked it) faults faults_then is = inr (it, refl, is)
+by_breaks gives Sink (Closing reading acts) faults faults_then is = absurd is
 by_breaks gives Memory Nothing faults faults_then is = inl refl
 by_breaks gives Memory (Asked it) faults faults_then (inl none) = inl none
 by_breaks gives Memory (Asked it) faults faults_then (inr is) = inr (it, refl, is)
+by_breaks gives Memory (Closing reading acts) faults faults_then is = inl refl
 by_breaks gives Misplaced Nothing faults faults_then is = absurd is
 by_breaks gives Misplaced (Asked it) faults faults_then (unwritten, inl none) = inl none
 by_breaks gives Misplaced (Asked it) faults faults_then (unwritten, inr is) = inr (it, refl, is)
+by_breaks gives Misplaced (Closing reading acts) faults faults_then is = inl refl
 
 -- the request that was begun is the first of those that are left
 next_left : (begun : Begun) (left : List Frame) (it : Served) → begun ≡ Asked it → IsNext begun left → (behind : List Frame) × (left ≡ it.frame ∷ behind)
 next_left Nothing left it is next = absurd (cc)
+next_left (Closing reading acts) left it is next = absurd (cc)
 next_left (Asked one) [] it is next = absurd next
 next_left (Asked one) (frame ∷ left) it is next = (left, cc)
 
@@ -256,17 +260,18 @@ module _ (gives : Giving) (S : Geometry) (opened opening : ℕ) (reached : State
 
   -- all requests were served
   module _ {C D : Type 0} (sides : Sides C D) (same : sides.gives ≡ gives) (frames : List Frame) (change : Change C (Point D)) where
-    ran_stands : (later : List Act) (ran : Ran sides frames change) → acts ≡ acts_of ran.served ++ later
+    ran_stands : (served : List Served) (later : List Act) → frames_of served ≡ requests_of frames → AreServed sides.gives change.place.reads served change.place_then.reads
+        → (sides.sink → change.place_then.taken ≡ change.place.taken ++ bytes_of served) → acts ≡ acts_of served ++ later
         → AnswersFirst gives S reached.log.records opening disk (requests_of frames) sides.sink change.place.taken change.place_then.taken
-    ran_stands later ran are =
-        let each = subst (λ (g : Giving). AreServed g change.place.reads ran.served change.place_then.reads) same ran.each in
-        let all = answers_then ran.served change.place.reads change.place_then.reads [] later [] [] each are (none_more (acts_of ran.served) later are) in
+    ran_stands served later asked are_served took are =
+        let each = subst (λ (g : Giving). AreServed g change.place.reads served change.place_then.reads) same are_served in
+        let all = answers_then served change.place.reads change.place_then.reads [] later [] [] each are (none_more (acts_of served) later are) in
         record {
           answers = all.answers;
           left = [];
-          asked = asked_whole (map (λ a. a.frame) all.answers) (frames_of ran.served) [] (requests_of frames) all.asked (append-nil (frames_of ran.served) ∙ ran.asked);
+          asked = asked_whole (map (λ a. a.frame) all.answers) (frames_of served) [] (requests_of frames) all.asked (append-nil (frames_of served) ∙ asked);
           written = all.written;
-          took = λ told. took_all change.place.taken change.place_then.taken (bytes_of ran.served) (flat_map (λ a. a.bytes) all.answers) all.bytes_are (ran.answered told);
+          took = λ told. took_all change.place.taken change.place_then.taken (bytes_of served) (flat_map (λ a. a.bytes) all.answers) all.bytes_are (took told);
           stand = all.stand;
         }
 
@@ -321,9 +326,10 @@ module _ (gives : Giving) (S : Geometry) (opened opening : ℕ) (reached : State
         (by_breaks gives stop broke.begun broke.mid change.place_then.reads (subst (λ (g : Giving). Breaks g stop broke.begun broke.mid change.place_then.reads) same broke.breaks))
 
     -- whatever ended the reading
-    pub run_stands : (ended_by : Result (Unit {0}) Halt) (later : List Act) (ran : RanBy sides ended_by frames change) → acts ≡ acts_in sides ended_by frames change ran ++ later
+    pub run_stands : (ended_by : Result (Unit {0}) Halt) (later : List Act) (ran : RanToEnd sides ended_by frames change) → acts ≡ acts_in sides ended_by frames change ran ++ later
         → AnswersFirst gives S reached.log.records opening disk (requests_of frames) sides.sink change.place.taken change.place_then.taken
-    run_stands (Ok done) later ran are = ran_stands later ran are
-    run_stands (Err (BadFrame place)) later ran are = ran_stands later ran are
-    run_stands (Err Read) later ran are = ran_stands later ran are
+    run_stands (Ok done) later ran are =
+        ran_stands ran.served (ran.last ++ later) ran.asked ran.each ran.answered (are ∙ append_assoc (acts_of ran.served) ran.last later)
+    run_stands (Err (BadFrame place)) later ran are = ran_stands ran.served later ran.asked ran.each ran.answered are
+    run_stands (Err Read) later ran are = ran_stands ran.served later ran.asked ran.each ran.answered are
     run_stands (Err (Stopped stop)) later ran are = broke_stands stop later ran are

@@ -18,7 +18,7 @@ use Rattle.worker_turns.specs.Acts.{Act, Acts, Change, Place, change_of, turns_o
 use Rattle.worker_turns.specs.declared.broken.Broken.{Broken}
 use Rattle.worker_turns.proofs.ActLemmas.{acts_then}
 use Rattle.pipe_stream.specs.Serving.{Point, Sides, places_of, point_of}
-use Rattle.pipe_stream.specs.Piping.{RanBy, acts_in}
+use Rattle.pipe_stream.specs.Piping.{RanToEnd, acts_in}
 use Rattle.pipe_stream.specs.declared.stop.Halt.{Halt}
 use Rattle.pipe_stream.specs.declared.stop.Halt.TheVariants.{BadFrame, Read, Stopped}
 use Rattle.broker_run.specs.Closing.{ended_as}
@@ -27,7 +27,7 @@ use Rattle.program_run.specs.Stand.{AnswersStand, AnswersStandIn, KeepsAnswers}
 use Rattle.program_run.proofs.Answers.{AreSent, answers_before, run_stands}
 
 -- the acts for the requests happened
-ran_acts : {C D : Type 0} (sides : Sides C D) (ended_by : Result (Unit {0}) Halt) (frames : List Frame) (change : Change C (Point D)) (ran : RanBy sides ended_by frames change)
+ran_acts : {C D : Type 0} (sides : Sides C D) (ended_by : Result (Unit {0}) Halt) (frames : List Frame) (change : Change C (Point D)) (ran : RanToEnd sides ended_by frames change)
     → Acts sides.makes sides.disk (acts_in sides ended_by frames change ran) (places_of change)
 ran_acts sides (Ok done) frames change ran = ran.happened
 ran_acts sides (Err (BadFrame place)) frames change ran = ran.happened

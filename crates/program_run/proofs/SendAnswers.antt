@@ -1,6 +1,6 @@
--- What the model answers to a plain message that waits for the disk, and the record that it appends.
-use Rattle.std.proofs.Common.{◌≡◌, ◌⊎◌, ⊎_elim, inl, inr, ℕ, ◌+◌, ◌-◌, ◌<◌, max, List, [], ◌∷◌, length, Bool, true, false, Option, Some, None, refl, ap, ◌∙◌, arith}
-use Rattle.std.specs.Prelude.{◌&&◌, ◌==◌, not, nat_lt, codes, is_some, is_none, if◌then◌else◌}
+-- What the model answers to a message that waits for the disk, and the record that it appends.
+use Rattle.std.proofs.Common.{◌≡◌, ◌⊎◌, ⊎_elim, inl, inr, ℕ, ◌+◌, ◌-◌, ◌<◌, max, List, [], ◌∷◌, length, Bool, true, false, Option, Some, None, refl, sym, ap, ◌∙◌, subst, arith}
+use Rattle.std.specs.Prelude.{◌&&◌, ◌==◌, not, nat_lt, codes, is_none, if◌then◌else◌}
 use Rattle.record_codec.specs.Entry.{Entry}
 use Rattle.record_codec.specs.Layout.{is_legal, are_hosts_short}
 use Rattle.record_codec.specs.declared.draft.Draft.{Draft}
@@ -11,14 +11,13 @@ use Rattle.request_fields.specs.declared.request.Request.TheVariants.{Send}
 use Rattle.broker_model.specs.State.{State}
 use Rattle.broker_model.specs.Events as model
 use Rattle.broker_model.specs.Tables.{queues_in}
-use Rattle.broker_model.specs.Sends.{send_draft, half_draft, delayed_or_plain, plain_draft, is_half_send, level_of, kept_props, queue_named, waits, flag_of}
+use Rattle.broker_model.specs.Sends.{send_draft, half_draft, delayed_draft, delayed_or_plain, plain_draft, is_half_send, level_of, kept_props, queue_named, waits, flag_of}
 use Rattle.broker_model.specs.Refusals.{plain_reply, send_refusal, send_queues, refusal_of}
 use Rattle.broker_model.specs.Appended.{drafts_of, made_by, appended, is_refused, is_past_end}
 use Rattle.broker_model.specs.Answers.{reply_with, send_ext, send_answer, request_answer, carried_out_answer, refused_answer, or_refused, answer_of}
 use Rattle.broker_model.specs.Step.{after}
 use Rattle.broker_model.proofs.StepLemmas.{log_grows}
-use Rattle.broker_events.specs.Served.{is_plain_send}
-use Rattle.program_run.specs.Stand.{IsMessage}
+use Rattle.program_run.specs.Stand.{IsKeptFor, IsMessage}
 
 -- a message that came on this link from this host, at this reading
 abbrev pub asks : ℕ → List ℕ → ℕ → SendSaid → model.Event
@@ -35,25 +34,29 @@ pub made_one : (s : State) (link : ℕ) (host : List ℕ) (now : ℕ) (send : Se
 unfolding drafts_of
 made_one s link host now send = refl
 
-chosen_draft : (half : Bool) (level : Option ℕ) (group : List ℕ) (d : Draft) → (not half && not (is_some level)) ≡ true → (if half then half_draft group d else delayed_or_plain level d) ≡ d
-chosen_draft true level group d plain = absurd (cc)
-chosen_draft false (Some level) group d plain = absurd (cc)
-chosen_draft false None group d plain = refl
+chosen_draft : (half : Bool) (level : Option ℕ) (group : List ℕ) (d : Draft) → not half ≡ true → (if half then half_draft group d else delayed_or_plain level d) ≡ delayed_or_plain level d
+chosen_draft true level group d whole = absurd (cc)
+chosen_draft false level group d whole = refl
 
--- a message that is neither a half message nor delayed is kept as it was sent
-plain_kept : (store_host born_host : List ℕ) (send : SendSaid) → is_plain_send send ≡ true → send_draft store_host born_host send ≡ plain_draft store_host born_host send
-plain_kept store_host born_host send plain = chosen_draft (is_half_send send) (level_of send) send.group (plain_draft store_host born_host send) plain
+-- a message that is no half message is kept as it was sent, or as a delayed one
+whole_kept : (store_host born_host : List ℕ) (send : SendSaid) → not (is_half_send send) ≡ true
+    → send_draft store_host born_host send ≡ delayed_or_plain (level_of send) (plain_draft store_host born_host send)
+whole_kept store_host born_host send whole = chosen_draft (is_half_send send) (level_of send) send.group (plain_draft store_host born_host send) whole
+
+-- the record of a draft that is kept so
+message_for : (s : State) (host : List ℕ) (now : ℕ) (send : SendSaid) (level : Option ℕ)
+    → (r : Entry) × (r ≡ next_record s.setup.segment (max now s.now) s.log (delayed_or_plain level (plain_draft s.setup.host host send))) × (r.body ≡ send.body) × IsKeptFor level send r
+message_for s host now send None = (next_record s.setup.segment (max now s.now) s.log (plain_draft s.setup.host host send), refl, refl, (refl, refl, refl))
+message_for s host now send (Some level) =
+    (next_record s.setup.segment (max now s.now) s.log (delayed_draft level (plain_draft s.setup.host host send)), refl, refl, (refl, refl, refl))
 
 -- the record is the message
-pub is_message : (s : State) (host : List ℕ) (now : ℕ) (send : SendSaid) → is_plain_send send ≡ true → IsMessage send (record_for s host now send)
-is_message s host now send plain =
-    let kept = plain_kept s.setup.host host send plain in
-    record {
-      topic = ap (λ (d : Draft). d.topic) kept;
-      queue = ap (λ (d : Draft). d.queue) kept;
-      body = ap (λ (d : Draft). d.body) kept;
-      props = ap (λ (d : Draft). d.props) kept;
-    }
+pub is_message : (s : State) (host : List ℕ) (now : ℕ) (send : SendSaid) → not (is_half_send send) ≡ true → IsMessage send (record_for s host now send)
+is_message s host now send whole =
+    let it = message_for s host now send (level_of send) in
+    let same : it.0 ≡ record_for s host now send =
+    it.1 ∙ sym (ap (λ (d : Draft). next_record s.setup.segment (max now s.now) s.log d) (whole_kept s.setup.host host send whole)) in
+    subst (λ (r : Entry). IsMessage send r) same (record { body = it.2; kept = it.3 })
 
 -- ---- refusals
 

@@ -1,5 +1,5 @@
 -- What a client of `pipe` may rely on: a message that was answered with 0 stands on the disk, at the place that the reply names.
-use Rattle.std.specs.Prelude.{◌≡◌, ◌⊎◌, ℕ, ◌+◌, ◌≤◌, ◌++◌, List, [], ◌∷◌, flat_map, map, pos, slice_get, All, true, Some, Ok}
+use Rattle.std.specs.Prelude.{◌≡◌, ◌⊎◌, ℕ, ◌+◌, ◌-◌, ◌≤◌, ◌++◌, List, [], ◌∷◌, flat_map, map, pos, slice_get, All, true, Option, Some, None, Ok}
 use Rattle.mq_outside.specs.Files.{Files}
 use Rattle.mq_outside.specs.Disk.{DiskState}
 use Rattle.mq_outside.specs.Readings.{Giving}
@@ -13,7 +13,8 @@ use Rattle.reply_fields.specs.Parts.{ReplyParts}
 use Rattle.log_model.specs.Bases.{Geometry, whole}
 use Rattle.log_model.specs.Store.{IsHonest, KeepsIfHonest, StandsAtPlace, StoresLog}
 use Rattle.broker_model.specs.Answers.{send_ext}
-use Rattle.broker_model.specs.Sends.{kept_props, queue_named, waits}
+use Rattle.log_model.specs.Admissible.{level_topic}
+use Rattle.broker_model.specs.Sends.{kept_props, level_of, queue_named, waits, with_real}
 use Rattle.session.specs.Talks.{requests_of}
 use Rattle.pipe_stream.specs.Serving.{caller_of}
 use Rattle.pipe_stream.specs.Telling.{FaultCounts, IsTold, TookPart}
@@ -47,12 +48,18 @@ pub record IsAccepted (it : Answered) (send : SendSaid) : Type 0 where
 
 -- ---- its record
 
--- the record has the message's topic, queue and body, and its properties without the names that the broker keeps for itself
+-- a message of this delay level waits in the level's queue of the topic of delayed messages, and tells its own topic and queue by
+-- its properties; one without a level stands in its own queue
+abbrev pub IsKeptFor : Option ℕ → SendSaid → Entry → Type 0
+IsKeptFor None send r = (r.topic ≡ send.topic) × (r.queue ≡ queue_named send.queue) × (r.props ≡ kept_props send.props)
+IsKeptFor (Some level) send r = (r.topic ≡ level_topic) × (r.queue ≡ level - 1)
+    × (r.props ≡ with_real send.topic (queue_named send.queue) (kept_props send.props))
+
+-- the record has the message's body, its topic and queue or those of its delay level, and its properties without the names that the
+-- broker keeps for itself
 pub record IsMessage (send : SendSaid) (r : Entry) : Type 0 where
-  pub topic : r.topic ≡ send.topic
-  pub queue : r.queue ≡ queue_named send.queue
   pub body : r.body ≡ send.body
-  pub props : r.props ≡ kept_props send.props
+  pub kept : IsKeptFor (level_of send) send r
 
 -- From this moment on each crash leaves record `number` of the log at its place, and recovery keeps it, unless torn bytes pass for
 -- another record.

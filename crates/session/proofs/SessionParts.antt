@@ -81,6 +81,8 @@ had_room (Some (said.Batch batch)) reply awaits h = refl
 had_room (Some said.Done) reply awaits h = refl
 had_room (Some (said.Awaited what)) reply awaits h = refl
 had_room (Some (said.Moved number)) reply awaits h = refl
+had_room (Some said.LogEnd) reply awaits h = refl
+had_room (Some (said.Delivered what)) reply awaits h = refl
 
 pub had_none : (what : Option Said) (pending : ℕ) → applied_of what ≡ Some (Full pending) → has_room what ≡ false
 had_none None pending h = cc
@@ -91,6 +93,8 @@ had_none (Some (said.Batch batch)) pending h = cc
 had_none (Some said.Done) pending h = cc
 had_none (Some (said.Awaited what)) pending h = cc
 had_none (Some (said.Moved number)) pending h = cc
+had_none (Some said.LogEnd) pending h = cc
+had_none (Some (said.Delivered what)) pending h = cc
 
 -- a step of which a test holds, or does not
 pub one_applied : (step : Event × Option Said) (b : Bool) → b ≡ true → (if b then step ∷ [] else []) ≡ step ∷ []

@@ -32,6 +32,7 @@ IsRequest (events.Flushed receipt) = ⊥
 IsRequest (events.FlushFailed count) = ⊥
 IsRequest (events.Look number turn) = ⊥
 IsRequest (events.Dispatch most) = ⊥
+IsRequest (events.Deliver now) = ⊥
 IsRequest (events.Leave link) = ⊥
 
 -- what was said to a request is what came of it
@@ -44,6 +45,8 @@ applied_of (Some (said.Batch batch)) = None
 applied_of (Some said.Done) = None
 applied_of (Some (said.Awaited what)) = None
 applied_of (Some (said.Moved number)) = None
+applied_of (Some said.LogEnd) = None
+applied_of (Some (said.Delivered what)) = None
 
 -- what came of it is what was said; where memory wants for telling so, nothing was said
 abbrev pub IsTold : {E : Type 0} → Option Said → Result Applied E → Type 0

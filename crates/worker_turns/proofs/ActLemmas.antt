@@ -1,14 +1,14 @@
 -- Acts behind acts.
-use Rattle.std.proofs.Common.{◌≡◌, ◌≢◌, ◌⊎◌, ⊎_elim, inl, inr, ℕ, ◌++◌, List, [], ◌∷◌, Option, Some, None, Result, Ok, Err, refl, sym, ap, ◌∙◌, subst}
+use Rattle.std.proofs.Common.{◌≡◌, ◌≢◌, ⊎_elim, inl, inr, ◌++◌, List, [], ◌∷◌, Option, Some, None, refl, sym, ap, ◌∙◌, subst}
 use Rattle.broker_events.specs.declared.event.Event.{Event}
 use Rattle.broker_events.specs.Shown.{Shown, moved}
-use Rattle.broker_events.specs.declared.event.Event.TheVariants.{Request, Take, Flushed, FlushFailed, Look, Dispatch, Leave}
+use Rattle.broker_events.specs.declared.event.Event.TheVariants.{Request, Take, Flushed, FlushFailed, Look, Dispatch, Deliver, Leave}
 use Rattle.broker_events.specs.declared.said.Said.{Said}
 use Rattle.broker_events.specs.declared.said.Said.TheVariants as said
 use Rattle.worker_turns.specs.Turns.{Steps, TakesFrom, Writes, HasEnded, WroteNone, CountsEnd}
 use Rattle.worker_turns.specs.declared.flush.FlushEnd.{FlushEnd}
 use Rattle.worker_turns.specs.declared.flush.FlushEnd.TheVariants.{Idle, Done, Failed, Misplaced, Memory}
-use Rattle.worker_turns.specs.Acts.{Turn, Act, Made, Wrote, Missed, DiskView, Place, IsFree, IsBetween, TakesBatch, HasMade, Happens, IsStill, IsUnwritten, HasUnwritten, Acts, Acted, change_of, synced_at}
+use Rattle.worker_turns.specs.Acts.{Turn, Act, Made, Wrote, Missed, DiskView, Place, IsFree, IsBetween, TakesBatch, Happens, IsStill, IsUnwritten, HasUnwritten, Acts, Acted, change_of, synced_at}
 use Rattle.log_model.specs.declared.batch.Batch.{Batch}
 use Rattle.worker_turns.specs.Turning.{idle, IsTurn, BrokeBy}
 use Rattle.worker_turns.specs.declared.broken.Broken.{Broken}
@@ -43,6 +43,7 @@ IsOther (Flushed receipt) = Unit {0}
 IsOther (FlushFailed count) = Unit {0}
 IsOther (Look number turn) = Unit {0}
 IsOther (Dispatch most) = Unit {0}
+IsOther (Deliver now) = Unit {0}
 IsOther (Leave link) = Unit {0}
 
 pub takes_none : (e : Event) (what : Option Said) → IsOther e → TakesBatch e what → ⊥

@@ -1,5 +1,5 @@
 -- The disk's count of faults never falls by acts.
-use Rattle.std.proofs.Common.{◌≡◌, ℕ, ◌≤◌, List, [], ◌∷◌, ap, arith}
+use Rattle.std.proofs.Common.{◌≤◌, List, [], ◌∷◌, ap, arith}
 use Rattle.worker_turns.specs.Turns.{Steps}
 use Rattle.worker_turns.specs.Acts.{Act, Made, Wrote, Missed, DiskView, Place, Happens, Acts, change_of}
 

@@ -2,3 +2,4 @@ mod Receipts
 pub mod ActLemmas
 pub mod CountLemmas
 mod TurningLemmas
+mod DelayLemmas

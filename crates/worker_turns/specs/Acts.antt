@@ -1,5 +1,5 @@
 -- What happened to the broker and its disk, act by act.
-use Rattle.std.specs.Prelude.{◌≡◌, ◌⊎◌, ℕ, ◌++◌, List, [], ◌∷◌, Option, Some, None, Result, Ok, Err}
+use Rattle.std.specs.Prelude.{◌≡◌, ◌⊎◌, ℕ, ◌++◌, List, [], ◌∷◌, Option, Some, None, Ok, Err}
 use Rattle.mq_outside.specs.Counts.{Rises}
 use Rattle.mq_outside.specs.Disk.{DiskState}
 use Rattle.log_model.specs.Batches.{IsReceiptFor}
@@ -11,7 +11,7 @@ use Rattle.segment_files.specs.declared.last_file.LastFile.{LastFile}
 use Rattle.broker_events.specs.Makes.{Makes}
 use Rattle.broker_events.specs.Shown.{Shown}
 use Rattle.broker_events.specs.declared.event.Event.{Event}
-use Rattle.broker_events.specs.declared.event.Event.TheVariants.{Request, Take, Flushed, FlushFailed, Look, Dispatch, Leave}
+use Rattle.broker_events.specs.declared.event.Event.TheVariants.{Request, Take, Flushed, FlushFailed, Look, Dispatch, Deliver, Leave}
 use Rattle.broker_events.specs.declared.said.Said.{Said}
 use Rattle.broker_events.specs.declared.said.Said.TheVariants as said
 use Rattle.worker_turns.specs.Turns.{Steps, TakesFrom, SyncedLog, synced_log, Writes}
@@ -78,6 +78,7 @@ IsBetween (Flushed receipt) = ⊥
 IsBetween (FlushFailed count) = Unit {0}
 IsBetween (Look number turn) = Unit {0}
 IsBetween (Dispatch most) = Unit {0}
+IsBetween (Deliver now) = Unit {0}
 IsBetween (Leave link) = Unit {0}
 
 -- a batch was taken by the step

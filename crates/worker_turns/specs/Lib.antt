@@ -1,3 +1,4 @@
 pub mod Turns
 pub mod Acts
 pub mod Turning
+pub mod Delays

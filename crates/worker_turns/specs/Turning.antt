@@ -1,5 +1,5 @@
 -- Flush turns, one after another, and what consumers see behind them.
-use Rattle.std.specs.Prelude.{◌≡◌, ◌⊎◌, ℕ, ◌^◌, ◌-◌, ◌++◌, List, [], ◌∷◌, map, Option, Some, None, Result, Ok, Err}
+use Rattle.std.specs.Prelude.{◌≡◌, ℕ, ◌^◌, ◌-◌, ◌++◌, List, [], ◌∷◌, map, Option, Some, None, Result, Ok, Err}
 use Rattle.mq_outside.specs.Counts.{Rises}
 use Rattle.log_model.specs.declared.batch.Batch.{Batch}
 use Rattle.broker_events.specs.declared.event.Event.TheVariants.{Take, Dispatch}

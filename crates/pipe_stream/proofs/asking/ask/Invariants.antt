@@ -1,4 +1,3 @@
-use Rattle.std.proofs.Common.{◌≡◌}
 use Rattle.log_model.specs.Stored.{StaysOutside}
 use Rattle.segment_files.specs.Turn.{IsInside}
 use Rattle.worker_turns.specs.Acts.{IsFree, Acted, place_of, view_of, change_of}

@@ -1,4 +1,4 @@
-use Rattle.std.proofs.Common.{◌≡◌, ◌∙◌, ℤ, sym, subst}
+use Rattle.std.proofs.Common.{◌∙◌, ℤ, sym, subst}
 use Rattle.std.proofs.lemmas.Int.{to_z-of_z}
 use Rattle.std.specs.Int.{w32}
 use Rattle.request_fields.specs.declared.fault.RequestFault.TheVariants.{Unsupported}

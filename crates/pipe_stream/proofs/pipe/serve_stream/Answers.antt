@@ -3,7 +3,7 @@ use Rattle.std.proofs.lemmas.List.{length-take, append-nil}
 use Rattle.remoting_frame.specs.Held.{Held}
 use Rattle.remoting_frame.specs.Frames.{next_of}
 use Rattle.log_model.proofs.OutsideLemmas.{outside_start, outside_then}
-use Rattle.pipe_stream.proofs.PipeLemmas.{none_waits, so_far_start, read_failed, source_ended, limit_reached, not_fed, piece_served, piece_halted, counts_end, counts_halt}
+use Rattle.pipe_stream.proofs.PipeLemmas.{none_waits, so_far_start, read_failed, source_ended, source_closed, counts_closed, limit_reached, not_fed, piece_served, piece_halted, counts_end, counts_halt}
 use Rattle.pipe_stream.proofs.pipe.serve_stream.Goals as goal
 
 pub loop-total-init : goal.loop-total-init
@@ -22,16 +22,30 @@ loop-total-init g c = record {
 pub returns-in-Err-clause-served : goal.returns-in-Err-clause-served
 returns-in-Err-clause-served g c = read_failed _ _ _ _ _ _ _ _ _ _ _ _ c.loop-total.invariant.served c.loop-total.invariant.waits c.in-Err.ensures.still
 
-pub returns-then-read-eq0-clause-served : goal.returns-then-read-eq0-clause-served
-returns-then-read-eq0-clause-served g c =
-    source_ended _ _ _ _ _ c.end_of.result _ _ _ _ _ _ _ c.loop-total.invariant.served c.loop-total.invariant.waits
+pub returns-in-Err-end_of-clause-served : goal.returns-in-Err-end_of-clause-served
+returns-in-Err-end_of-clause-served g c =
+    source_ended _ _ _ _ _ c.in-Err-end_of.halt _ _ _ _ _ _ _ c.loop-total.invariant.served c.loop-total.invariant.waits
     (λ told. c.in-Ok.ensures.given told ∙ ap (λ (n : ℕ). g.S.Source.given c.loop-total.source ++ take n c.read_piece.new.input) c.if-read-eq0.true
     ∙ append-nil (g.S.Source.given c.loop-total.source))
     (λ told. c.in-Ok.ensures.end told c.if-read-eq0.true)
-    c.end_of.ensures
+    c.in-Err-end_of.ensures
 
-pub returns-then-read-eq0-clause-cause : goal.returns-then-read-eq0-clause-cause
-returns-then-read-eq0-clause-cause g c = counts_end _ c.end_of.result _ _ _ _ _ _ c.end_of.ensures
+pub returns-in-Ok-end_of-clause-served : goal.returns-in-Ok-end_of-clause-served
+returns-in-Ok-end_of-clause-served g c =
+    source_closed _ _ _ _ _ c.close.result _ _ _ _ _ _ _ _ _ c.loop-total.invariant.served
+    (λ told. c.in-Ok.ensures.given told ∙ ap (λ (n : ℕ). g.S.Source.given c.loop-total.source ++ take n c.read_piece.new.input) c.if-read-eq0.true
+    ∙ append-nil (g.S.Source.given c.loop-total.source))
+    (λ told. c.in-Ok.ensures.end told c.if-read-eq0.true)
+    c.in-Ok-end_of.ensures c.close.ensures.closed refl refl
+
+pub returns-in-Ok-end_of-clause-cause : goal.returns-in-Ok-end_of-clause-cause
+returns-in-Ok-end_of-clause-cause g c = counts_closed c.close.result _ _ _ _ _ _ _ c.loop-total.invariant.clock c.close.ensures.cause
+
+pub returns-in-Err-end_of-clause-cause : goal.returns-in-Err-end_of-clause-cause
+returns-in-Err-end_of-clause-cause g c = counts_end _ c.in-Err-end_of.halt _ _ _ _ _ _ c.in-Err-end_of.ensures
+
+pub returns-in-Ok-end_of-clause-outside : goal.returns-in-Ok-end_of-clause-outside
+returns-in-Ok-end_of-clause-outside g c tells = outside_then (c.loop-total.invariant.outside tells) (c.close.ensures.outside tells)
 
 pub returns-in-Err-feed-clause-served : goal.returns-in-Err-feed-clause-served
 returns-in-Err-feed-clause-served g c =

@@ -1,8 +1,13 @@
-use Rattle.std.proofs.Common.{IfSome, refl, sym, ◌∙◌, subst}
+use Rattle.std.proofs.Common.{◌≡◌, IfSome, refl, ap, sym, ◌∙◌, subst, arith, ℕ, List, true}
+use Rattle.broker_events.specs.declared.event.Event.{Event}
+use Rattle.broker_events.specs.declared.event.Event.TheVariants.{Request, Take, Flushed, FlushFailed, Look, Dispatch, Deliver, Leave}
+use Rattle.broker_events.specs.Steps.{IsKeyed}
 use Rattle.broker_events.specs.Shown.{Accepts}
 use Rattle.broker_core.specs.Makes.{MakesStep, shown_of}
+use Rattle.story_lock.specs.Counts.{times}
 use Rattle.story_lock.specs.Passes.{IsPassOf, HasSeat, HasKey, Finds, history_of}
 use Rattle.spine.specs.declared.shared.Shared.{Shared}
+use Rattle.spine.specs.Entries.{is_keyed}
 use Rattle.spine.specs.Seen.{shown_by}
 use Rattle.spine.proofs.Runs.{stands_snoc}
 use Rattle.spine.proofs.AtTurn.{accepts_at_turn}
@@ -19,6 +24,23 @@ step-said-requires g c =
           (λ is. subst (λ o. IfSome o (λ p. HasKey p)) there (c.requires.key is))
           (subst (λ o. Accepts (shown_by o) c.args.event.now) there c.requires.accepted));
     }
+
+keyed_event : (e : Event) → is_keyed e ≡ true → IsKeyed e
+keyed_event (Request link host now request) is = absurd (cc)
+keyed_event Take is = tt
+keyed_event (Flushed receipt) is = tt
+keyed_event (FlushFailed count) is = tt
+keyed_event (Look number turn) is = absurd (cc)
+keyed_event (Dispatch most) is = absurd (cc)
+keyed_event (Deliver now) is = absurd (cc)
+keyed_event (Leave link) is = absurd (cc)
+
+pub end-requires-clause-key : goal.end-requires-clause-key
+end-requires-clause-key g c is =
+    let there = sym c.take.ensures.value ∙ c.in-Some.is in
+    let has = subst (λ o. IfSome o (λ p. HasKey p)) there (c.requires.key (keyed_event c.args.event.now is)) in
+    let same = ap (λ (numbers : List ℕ). times 0 numbers) c.enter-turn.ensures.turn.3 in
+    omega (arith, has, same)
 
 pub end-requires-clause-represented : goal.end-requires-clause-represented
 end-requires-clause-represented g c =
