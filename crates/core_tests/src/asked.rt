@@ -48,6 +48,8 @@ pub(crate) enum What {
     Dispatch { most: u32 },
     /// A link ends.
     Leave { link: u32 },
+    /// A delayed message is delivered, if one is due.
+    Deliver,
     /// A flush turn begins, and ends as the disk lets it.
     Flush,
 }

@@ -21,6 +21,7 @@ fn is_answered(event: &Event) -> bool
 {
     match event {
         Event::Request { now, request, .. } => *now < 1 << 62 && is_served(request),
+        Event::Deliver { now } => *now < 1 << 62,
         Event::Look { .. } | Event::Dispatch { .. } | Event::Leave { .. } => true,
         Event::Take | Event::Flushed(_) | Event::FlushFailed { .. } => false,
     }
@@ -52,6 +53,7 @@ fn event_of(alloc: Global, now: u64, what: What) -> Result<Option<Event>, AllocE
         What::Look { number, turn } => Event::Look { number, turn },
         What::Dispatch { most } => Event::Dispatch { most },
         What::Leave { link } => Event::Leave { link },
+        What::Deliver => Event::Deliver { now },
         What::Flush => return Ok(None),
     };
     Ok(Some(event))

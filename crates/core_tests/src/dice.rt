@@ -89,6 +89,7 @@ impl Dice {
             },
             3 => What::Leave { link: self.roll(3) },
             4..=6 => What::Flush,
+            7 => What::Deliver,
             _ => What::Ask(self.asked()),
         }
     }
@@ -114,6 +115,10 @@ const PROPS: &[&str] = &[
     r"TAGS\u0001a\u0002",
     r"TAGS\u0001b\u0002",
     r"KEYS\u0001k\u0002WAIT\u0001false\u0002",
+    r"DELAY\u00011\u0002",
+    r"DELAY\u00013\u0002TAGS\u0001b\u0002REAL_TOPIC\u0001X\u0002",
+    r"WAIT\u0001false\u0002DELAY\u00011\u0002DELAY\u00012\u0002",
+    r"DELAY\u00010\u0002",
 ];
 
 const OFFSETS: &[&str] = &["-1", "0", "0", "0", "1", "2", "3", "5", "8", "39"];

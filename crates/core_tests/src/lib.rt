@@ -8,6 +8,8 @@ mod check_tests;
 #[cfg(test)]
 mod core_side;
 #[cfg(test)]
+mod delay_tests;
+#[cfg(test)]
 mod dice;
 #[cfg(test)]
 mod slow_side;

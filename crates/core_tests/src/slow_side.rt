@@ -38,6 +38,7 @@ fn event_of(alloc: Global, now: u64, what: What) -> Result<Option<Event>, AllocE
         What::Look { number, turn } => slow_broker::Event::Look { number, turn },
         What::Dispatch { most } => slow_broker::Event::Dispatch { most },
         What::Leave { link } => slow_broker::Event::Leave { link },
+        What::Deliver => return Ok(Some(Event::Deliver { now })),
         What::Flush => return Ok(None),
     };
     Ok(Some(Event::Basic(event)))

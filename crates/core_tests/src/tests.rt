@@ -12,6 +12,7 @@ use crate::dice::Dice;
 use crate::stage::{Stage, begin, play};
 use broker_core::Alone;
 use broker_events::Setup;
+use record_codec::Record;
 use std::alloc::Global;
 use std::process::Abort;
 use std::test::Fail;
@@ -82,14 +83,27 @@ fn roll_on(rt: &impl Abort, alloc: Global, stage: &mut Stage, count: u32) -> Res
     Ok(())
 }
 
+// How many deliveries of delayed messages a log has.
+fn deliveries(log: &[Record]) -> u32 {
+    let mut count: u32 = 0;
+    for r in log {
+        if r.draft.props.get("DELAY_FROM").is_some() {
+            count = count.saturating_add(1);
+        }
+    }
+    count
+}
+
 #[test]
 fn each_event_has_the_answer_of_the_slow_broker(rt: HostRuntime) -> Result<(), Fail> {
     let alloc = rt.alloc();
     let mut stage = begin(alloc, SETUP, Vec::from_slice(alloc, FAILS)?)?;
     roll_on(&rt, alloc, &mut stage, 600)?;
-    // Records were stored and seen, and flush turns failed.
+    // Records were stored and seen, delayed messages delivered, and flush turns failed.
     let broker = &stage.broker;
     assert!(rt; broker.log.len() > 80 && broker.dispatched > 40 && broker.failed.len() > 3);
+    let delivered = deliveries(&broker.log);
+    assert!(rt; delivered > 5, "{delivered}");
     Ok(())
 }
 

@@ -68,5 +68,8 @@ pub(crate) fn put_said(out: &mut String, said: &Said) -> Result<(), AllocError> 
         Said::Done => out.push_str("done"),
         Said::Awaited(awaited) => put_awaited(out, awaited),
         Said::Moved(number) => write!(out, "sees {number}"),
+        Said::LogEnd => out.push_str("log end"),
+        Said::Delivered(None) => out.push_str("nothing due"),
+        Said::Delivered(Some((level, number))) => write!(out, "delivers {number} of {level}"),
     }
 }

@@ -1,6 +1,6 @@
 //! A broker over an empty log, a message to send to it, and the number in what it says.
 
-ghost use Rattle.std.specs.Prelude.{◌≡◌, None, IsTrue};
+ghost use Rattle.std.specs.Prelude.{◌≡◌, None, IfSome, IsTrue};
 ghost use Rattle.broker_events.specs.Shown.{Shown, Accepts};
 ghost use Rattle.broker_events.specs.Steps.{IsKeyed};
 ghost use Rattle.broker_core.specs.Makes.{shown_of};
@@ -26,11 +26,14 @@ const HEADER: &str =
 \"defaultTopic\":\"TBW102\",\"defaultTopicQueueNums\":\"4\",\"queueId\":\"0\",\"sysFlag\":\"0\",\
 \"bornTimestamp\":\"0\",\"flag\":\"0\",\"properties\":\"\"}}";
 
-/// A broker over an empty log.
-pub(crate) fn empty(alloc: Global) -> Core
-    ensures { (shown_of result).out ≡ None }
+/// A broker over an empty log; none where memory runs out.
+pub(crate) fn empty(alloc: Global) -> Option<Core>
+    ensures { IfSome result (λ core. (shown_of core).out ≡ None) }
 {
-    Core::open(alloc, SETUP, Loaded::new(alloc), no_pieces(alloc))
+    match Loaded::new(alloc) {
+        Ok(loaded) => Some(Core::open(alloc, SETUP, loaded, no_pieces(alloc))),
+        Err(_) => None,
+    }
 }
 
 fn frame(alloc: Global) -> Option<Frame> {

@@ -1,12 +1,13 @@
 //! Callers on threads: each message of each caller is one record, and an owner reads the core that has them all.
 
-ghost use Rattle.std.specs.Prelude.{◌≡◌, ◌+◌, ◌<◌, ◌≤◌, length};
+ghost use Rattle.std.specs.Prelude.{◌≡◌, ◌+◌, ◌<◌, ◌≤◌, None, length};
 ghost use Rattle.std.specs.Thread.{IsSync};
+ghost use Rattle.broker_core.specs.Makes.{shown_of};
 ghost use Rattle.story_lock.specs.Passes.{IsPassOf, HasSeat, numbers_of};
 
 use crate::messages::{empty, message, pending, send};
 use crate::numbers::Numbers;
-use broker_core::Owner;
+use broker_core::{Core, Owner};
 use broker_events::Event;
 use spine::{Pass, Spine, SpinePass};
 use std::alloc::Global;
@@ -116,8 +117,15 @@ fn looked<R: Wait>(rt: &R, alloc: Global, spine: &Spine, pass: Pass) -> (Pass, u
 // the end.
 type Seen = (u64, [u64; 7], u64, Option<u64>);
 
-fn shared<R: Threads + Wait + Sync>(rt: &R, alloc: Global, event: &Event) -> Option<Seen> {
-    let (spine, pass) = Spine::open(alloc, empty(alloc), CALLERS).ok()?;
+fn shared<R: Threads + Wait + Sync>(
+    rt: &R,
+    alloc: Global,
+    core: Core,
+    event: &Event,
+) -> Option<Seen>
+    requires { (shown_of core).out ≡ None }
+{
+    let (spine, pass) = Spine::open(alloc, core, CALLERS).ok()?;
     let (pass, numbers) = callers(rt, alloc, &spine, pass, event, CALLERS);
     let (pass, seen) = looked(rt, alloc, &spine, pass);
     let pending = pending(alloc, spine.close(rt, pass));
@@ -125,10 +133,11 @@ fn shared<R: Threads + Wait + Sync>(rt: &R, alloc: Global, event: &Event) -> Opt
     Some((numbers.count, words, seen, pending))
 }
 
-// The same with a message that it makes.
+// The same over an empty log, with a message that it makes.
 fn shared_message<R: Threads + Wait + Sync>(rt: &R, alloc: Global) -> Option<Seen> {
+    let core = empty(alloc)?;
     let event = message(alloc)?;
-    let seen = shared(rt, alloc, &event);
+    let seen = shared(rt, alloc, core, &event);
     drop(event);
     seen
 }

@@ -81,6 +81,7 @@ impl Calls for OneBatch {
             }
             Event::Look { .. } => Ok(Said::Awaited(Awaited::NotYet)),
             Event::Dispatch { .. } => Ok(Said::Moved(self.flushed)),
+            Event::Deliver { .. } => Ok(Said::Delivered(None)),
             Event::Leave { .. } => Ok(Said::Done),
         }
     }

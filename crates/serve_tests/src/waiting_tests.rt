@@ -159,7 +159,7 @@ fn shared<W: Wait + Threads + Clock + Sync>(
     disk: &mut MemDisk,
     event: &Event,
 ) -> Option<Seen> {
-    let (spine, pass) = Spine::open(alloc, empty(alloc), 3).ok()?;
+    let (spine, pass) = Spine::open(alloc, empty(alloc)?, 3).ok()?;
     let (watched, told) = seated(rt, alloc, &spine, pass, disk, event);
     let pending = pending(alloc, spine.close(rt, watched));
     Some((told, pending))

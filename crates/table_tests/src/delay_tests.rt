@@ -59,6 +59,20 @@ fn a_level_is_due_once_its_message_is_seen_and_its_time_has_come(
 }
 
 #[test]
+fn the_next_due_time_is_the_earliest(rt: HostRuntime) -> Result<(), Fail> {
+    let alloc = rt.alloc();
+    let mut view = DelayView::new(alloc)?;
+    assert!(rt; view.next_due() == None);
+    put(&mut view, alloc, 2, 5_010)?;
+    assert!(rt; view.next_due() == Some(5_010));
+    put(&mut view, alloc, 4, 5_000)?;
+    assert!(rt; view.next_due() == Some(5_000));
+    deliver(&mut view, 4);
+    assert!(rt; view.next_due() == Some(5_010));
+    Ok(())
+}
+
+#[test]
 fn a_level_that_was_started_counts_on(rt: HostRuntime) -> Result<(), Fail> {
     let alloc = rt.alloc();
     let mut view = DelayView::new(alloc)?;

@@ -1,4 +1,4 @@
-//! Tests of the tables: chunks, queues, keys, half messages, delays, groups, and the end of the log that is not yet on the disk.
+//! Tests of the tables: chunks, queues, keys, half messages, delays and what they keep, groups, and the end of the log that is not yet on the disk.
 #![tactic(auto)]
 
 #[cfg(test)]
@@ -11,6 +11,8 @@ mod group_tests;
 mod half_tests;
 #[cfg(test)]
 mod key_tests;
+#[cfg(test)]
+mod level_tests;
 #[cfg(test)]
 mod pending_tests;
 #[cfg(test)]

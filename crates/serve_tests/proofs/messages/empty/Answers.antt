@@ -15,17 +15,17 @@ open-requires c = record {
     [],
     record {
       lawful = empty_well_formed (whole 1048576) (whole_geometry 1048576 (record { low = omega arith; high = omega arith }));
-      of_log = c.new.ensures;
+      of_log = c.in-Ok.ensures;
       covered = c.no_pieces.ensures.covered [];
       base = refl;
     },
   );
 }
 
-pub returns : goal.returns
-returns c = ap (λ (s : Shown). s.out) (c.open.ensures.shown none_saved [] (record {
+pub returns-in-Ok : goal.returns-in-Ok
+returns-in-Ok c = ap (λ (s : Shown). s.out) (c.open.ensures.shown none_saved [] (record {
   lawful = empty_well_formed (whole 1048576) (whole_geometry 1048576 (record { low = omega arith; high = omega arith }));
-  of_log = c.new.ensures;
+  of_log = c.in-Ok.ensures;
   covered = c.no_pieces.ensures.covered [];
   base = refl;
 }))
