@@ -47,8 +47,7 @@ def _(folder):
         ({"queueId": "4"}, 1, "queue"), ({"queueId": "1", "defaultTopicQueueNums": "1"}, 1, "queue"),
         ({"queueId": "8", "defaultTopicQueueNums": "9"}, 1, "queue"), ({"queueId": "1", "defaultTopicQueueNums": "-1"}, 1, "queue"),
     ]
-    later = [{"properties": half}, {"sysFlag": "4"}, {"properties": properties([("DELAY", "1")])},
-             {"properties": half, "topic": "a b"}, {"sysFlag": "4", "queueId": "4"}]
+    later = [{"properties": half}, {"sysFlag": "4"}, {"properties": half, "topic": "a b"}, {"sysFlag": "4", "queueId": "4"}]
     for binary, short in KINDS:
         code = 310 if short else 10
         table = [(fields, status, as_named(remark, short)) for fields, status, remark in rows]

@@ -87,6 +87,8 @@ def _add_send(commands: Any) -> None:
     parser = _command(commands, "send", _send, "send messages, each once the one before is stored")
     _add_message(parser, "+")
     parser.add_argument("--no-wait", action="store_true", help="have it answered before it is on the broker's disk")
+    parser.add_argument("--delay", type=int, choices=range(1, len(DELAYS) + 1), default=0, metavar="LEVEL",
+                        help="have it held back: level 1 is 1 s, 18 is 2 h; `delay` finds the level for a time")
 
 
 def _add_pull(commands: Any) -> None:
@@ -125,7 +127,7 @@ def _add_transaction(commands: Any) -> None:
 
 
 def _add_delay(commands: Any) -> None:
-    parser = _command(commands, "delay", _delay, "send messages that consumers see later")
+    parser = _command(commands, "delay", _delay, "send messages that are held back for a time")
     _add_message(parser, "+")
     parser.add_argument("--seconds", type=float, default=10.0,
                         help="at least so much later: there are delays of 1, 5, 10 and 30 s, 1 to 10, 20 and 30 min, "
@@ -170,10 +172,19 @@ def _message(said: Any) -> Dict[str, Any]:
 
 
 def _send(connection: Connection, said: Any) -> None:
+    _send_all(connection, said, said.delay, wait=not said.no_wait)
+
+
+def _send_all(connection: Connection, said: Any, level: int, wait: bool = True) -> None:
+    """Sends the texts with this delay level, and prints where each is stored or how long it is held back."""
     with Producer(connection, said.group) as producer:
         for text in said.text:
-            sent = producer.send(said.topic, text, wait=not said.no_wait, **_message(said))
-            where = f"{sent.topic}, queue {sent.queue}, offset {sent.queue_offset}, id {sent.message_id}"
+            sent = producer.send(said.topic, text, delay_level=level, wait=wait, **_message(said))
+            where = f"{sent.topic}, queue {sent.queue}"
+            if level == 0:
+                where += f", offset {sent.queue_offset}, id {sent.message_id}"
+            else:
+                where += f", held back for {DELAYS[level - 1] // 1000} s"
             print(f"sent {text!r} to {where}", flush=True)
 
 
@@ -181,10 +192,7 @@ def _delay(connection: Connection, said: Any) -> None:
     level = next((k for k, millis in enumerate(DELAYS, 1) if millis >= 1000 * said.seconds), None)
     if level is None:
         raise ValueError(f"a message is held back for at most {DELAYS[-1] // 1000} seconds")
-    with Producer(connection, said.group) as producer:
-        for text in said.text:
-            producer.send(said.topic, text, delay_level=level, **_message(said))
-            print(f"sent {text!r} to {said.topic}: consumers see it in {DELAYS[level - 1] // 1000} s", flush=True)
+    _send_all(connection, said, level)
 
 
 class _Script:

@@ -11,7 +11,7 @@ from dataclasses import dataclass
 from types import TracebackType
 from typing import Callable, Dict, List, Mapping, Optional, Sequence, Type, TypeVar, Union
 
-from .codes import DEFAULT_TOPIC, MOST_QUEUES_OF_A_NEW_TOPIC, ReplyCode, RequestCode
+from .codes import DEFAULT_TOPIC, DELAYS, MOST_QUEUES_OF_A_NEW_TOPIC, ReplyCode, RequestCode
 from .connection import Connection, TICK, shared
 from .errors import BrokerUnavailable, ClientError, ReplyLost, RequestTimeout, SendUnknown, refusal
 from .frame import Frame
@@ -24,7 +24,11 @@ _Self = TypeVar("_Self", bound="Producer")
 
 @dataclass(frozen=True)
 class SendResult:
-    """Where the broker stored a message. It is on the broker's disk, unless it was sent with `wait=False`."""
+    """Where the broker stored a message. It is on the broker's disk, unless it was sent with `wait=False`.
+
+    Of a delayed message `queue` is the one that it is for. `queue_offset` and `message_id` are those that it has while
+    it is held back: it gets others in its queue, and keeps its `unique_key`.
+    """
 
     topic: str
     queue: int
@@ -56,7 +60,8 @@ class Producer:
         """Sends a message, and says where it is stored once it is.
 
         A body that is a text is sent as UTF-8. Without a `queue` the topic's queues take turns. `delay_level` 1 to 18
-        holds the message back for 1 s to 2 h. With `wait=False` the broker answers before the message is on its disk.
+        holds the message back for 1 s to 2 h, as `codes.DELAYS` says; 0 doesn't. With `wait=False` the broker answers
+        before the message is on its disk.
 
         `SendUnknown` where it may or may not have been stored: it isn't sent again. `BrokerError` where the broker
         refused it, `BrokerUnavailable` where it couldn't be sent: it isn't stored then.
@@ -73,6 +78,8 @@ class Producer:
         It waits only while the connection has to be made, or the topic's queues aren't known yet. Callbacks of the
         future are called by the thread that reads the connection, and mustn't wait for it.
         """
+        if not 0 <= delay_level <= len(DELAYS):
+            raise ValueError(f"a delay level is 1 to {len(DELAYS)}, or 0 for none, and not {delay_level}")
         message = Outgoing(body, tags, keys, properties or {})
         more = {}
         if delay_level:

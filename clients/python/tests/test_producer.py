@@ -109,11 +109,20 @@ class Sends(unittest.TestCase):
             at += size
         self.assertEqual((bodies, request.body[-9:]), ([b"hi", b"ho"], b"\x0bUNIQ_KEY\x01u\x02"[-9:]))
 
+    def test_a_delay_level_is_a_property_and_one_that_is_none_is_not_sent(self):
+        with Broker({10: stored, 31: no_topic}) as broker, Producer(broker.address) as producer:
+            for level in (0, 1, 18):
+                self.assertEqual(producer.send("T", "x", delay_level=level, queue=1).queue, 1)
+            for level in (-1, 19):
+                self.assertRaisesRegex(ValueError, "delay level", producer.send, "T", "x", delay_level=level)
+            told = [read_properties(request.fields["properties"]).get("DELAY") for request in broker.of(10)]
+        self.assertEqual(told, [None, "1", "18"])
+
     def test_batches_and_delays_that_a_broker_does_not_serve(self):
         with Broker({10: unknown, 31: no_topic}) as broker, Producer(broker.address) as producer:
             for call in (lambda: producer.send_batch("T", ["x"]), lambda: producer.send("T", "x", delay_level=3)):
                 self.assertRaises(NotSupported, call)
-            self.assertEqual(read_properties(broker.of(10)[0].fields["properties"])["DELAY"], "3")
+            self.assertEqual(len(broker.of(10)), 1)
 
 
 class Listener:
