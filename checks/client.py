@@ -314,7 +314,7 @@ def _(folder):
         file.write(f"#!/bin/sh\nexec {shlex.quote(PROGRAM)} \"$@\"\n")
     os.chmod(file.name, 0o755)
     os.symlink(sys.executable, os.path.join(bin_folder, "python3"))
-    script = "trap 'kill -9 $broker' EXIT\n"
+    script = "trap 'kill -9 $broker 2>/dev/null' EXIT\n"
     script += "".join(f"echo '@@ {k}'\n{command}\n" for k, (command, _) in enumerate(steps))
     environment = {**os.environ, "PATH": bin_folder + os.pathsep + os.environ["PATH"],
                    "PYTHONPATH": os.path.abspath(CLIENT), "MQ_BROKER": f"127.0.0.1:{free_port()}"}
