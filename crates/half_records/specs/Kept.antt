@@ -30,4 +30,5 @@ pub record IsKeptWith (members : List Entry) (x y : KeptRow) : Type 0 where
 -- The half messages are the same; of the one at an index the family that is kept is this one, which may go by the one before.
 pub record AreKeptWith (families : ℕ → List Entry → List Entry) (old new : List KeptRow) : Type 0 where
   pub long : length new ≡ length old
-  pub each : (k : ℕ) (x : KeptRow) → slice_get old k ≡ Some x → (y : KeptRow) × (slice_get new k ≡ Some y) × IsKeptWith (families k x.family) x y
+  pub each : (k : ℕ) (x : KeptRow) → slice_get old k ≡ Some x
+      → (y : KeptRow) × (slice_get new k ≡ Some y) × IsKeptWith (families k x.family) x y

@@ -1,13 +1,16 @@
 -- The half messages as those of a log.
-use Rattle.std.specs.Prelude.{◌≡◌, ℕ, ◌+◌, ◌&&◌, not, is_none, List, [], length, codes, slice_get, Some, if◌then◌else◌}
+use Rattle.std.specs.Prelude.{◌≡◌, ℕ, ◌+◌, ◌&&◌, not, is_none, List, [], ◌∷◌, length, codes, slice_get, true, Option, Some}
+use Rattle.std.specs.Prelude.{if◌then◌else◌}
 use Rattle.record_codec.specs.Entry.{Entry}
 use Rattle.record_codec.specs.Props.{value_of}
 use Rattle.log_model.specs.Drafts.{text_in}
-use Rattle.log_model.specs.Kinds.{origin_text}
-use Rattle.log_model.specs.Numbered.{Log}
+use Rattle.log_model.specs.Bases.{geometry}
+use Rattle.log_model.specs.Kinds.{is_half, origin_text}
+use Rattle.log_model.specs.Log.{Follows, IsWellFormed}
+use Rattle.log_model.specs.Numbered.{Log, with_appended}
 use Rattle.log_model.specs.Transactions.{family, is_settled}
 use Rattle.half_view.specs.Halves.{HalfTable}
-use Rattle.half_view.specs.OfLog.{AreHalvesOf, halves_in}
+use Rattle.half_view.specs.OfLog.{AreHalvesOf, halves_in, named_by}
 use Rattle.half_records.specs.Kept.{KeptRow}
 use Rattle.half_records.specs.Names.{AreApart, number_of}
 use Rattle.half_records.specs.Tables.{is_open_at}
@@ -33,6 +36,14 @@ pub record HasHalves (log : Log) (h : Halves) : Type 0 where
       → (x : KeptRow) × (slice_get h.kept.items k ≡ Some x) × IsKeptOf h.groups r.props (open_family log.records r) x
   pub names : AreApart h.groups
 
+-- The half messages of a log, with this one more, are those of the log with it appended. It names this origin or none, is at this
+-- place and time, and this is kept of it.
+abbrev pub HasHalfMore : Halves → Halves → Option ℕ → (place store : ℕ) → KeptRow → Entry → Type 0
+HasHalfMore old new named place store kept whole = (segment : ℕ) (log : Log) → IsWellFormed (geometry segment log.base) log.records
+    → Follows (geometry segment log.base) log.records whole → HasHalves log old → is_half whole ≡ true
+    → named_by whole ≡ named → place ≡ whole.offset → store ≡ whole.store → IsKeptOf old.groups whole.props [] kept
+    → HasHalves (with_appended log (whole ∷ [])) new
+
 -- ---- in between
 
 -- the family, where the table has its origin as an open one
@@ -46,5 +57,6 @@ pub record KeepsFamilies (log : Log) (h : Halves) : Type 0 where
   pub long : length h.kept.items ≡ length (halves_in log)
   pub numbers : (k : ℕ) (r : Entry) → slice_get (halves_in log) k ≡ Some r → r.queue_offset ≡ h.first + k
   pub each : (k : ℕ) (r : Entry) → slice_get (halves_in log) k ≡ Some r
-      → (x : KeptRow) × (slice_get h.kept.items k ≡ Some x) × IsKeptOf h.groups r.props (table_family h.view log.records r.queue_offset) x
+      → (x : KeptRow) × (slice_get h.kept.items k ≡ Some x)
+      × IsKeptOf h.groups r.props (table_family h.view log.records r.queue_offset) x
   pub names : AreApart h.groups

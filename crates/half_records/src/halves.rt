@@ -1,6 +1,6 @@
 //! The half messages of the log: what became of each, who may give a verdict on it, and whole what an open origin may still need.
 
-ghost use Rattle.std.specs.Prelude.{◌≡◌, ◌<◌, ◌^◌, ◌+◌, ◌==◌, ◌∷◌, [], ℕ, find, option_map, true, false, IfSome, IsSome, Some, None};
+ghost use Rattle.std.specs.Prelude.{◌≡◌, ◌<◌, ◌^◌, ◌==◌, ◌∷◌, [], ℕ, find, option_map, true, false, IfSome, IsSome, Some, None};
 ghost use Rattle.std.specs.Prelude.{vec_len, vec_capacity};
 ghost use Rattle.record_codec.specs.Entry.{Entry};
 ghost use Rattle.log_model.specs.Admissible.{half_topic};
@@ -9,10 +9,10 @@ ghost use Rattle.log_model.specs.Kinds.{is_half};
 ghost use Rattle.log_model.specs.Log.{Follows, IsWellFormed};
 ghost use Rattle.log_model.specs.Numbered.{Log, count_of, queue_max, with_appended};
 ghost use Rattle.log_model.specs.Transactions.{family, half_at, is_origin, is_settled};
-ghost use Rattle.half_view.specs.Halves.{with_half, with_settled, due_of, settling_number, origin_at};
-ghost use Rattle.half_view.specs.OfLog.{check_of, due_origin, empty_log, named_by, settling_in, with_settlement};
+ghost use Rattle.half_view.specs.Halves.{with_half, with_settled, origin_at};
+ghost use Rattle.half_view.specs.OfLog.{check_of, due_origin, empty_log, settling_in, with_settlement};
 ghost use Rattle.half_records.specs.Kept.{KeptRow, AreKeptWith};
-ghost use Rattle.half_records.specs.OfLog.{HasHalves, IsKeptOf, KeepsFamilies};
+ghost use Rattle.half_records.specs.OfLog.{HasHalfMore, HasHalves, KeepsFamilies};
 ghost use Rattle.half_records.specs.Tables.{HasRoomFor, kept_at, kept_index, family_of, is_open_at, renewed_family, settled_family};
 ghost use Rattle.half_records.specs.Verdicts.{is_kept_of, judged_at, judged_of, judged_origin};
 
@@ -157,8 +157,8 @@ impl Halves {
 
     /// The half message of an open origin's family that has this queue offset.
     pub fn whole(&self, origin: u64, half: u64) -> Option<&Whole>
-        ensures found { (segment : ℕ) (log : Log) (r : Entry) → IsWellFormed (geometry segment log.base) log.records → HasHalves log self.now
-            → find (is_origin origin) log.records ≡ Some r → is_settled log.records origin ≡ false
+        ensures found { (segment : ℕ) (log : Log) (r : Entry) → IsWellFormed (geometry segment log.base) log.records
+            → HasHalves log self.now → find (is_origin origin) log.records ≡ Some r → is_settled log.records origin ≡ false
             → option_map (λ whole. whole.now) result ≡ find (λ r. r.queue_offset == half) (family log.records origin) }
         ensures settled { (segment : ℕ) (log : Log) → IsWellFormed (geometry segment log.base) log.records → HasHalves log self.now
             → is_settled log.records origin ≡ true → result ≡ None }
@@ -200,10 +200,7 @@ impl Halves {
         requires store { store < 2 ^ 62 }
         requires room { HasRoomFor self.old None kept }
         ensures view { self.new.view ≡ with_half self.old.view None place store self.new.view.spare }
-        ensures records { (segment : ℕ) (log : Log) → IsWellFormed (geometry segment log.base) log.records
-            → Follows (geometry segment log.base) log.records whole → HasHalves log self.old → is_half whole ≡ true
-            → named_by whole ≡ None → place ≡ whole.offset → store ≡ whole.store → IsKeptOf self.old.groups whole.props [] kept
-            → HasHalves (with_appended log (whole ∷ [])) self.new }
+        ensures records { HasHalfMore self.old self.new None place store kept whole }
     {
         let mut kept = kept;
         kept.put(whole);
@@ -216,10 +213,7 @@ impl Halves {
         requires store { store < 2 ^ 62 }
         requires room { HasRoomFor self.old (Some origin) kept }
         ensures view { self.new.view ≡ with_half self.old.view (Some origin) place store self.new.view.spare }
-        ensures records { (segment : ℕ) (log : Log) → IsWellFormed (geometry segment log.base) log.records
-            → Follows (geometry segment log.base) log.records whole → HasHalves log self.old → is_half whole ≡ true
-            → named_by whole ≡ Some origin → place ≡ whole.offset → store ≡ whole.store → IsKeptOf self.old.groups whole.props [] kept
-            → HasHalves (with_appended log (whole ∷ [])) self.new }
+        ensures records { HasHalfMore self.old self.new (Some origin) place store kept whole }
     {
         self.keep_renewal(origin, whole);
         self.view.add_half(Some(origin), place, store);
@@ -232,10 +226,7 @@ impl Halves {
         requires store { store < 2 ^ 62 }
         requires room { HasRoomFor self.old named kept }
         ensures view { self.new.view ≡ with_half self.old.view named place store self.new.view.spare }
-        ensures records { (segment : ℕ) (log : Log) → IsWellFormed (geometry segment log.base) log.records
-            → Follows (geometry segment log.base) log.records whole → HasHalves log self.old → is_half whole ≡ true
-            → named_by whole ≡ named → place ≡ whole.offset → store ≡ whole.store → IsKeptOf self.old.groups whole.props [] kept
-            → HasHalves (with_appended log (whole ∷ [])) self.new }
+        ensures records { HasHalfMore self.old self.new named place store kept whole }
     {
         match named {
             None => self.add_origin(place, store, kept, whole),

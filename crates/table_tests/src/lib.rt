@@ -1,4 +1,5 @@
-//! Tests of the tables: chunks, queues, keys, half messages, delays and what they keep, groups, and the end of the log that is not yet on the disk.
+//! Tests of the tables: chunks, queues, keys, half messages, delays and what they keep, groups, and the end of the log that is not
+//! yet on the disk.
 #![tactic(auto)]
 
 #[cfg(test)]
