@@ -4,7 +4,7 @@ use Rattle.log_model.specs.declared.batch.Batch.{Batch}
 use Rattle.log_model.specs.Batches.{IsReceiptFor}
 use Rattle.broker_events.specs.Served.{is_served}
 use Rattle.broker_events.specs.declared.event.Event.{Event}
-use Rattle.broker_events.specs.declared.event.Event.TheVariants.{Request, Take, Flushed, FlushFailed, Look, Dispatch, Deliver, Leave}
+use Rattle.broker_events.specs.declared.event.Event.TheVariants.{Request, Take, Flushed, FlushFailed, Look, Dispatch, Deliver, Check, Leave}
 use Rattle.broker_events.specs.declared.said.Said.{Said}
 use Rattle.broker_events.specs.declared.said.Said.TheVariants as said
 
@@ -29,6 +29,7 @@ Accepts shown (FlushFailed count) = IsOut shown.out (λ batch. Unit {0})
 Accepts shown (Look number turn) = Unit {0}
 Accepts shown (Dispatch most) = Unit {0}
 Accepts shown (Deliver now) = now < 2 ^ 62
+Accepts shown (Check now) = now < 2 ^ 62
 Accepts shown (Leave link) = Unit {0}
 
 -- the batch that is out after a turn was asked for: what was said, or what was out before
@@ -50,4 +51,5 @@ moved shown (FlushFailed count) what = record shown { out = None }
 moved shown (Look number turn) what = shown
 moved shown (Dispatch most) what = shown
 moved shown (Deliver now) what = shown
+moved shown (Check now) what = shown
 moved shown (Leave link) what = shown

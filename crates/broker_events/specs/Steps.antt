@@ -1,13 +1,16 @@
 -- Events and answers, as the model has them.
-use Rattle.std.specs.Prelude.{◌≡◌, ℕ, List, [], ◌∷◌, length, Option, Some, None, Result, Ok, Err}
+use Rattle.std.specs.Prelude.{◌≡◌, ℕ, List, [], ◌∷◌, length, Option, Some, None, option_map, Result, Ok, Err}
 use Rattle.record_codec.specs.Entry.{Entry}
+use Rattle.log_model.specs.Queues.{said_by}
 use Rattle.log_model.specs.Segments.{layouts}
 use Rattle.log_model.specs.declared.batch.Batch.{Batch}
+use Rattle.reply_fields.specs.Parts.{AskParts}
 use Rattle.broker_model.specs.Events as model
 use Rattle.broker_events.specs.declared.event.Event.{Event}
-use Rattle.broker_events.specs.declared.event.Event.TheVariants.{Request, Take, Flushed, FlushFailed, Look, Dispatch, Deliver, Leave}
+use Rattle.broker_events.specs.declared.event.Event.TheVariants.{Request, Take, Flushed, FlushFailed, Look, Dispatch, Deliver, Check, Leave}
 use Rattle.broker_events.specs.declared.said.Said.{Said}
 use Rattle.broker_events.specs.declared.said.Said.TheVariants as said
+use Rattle.broker_events.specs.declared.said.Checked.{Checked}
 use Rattle.broker_events.specs.declared.said.Awaited.{Awaited}
 use Rattle.broker_events.specs.declared.said.Awaited.TheVariants as awaited
 use Rattle.broker_events.specs.Replies.{IsReplyOf, IsToldAs}
@@ -23,6 +26,7 @@ event_of (FlushFailed count) = model.FlushFailed count
 event_of (Look number turn) = model.Look number turn
 event_of (Dispatch most) = model.Dispatch most
 event_of (Deliver now) = model.Deliver now
+event_of (Check now) = model.Check now
 event_of (Leave link) = model.Leave link
 
 -- flush turns are begun and ended by the owner of the key alone
@@ -34,6 +38,7 @@ IsKeyed (FlushFailed count) = Unit {0}
 IsKeyed (Look number turn) = ⊥
 IsKeyed (Dispatch most) = ⊥
 IsKeyed (Deliver now) = ⊥
+IsKeyed (Check now) = ⊥
 IsKeyed (Leave link) = ⊥
 
 -- the event may run out of memory
@@ -45,6 +50,7 @@ MayTakeMemory (FlushFailed count) = ⊥
 MayTakeMemory (Look number turn) = ⊥
 MayTakeMemory (Dispatch most) = ⊥
 MayTakeMemory (Deliver now) = Unit {0}
+MayTakeMemory (Check now) = Unit {0}
 MayTakeMemory (Leave link) = ⊥
 
 -- ---- answers
@@ -60,6 +66,7 @@ IsOfRequest (said.Awaited what) = ⊥
 IsOfRequest (said.Moved number) = ⊥
 IsOfRequest said.LogEnd = ⊥
 IsOfRequest (said.Delivered what) = ⊥
+IsOfRequest (said.Checked what) = ⊥
 
 -- this may be said to a delivery
 abbrev pub IsOfDelivery : Said → Type 0
@@ -72,6 +79,20 @@ IsOfDelivery (said.Awaited what) = ⊥
 IsOfDelivery (said.Moved number) = ⊥
 IsOfDelivery said.LogEnd = Unit {0}
 IsOfDelivery (said.Delivered what) = Unit {0}
+IsOfDelivery (said.Checked what) = ⊥
+
+-- this may be said to a check
+abbrev pub IsOfCheck : Said → Type 0
+IsOfCheck (said.Reply reply) = ⊥
+IsOfCheck (said.After reply number turn) = ⊥
+IsOfCheck (said.Full pending) = Unit {0}
+IsOfCheck (said.Batch batch) = ⊥
+IsOfCheck said.Done = ⊥
+IsOfCheck (said.Awaited what) = ⊥
+IsOfCheck (said.Moved number) = ⊥
+IsOfCheck said.LogEnd = Unit {0}
+IsOfCheck (said.Delivered what) = ⊥
+IsOfCheck (said.Checked what) = Unit {0}
 
 -- this may be said to the event: each event has its own answers
 abbrev pub IsAnswerTo : Event → Said → Type 0
@@ -82,6 +103,7 @@ IsAnswerTo (FlushFailed count) what = what ≡ said.Done
 IsAnswerTo (Look number turn) what = (awaited : Awaited) × (what ≡ said.Awaited awaited)
 IsAnswerTo (Dispatch most) what = (number : ℕ) × (what ≡ said.Moved number)
 IsAnswerTo (Deliver now) what = IsOfDelivery what
+IsAnswerTo (Check now) what = IsOfCheck what
 IsAnswerTo (Leave link) what = what ≡ said.Done
 
 -- what was said, nothing where memory ran out
@@ -119,6 +141,14 @@ awaited_of awaited.Flushed = model.IsFlushed
 awaited_of (awaited.Failed count) = model.HasFailed count
 awaited_of awaited.NotYet = model.NotYet
 
+-- who is asked, and for which record, as the model has it
+abbrev pub asked_of : AskParts → ℕ × Entry
+asked_of ask = (ask.link, said_by ask.view)
+
+-- a check as the model has it
+abbrev pub checked_of : Checked → model.CheckDone
+checked_of done = record { origin = done.origin; number = done.number; asks = option_map asked_of done.ask }
+
 -- what is said is what the model answers
 abbrev pub Says : Said → model.Answer → Type 0
 Says (said.Reply reply) answer = IsToldAs reply answer
@@ -130,6 +160,7 @@ Says (said.Awaited what) answer = answer ≡ model.Looked (awaited_of what)
 Says (said.Moved number) answer = answer ≡ model.Moved number
 Says said.LogEnd answer = answer ≡ model.LogEnd
 Says (said.Delivered what) answer = answer ≡ model.Delivered what
+Says (said.Checked what) answer = answer ≡ model.Checked (option_map checked_of what)
 
 -- the same, where nothing was said since memory ran out
 abbrev pub SaysIn : Option Said → Option model.Answer → Type 0

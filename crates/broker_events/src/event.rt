@@ -43,6 +43,10 @@ pub enum Event {
     Deliver {
         now: u64,
     },
+    /// The group of a half message is asked what became of it, or the message is given up, if one is due at this reading of the clock.
+    Check {
+        now: u64,
+    },
     /// A link ended.
     Leave {
         link: u32,

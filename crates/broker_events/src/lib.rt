@@ -8,5 +8,5 @@ mod served;
 
 pub use calls::Calls;
 pub use event::{Event, Setup};
-pub use said::{Awaited, Said};
+pub use said::{Awaited, Checked, Said};
 pub use served::is_served;

@@ -1,7 +1,7 @@
 //! What the broker says to an event.
 
 use log_model::Batch;
-use reply_fields::Reply;
+use reply_fields::{Ask, Reply};
 
 /// What became of a record.
 #[derive(Debug, Clone, Copy, PartialEq, Eq)]
@@ -12,6 +12,18 @@ pub enum Awaited {
     Failed { count: u64 },
     /// Neither yet.
     NotYet,
+}
+
+/// A check of an origin.
+#[derive(Drop)]
+pub struct Checked {
+    /// The queue offset of the origin.
+    pub origin: u64,
+    /// The number of the first record that the check appended.
+    pub number: u64,
+    /// Who is asked for the renewal, once that is on the disk. `None` where the origin is given up, and where its group has
+    /// no client.
+    pub ask: Option<Ask>,
 }
 
 /// The answer to an event.
@@ -42,4 +54,6 @@ pub enum Said {
     LogEnd,
     /// The level of the delivery, from 1 on, and its number in the level, or none where nothing is due.
     Delivered(Option<(u8, u64)>),
+    /// What the check did, or none where nothing is due.
+    Checked(Option<Checked>),
 }
