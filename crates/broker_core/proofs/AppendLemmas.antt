@@ -25,9 +25,9 @@ use Rattle.pending_log.specs.Rows.{AreAlike, AreRowsOf}
 use Rattle.pending_log.specs.declared.rows.Row.{Row}
 use Rattle.pending_log.proofs.LogLemmas.{place_past}
 use Rattle.broker_core.specs.declared.parts.Parts.{Parts}
+use Rattle.half_records.specs.declared.halves.Halves.{Halves}
 use Rattle.level_records.specs.declared.levels.Levels.{Levels}
-use Rattle.level_records.specs.OfLog.{HasLevels}
-use Rattle.broker_core.specs.Represents.{Represents, AreOut, AreTabled, AreCovered, HasRoom, turn_of}
+use Rattle.broker_core.specs.Represents.{Represents, AreKeptFor, AreOut, AreTabled, AreCovered, HasRoom, turn_of}
 use Rattle.broker_core.specs.Appends.{HasRoomFor, MayStand}
 use Rattle.broker_core.proofs.TableLemmas.{MoreRoom, NewTable, room_made, there_is, as_added, is_its_table, to_view, from_view, map_push, tabled_kept, tabled_push}
 use Rattle.broker_core.proofs.StateLemmasB.{get_push, count_with, follows, state_with}
@@ -68,6 +68,7 @@ represents_roomier old rows queues s are first items kept tables =
       locks = are.locks;
       names = are.names;
       kept = are.kept;
+      halves = are.halves;
       levels = are.levels;
     }
 
@@ -120,7 +121,7 @@ rows_few core s are =
     omega (arith, long, first, few, low)
 
 -- the tables stay those of their queues
-unit_kept : (old new : List Table) (table : ℕ) (r : Entry) → HasUnit old table r new → (topic : List ℕ) (queue k : ℕ) → number_of old topic queue ≡ Some k → number_of new topic queue ≡ Some k
+pub unit_kept : (old new : List Table) (table : ℕ) (r : Entry) → HasUnit old table r new → (topic : List ℕ) (queue k : ℕ) → number_of old topic queue ≡ Some k → number_of new topic queue ≡ Some k
 unit_kept old new table r unit topic queue k is =
     ap (λ (ts : List Table). number_of ts topic queue) unit.is ∙ number_of-set old table unit.t (with_unit unit.t (unit_of r) r.store unit.spare) unit.at refl refl topic queue ∙ is
 
@@ -136,14 +137,14 @@ covered_longer old s r within are =
     }
 
 -- the parts with a record more
-pub represents_appended : (old : Parts) (s : State) (d : Draft) (p : Place) (table : ℕ) (pending : PendingPart) (queues : List Table) (rows : RowTable) (levels : Levels)
+pub represents_appended : (old : Parts) (s : State) (d : Draft) (p : Place) (table : ℕ) (pending : PendingPart) (queues : List Table) (rows : RowTable) (halves : Halves) (levels : Levels)
     → Represents old s → MayStand s d p → IsRecord (entry_of d p) → number_of old.queues d.topic d.queue ≡ Some table
     → pending ≡ appended old.pending (entry_of d p) → IsPendingOf (with_appended s.log (entry_of d p ∷ [])) pending
     → HasUnit old.queues table (entry_of d p) queues
     → rows.items ≡ old.rows.items ++ record { place = p.offset; size = draft_size d; table = table } ∷ [] → AreRowsOf (with_appended s.log (entry_of d p ∷ [])) rows
-    → HasLevels (with_appended s.log (entry_of d p ∷ [])) s.dispatched levels
-    → Represents (record old { pending = pending; queues = queues; rows = rows; now = p.store; levels = levels }) (with_records s p.store (entry_of d p ∷ []))
-represents_appended old s d p table pending queues rows levels are may layout mine pending_is is_pending unit items are_rows whole =
+    → AreKeptFor (with_appended s.log (entry_of d p ∷ [])) s.dispatched halves levels
+    → Represents (record old { pending = pending; queues = queues; rows = rows; now = p.store; halves = halves; levels = levels }) (with_records s p.store (entry_of d p ∷ []))
+represents_appended old s d p table pending queues rows halves levels are may layout mine pending_is is_pending unit items are_rows whole =
     let r : Entry = entry_of d p in
     let n = s.dispatched - s.log.base.records in
     let numbers = are.numbers in
@@ -197,5 +198,6 @@ represents_appended old s d p table pending queues rows levels are may layout mi
       locks = are.locks;
       names = are.names;
       kept = are.kept;
-      levels = whole;
+      halves = whole.halves;
+      levels = whole.levels;
     }

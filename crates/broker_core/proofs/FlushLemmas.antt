@@ -313,6 +313,7 @@ represents_flushed old s receipt turn stored are e pushed pending =
       locks = are.locks;
       names = are.names;
       kept = are.kept;
+      halves = are.halves;
       levels = are.levels;
     }
 

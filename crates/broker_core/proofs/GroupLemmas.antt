@@ -82,6 +82,7 @@ represents_groups old groups s offsets locks are has_offsets kept has_locks =
       locks = has_locks;
       names = are.names;
       kept = kept;
+      halves = are.halves;
       levels = are.levels;
     }
 

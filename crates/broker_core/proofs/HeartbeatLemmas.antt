@@ -40,6 +40,7 @@ represents_clients old clients s table are has =
       locks = are.locks;
       names = are.names;
       kept = are.kept;
+      halves = are.halves;
       levels = are.levels;
     }
 

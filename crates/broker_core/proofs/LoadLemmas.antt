@@ -18,15 +18,16 @@ use Rattle.record_codec.specs.declared.unit.Unit.{Unit as QueueUnit}
 use Rattle.log_model.specs.Admissible.{is_system_topic}
 use Rattle.log_model.specs.Bases.{no_base, geometry}
 use Rattle.log_model.specs.Drafts.{text_in}
-use Rattle.log_model.specs.Kinds.{is_delayed}
-use Rattle.log_model.specs.Log.{IsWellFormed}
-use Rattle.log_model.specs.Numbered.{Log, IsLawful, queue_max, with_appended}
+use Rattle.log_model.specs.Log.{Follows, IsWellFormed}
+use Rattle.log_model.specs.Numbered.{Log, IsLawful, count_of, queue_max, with_appended}
 use Rattle.log_model.specs.Queues.{queue_of}
 use Rattle.log_model.specs.Transactions.{last_of}
 use Rattle.log_model.proofs.Places.{end_of-append, well_formed_take}
+use Rattle.half_records.specs.OfLog.{HasHalves}
 use Rattle.level_records.specs.OfLog.{HasLevels}
 use Rattle.pending_log.specs.Rows.{AreAlike, AreRowsOf}
 use Rattle.pending_log.specs.declared.rows.Row.{Row}
+use Rattle.pending_log.proofs.TakeLemmas.{rows_end}
 use Rattle.queue_view.specs.Added as view
 use Rattle.queue_view.specs.Added.{Added, added_to}
 use Rattle.queue_view.specs.Tables.{Table, number_of, with_unit, added_of}
@@ -42,7 +43,7 @@ use Rattle.group_tables.specs.declared.groups.Groups.{Groups}
 use Rattle.group_tables.proofs.OffsetLemmas.{in_turn}
 use Rattle.broker_core.specs.declared.loaded.Loaded.{Loaded}
 use Rattle.broker_core.specs.Represents.{AreTabled, AreTablesOf, stored_unit, IsNamed}
-use Rattle.broker_core.specs.Loads.{whole_log, topic_row, known_with, own_with, real_with, AreForOwnTopics, IsLoadedFrom, IsLoadedWith}
+use Rattle.broker_core.specs.Loads.{whole_log, topic_row, known_with, own_with, real_with, AreForLegalTopics, IsForLegalTopic, IsLoadedFrom, IsLoadedWith}
 use Rattle.broker_core.proofs.TableLemmas.{there_is, as_added, is_its_table, to_view, from_view, map_push, tabled_kept, tabled_push}
 use Rattle.broker_core.proofs.SeenLemmas.{number_at, none_of}
 use Rattle.broker_core.proofs.TopicLemmas.{made_count}
@@ -129,11 +130,15 @@ last_push [] r = refl
 last_push (q ∷ []) r = refl
 last_push (q ∷ s ∷ records) r = last_push (s ∷ records) r
 
-own_push : (records : List Entry) (r : Entry) → AreForOwnTopics records → (is_delayed r ≡ false → value_of (codes "REAL_TOPIC") r.props ≡ None) → AreForOwnTopics (records ++ r ∷ [])
-own_push [] r are own zero q at = let same : r ≡ q = some_one at in subst (λ (e : Entry). is_delayed e ≡ false → value_of (codes "REAL_TOPIC") e.props ≡ None) same own
-own_push [] r are own (suc k) q at = cc at
-own_push (p ∷ records) r are own zero q at = are zero q at
-own_push (p ∷ records) r are own (suc k) q at = own_push records r (λ j s there. are (suc j) s there) own k q at
+real_push : (records : List Entry) (r : Entry) → AreForLegalTopics records → IsForLegalTopic r → AreForLegalTopics (records ++ r ∷ [])
+real_push [] r are real zero q at = let same : r ≡ q = some_one at in subst IsForLegalTopic same real
+real_push [] r are real (suc k) q at = cc at
+real_push (p ∷ records) r are real zero q at = are zero q at
+real_push (p ∷ records) r are real (suc k) q at = real_push records r (λ j s there. are (suc j) s there) real k q at
+
+last_at_push : (records : List Entry) (r : Entry) → slice_get (records ++ r ∷ []) (length records) ≡ Some r
+last_at_push [] r = refl
+last_at_push (q ∷ records) r = last_at_push records r
 
 -- ---- tables
 
@@ -172,23 +177,33 @@ lawful_before segment records r lawful =
     let S = geometry segment no_base in
     subst (λ (rs : List Entry). IsWellFormed S rs) (take-append_seam records (r ∷ [])) (well_formed_take S (length records) (records ++ r ∷ []) lawful)
 
+-- and its last record follows it
+last_follows : (segment : ℕ) (records : List Entry) (r : Entry) → IsLawful segment (whole_log (records ++ r ∷ [])) → Follows (geometry segment no_base) records r
+last_follows segment records r lawful =
+    subst (λ (rs : List Entry). Follows (geometry segment no_base) rs r) (take-append_seam records (r ∷ [])) (lawful.each (length records) r (last_at_push records r))
+
 -- what a load of a record did
 pub loads : (saved : List TopicRow) (records : List Entry) (r : Entry) (old new : Loaded) (row : Row) → IsLoadedFrom saved records old
-    → (is_delayed r ≡ false → value_of (codes "REAL_TOPIC") r.props ≡ None)
+    → IsForLegalTopic r
     → AreRowsOf (whole_log (records ++ r ∷ [])) new.rows → new.rows.items ≡ old.rows.items ++ row ∷ []
     → AreTabled new.queues (records ++ r ∷ []) (old.rows.items ++ row ∷ []) × AreTablesOf no_base (records ++ r ∷ []) 0 new.queues
     → ((other : List ℕ) → queues_of new.topics other ≡ real_with (own_with (queues_of old.topics) r.topic r.queue) (value_of (codes "REAL_TOPIC") r.props) r other)
+    → ((segment : ℕ) (log : Log) → IsWellFormed (geometry segment log.base) log.records → Follows (geometry segment log.base) log.records r → old.rows.first + length old.rows.items ≡ count_of log
+    → HasHalves log old.halves → HasHalves (with_appended log (r ∷ [])) new.halves)
     → ((segment : ℕ) (log : Log) → HasLevels log 0 old.levels → IsLawful segment (with_appended log (r ∷ [])) → HasLevels (with_appended log (r ∷ [])) 0 new.levels)
     → new.end ≡ r.offset + size r → new.store ≡ r.store → new.store < 2 ^ 62 → new.groups ≡ old.groups
     → IsLoadedFrom saved (records ++ r ∷ []) new
-loads saved records r old new row is own rows items tables topics levels end store low groups = record {
+loads saved records r old new row is real rows items tables topics halves levels end store low groups = record {
   rows = rows;
   tabled = subst (λ (xs : List Row). AreTabled new.queues (records ++ r ∷ []) xs) (sym items) tables.0;
   queues = tables.1;
   topics = λ other. topics other ∙ topics_with (queues_of old.topics) records saved r is.topics other;
   plain = is.plain;
   names = is.names;
-  own = own_push records r is.own own;
+  real = real_push records r is.real real;
+  halves = λ segment lawful.
+      (let before = lawful_before segment records r lawful in
+      halves segment (whole_log records) before (last_follows segment records r lawful) (rows_end (whole_log records) old.rows is.rows) (is.halves segment before));
   levels = λ segment lawful. levels segment (whole_log records) (is.levels segment (lawful_before segment records r lawful)) lawful;
   end = end ∙ sym (end_of-append no_base records r);
   store = store ∙ ap store_time (sym (last_push records r));
@@ -246,7 +261,8 @@ loads_known saved old topic n is plain legal known = record {
       found ∙ ap (λ (o : Option ℕ). option_or o (cond (bytes_eq topic other) (Some n) None)) (is.topics other) ∙ sym (queues_push saved (topic_row topic n) other);
   plain = All-push IsTopic saved (topic_row topic n) is.plain plain;
   names = All-push IsNamed saved (topic_row topic n) is.names legal;
-  own = is.own;
+  real = is.real;
+  halves = is.halves;
   levels = is.levels;
   end = is.end;
   store = is.store;
@@ -273,7 +289,8 @@ loads_topic saved old new topic n is plain legal unknown others made =
           ∙ sym (queues_push saved (topic_row topic n) other);
       plain = All-push IsTopic saved (topic_row topic n) is.plain plain;
       names = All-push IsNamed saved (topic_row topic n) is.names legal;
-      own = is.own;
+      real = is.real;
+      halves = is.halves;
       levels = is.levels;
       end = is.end;
       store = is.store;
@@ -332,7 +349,8 @@ loads_offset saved records kept old groups group topic queue offset end cut (Ok 
       topics = is.topics;
       plain = is.plain;
       names = is.names;
-      own = is.own;
+      real = is.real;
+      halves = is.halves;
       levels = is.levels;
       end = is.end;
       store = is.store;

@@ -1,11 +1,10 @@
 -- What is made of a delayed message may stand in the log, and is of one kind.
-use Rattle.std.proofs.Common.{◌≡◌, ◌≢◌, ◌∙◌, inl, inr, refl, ap, sym, subst, arith, ℕ, zero, suc, ◌+◌, ◌/◌, ◌%◌, ◌^◌, ◌<◌, ◌≤◌, Bool, true, false, List, [], ◌∷◌, ◌++◌, length, get_or, Option, Some, None, codes, pos}
+use Rattle.std.proofs.Common.{◌≡◌, ◌≢◌, ◌∙◌, refl, ap, sym, subst, arith, ℕ, zero, suc, ◌^◌, ◌<◌, ◌≤◌, Bool, true, false, List, [], ◌∷◌, ◌++◌, length, get_or, Option, Some, None, codes, pos}
 use Rattle.std.specs.Prelude.{◌==◌, ◌||◌, not, unwrap_or, IsSome, IfSome, option_map, if◌then◌else◌}
 use Rattle.std.specs.Str.{bytes_eq, all_ascii_digits}
 use Rattle.std.specs.Str.Parse.{digits_value}
-use Rattle.std.proofs.lemmas.Fmt.{length-decimal-le}
-use Rattle.std.specs.Fmt.{digit_glyph, digits_onto, digits}
-use Rattle.std.proofs.lemmas.Bool.{cases_lt, cases_Bool, lt-ltb, ne_eqb, and_from}
+use Rattle.std.specs.Fmt.{digits}
+use Rattle.std.proofs.lemmas.Bool.{lt-ltb, ne_eqb, and_from}
 use Rattle.std.proofs.lemmas.Slice.Eq.{bytes_eq-Decides}
 use Rattle.std.proofs.lemmas.Str.Parse.{IsNumeralModel, numerals_by_value, tells_all_ascii_digits}
 use Rattle.mq_bytes.specs.Decimal.{digits_of, decimal_value}
@@ -22,6 +21,7 @@ use Rattle.log_model.specs.Drafts.{text_in, without_real, delivery_draft, delive
 use Rattle.record_copies.proofs.NumberLemmas.{number_is}
 use Rattle.delay_view.specs.OfLog.{IsCopyOf}
 use Rattle.level_records.proofs.DigitLemmas.{other_text}
+use Rattle.broker_core.specs.Appends.{IsMessage}
 
 -- ---- numbers as texts
 
@@ -176,4 +176,13 @@ module _ (S level number : ℕ) (r : Entry) (host : List ℕ) (p : Place) (may :
     plain = apart.level;
     delivers = tells level ∙ text_equal (digits_of level);
     none = λ other differs. tells other ∙ other_text level other (omega (arith, last)) differs;
+  }
+
+  -- and is no half message, and settles none
+  pub made_message : IsMessage made
+  made_message = record {
+    half = apart.half;
+    op = apart.op;
+    copied = ap (λ (n : ℕ). n == 8) message.waits.bits;
+    discard = apart.discard;
   }

@@ -30,10 +30,10 @@ use Rattle.record_codec.specs.Props.{has_name}
 use Rattle.queue_view.specs.Tables.{Table, number_of, added_of}
 use Rattle.log_model.specs.Log.{place_after}
 use Rattle.delay_view.specs.OfLog.{IsCopyOf}
-use Rattle.broker_core.specs.Appends.{IsNextPlace, MayStand}
+use Rattle.broker_core.specs.Appends.{IsMessage, IsNextPlace, MayStand}
 use Rattle.broker_core.specs.Delivers.{IsDue}
 use Rattle.broker_core.proofs.DueLemmas.{due_is_next}
-use Rattle.broker_core.proofs.MadeLemmas.{made_admissible, made_kind}
+use Rattle.broker_core.proofs.MadeLemmas.{made_admissible, made_kind, made_message}
 use Rattle.broker_core.proofs.StoreLemmas.{queue_few, offset_low, is_next}
 
 ahead : (b : Bool) (n low : ℕ) (o : Option Entry) (r : Entry) → nat_lt n low ≡ b → cond b None o ≡ Some r → (low ≤ n) × (o ≡ Some r)
@@ -160,6 +160,10 @@ module _ (core : Parts) (s : State) (now level count : ℕ) (r : Entry) (d : Dra
   pub of_kind : IsCopyOf level (entry_of d p)
   of_kind = subst (λ (x : Draft). IsCopyOf level (entry_of x p)) (sym due.draft)
       (delivery_kind s.setup.segment level count r s.setup.host p (layout core s level r are turn.1) (may core s level r are turn.1) (topic core s level r are turn.1) turn.0.0 turn.0.1 low_number)
+
+  pub of_message : IsMessage (entry_of d p)
+  of_message = subst (λ (x : Draft). IsMessage (entry_of x p)) (sym due.draft)
+      (made_message s.setup.segment level count r s.setup.host p (may core s level r are turn.1) (topic core s level r are turn.1) turn.0.0 turn.0.1 low_number)
 
   fault_free : draft_fault s.setup.segment d ≡ None
   fault_free = subst (λ (x : Draft). draft_fault s.setup.segment x ≡ None) (sym due.draft) (written core s level r are turn.1 s.setup.host count turn.0.1 due.count_is)

@@ -8,10 +8,9 @@ use Rattle.std.proofs.Math.Seq.{take-length}
 use Rattle.record_codec.specs.Entry.{Entry}
 use Rattle.record_codec.specs.Layout.{size, IsHost, is_legal, is_entry, IsRecord}
 use Rattle.record_codec.specs.Props.{value_of}
-use Rattle.log_model.specs.Admissible.{is_system_topic, level_topic, most_queues, IsAdmissible, IsBelow, IsPlainTopic}
+use Rattle.log_model.specs.Admissible.{is_system_topic, level_topic, most_queues, IsAdmissible}
 use Rattle.log_model.specs.Bases.{Base, no_base, geometry}
 use Rattle.log_model.specs.Drafts.{text_in}
-use Rattle.log_model.specs.Kinds.{is_delayed}
 use Rattle.log_model.specs.Log.{end_of}
 use Rattle.log_model.specs.Numbered.{Log, IsLawful, count_of, place_end}
 use Rattle.log_model.specs.Transactions.{last_of}
@@ -31,8 +30,7 @@ use Rattle.broker_model.specs.Tables.{TopicRow, OffsetRow}
 use Rattle.broker_model.specs.Lawful.{IsState, IsTopic, IsFailedTurn}
 use Rattle.broker_model.specs.Removal.{IsCutAt}
 use Rattle.broker_model.specs.Run.{opened, store_time, with_queue, with_own_queue, with_real_queue, with_topics_of, cut_offset, cut_offsets}
-use Rattle.std.specs.Option.{option_map, option_to_list, unwrap_or}
-use Rattle.std.specs.Prelude.{IsSome}
+use Rattle.std.specs.Option.{option_map, option_to_list}
 use Rattle.std.specs.Str.Parse.{digits_value}
 use Rattle.client_tables.specs.Held.{HasClients}
 use Rattle.client_tables.specs.declared.clients.Clients.{Clients}
@@ -42,10 +40,9 @@ use Rattle.group_tables.specs.Offsets.{IsOffset}
 use Rattle.group_tables.specs.declared.locks.Lock.{Lock}
 use Rattle.level_records.specs.OfLog.{HasLevels}
 use Rattle.level_records.specs.declared.levels.Levels.{Levels}
-use Rattle.record_copies.proofs.NumberLemmas.{below_read}
 use Rattle.broker_core.specs.declared.loaded.Loaded.{Loaded}
 use Rattle.broker_core.specs.Represents.{Represents, AreOut, AreTabled, AreTablesOf, HasRoom, IsNamed, setup_of}
-use Rattle.broker_core.specs.Loads.{whole_log, AreForOwnTopics, MayOpen}
+use Rattle.broker_core.specs.Loads.{whole_log, AreForLegalTopics, IsForLegalTopic, MayOpen}
 
 -- ---- topics
 
@@ -76,49 +73,33 @@ are_own_topics topic queue rows low all = ⊎_elim
     (λ (plain : is_system_topic topic ≡ false). rw plain (are_topics topic queue rows plain (subst (λ (n : ℕ). queue < n) (most_own topic plain) low) all))
     (cases_Bool (is_system_topic topic))
 
--- where the text is there, it is like this
-has_text : (o : Option (List ℕ)) (P : List ℕ → Type 0) (text : List ℕ) → IfSome o P → o ≡ Some text → P text
-has_text o P text has is = subst (λ (p : Option (List ℕ)). IfSome p P) is has
-
--- there is a text, and it is like this
-some_text : (o : Option (List ℕ)) (P : List ℕ → Type 0) → IsSome o → IfSome o P → P (unwrap_or o [])
-some_text None P some has = absurd (cc)
-some_text (Some text) P some has = has
-
--- the topic that a delayed message is for is of clients, and the queue one that it may have
-waits_for : (segment : ℕ) (r : Entry) (topic : List ℕ) → IsAdmissible segment r → is_delayed r ≡ true → value_of (codes "REAL_TOPIC") r.props ≡ Some topic
-    → (is_legal topic ≡ true) × (is_system_topic topic ≡ false) × (digits_value 10 (text_in (codes "REAL_QID") r.props) < 1024)
-waits_for segment r topic is delayed named =
-    let waits = (is.level delayed).waits in
-    let plain = has_text (value_of (codes "REAL_TOPIC") r.props) IsPlainTopic topic waits.topic.1 named in
-    let queue = some_text (value_of (codes "REAL_QID") r.props) (IsBelow 1024) waits.queue.0 waits.queue.1 in
-    (plain.0, plain.1, below_read (text_in (codes "REAL_QID") r.props) 1024 queue)
+-- the same of any topic and a queue that clients' topics may have
+are_real_topics : (topic : List ℕ) (queue : ℕ) (rows : List TopicRow) → queue < 1024 → All IsTopic rows → All IsTopic (with_own_queue topic queue rows)
+are_real_topics topic queue rows low all = ⊎_elim
+    (λ (own : is_system_topic topic ≡ true). rw own all)
+    (λ (plain : is_system_topic topic ≡ false). rw plain (are_topics topic queue rows plain low all))
+    (cases_Bool (is_system_topic topic))
 
 -- what holds of the topics that are known stays once they are known with the topic that a record is for, where it is for one
-module _ (P : TopicRow → Type 0) (segment : ℕ) (r : Entry) (rows : List TopicRow) (is : IsAdmissible segment r)
-    (own : is_delayed r ≡ false → value_of (codes "REAL_TOPIC") r.props ≡ None) (all : All P rows)
-    (more : (topic : List ℕ) (queue : ℕ) → is_legal topic ≡ true → is_system_topic topic ≡ false → queue < 1024 → All P (with_own_queue topic queue rows)) where
+module _ (P : TopicRow → Type 0) (r : Entry) (rows : List TopicRow) (real : IsForLegalTopic r) (all : All P rows)
+    (more : (topic : List ℕ) (queue : ℕ) → is_legal topic ≡ true → queue < 1024 → All P (with_own_queue topic queue rows)) where
   of_real : (o : Option (List ℕ)) → value_of (codes "REAL_TOPIC") r.props ≡ o → All P (with_real_queue o r rows)
   of_real None named = all
-  of_real (Some topic) named = ⊎_elim
-      (λ (delayed : is_delayed r ≡ true). let waits = waits_for segment r topic is delayed named in more topic (digits_value 10 (text_in (codes "REAL_QID") r.props)) waits.0 waits.1 waits.2)
-      (λ (other : is_delayed r ≡ false). absurd (let bad : Some topic ≡ None = sym named ∙ own other in cc bad))
-      (cases_Bool (is_delayed r))
+  of_real (Some topic) named = let is = real topic named in more topic (digits_value 10 (text_in (codes "REAL_QID") r.props)) is.0 is.1
 
 -- each record may stand in some log
 abbrev AreAdmissible : ℕ → List Entry → Type 0
 AreAdmissible segment records = (k : ℕ) (r : Entry) → slice_get records k ≡ Some r → IsAdmissible segment r
 
-known_topics_are : (segment : ℕ) (records : List Entry) (rows : List TopicRow) → AreForOwnTopics records → AreAdmissible segment records → All IsTopic rows → All IsTopic (with_topics_of records rows)
-known_topics_are segment [] rows own are all = all
-known_topics_are segment (r ∷ records) rows own are all =
-    let real = value_of (codes "REAL_TOPIC") r.props in
+known_topics_are : (segment : ℕ) (records : List Entry) (rows : List TopicRow) → AreForLegalTopics records → AreAdmissible segment records → All IsTopic rows → All IsTopic (with_topics_of records rows)
+known_topics_are segment [] rows real are all = all
+known_topics_are segment (r ∷ records) rows real are all =
+    let named = value_of (codes "REAL_TOPIC") r.props in
     let is = are zero r refl in
     let with_r = are_own_topics r.topic r.queue rows is.queue all in
     let before = with_own_queue r.topic r.queue rows in
-    known_topics_are segment records (with_real_queue real r before) (λ k q at. own (suc k) q at) (λ k q at. are (suc k) q at)
-    (of_real IsTopic segment r before is (own zero r refl) with_r
-    (λ topic queue legal plain low. are_own_topics topic queue before (subst (λ (n : ℕ). queue < n) (sym (most_own topic plain)) low) with_r) real refl)
+    known_topics_are segment records (with_real_queue named r before) (λ k q at. real (suc k) q at) (λ k q at. are (suc k) q at)
+    (of_real IsTopic r before (real zero r refl) with_r (λ topic queue legal low. are_real_topics topic queue before low with_r) named refl)
 
 named_queue : (topic : List ℕ) (queue : ℕ) (rows : List TopicRow) → is_legal topic ≡ true → All IsNamed rows → All IsNamed (with_queue topic queue rows)
 named_queue topic queue [] legal all = All-cons IsNamed (record { topic = topic; queues = max 4 (queue + 1) }) [] legal (All-nil IsNamed)
@@ -135,15 +116,15 @@ named_own topic queue rows legal all = ⊎_elim
     (λ (plain : is_system_topic topic ≡ false). rw plain (named_queue topic queue rows legal all))
     (cases_Bool (is_system_topic topic))
 
-known_names : (segment : ℕ) (records : List Entry) (rows : List TopicRow) → AreForOwnTopics records → AreAdmissible segment records
+known_names : (records : List Entry) (rows : List TopicRow) → AreForLegalTopics records
     → ((k : ℕ) (r : Entry) → slice_get records k ≡ Some r → is_legal r.topic ≡ true) → All IsNamed rows → All IsNamed (with_topics_of records rows)
-known_names segment [] rows own are legal all = all
-known_names segment (r ∷ records) rows own are legal all =
-    let real = value_of (codes "REAL_TOPIC") r.props in
+known_names [] rows real legal all = all
+known_names (r ∷ records) rows real legal all =
+    let named = value_of (codes "REAL_TOPIC") r.props in
     let with_r = named_own r.topic r.queue rows (legal zero r refl) all in
     let before = with_own_queue r.topic r.queue rows in
-    known_names segment records (with_real_queue real r before) (λ k q at. own (suc k) q at) (λ k q at. are (suc k) q at) (λ k q at. legal (suc k) q at)
-    (of_real IsNamed segment r before (are zero r refl) (own zero r refl) with_r (λ topic queue is plain low. named_own topic queue before is with_r) real refl)
+    known_names records (with_real_queue named r before) (λ k q at. real (suc k) q at) (λ k q at. legal (suc k) q at)
+    (of_real IsNamed r before (real zero r refl) with_r (λ topic queue is low. named_own topic queue before is with_r) named refl)
 
 -- a record that has a layout has a topic with a legal name
 legal_topic : (r : Entry) → IsRecord r → is_legal r.topic ≡ true
@@ -219,9 +200,9 @@ no_cut segment records = record {
 }
 
 -- the state of an opening is one
-pub opened_state : (setup : model.Setup) (records : List Entry) (saved : Saved) → IsLawful setup.segment (whole_log records) → IsHost setup.host → AreForOwnTopics records → All IsTopic saved.topics
+pub opened_state : (setup : model.Setup) (records : List Entry) (saved : Saved) → IsLawful setup.segment (whole_log records) → IsHost setup.host → AreForLegalTopics records → All IsTopic saved.topics
     → saved.base ≡ no_base → store_time (last_of records) < 2 ^ 62 → IsState (opened setup (whole_log records) saved)
-opened_state setup records saved lawful host own topics base time = record {
+opened_state setup records saved lawful host real topics base time = record {
   log = lawful;
   base = omega arith;
   dispatched = omega arith;
@@ -232,7 +213,7 @@ opened_state setup records saved lawful host own topics base time = record {
   failed = All-nil (IsFailedTurn (opened setup (whole_log records) saved));
   host = host;
   time = time;
-  topics = known_topics_are setup.segment records saved.topics own (λ k r at. (lawful.each k r at).admissible) topics;
+  topics = known_topics_are setup.segment records saved.topics real (λ k r at. (lawful.each k r at).admissible) topics;
   order = λ i j d before within. absurd (let none : ⊥ = omega (arith, before, within) in none);
 }
 
@@ -266,7 +247,7 @@ pub represents_opened : (setup : Setup) (saved : Saved) (records : List Entry) (
     → AreTabled queues records loaded.rows.items × AreTablesOf no_base records (count - 0) queues
     → HasLevels (whole_log records) count levels
     → HasClients clients no_clients
-    → Represents (record { setup = setup; rows = loaded.rows; pending = pending; stored = stored; levels = levels; queues = queues; topics = loaded.topics; groups = loaded.groups; clients = clients; dispatched = count; now = loaded.store })
+    → Represents (record { setup = setup; rows = loaded.rows; pending = pending; stored = stored; halves = loaded.halves; levels = levels; queues = queues; topics = loaded.topics; groups = loaded.groups; clients = clients; dispatched = count; now = loaded.store })
     (opened (setup_of setup) (whole_log records) saved)
 represents_opened setup saved records loaded stored pending levels queues clients count may host is pending_is is_pending tables has nobody =
     let s = opened (setup_of setup) (whole_log records) saved in
@@ -276,7 +257,7 @@ represents_opened setup saved records loaded stored pending levels queues client
     let time = may.of_log.low in
     let end = may.of_log.end in
     record {
-      state = opened_state (setup_of setup) records saved may.lawful host may.of_log.own may.of_log.plain may.base (omega (arith, store, time));
+      state = opened_state (setup_of setup) records saved may.lawful host may.of_log.real may.of_log.plain may.base (omega (arith, store, time));
       numbers = record {
         setup = refl;
         segment = ap (λ (p : PendingPart). p.segment) pending_is;
@@ -300,7 +281,8 @@ represents_opened setup saved records loaded stored pending levels queues client
       clients = nobody;
       offsets = may.of_log.offsets;
       locks = λ group q. ap (λ (lock : Option Lock). option_to_list (option_map (lock_row group q.topic q.queue) lock)) (sym (may.of_log.locks group q.topic q.queue));
-      names = known_names setup.segment records saved.topics may.of_log.own (λ k r at. (may.lawful.each k r at).admissible) (λ k r at. legal_topic r (may.lawful.each k r at).layout) may.of_log.names;
+      names = known_names records saved.topics may.of_log.real (λ k r at. legal_topic r (may.lawful.each k r at).layout) may.of_log.names;
       kept = all_cut (whole_log records) saved.offsets may.of_log.rows_kept;
+      halves = may.of_log.halves setup.segment may.lawful;
       levels = subst (λ (n : ℕ). HasLevels (whole_log records) n levels) same has;
     }

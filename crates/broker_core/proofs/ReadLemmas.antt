@@ -100,6 +100,7 @@ represents_read old new s now are is low =
       locks = are.locks;
       names = are.names;
       kept = are.kept;
+      halves = are.halves;
       levels = are.levels;
     } in
     subst (λ (p : Parts). Represents p t) (sym is) there

@@ -6,7 +6,7 @@ use Rattle.record_codec.specs.Drafts.{draft_size}
 use Rattle.record_codec.specs.declared.draft.Draft.{Draft}
 use Rattle.log_model.specs.Log.{place_after}
 use Rattle.log_model.specs.Numbered.{place_end, next_record, records_from}
-use Rattle.request_fields.specs.Requests.{SendSaid}
+use Rattle.request_fields.specs.Requests.{SendSaid, KeepsSend}
 use Rattle.request_fields.specs.declared.request.Request.TheVariants.{Send}
 use Rattle.reply_fields.specs.Parts.{ReplyParts, plain}
 use Rattle.client_tables.specs.Counts.{queues_of}
@@ -17,7 +17,7 @@ use Rattle.broker_model.specs.Lawful.{IsTopic}
 use Rattle.broker_model.specs.Events as model
 use Rattle.broker_model.specs.Refusals.{plain_reply, refusal_of, send_queues, made_queues}
 use Rattle.broker_model.specs.Appended.{request_drafts}
-use Rattle.broker_model.specs.Sends.{is_half_send, level_of, queue_named, plain_draft, delayed_or_plain}
+use Rattle.broker_model.specs.Sends.{queue_named, plain_draft}
 use Rattle.broker_model.specs.Answers.{answer_of, append_answer, reply_with, request_answer}
 use Rattle.broker_model.specs.Step.{after, request_changed}
 use Rattle.broker_events.specs.Replies.{IsReplyOf}
@@ -27,6 +27,7 @@ use Rattle.broker_events.specs.declared.said.Said.TheVariants as said
 use Rattle.broker_core.specs.declared.parts.Parts.{Parts}
 use Rattle.broker_core.specs.declared.send_rows.Refusal.{Refusal}
 use Rattle.broker_core.specs.declared.send_rows.Refusal.TheVariants.{Topic, SysFlag, Body, Properties, Record, SystemTopic, NoTopic, Queue}
+use Rattle.broker_core.specs.Kinds.{kind_of, draft_by}
 use Rattle.broker_core.specs.SendRows.{refusal_by, refused}
 use Rattle.broker_core.specs.Represents.{Represents}
 use Rattle.broker_core.specs.Asked.{CarriesRequest}
@@ -34,7 +35,7 @@ use Rattle.broker_core.specs.Stores.{IsStorable, IsStored, IsSent, sent_fields, 
 use Rattle.broker_core.proofs.AnswerLemmas.{is_plain_reply, carries_refused}
 use Rattle.broker_core.proofs.EventLemmas.{log_end_answer, full_answer, stored_says, stored_after}
 use Rattle.broker_core.proofs.SendLemmas.{rows_are, is_taken, kept_is}
-use Rattle.broker_core.proofs.DelayedLemmas.{storable, waits_stay}
+use Rattle.broker_core.proofs.StorableLemmas.{storable, waits_stay}
 use Rattle.broker_core.proofs.StoreLemmas.{found_topic}
 
 -- ---- the model
@@ -46,25 +47,25 @@ one_of true over x a b c first second third = first refl
 one_of false true x a b c first second third = second refl refl
 one_of false false x a b c first second third = third refl refl
 
-module _ (s : State) (link : ℕ) (host : List ℕ) (now : ℕ) (send : SendSaid) (taken : refusal_of s (Send send) ≡ None) (half : is_half_send send ≡ false) where
+module _ (s : State) (link : ℕ) (host : List ℕ) (now : ℕ) (send : SendSaid) (taken : refusal_of s (Send send) ≡ None) where
   abbrev a : model.Asked
   a = record { link = link; host = host; now = now; request = Send send }
 
   abbrev d : Draft
-  d = delayed_or_plain (level_of send) (plain_draft s.setup.host host send)
+  d = draft_by (kind_of send) send.group (plain_draft s.setup.host host send)
 
   abbrev r : Entry
   r = next_record s.setup.segment (max now s.now) s.log d
 
   drafts : request_drafts s (max now s.now) host (Send send) ≡ d ∷ []
-  drafts = ap (λ (x : Draft). x ∷ []) (kept_is s.setup.host host send half)
+  drafts = ap (λ (x : Draft). x ∷ []) (kept_is s.setup.host host send)
 
   -- what is asked of the disk, and the host, are as the send has them
   says : stored_reply s d (queue_named send.queue) r ≡ request_answer s (max now s.now) (Send send) (r ∷ [])
   unfolding request_answer
   says =
       ap (λ (b : Bool). append_answer s b (reply_with (sent_fields d.store_host r.offset (queue_named send.queue) r.queue_offset) []) 1)
-      (waits_stay (level_of send) (plain_draft s.setup.host host send))
+      (waits_stay (kind_of send) send.group (plain_draft s.setup.host host send))
 
   pub send_says : answer_of s (model.Asks a) ≡ sent_reply s d (queue_named send.queue) r
   send_says = one_of (is_past r) (is_over s r) (answer_of s (model.Asks a)) (model.Replies (plain_reply 14 (codes "log end"))) (model.Full s.flushed) (stored_reply s d (queue_named send.queue) r)
@@ -124,28 +125,28 @@ few_queues rows topic (Some n) asked all is = (found_topic rows topic n all is).
 
 -- the draft of a send that isn't refused can be stored
 pub draft_is_storable : (core : Parts) (s : State) (store_host born_host : List ℕ) (send : SendSaid) (known : Option ℕ) → Represents core s → known ≡ queues_of core.topics send.topic
-    → refusal_by core.setup.segment known send ≡ None → send.born < 2 ^ 62 → IsStorable core.setup.segment (level_of send) (delayed_or_plain (level_of send) (plain_draft store_host born_host send))
-draft_is_storable core s store_host born_host send known are is none born =
+    → refusal_by core.setup.segment known send ≡ None → KeepsSend send → IsStorable core.setup.segment (kind_of send) (draft_by (kind_of send) send.group (plain_draft store_host born_host send))
+draft_is_storable core s store_host born_host send known are is none keeps =
     let fine = is_taken core.setup.segment known send none in
     let few = few_queues s.topics send.topic known send.default_queues are.state.topics (sym (are.topics send.topic) ∙ sym is) in
     let queue = fine.queue in
-    storable core.setup.segment known store_host born_host send fine (omega (arith, few, queue)) born
+    storable core.setup.segment known store_host born_host send fine (omega (arith, few, queue)) keeps.born keeps.group
 
 -- what is said of the send is said of its draft
-pub carries_sent : (old new : Parts) (host : List ℕ) (now : ℕ) (send : SendSaid) (what : Said) (known : Option ℕ) → is_half_send send ≡ false
+pub carries_sent : (old new : Parts) (host : List ℕ) (now : ℕ) (send : SendSaid) (what : Said) (known : Option ℕ)
     → known ≡ queues_of old.topics send.topic → refusal_by old.setup.segment known send ≡ None
-    → ((s : State) → Represents old s → IsSent s (delayed_or_plain (level_of send) (plain_draft old.setup.host host send)) send.topic (queue_named send.queue) (unwrap_or known (made_queues send.default_queues)) (max now s.now) what new)
+    → ((s : State) → Represents old s → IsSent s (draft_by (kind_of send) send.group (plain_draft old.setup.host host send)) send.topic (queue_named send.queue) (unwrap_or known (made_queues send.default_queues)) (max now s.now) what new)
     → CarriesRequest old host now (Send send) what new
-carries_sent old new host now send what known half is none sent link s are =
+carries_sent old new host now send what known is none sent link s are =
     let taken : refusal_of s (Send send) ≡ None = refusal_is old s known send are is ∙ ap (λ (o : Option Refusal). option_map refused o) none in
     let hosts : old.setup.host ≡ s.setup.host = ap (λ (x : Setup). x.host) are.numbers.setup in
     let counts : known ≡ queues_in s.topics send.topic = is ∙ are.topics send.topic in
-    let draft = λ (h : List ℕ). delayed_or_plain (level_of send) (plain_draft h host send) in
+    let draft = λ (h : List ℕ). draft_by (kind_of send) send.group (plain_draft h host send) in
     let queue = queue_named send.queue in
     let it = subst (λ (o : Option ℕ). IsSent s (draft s.setup.host) send.topic queue (unwrap_or o (made_queues send.default_queues)) (max now s.now) what new) counts
     (subst (λ (h : List ℕ). IsSent s (draft h) send.topic queue (unwrap_or known (made_queues send.default_queues)) (max now s.now) what new) hosts (sent s are)) in (
-      subst (λ (answer : model.Answer). Says what answer) (sym (send_says s link host now send taken half)) it.answer,
-      subst (λ (t : State). Represents new t) (sym (send_leaves s link host now send taken half)) it.state,
+      subst (λ (answer : model.Answer). Says what answer) (sym (send_says s link host now send taken)) it.answer,
+      subst (λ (t : State). Represents new t) (sym (send_leaves s link host now send taken)) it.state,
     )
 
 -- ---- the three cases

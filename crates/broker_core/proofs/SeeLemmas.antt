@@ -245,6 +245,7 @@ represents_dispatched old s to tables levels has are more within tabled queues =
   locks = are.locks;
   names = are.names;
   kept = are.kept;
+  halves = are.halves;
   levels = has;
 }
 

@@ -88,7 +88,7 @@ pub read_within : (text : List ℕ) → length (written (read_props text)) ≤ l
 unfolding read_props
 read_within text = omega (arith, with_all_within [] (filter_map pair_in (pieces 2 text)), pairs_within (pieces 2 text), weight-pieces 2 text)
 
-filter_within : (keep : List ℕ × List ℕ → Bool) (ps : List (List ℕ × List ℕ)) → length (written (filter keep ps)) ≤ length (written ps)
+pub filter_within : (keep : List ℕ × List ℕ → Bool) (ps : List (List ℕ × List ℕ)) → length (written (filter keep ps)) ≤ length (written ps)
 filter_within keep [] = omega arith
 filter_within keep (p ∷ ps) = ⊎_elim
     (λ (kept : keep p ≡ true). rw kept (omega (arith, length-written p (filter keep ps), length-written p ps, filter_within keep ps)))

@@ -1,5 +1,5 @@
 -- What refuses a send, and that the draft of one that isn't refused can be written.
-use Rattle.std.proofs.Common.{◌≡◌, ⊎_elim, refl, ap, ◌∙◌, ℕ, ◌+◌, ◌<◌, ◌≤◌, Bool, true, false, cond, List, [], ◌∷◌, length, map, Option, Some, None, option_map}
+use Rattle.std.proofs.Common.{◌≡◌, ⊎_elim, refl, ◌∙◌, ℕ, ◌+◌, ◌<◌, ◌≤◌, Bool, true, false, cond, List, [], ◌∷◌, length, map, Option, Some, None, option_map}
 use Rattle.std.specs.Prelude.{bit_and}
 use Rattle.std.specs.Option.{unwrap_or}
 use Rattle.std.specs.Int.Bits.{and_zero_r}
@@ -15,6 +15,8 @@ use Rattle.broker_model.specs.State.{State}
 use Rattle.broker_model.specs.Tables.{queues_in}
 use Rattle.broker_model.specs.Refusals.{refusal_of, made_queues}
 use Rattle.broker_model.specs.Sends.{flag_of, queue_named, send_draft, plain_draft, is_half_send, level_of, half_draft, delayed_or_plain}
+use Rattle.record_codec.specs.declared.draft.Draft.{Draft}
+use Rattle.broker_core.specs.Kinds.{kind_in, kind_of, draft_by}
 use Rattle.broker_core.specs.SendRows.{rows_of, refusal_by, refused}
 
 -- the first row that holds, with what is made of it
@@ -65,11 +67,14 @@ is_taken segment known send h =
       queue = ltb-true _ _ (not-false _ queue.0);
     }
 
--- a send that is no half message is stored as a delayed message or as it is
-pub kept_is : (store_host born_host : List ℕ) (send : SendSaid) → is_half_send send ≡ false
-    → send_draft store_host born_host send ≡ delayed_or_plain (level_of send) (plain_draft store_host born_host send)
-kept_is store_host born_host send half =
-    ap (λ b. cond b (half_draft send.group (plain_draft store_host born_host send)) (delayed_or_plain (level_of send) (plain_draft store_host born_host send))) half
+-- a message is stored by its kind
+by_kind : (half : Bool) (o : Option ℕ) (group : List ℕ) (d : Draft) → cond half (half_draft group d) (delayed_or_plain o d) ≡ draft_by (kind_in half o) group d
+by_kind true o group d = refl
+by_kind false None group d = refl
+by_kind false (Some level) group d = refl
+
+pub kept_is : (store_host born_host : List ℕ) (send : SendSaid) → send_draft store_host born_host send ≡ draft_by (kind_of send) send.group (plain_draft store_host born_host send)
+kept_is store_host born_host send = by_kind (is_half_send send) (level_of send) send.group (plain_draft store_host born_host send)
 
 -- a record has no bit of a transaction
 pub no_bits : (flag : ℕ) → bit_and (plain_flag flag) 12 ≡ 0

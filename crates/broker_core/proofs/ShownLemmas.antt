@@ -141,6 +141,20 @@ delivery_keeps s now =
     let kept = deliver_keeps s now in
     record { more = appended s (events.Deliver now); log = log_grows s (events.Deliver now) (λ removal. removal); setup = kept.0; flushed = kept.1; out = kept.2 }
 
+does_keep : (s : State) (now : ℕ) → AreKept s (after s (events.Check now))
+unfolding after changed
+does_keep s now =
+    elim (is_refused s (events.Check now)) as (λ b. AreKept s (if b then s else with_records s (moment s (events.Check now)) (made_by s (events.Check now)))) [
+      | true ↦ (refl, refl, refl)
+      | false ↦ records_keep s (moment s (events.Check now)) (made_by s (events.Check now))
+    ]
+
+-- and a check
+check_keeps : (s : State) (now : ℕ) → KeepsTurn s (after s (events.Check now))
+check_keeps s now =
+    let kept = does_keep s now in
+    record { more = appended s (events.Check now); log = log_grows s (events.Check now) (λ removal. removal); setup = kept.0; flushed = kept.1; out = kept.2 }
+
 -- and so does nothing at all
 none_keeps : (s : State) → KeepsTurn s s
 none_keeps s = record { more = []; log = with_appended-nil s.log; setup = refl; flushed = refl; out = refl }
@@ -165,3 +179,8 @@ pub delivery_shown : {E : Type 0} (old new : Parts) (now : ℕ) (result : Result
     → IfOk result (λ what. Carries old (events.Deliver now) (Says what) new) → OnErr result (Stays old new) → RepresentsSome old → shown_of new ≡ shown_of old
 delivery_shown old new now (Ok what) carries stays some = shown_keeps old new some.0 (after some.0 (events.Deliver now)) (delivery_keeps some.0 now) some.1 (carries some.0 some.1).1
 delivery_shown old new now (Err fault) carries stays some = shown_keeps old new some.0 some.0 (none_keeps some.0) some.1 (stays some.0 some.1)
+
+pub check_shown : {E : Type 0} (old new : Parts) (now : ℕ) (result : Result Said E)
+    → IfOk result (λ what. Carries old (events.Check now) (Says what) new) → OnErr result (Stays old new) → RepresentsSome old → shown_of new ≡ shown_of old
+check_shown old new now (Ok what) carries stays some = shown_keeps old new some.0 (after some.0 (events.Check now)) (check_keeps some.0 now) some.1 (carries some.0 some.1).1
+check_shown old new now (Err fault) carries stays some = shown_keeps old new some.0 some.0 (none_keeps some.0) some.1 (stays some.0 some.1)

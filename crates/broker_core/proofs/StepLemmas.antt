@@ -12,7 +12,7 @@ use Rattle.broker_model.specs.Answers.{answer_of}
 use Rattle.broker_model.specs.Step as steps
 use Rattle.broker_model.specs.Step.{IsPossible, after}
 use Rattle.broker_events.specs.declared.event.Event.{Event}
-use Rattle.broker_events.specs.declared.event.Event.TheVariants.{Request, Take, Deliver, Flushed, FlushFailed}
+use Rattle.broker_events.specs.declared.event.Event.TheVariants.{Request, Take, Deliver, Check, Flushed, FlushFailed}
 use Rattle.broker_events.specs.declared.said.Said.{Said}
 use Rattle.broker_events.specs.declared.said.Said.TheVariants as said
 use Rattle.broker_events.specs.Shown.{Accepts, IsOut}
@@ -52,6 +52,12 @@ pub delivery_made : {E : Type 0} (old new : Parts) (s : State) (now : ℕ) (resu
     → IfOk result (λ what. Carries old (events.Deliver now) (Says what) new) → OnErr result (Stays old new) → Represents old s → Makes s (Deliver now) (said_in result) new
 delivery_made old new s now (Ok what) carries stays are = made s (Deliver now) what new tt (carries s are)
 delivery_made old new s now (Err fault) carries stays are = unmade s (Deliver now) new tt (stays s are)
+
+-- a check
+pub check_made : {E : Type 0} (old new : Parts) (s : State) (now : ℕ) (result : Result Said E)
+    → IfOk result (λ what. Carries old (events.Check now) (Says what) new) → OnErr result (Stays old new) → Represents old s → Makes s (Check now) (said_in result) new
+check_made old new s now (Ok what) carries stays are = made s (Check now) what new tt (carries s are)
+check_made old new s now (Err fault) carries stays are = unmade s (Check now) new tt (stays s are)
 
 -- a turn that begins
 pub take_made : (old new : Parts) (s : State) (batch : Option Batch) → Carries old events.Take (IsTakenAs batch) new → Represents old s → Makes s Take (Some (said.Batch batch)) new

@@ -30,7 +30,9 @@ use Rattle.client_tables.specs.Counts.{queues_of}
 use Rattle.broker_core.specs.declared.parts.Parts.{Parts}
 use Rattle.broker_core.specs.Represents.{Represents, stored_unit, IsNamed}
 use Rattle.broker_core.specs.Appends.{IsNextPlace, MayStand}
+use Rattle.broker_core.specs.declared.store.Kind.{Kind}
 use Rattle.broker_core.specs.Stores.{IsStorable}
+use Rattle.broker_core.specs.declared.store.Kind.{Kind}
 use Rattle.broker_events.specs.declared.event.Setup.{Setup as BootSetup}
 use Rattle.pending_log.specs.Parts.{PendingPart}
 use Rattle.broker_core.proofs.TableLemmas.{there_is, is_its_table}
@@ -116,8 +118,8 @@ is_next core s d p table size now are mine offset place size_is store time =
     }
 
 -- a message may stand there
-pub may_stand : (s : State) (level : Option ℕ) (d : Draft) (p : Place) → IsStorable s.setup.segment level d → IsNextPlace s d p → p.offset + draft_size d ≤ 2 ^ 62 → MayStand s d p
-may_stand s level d p is next low = record {
+pub may_stand : (s : State) (kind : Kind) (d : Draft) (p : Place) → IsStorable s.setup.segment kind d → IsNextPlace s d p → p.offset + draft_size d ≤ 2 ^ 62 → MayStand s d p
+may_stand s kind d p is next low = record {
   next = next;
   room = (HasNoFault-from s.setup.segment d is.passes).fits;
   low = low;
@@ -126,8 +128,8 @@ may_stand s level d p is next low = record {
 }
 
 -- and can be written
-pub can_be_written : (core : Parts) (s : State) (level : Option ℕ) (d : Draft) (p : Place) → Represents core s → IsStorable s.setup.segment level d → MayStand s d p → IsEncodable d p
-can_be_written core s level d p are is may =
+pub can_be_written : (core : Parts) (s : State) (kind : Kind) (d : Draft) (p : Place) → Represents core s → IsStorable s.setup.segment kind d → MayStand s d p → IsEncodable d p
+can_be_written core s kind d p are is may =
     let number = offset_low core s d.topic d.queue are in
     let same = may.next.queue_offset in
     let low = may.low in
@@ -180,30 +182,30 @@ pub err_then : {A E P Q : Type 0} (r : Result A E) → OnErr r P → (P → Q) �
 err_then (Ok a) p f = tt
 err_then (Err e) p f = f p
 
--- the reply waits for the record with the next number
-pub waits_for : (core : Parts) (s : State) (awaited : Bool) (told : model.Reply) (number turn : ℕ) → Represents core s → core.setup.sync ≡ true → awaited ≡ true → number ≡ core.rows.first + length core.rows.items → turn ≡ core.pending.turns
-    → append_answer s awaited told 1 ≡ model.After told number turn
-waits_for core s awaited told number turn are sync wait number_is turn_is =
+-- the reply waits for the last of the records with the next numbers
+pub waits_for : (core : Parts) (s : State) (awaited : Bool) (told : model.Reply) (added end turn : ℕ) → Represents core s → core.setup.sync ≡ true → awaited ≡ true → 1 ≤ added → end ≡ core.rows.first + length core.rows.items → turn ≡ core.pending.turns
+    → append_answer s awaited told added ≡ model.After told (end + (added - 1)) turn
+waits_for core s awaited told added end turn are sync wait some end_is turn_is =
     let long = alike_length core.rows.items s.log.records are.rows.items in
     let first = are.rows.first in
     let same_sync : s.setup.sync ≡ true = ap (λ (x : Setup). x.sync) (sym are.numbers.setup) ∙ sync in
-    let last : count_of s.log + 1 - 1 ≡ number = omega (arith, number_is, long, first) in
+    let last : count_of s.log + added - 1 ≡ end + (added - 1) = omega (arith, end_is, long, first, some) in
     let turns : s.turns ≡ turn = sym are.numbers.turns ∙ sym turn_is in
-    ap (λ (b : Bool). if b && awaited then model.After told (count_of s.log + 1 - 1) s.turns else model.Replies told) same_sync
-    ∙ ap (λ (b : Bool). if b then model.After told (count_of s.log + 1 - 1) s.turns else model.Replies told) wait
-    ∙ ap (λ (n : ℕ). model.After told n s.turns) last ∙ ap (λ (t : ℕ). model.After told number t) turns
+    ap (λ (b : Bool). if b && awaited then model.After told (count_of s.log + added - 1) s.turns else model.Replies told) same_sync
+    ∙ ap (λ (b : Bool). if b then model.After told (count_of s.log + added - 1) s.turns else model.Replies told) wait
+    ∙ ap (λ (n : ℕ). model.After told n s.turns) last ∙ ap (λ (t : ℕ). model.After told (end + (added - 1)) t) turns
 
 -- ---- what the parts find for a record
 
 -- all that a place owes, where the parts found it
-pub found_place : (old core : Parts) (s : State) (level : Option ℕ) (d : Draft) (p : Place) (table size now : ℕ) → Represents core s → core.setup ≡ old.setup → core.pending ≡ old.pending → core.now ≡ old.now → IsStorable old.setup.segment level d
+pub found_place : (old core : Parts) (s : State) (kind : Kind) (d : Draft) (p : Place) (table size now : ℕ) → Represents core s → core.setup ≡ old.setup → core.pending ≡ old.pending → core.now ≡ old.now → IsStorable old.setup.segment kind d
     → number_of core.queues d.topic d.queue ≡ Some table → ((t : Table) → slice_get core.queues table ≡ Some t → p.queue_offset ≡ added_of t) → p.offset ≡ place_after core.pending.segment core.pending.end size
     → p.store ≡ max now core.now → size ≡ draft_size d → place_after old.pending.segment old.pending.end size + size ≤ 2 ^ 62 → now < 2 ^ 62 → (IsEncodable d p) × MayStand s d p × (p.store ≡ max now s.now)
-found_place old core s level d p table size now are setup pending clock storable mine offset place store size_is low time =
+found_place old core s kind d p table size now are setup pending clock storable mine offset place store size_is low time =
     let segment : old.setup.segment ≡ s.setup.segment = ap (λ (x : BootSetup). x.segment) (sym setup) ∙ ap (λ (x : Setup). x.segment) are.numbers.setup in
-    let here_too = subst (λ (n : ℕ). IsStorable n level d) segment storable in
+    let here_too = subst (λ (n : ℕ). IsStorable n kind d) segment storable in
     let next = is_next core s d p table size now are mine offset place size_is store time in
     let here : p.offset ≡ place_after old.pending.segment old.pending.end size = place ∙ ap (λ (x : PendingPart). place_after x.segment x.end size) pending in
-    let may = may_stand s level d p here_too next (omega (arith, low, here, size_is)) in
+    let may = may_stand s kind d p here_too next (omega (arith, low, here, size_is)) in
     let same = are.numbers.now in
-    (can_be_written core s level d p are here_too may, may, omega (arith, store, same))
+    (can_be_written core s kind d p are here_too may, may, omega (arith, store, same))

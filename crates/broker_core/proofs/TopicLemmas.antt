@@ -130,6 +130,7 @@ represents_later old s now are later time =
       locks = are.locks;
       names = are.names;
       kept = are.kept;
+      halves = are.halves;
       levels = are.levels;
     }
 
@@ -165,6 +166,7 @@ represents_same_topics old topics s are same = record {
   locks = are.locks;
   names = are.names;
   kept = are.kept;
+  halves = are.halves;
   levels = are.levels;
 }
 
@@ -211,6 +213,7 @@ represents_made old topics s topic n are plain legal made =
       locks = are.locks;
       names = named_with topic n s.topics legal are.names;
       kept = are.kept;
+      halves = are.halves;
       levels = are.levels;
     }
 

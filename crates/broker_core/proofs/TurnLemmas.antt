@@ -116,6 +116,7 @@ represents_room old s stored none items end are = record {
   locks = are.locks;
   names = are.names;
   kept = are.kept;
+  halves = are.halves;
   levels = are.levels;
 }
 
@@ -203,6 +204,7 @@ represents_turn old s stored b count end are none items ends room pending same s
   locks = are.locks;
   names = are.names;
   kept = are.kept;
+  halves = are.halves;
   levels = are.levels;
 }
 
@@ -307,6 +309,7 @@ represents_failed old s count turn out are there is held pending = record {
   locks = are.locks;
   names = are.names;
   kept = are.kept;
+  halves = are.halves;
   levels = are.levels;
 }
 

@@ -1,14 +1,14 @@
 -- What was loaded of a log, told by its records, and when the broker may open over it.
-use Rattle.std.specs.Prelude.{◌≡◌, ℕ, ◌+◌, ◌<◌, ◌^◌, max, List, [], codes, slice_get, All, false, Option, Some, None, if◌then◌else◌}
+use Rattle.std.specs.Prelude.{◌≡◌, ℕ, ◌+◌, ◌<◌, ◌^◌, max, List, [], codes, slice_get, All, true, Option, Some, None, if◌then◌else◌}
 use Rattle.std.specs.Str.{bytes_eq}
 use Rattle.std.specs.Str.Parse.{digits_value}
 use Rattle.mq_outside.specs.declared.frozen_ranges.FrozenRanges.{FrozenRanges}
 use Rattle.record_codec.specs.Entry.{Entry}
+use Rattle.record_codec.specs.Layout.{is_legal}
 use Rattle.record_codec.specs.Props.{value_of}
 use Rattle.log_model.specs.Admissible.{is_system_topic}
 use Rattle.log_model.specs.Bases.{no_base}
 use Rattle.log_model.specs.Drafts.{text_in}
-use Rattle.log_model.specs.Kinds.{is_delayed}
 use Rattle.log_model.specs.Log.{end_of}
 use Rattle.log_model.specs.Numbered.{Log, IsLawful, count_of}
 use Rattle.log_model.specs.Transactions.{last_of}
@@ -21,6 +21,7 @@ use Rattle.broker_events.specs.declared.event.Setup.{Setup}
 use Rattle.client_tables.specs.Counts.{queues_of}
 use Rattle.group_tables.specs.Held.{lock_of}
 use Rattle.group_tables.specs.Offsets.{HasOffsets, IsOffset}
+use Rattle.half_records.specs.OfLog.{HasHalves}
 use Rattle.level_records.specs.OfLog.{HasLevels}
 use Rattle.broker_core.specs.declared.loaded.Loaded.{Loaded}
 use Rattle.broker_core.specs.Represents.{AreTabled, AreTablesOf, AreCovered, IsNamed}
@@ -55,12 +56,17 @@ real_with counts (Some topic) r other = own_with counts topic (digits_value 10 (
 
 -- ---- what was loaded
 
--- each record but a delayed message is for its own topic alone: none of them is a half message
-abbrev pub AreForOwnTopics : List Entry → Type 0
-AreForOwnTopics records = (k : ℕ) (r : Entry) → slice_get records k ≡ Some r → is_delayed r ≡ false → value_of (codes "REAL_TOPIC") r.props ≡ None
+-- where the record is for another topic than its own, that has a legal name, and the queue that it is for is one of 1,024
+abbrev pub IsForLegalTopic : Entry → Type 0
+IsForLegalTopic r = (topic : List ℕ) → value_of (codes "REAL_TOPIC") r.props ≡ Some topic
+    → (is_legal topic ≡ true) × (digits_value 10 (text_in (codes "REAL_QID") r.props) < 1024)
+
+-- each of them is like this
+abbrev pub AreForLegalTopics : List Entry → Type 0
+AreForLegalTopics records = (k : ℕ) (r : Entry) → slice_get records k ≡ Some r → IsForLegalTopic r
 
 -- These records were loaded, before them these topics, of clients, and behind them these offsets, each at most the end of its
--- queue. Consumers see none of the records yet. The delayed messages are kept where the records are a log.
+-- queue. Consumers see none of the records yet. The half and delayed messages are kept where the records are a log.
 pub record IsLoadedWith (saved : List TopicRow) (records : List Entry) (kept : List OffsetRow) (loaded : Loaded) : Type 0 where
   pub rows : AreRowsOf (whole_log records) loaded.rows
   pub tabled : AreTabled loaded.queues records loaded.rows.items
@@ -68,7 +74,8 @@ pub record IsLoadedWith (saved : List TopicRow) (records : List Entry) (kept : L
   pub topics : (topic : List ℕ) → queues_of loaded.topics topic ≡ queues_in (with_topics_of records saved) topic
   pub plain : All IsTopic saved
   pub names : All IsNamed saved
-  pub own : AreForOwnTopics records
+  pub real : AreForLegalTopics records
+  pub halves : (segment : ℕ) → IsLawful segment (whole_log records) → HasHalves (whole_log records) loaded.halves
   pub levels : (segment : ℕ) → IsLawful segment (whole_log records) → HasLevels (whole_log records) 0 loaded.levels
   pub end : loaded.end ≡ end_of no_base records
   pub store : loaded.store ≡ store_time (last_of records)

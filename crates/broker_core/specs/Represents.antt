@@ -25,6 +25,9 @@ use Rattle.client_tables.specs.Counts.{queues_of}
 use Rattle.client_tables.specs.Held.{HasClients}
 use Rattle.group_tables.specs.Held.{HasLocks}
 use Rattle.group_tables.specs.Offsets.{HasOffsets, IsOffset}
+use Rattle.half_records.specs.declared.halves.Halves.{Halves}
+use Rattle.half_records.specs.OfLog.{HasHalves}
+use Rattle.level_records.specs.declared.levels.Levels.{Levels}
 use Rattle.level_records.specs.OfLog.{HasLevels}
 use Rattle.broker_core.specs.declared.parts.Parts.{Parts}
 
@@ -105,6 +108,13 @@ AreTabled tables records rows =
 abbrev pub IsNamed : TopicRow → Type 0
 IsNamed row = is_legal row.topic ≡ true
 
+-- ---- what is kept whole
+
+-- the half messages are those of the log, and the delayed ones those of the log with its first d records dispatched
+pub record AreKeptFor (log : Log) (d : ℕ) (own : Halves) (lines : Levels) : Type 0 where
+  pub halves : HasHalves log own
+  pub levels : HasLevels log d lines
+
 -- ---- all of it
 
 -- the parts represent the state, whose topics and stored offsets can be kept in files
@@ -125,4 +135,5 @@ pub record Represents (core : Parts) (s : State) : Type 0 where
   pub locks : HasLocks core.groups s.locks
   pub names : All IsNamed s.topics
   pub kept : All IsOffset s.offsets
+  pub halves : HasHalves s.log core.halves
   pub levels : HasLevels s.log s.dispatched core.levels

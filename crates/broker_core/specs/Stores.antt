@@ -1,5 +1,5 @@
 -- A message that is stored, and the reply to its send.
-use Rattle.std.specs.Prelude.{◌≡◌, ℕ, ◌+◌, ◌^◌, ◌<◌, ◌≤◌, nat_lt, List, [], ◌∷◌, codes, Bool, true, false, Option, None, Some, if◌then◌else◌}
+use Rattle.std.specs.Prelude.{◌≡◌, ℕ, ◌+◌, ◌^◌, ◌<◌, ◌≤◌, nat_lt, List, [], ◌∷◌, codes, Bool, true, false, Option, None, if◌then◌else◌}
 use Rattle.mq_bytes.specs.Decimal.{digits_of}
 use Rattle.mq_bytes.specs.Ids.{message_id_of}
 use Rattle.record_codec.specs.Entry.{Entry}
@@ -11,6 +11,7 @@ use Rattle.record_codec.specs.declared.draft.Place.{Place}
 use Rattle.log_model.specs.Admissible.{is_system_topic, IsAdmissible, NamesEarlier}
 use Rattle.log_model.specs.Numbered.{next_record}
 use Rattle.delay_view.specs.OfLog.{IsMessageOf, IsOther}
+use Rattle.made_records.specs.Made.{IsHalfOf}
 use Rattle.client_tables.specs.declared.topics.Topics.{Topics}
 use Rattle.client_tables.specs.Counts.{queues_of}
 use Rattle.broker_model.specs.State.{State, pending_bytes}
@@ -22,6 +23,9 @@ use Rattle.broker_model.specs.Step.{with_made, with_records}
 use Rattle.broker_events.specs.declared.said.Said.{Said}
 use Rattle.broker_events.specs.Steps.{Says}
 use Rattle.broker_core.specs.declared.parts.Parts.{Parts}
+use Rattle.broker_core.specs.declared.store.Kind.{Kind}
+use Rattle.broker_core.specs.declared.store.Kind.TheVariants.{Plain, Delayed, Half}
+use Rattle.broker_core.specs.Appends.{IsMessage}
 use Rattle.broker_core.specs.Represents.{Represents}
 
 -- the fields that tell where a record stands
@@ -37,21 +41,22 @@ pub record IsTarget (topics : Topics) (topic : List ℕ) (known : Option ℕ) (m
   pub legal : is_legal topic ≡ true
   pub plain : is_system_topic topic ≡ false
 
--- the record is kept as a delayed message of this level, or else as one that counts for no level
-abbrev pub IsKeptAs : Option ℕ → Entry → Type 0
-IsKeptAs None r = IsOther r
-IsKeptAs (Some level) r = (1 ≤ level) × (level ≤ 18) × IsMessageOf level r
+-- the record is kept like this: it is a message of a topic of clients, or a delayed one of this level, or a half message
+abbrev pub IsKeptAs : Kind → Entry → Type 0
+IsKeptAs Plain r = IsMessage r × IsOther r
+IsKeptAs (Delayed level) r = (1 ≤ level) × (level ≤ 18) × IsMessage r × IsMessageOf level r
+IsKeptAs Half r = IsHalfOf None r
 
--- A draft whose record may stand behind any log where there is room, kept as a delayed message of this level or as none: it can
--- be written into a segment, and a log may have its record wherever it stands.
-pub record IsStorable (segment : ℕ) (level : Option ℕ) (d : Draft) : Type 0 where
+-- A draft whose record may stand behind any log where there is room, and is kept like this: it can be written into a segment, and
+-- a log may have its record wherever it stands.
+pub record IsStorable (segment : ℕ) (kind : Kind) (d : Draft) : Type 0 where
   pub passes : draft_fault segment d ≡ None
   pub born : d.born < 2 ^ 62
   pub prepared : d.prepared < 2 ^ 62
   pub unsealed : has_name (codes "SEAL") d.props ≡ false
   pub admissible : (p : Place) → IsAdmissible segment (entry_of d p)
   pub names : (p : Place) (halves : ℕ) → NamesEarlier halves (entry_of d p)
-  pub kept : (p : Place) → IsKeptAs level (entry_of d p)
+  pub kept : (p : Place) → IsKeptAs kind (entry_of d p)
 
 -- the model's answer to the send of a message to this queue, whose record is stored
 abbrev pub stored_reply : State → Draft → ℕ → Entry → model.Answer

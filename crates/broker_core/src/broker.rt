@@ -1,8 +1,11 @@
 //! The core as its callers see it: it represents some state at all times, so that no call asks for one.
 
-ghost use Rattle.std.specs.Prelude.{◌≡◌, List, None, IfOk, OnErr};
+ghost use Rattle.std.specs.Prelude.{◌≡◌, ◌<◌, ℕ, List, None, is_some, IfOk, IfSome, OnErr};
 ghost use Rattle.record_codec.specs.Entry.{Entry};
+ghost use Rattle.log_model.specs.Delays.{due_delayed};
 ghost use Rattle.log_model.specs.Numbered.{count_of, place_end};
+ghost use Rattle.delay_view.specs.Levels.{has_come};
+ghost use Rattle.broker_model.specs.Appended.{due_origin};
 ghost use Rattle.broker_model.specs.State.{State, Saved};
 ghost use Rattle.broker_model.specs.Run.{opened};
 ghost use Rattle.broker_events.specs.Shown.{Accepts, moved};
@@ -87,7 +90,22 @@ impl Core {
         self.parts.counts()
     }
 
-    /// Makes one step. Want of memory comes only at a request, at `Take` and at a delivery, and changes nothing.
+    /// The earliest time at which a delivery delivers anything, in milliseconds: it does from that time on, and none does before it.
+    /// `None` where no delayed message waits that consumers see.
+    pub fn next_delivery(&self) -> Option<u64>
+        ensures { (s : State) (now : ℕ) → Represents self.now s → has_come now result ≡ is_some (due_delayed s.log s.dispatched now) }
+    {
+        self.parts.levels.next_due()
+    }
+
+    /// The earliest time at which a check checks anything, in milliseconds: none does before it. `None` where no half message is open.
+    pub fn next_check(&self) -> Option<u64>
+        ensures { (s : State) (now : ℕ) → Represents self.now s → IfSome result (λ time. now < time) → due_origin s now ≡ None }
+    {
+        self.parts.halves.next_due()
+    }
+
+    /// Makes one step. Want of memory comes only at a request, at `Take`, at a delivery and at a check, and changes nothing.
     pub fn apply(&mut self, alloc: Global, event: &Event) -> Result<Said, AllocError>
         requires accepted { Accepts (shown_of self.old) event.now }
         ensures step { (s : State) → Represents self.old s → Makes s event.now (said_in result) self.new }
@@ -117,6 +135,7 @@ impl Core {
             Event::Look { number, turn } => Ok(Said::Awaited(self.parts.look(*number, *turn))),
             Event::Dispatch { most } => Ok(Said::Moved(self.parts.dispatch(*most))),
             Event::Deliver { now } => self.parts.deliver(alloc, *now),
+            Event::Check { now } => self.parts.check(alloc, *now),
             Event::Leave { link } => {
                 self.parts.leave(*link);
                 Ok(Said::Done)

@@ -36,7 +36,8 @@ pub(crate) fn see(queues: &mut QueueView, rows: &Rows, from: u64, to: u64)
 fn see_record(queues: &QueueView, levels: &mut Levels, table: u32)
     requires there { table < length queues.now }
     requires some { (segment d : ℕ) × (log : Log) × (r : Entry) × IsNextSeen segment log d r queues.now table levels.old }
-    ensures { (segment d : ℕ) (log : Log) (r : Entry) → IsNextSeen segment log d r queues.now table levels.old → HasLevels log (d + 1) levels.new }
+    ensures { (segment d : ℕ) (log : Log) (r : Entry) → IsNextSeen segment log d r queues.now table levels.old
+        → HasLevels log (d + 1) levels.new }
 {
     if queues.topic(table) == "SCHEDULE_TOPIC_XXXX" {
         levels.see(queues.queue(table) as u8 + 1);

@@ -5,7 +5,9 @@
 mod alone;
 mod append;
 mod append_kept;
+mod append_two;
 mod broker;
+mod check_back;
 mod consumer_offsets;
 mod counts;
 mod delivery;
@@ -21,12 +23,14 @@ mod pull;
 mod queue_locks;
 mod replies;
 mod request;
+mod room;
 mod send;
 mod send_draft;
 mod send_rows;
 mod store;
 mod topic;
 mod turns;
+mod verdict;
 
 pub use alone::Alone;
 pub use broker::Core;

@@ -8,22 +8,22 @@ ghost use Rattle.record_codec.specs.Layout.{is_legal};
 ghost use Rattle.record_codec.specs.Props.{value_of};
 ghost use Rattle.log_model.specs.Admissible.{is_system_topic as is_system};
 ghost use Rattle.log_model.specs.Drafts.{text_in};
-ghost use Rattle.log_model.specs.Kinds.{is_delayed};
 ghost use Rattle.log_model.specs.Numbered.{queue_max};
 ghost use Rattle.broker_model.specs.Tables.{TopicRow, OffsetRow};
 ghost use Rattle.group_tables.specs.Offsets.{offset_row, IsOffset};
 ghost use Rattle.client_tables.specs.Counts.{queues_of};
-ghost use Rattle.broker_core.specs.Loads.{IsLoadedFrom, IsLoadedWith, whole_log, topic_row};
+ghost use Rattle.broker_core.specs.Loads.{IsForLegalTopic, IsLoadedFrom, IsLoadedWith, whole_log, topic_row};
 ghost use Rattle.broker_core.specs.Loads.{count_with, known_with, own_with, real_with};
 
 use client_tables::Topics;
 use group_tables::Groups;
+use half_records::Halves;
 use level_records::Levels;
 use log_model::is_system_topic;
 use mq_bytes::read_decimal;
 use pending_log::{Row, Rows};
 use queue_view::QueueView;
-use record_codec::{View, unit_of};
+use record_codec::{View, is_legal_topic, unit_of};
 use std::alloc::{AllocError, Global};
 
 // How many queues a topic has at least that a record names first.
@@ -36,6 +36,7 @@ const RECORDS_MAX: u64 = 1 << 61;
 #[derive(Drop)]
 pub struct Loaded {
     pub(crate) rows: Rows,
+    pub(crate) halves: Halves,
     pub(crate) levels: Levels,
     pub(crate) queues: QueueView,
     pub(crate) topics: Topics,
@@ -95,7 +96,8 @@ fn know_own(topics: &mut Topics, alloc: Global, topic: &str, queue: u32) -> Resu
 
 // The queue that digits name, of which a topic has 1,024 at most.
 fn queue_in(text: &str) -> Option<u32>
-    ensures { IfSome result (λ queue. queue ≡ digits_value 10 text.now) }
+    ensures value { IfSome result (λ queue. queue ≡ digits_value 10 text.now) }
+    ensures few { IfSome result (λ queue. queue < 1024) }
 {
     if text.starts_with('-') {
         return None;
@@ -108,22 +110,23 @@ fn queue_in(text: &str) -> Option<u32>
 
 // The queue that a message is for which waits.
 fn real_queue(view: &View<'_>) -> Option<u32>
-    ensures { IfSome result (λ queue. queue ≡ digits_value 10 (text_in (codes "REAL_QID") view.now.props)) }
+    ensures value { IfSome result (λ queue. queue ≡ digits_value 10 (text_in (codes "REAL_QID") view.now.props)) }
+    ensures few { IfSome result (λ queue. queue < 1024) }
 {
     queue_in(view.prop("REAL_QID")?)
 }
 
-// The topic that a delayed message is for has the queue that it is for. `Err` comes for want of memory, for another record that
-// is for another topic than its own, and where the queue isn't told.
+// The topic that a half or delayed message is for has the queue that it is for. `Err` comes for want of memory, for a name that is
+// not legal, and where the queue isn't told.
 fn know_real(topics: &mut Topics, alloc: Global, view: &View<'_>) -> Result<(), AllocError>
     ensures topics { OnOk result ((other : List ℕ)
         → queues_of topics.new other ≡ real_with (queues_of topics.old) (value_of (codes "REAL_TOPIC") view.now.props) view.now other) }
-    ensures own { OnOk result (is_delayed view.now ≡ false → value_of (codes "REAL_TOPIC") view.now.props ≡ None) }
+    ensures real { OnOk result (IsForLegalTopic view.now) }
 {
     let Some(topic) = view.prop("REAL_TOPIC") else {
         return Ok(());
     };
-    if view.topic() != "SCHEDULE_TOPIC_XXXX" {
+    if !is_legal_topic(topic) {
         return Err(AllocError);
     }
     match real_queue(view) {
@@ -139,6 +142,7 @@ impl Loaded {
     {
         Ok(Loaded {
             rows: Rows::new(alloc, 0),
+            halves: Halves::new(alloc),
             levels: Levels::new(alloc)?,
             queues: QueueView::new(alloc),
             topics: Topics::new(alloc),
@@ -166,8 +170,8 @@ impl Loaded {
         Ok(())
     }
 
-    /// Loads the next record. `Err` comes for want of memory, for a half message, since these aren't served yet, and for a record
-    /// that no log has. What is loaded serves for nothing then.
+    /// Loads the next record. `Err` comes for want of memory, and for a record that no log of a broker has. What is loaded serves
+    /// for nothing then.
     pub fn add(&mut self, alloc: Global, view: &View<'_>) -> Result<(), AllocError>
         ensures { (saved : List TopicRow) (records : List Entry) → IsLoadedFrom saved records self.old
             → OnOk result (IsLoadedFrom saved (records ++ view.now ∷ []) self.new) }
@@ -184,6 +188,7 @@ impl Loaded {
         let table = self.queues.reserve(alloc, topic, queue, 1)?;
         know_own(&mut self.topics, alloc, topic, queue)?;
         know_real(&mut self.topics, alloc, view)?;
+        self.halves.load(alloc, view, self.rows.end())?;
         self.levels.load(alloc, view)?;
         self.queues.add(table, unit_of(view), store);
         self.rows.push(Row { place, size, table });

@@ -51,6 +51,7 @@ impl Parts {
             rows: loaded.rows,
             pending,
             stored,
+            halves: loaded.halves,
             levels,
             queues,
             topics: loaded.topics,

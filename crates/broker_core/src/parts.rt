@@ -3,6 +3,7 @@
 use broker_events::Setup;
 use client_tables::{Clients, Topics};
 use group_tables::Groups;
+use half_records::Halves;
 use level_records::Levels;
 use mq_outside::FrozenRanges;
 use pending_log::{Pending, Rows};
@@ -17,7 +18,8 @@ pub struct Parts {
     pub(crate) rows: Rows,
     pub(crate) pending: Pending,
     pub(crate) stored: FrozenRanges,
-    // The delayed messages of each level.
+    // The half messages, and the delayed messages of each level.
+    pub(crate) halves: Halves,
     pub(crate) levels: Levels,
     // The tables of queues, and of topics.
     pub(crate) queues: QueueView,

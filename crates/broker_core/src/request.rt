@@ -41,7 +41,8 @@ impl Parts {
             Request::Unregister(asked) => self.unregister(alloc, now, asked),
             Request::Lock(asked) => self.lock_queues(alloc, now, asked),
             Request::Unlock(asked) => self.unlock_queues(alloc, now, asked),
-            Request::Query(_) | Request::ViewById(_) | Request::EndTransaction(_) => unreachable!(),
+            Request::EndTransaction(end) => self.end_transaction(alloc, now, end),
+            Request::Query(_) | Request::ViewById(_) => unreachable!(),
         }
     }
 }

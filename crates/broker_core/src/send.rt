@@ -1,9 +1,9 @@
-//! A send of a message, plain or delayed: the rows that refuse it, the end of all places, the full buffer, or the record.
+//! A send of a message, plain, delayed or a half message: the rows that refuse it, the end of all places, the full buffer, or the
+//! record.
 
 ghost use Rattle.std.specs.Prelude.{◌≡◌, ◌<◌, ◌≤◌, ◌+◌, ◌^◌, nat_lt, max, false, None, IfOk, OnErr, unwrap_or};
 ghost use Rattle.record_codec.specs.Drafts.{draft_fault, draft_size};
 ghost use Rattle.request_fields.specs.declared.request.Request.TheVariants.{Send};
-ghost use Rattle.broker_model.specs.Sends.{is_half_send};
 ghost use Rattle.broker_model.specs.State.{State};
 ghost use Rattle.broker_core.specs.Represents.{Represents};
 ghost use Rattle.broker_core.specs.Stores.{IsSent, IsStorable, IsTarget};
@@ -11,7 +11,7 @@ ghost use Rattle.broker_core.specs.Carries.{Stays, RepresentsSome};
 ghost use Rattle.broker_core.specs.Asked.{CarriesRequest};
 
 use crate::parts::Parts;
-use crate::send_draft::{kept_draft, level_of, plain_draft};
+use crate::send_draft::{kept_draft, kind_of, plain_draft};
 use crate::send_rows::{made_queues, queue_named, refusal_of};
 use crate::store::Target;
 use broker_events::Said;
@@ -52,11 +52,12 @@ impl Parts {
         now: u64,
     ) -> Result<Said, AllocError>
         requires some { RepresentsSome self.old }
-        requires storable { IsStorable self.old.setup.segment target.now.level draft.now }
+        requires storable { IsStorable self.old.setup.segment target.now.kind draft.now }
         requires target { IsTarget self.old.topics target.now.topic.now target.now.known target.now.made }
         requires now { now < 2 ^ 62 }
         ensures sent { IfOk result (λ said. (s : State) → Represents self.old s
-            → IsSent s draft.now target.now.topic.now target.now.queue (unwrap_or target.now.known target.now.made) (max now s.now) said self.new) }
+            → IsSent s draft.now target.now.topic.now target.now.queue (unwrap_or target.now.known target.now.made) (max now s.now)
+            said self.new) }
         ensures stays { OnErr result (Stays self.old self.new) }
     {
         let size = size_of(draft, self.setup.segment);
@@ -71,7 +72,7 @@ impl Parts {
         self.store(alloc, target, draft, size, now)
     }
 
-    /// Answers a send of a message that isn't a half message. At `Err` nothing changes that counts.
+    /// Answers a send. At `Err` nothing changes that counts.
     pub(crate) fn send(
         &mut self,
         alloc: Global,
@@ -81,7 +82,6 @@ impl Parts {
     ) -> Result<Said, AllocError>
         requires some { RepresentsSome self.old }
         requires now { now < 2 ^ 62 }
-        requires half { is_half_send send.now ≡ false }
         ensures carries { IfOk result (λ said. CarriesRequest self.old host now (Send send.now) said self.new) }
         ensures stays { OnErr result (Stays self.old self.new) }
     {
@@ -94,10 +94,10 @@ impl Parts {
             known,
             made: made_queues(send.default_queues),
             queue: queue_named(send.queue),
-            level: level_of(send),
+            kind: kind_of(send),
         };
         let message = plain_draft(alloc, send, host, self.setup.host)?;
-        let draft = kept_draft(alloc, target.level, message)?;
+        let draft = kept_draft(alloc, target.kind, send.group.as_str(), message)?;
         self.try_store(alloc, &target, &draft, now)
     }
 }

@@ -1,20 +1,34 @@
 //! What the record of a send says, and what a send asks for besides being stored.
 
-ghost use Rattle.std.specs.Prelude.{◌≡◌, ◌≤◌, true, IfSome, IfOk, OnOk};
+ghost use Rattle.std.specs.Prelude.{◌≡◌, ◌≤◌, true, IfOk, OnOk};
 ghost use Rattle.record_codec.specs.Layout.{is_legal};
 ghost use Rattle.record_codec.specs.LaxProps.{read_props};
-ghost use Rattle.broker_model.specs.Sends.{level_of as level_of_send, waits as waits_of};
+ghost use Rattle.request_fields.specs.Requests.{IsFieldName};
+ghost use Rattle.broker_model.specs.Sends.{is_half_send, level_of as level_of_send, waits as waits_of};
 ghost use Rattle.broker_model.specs.Sends.{kept_props as kept_props_of, plain_draft as plain_draft_of};
-ghost use Rattle.broker_model.specs.Sends.{with_real, delayed_or_plain, delayed_draft as delayed_draft_of};
+ghost use Rattle.broker_model.specs.Sends.{with_real, with_group, half_draft as half_draft_of, delayed_draft as delayed_draft_of};
+ghost use Rattle.broker_core.specs.Kinds.{HasLevel, draft_by, kind_of as kind_of_send};
 
 use crate::send_rows::queue_named;
+use crate::store::Kind;
 use mq_bytes::{Rows, Text, read_decimal};
-use record_codec::{Draft, Props, TRANSACTION_BITS};
+use record_codec::{Draft, PREPARED, Props, TRANSACTION_BITS};
 use request_fields::SendFields;
 use std::alloc::{AllocError, Global};
 
-/// The delay level of a send, by its `DELAY`: 1 to 18, which stands for each greater number too.
-pub(crate) fn level_of(send: &SendFields) -> Option<u8>
+// Whether it is a half message, by its property or by its system flag.
+fn is_half(send: &SendFields) -> bool
+    ensures { result ≡ is_half_send send.now }
+{
+    let says = match Props::value_in(send.props.as_str(), "TRAN_MSG") {
+        None => false,
+        Some(value) => value.eq_ignore_ascii_case("true"),
+    };
+    says || send.sysflag.cast_unsigned() & TRANSACTION_BITS == PREPARED
+}
+
+// The delay level of a send, by its `DELAY`: 1 to 18, which stands for each greater number too.
+fn level_of(send: &SendFields) -> Option<u8>
     ensures { result ≡ level_of_send send.now }
 {
     match Props::value_in(send.props.as_str(), "DELAY") {
@@ -31,6 +45,19 @@ pub(crate) fn level_of(send: &SendFields) -> Option<u8>
                 }
             }
         },
+    }
+}
+
+/// How the message of a send is kept: as a half message, as a delayed one where it has a level, or in its own topic.
+pub(crate) fn kind_of(send: &SendFields) -> Kind
+    ensures { result ≡ kind_of_send send.now }
+{
+    if is_half(send) {
+        return Kind::Half;
+    }
+    match level_of(send) {
+        Some(level) => Kind::Delayed(level),
+        None => Kind::Plain,
     }
 }
 
@@ -111,14 +138,47 @@ fn delayed_draft(alloc: Global, level: u8, d: Draft) -> Result<Draft, AllocError
     Ok(draft)
 }
 
-/// The message as it is kept: as a delayed one where it has a level.
-pub(crate) fn kept_draft(alloc: Global, level: Option<u8>, d: Draft) -> Result<Draft, AllocError>
-    requires level { IfSome level (λ level. 1 ≤ level) }
-    requires legal { is_legal d.topic ≡ true }
-    ensures { IfOk result (λ draft. draft ≡ delayed_or_plain level d) }
+// Adds the producer's group, where none is named.
+fn put_group(alloc: Global, props: &mut Props, group: &str) -> Result<(), AllocError>
+    requires { IsFieldName group.now }
+    ensures { OnOk result (props.new ≡ with_group group.now props.old) }
 {
-    match level {
-        None => Ok(d),
-        Some(level) => delayed_draft(alloc, level, d),
+    if props.get("PGROUP").is_some() {
+        return Ok(());
+    }
+    props.put(alloc, "PGROUP", group)
+}
+
+// The message of this producer group as a half message, which isn't delayed.
+fn half_draft(alloc: Global, group: &str, d: Draft) -> Result<Draft, AllocError>
+    requires group { IsFieldName group.now }
+    requires legal { is_legal d.topic ≡ true }
+    ensures { IfOk result (λ draft. draft ≡ half_draft_of group.now d) }
+{
+    let mut draft = d;
+    draft.props.drop_name("DELAY");
+    put_real(alloc, &mut draft.props, draft.topic.as_str(), draft.queue)?;
+    put_group(alloc, &mut draft.props, group)?;
+    draft.topic = text(alloc, "RMQ_SYS_TRANS_HALF_TOPIC")?;
+    draft.queue = 0;
+    Ok(draft)
+}
+
+/// The message of this producer group as it is kept.
+pub(crate) fn kept_draft(
+    alloc: Global,
+    kind: Kind,
+    group: &str,
+    d: Draft,
+) -> Result<Draft, AllocError>
+    requires level { HasLevel kind }
+    requires group { IsFieldName group.now }
+    requires legal { is_legal d.topic ≡ true }
+    ensures { IfOk result (λ draft. draft ≡ draft_by kind group.now d) }
+{
+    match kind {
+        Kind::Plain => Ok(d),
+        Kind::Delayed(level) => delayed_draft(alloc, level, d),
+        Kind::Half => half_draft(alloc, group, d),
     }
 }

@@ -25,7 +25,18 @@ use remoting_frame::Fields;
 use reply_fields::Reply;
 use std::alloc::{AllocError, Global};
 
-/// Where a message belongs, and whether it is delayed.
+/// How a message is kept until consumers may see it in its own topic.
+#[derive(Clone, Copy)]
+pub(crate) enum Kind {
+    /// It is in its own topic.
+    Plain,
+    /// It is delayed, by this level: 1 to 18.
+    Delayed(u8),
+    /// It is a half message, which waits for a verdict.
+    Half,
+}
+
+/// Where a message belongs, and how it is kept.
 #[derive(Clone, Copy)]
 pub(crate) struct Target<'a> {
     /// The topic that it is for, of clients, with its number of queues where it is known.
@@ -35,8 +46,7 @@ pub(crate) struct Target<'a> {
     pub(crate) made: u32,
     /// The queue that it is for.
     pub(crate) queue: u32,
-    /// The level of a delayed message: 1 to 18.
-    pub(crate) level: Option<u8>,
+    pub(crate) kind: Kind,
 }
 
 // Room for the names and values of the fields that tell where a record stands.
@@ -85,16 +95,18 @@ fn sent(alloc: Global, host: [u8; 8], place: Place, queue: u32) -> Result<Reply,
 }
 
 impl Parts {
-    // The answer to a request that appends one record: at once, or once the record is on the disk.
-    fn answer(&self, waits: bool, reply: Reply) -> Said
+    /// The answer to a request that appends so many records: at once, or once the last of them is on the disk.
+    pub(crate) fn answer(&self, waits: bool, reply: Reply, added: u64) -> Said
         requires some { RepresentsSome self.now }
+        requires added { 1 ≤ added }
+        requires few { added ≤ 2 }
         ensures { (s : State) (told : model.Reply) → Represents self.entry.now s → IsReplyOf reply told
-            → Says result (append_answer s waits told 1) }
+            → Says result (append_answer s waits told added) }
     {
         if self.setup.sync && waits {
             Said::After {
                 reply,
-                number: self.rows.end(),
+                number: self.rows.end() + (added - 1),
                 turn: self.pending.turns(),
             }
         } else {
@@ -114,23 +126,23 @@ impl Parts {
     ) -> Result<(), AllocError>
         requires some { (s : State) × Represents self.old s × MayStand s draft.now place.now }
         requires encodable { IsEncodable draft.now place.now }
-        requires kept { IsKeptAs target.now.level (entry_of draft.now place.now) }
+        requires kept { IsKeptAs target.now.kind (entry_of draft.now place.now) }
         requires target { IsTarget self.old.topics target.now.topic.now target.now.known target.now.made }
         requires table { number_of self.old.queues draft.now.topic draft.now.queue ≡ Some table }
         requires room { HasRoomFor self.old table }
         requires size { size ≡ draft_size draft.now }
         requires short { length self.old.pending.bytes + size ≤ 67108864 }
         ensures appended { OnOk result ((s : State) → Represents self.old s → MayStand s draft.now place.now
-            → Represents self.new (with_records (with_made s target.now.topic.now (unwrap_or target.now.known target.now.made)) place.now.store
-            (entry_of draft.now place.now ∷ []))) }
+            → Represents self.new (with_records (with_made s target.now.topic.now (unwrap_or target.now.known target.now.made))
+            place.now.store (entry_of draft.now place.now ∷ []))) }
         ensures stays { OnErr result (Stays self.old self.new) }
     {
         if target.known.is_some() {
-            return self.append_message(alloc, table, draft, place, size, target.level);
+            return self.append_message(alloc, table, draft, place, size, target.kind);
         }
         let name = String::from_str(alloc, target.topic)?;
         self.topics.reserve()?;
-        self.append_message(alloc, table, draft, place, size, target.level)?;
+        self.append_message(alloc, table, draft, place, size, target.kind)?;
         self.topics.make(name, target.made);
         Ok(())
     }
@@ -145,20 +157,21 @@ impl Parts {
         now: u64,
     ) -> Result<Said, AllocError>
         requires some { RepresentsSome self.old }
-        requires storable { IsStorable self.old.setup.segment target.now.level draft.now }
+        requires storable { IsStorable self.old.setup.segment target.now.kind draft.now }
         requires target { IsTarget self.old.topics target.now.topic.now target.now.known target.now.made }
         requires size { size ≡ draft_size draft.now }
         requires low { place_after self.old.pending.segment self.old.pending.end size + size ≤ 2 ^ 62 }
         requires short { length self.old.pending.bytes + size ≤ 67108864 }
         requires now { now < 2 ^ 62 }
         ensures stored { IfOk result (λ said. (s : State) → Represents self.old s
-            → IsStored s draft.now target.now.topic.now target.now.queue (unwrap_or target.now.known target.now.made) (max now s.now) said self.new) }
+            → IsStored s draft.now target.now.topic.now target.now.queue (unwrap_or target.now.known target.now.made) (max now s.now)
+            said self.new) }
         ensures stays { OnErr result (Stays self.old self.new) }
     {
         let table = self.make_ready(alloc, draft.topic.as_str(), draft.queue)?;
         let place = self.next_place(table, size, now.max(self.now));
         let reply = sent(alloc, draft.store_host, place, target.queue)?;
-        let said = self.answer(waits(&draft.props), reply);
+        let said = self.answer(waits(&draft.props), reply, 1);
         self.append_in(alloc, target, table, draft, &place, size)?;
         Ok(said)
     }

@@ -3,8 +3,8 @@ use Rattle.std.specs.Str.Parse.{digits_value, starts_with_minus}
 use Rattle.broker_core.proofs.LoadLemmas.{digits_read}
 use Rattle.broker_core.proofs.loaded.queue_in.Goals as goal
 
-pub returns-in-Some : goal.returns-in-Some
-returns-in-Some c =
+pub returns-in-Some-clause-value : goal.returns-in-Some-clause-value
+returns-in-Some-clause-value c =
     let text = c.args.text.now in
     let first = c.starts_with.ensures.byte (lit< tt) (lit< tt) (λ w o h. h) in
     let plain : starts_with_minus text ≡ false = sym first ∙ c.if-starts_with.false in

@@ -9,9 +9,9 @@ use Rattle.broker_events.specs.Steps.{IsAnswerTo, said_in}
 use Rattle.broker_core.specs.declared.parts.Parts.{Parts}
 use Rattle.broker_core.specs.Represents.{Represents}
 use Rattle.broker_core.specs.Makes.{Makes, shown_of}
-use Rattle.broker_core.proofs.SaidLemmas.{request_says, delivery_says}
-use Rattle.broker_core.proofs.ShownLemmas.{request_shown, delivery_shown}
-use Rattle.broker_core.proofs.StepLemmas.{made, unmade, request_made, delivery_made, take_made, take_state, flush_possible, failure_possible}
+use Rattle.broker_core.proofs.SaidLemmas.{request_says, delivery_says, check_says}
+use Rattle.broker_core.proofs.ShownLemmas.{request_shown, delivery_shown, check_shown}
+use Rattle.broker_core.proofs.StepLemmas.{made, unmade, request_made, delivery_made, check_made, take_made, take_state, flush_possible, failure_possible}
 use Rattle.broker_core.proofs.broker.Core.apply.Goals as goal
 use Rattle.broker_core.proofs.broker.Core.apply.Goals.{in-Ok, in-Err}
 
@@ -30,6 +30,11 @@ invariant_of-self-in-Dispatch c = (_, (c.dispatch.ensures.carries c.self.invaria
 pub invariant_of-self-in-Deliver : goal.invariant_of-self-in-Deliver
 invariant_of-self-in-Deliver c =
     let makes = delivery_made c.self.inside.parts c.deliver.new.self c.self.invariant.0 c.in-Deliver.now c.deliver.result c.deliver.ensures.carries c.deliver.ensures.stays c.self.invariant.1 in
+    (makes.reached, makes.represents)
+
+pub invariant_of-self-in-Check : goal.invariant_of-self-in-Check
+invariant_of-self-in-Check c =
+    let makes = check_made c.self.inside.parts c.check.new.self c.self.invariant.0 c.in-Check.now c.check.result c.check.ensures.carries c.check.ensures.stays c.self.invariant.1 in
     (makes.reached, makes.represents)
 
 pub invariant_of-self-in-Leave : goal.invariant_of-self-in-Leave
@@ -146,3 +151,23 @@ returns-in-Deliver-clause-answer c =
     let i = c.in-Deliver in
     subst (λ (e : Event). IfOk c.deliver.result (IsAnswerTo e)) (sym i.is)
     (delivery_says c.self.inside.parts c.deliver.new.self i.now c.deliver.result c.deliver.ensures.carries c.self.invariant)
+
+pub returns-in-Check-clause-step : goal.returns-in-Check-clause-step
+returns-in-Check-clause-step c s are =
+    let i = c.in-Check in
+    let before = subst (λ (p : Parts). Represents p s) (sym c.self.view_is) are in
+    subst (λ (e : Event). Makes s e (said_in c.check.result) c.check.new.self) (sym i.is)
+    (check_made c.self.inside.parts c.check.new.self s i.now c.check.result c.check.ensures.carries c.check.ensures.stays before)
+
+pub returns-in-Check-clause-shown : goal.returns-in-Check-clause-shown
+returns-in-Check-clause-shown c =
+    let i = c.in-Check in
+    subst (λ (e : Event). shown_of c.check.new.self ≡ moved (shown_of c.args.self.now) e (said_in c.check.result)) (sym i.is)
+    (check_shown c.self.inside.parts c.check.new.self i.now c.check.result c.check.ensures.carries c.check.ensures.stays c.self.invariant
+    ∙ ap (λ (p : Parts). shown_of p) c.self.view_is)
+
+pub returns-in-Check-clause-answer : goal.returns-in-Check-clause-answer
+returns-in-Check-clause-answer c =
+    let i = c.in-Check in
+    subst (λ (e : Event). IfOk c.check.result (IsAnswerTo e)) (sym i.is)
+    (check_says c.self.inside.parts c.check.new.self i.now c.check.result c.check.ensures.carries c.self.invariant)

@@ -1,4 +1,4 @@
-use Rattle.std.proofs.Common.{◌≡◌, ◌∙◌, refl, ap, sym, subst, ◌+◌, ◌++◌, ◌∷◌, [], ℕ, List, map, codes, Some, Ok}
+use Rattle.std.proofs.Common.{◌≡◌, ◌∙◌, refl, ap, sym, subst, ◌+◌, ◌++◌, ◌∷◌, [], ℕ, List, length, map, codes, Some, Ok}
 use Rattle.std.specs.declared.alloc.AllocError.{AllocError}
 use Rattle.record_codec.specs.Props.{value_of}
 use Rattle.log_model.specs.Bases.{no_base}
@@ -26,6 +26,8 @@ returns c saved records is =
     let topic = c.topic-topic.result.now in
     let queue = c.queue-queue.result in
     let reserved = c.reserve-2.ensures in
+    let number : c.end-2.result ≡ old.rows.first + length old.rows.items = c.end-2.ensures.value ∙ ap (λ (n : ℕ). n + length c.reserve.new.self.items) c.reserve.ensures.first
+    ∙ ap (λ (xs : List Row). old.rows.first + length xs) c.reserve.ensures.items in
     let own_topics : (other : List ℕ) → queues_of c.know_own.new.topics other ≡ own_with (queues_of old.topics) r.topic r.queue other = λ other.
     c.in_ok-know_own.ensures other ∙ ap (λ (name : List ℕ). own_with (queues_of old.topics) name queue other) c.topic-topic.ensures
     ∙ ap (λ (q : ℕ). own_with (queues_of old.topics) r.topic q other) c.queue-queue.ensures in
@@ -39,13 +41,14 @@ returns c saved records is =
     (reserved.records no_base.queues (map as_added records) 0 (to_view no_base records 0 old.queues old.rows.items is.rows.items is.tabled is.queues)) in
     let mine : number_of mid r.topic r.queue ≡ Some row.table = ap (λ (name : List ℕ). number_of mid name r.queue) (sym c.topic-topic.ensures)
     ∙ ap (λ (q : ℕ). number_of mid topic q) (sym c.queue-queue.ensures) ∙ c.in_ok-table.ensures.number in
-    loads saved records r old _ row is c.in_ok-know_real.ensures.own
+    loads saved records r old _ row is c.in_ok-know_real.ensures.real
     (c.push.ensures.log (whole_log records) r rows c.offset-place.ensures.value c.size-size.ensures)
     (c.push.ensures.items ∙ ap (λ (xs : List Row). xs ++ row ∷ []) c.reserve.ensures.items)
     (unit_added records old.rows.items r row mid c.add.new.self c.unit_of.result c.store-store.result c.unit_of.ensures c.store-store.ensures.value
     is.rows.items tabled tables mine c.add.ensures.table c.add.ensures.records)
     (λ other. c.in_ok-know_real.ensures.topics other
     ∙ real_same (queues_of c.know_own.new.topics) (own_with (queues_of old.topics) r.topic r.queue) own_topics (value_of (codes "REAL_TOPIC") r.props) r other)
-    c.in_ok-load.ensures
+    (λ segment log well follows count has. c.in_ok-load.ensures segment log well follows (number ∙ count) has)
+    c.in_ok-load-2.ensures
     (ap (λ (n : ℕ). n + c.from.result) c.offset-place.ensures.value ∙ ap (λ (n : ℕ). r.offset + n) (c.from.ensures ∙ c.size-size.ensures))
     c.store-store.ensures.value c.store-store.ensures.low refl

@@ -14,7 +14,7 @@ use Rattle.broker_core.proofs.StoreLemmas.{on_err, is_next_record}
 use Rattle.broker_core.proofs.RoomLemmas.{past_is, over_is}
 use Rattle.broker_core.proofs.DueLemmas.{due_is_next}
 use Rattle.broker_core.proofs.DeliverLemmas.{finds_room}
-use Rattle.broker_core.proofs.MessageLemmas.{delivery_may, delivery_may_be_written, of_kind, few_copied}
+use Rattle.broker_core.proofs.MessageLemmas.{delivery_may, delivery_may_be_written, of_kind, of_message, few_copied}
 use Rattle.broker_core.proofs.parts.Parts.append_delivered.Goals as goal
 
 pub next_place-place-requires : goal.next_place-place-requires
@@ -61,6 +61,11 @@ pub append_delivery-requires-clause-copy : goal.append_delivery-requires-clause-
 append_delivery-requires-clause-copy c =
     let it = c.requires.due in
     of_kind c.make_ready.new.self it.0 c.args.now c.args.level c.args.count it.1 c.args.draft.now c.next_place-place.result (c.in_ok-table.ensures.stays it.0 it.2) it.3
+
+pub append_delivery-requires-clause-message : goal.append_delivery-requires-clause-message
+append_delivery-requires-clause-message c =
+    let it = c.requires.due in
+    of_message c.make_ready.new.self it.0 c.args.now c.args.level c.args.count it.1 c.args.draft.now c.next_place-place.result (c.in_ok-table.ensures.stays it.0 it.2) it.3
 
 pub append_delivery-requires-clause-few : goal.append_delivery-requires-clause-few
 append_delivery-requires-clause-few c l there =

@@ -1,8 +1,12 @@
-use Rattle.std.proofs.Common.{sym, subst, arith}
+use Rattle.std.proofs.Common.{sym, subst, arith, ◌∷◌, []}
 use Rattle.record_codec.specs.Drafts.{entry_of}
+use Rattle.log_model.specs.Numbered.{with_appended}
+use Rattle.half_records.specs.declared.halves.Halves.{Halves}
+use Rattle.half_records.specs.OfLog.{HasHalves}
 use Rattle.level_records.specs.declared.levels.Levels.{Levels}
 use Rattle.level_records.specs.OfLog.{HasLevels}
 use Rattle.broker_core.specs.Appends.{HasFewDelivered}
+use Rattle.broker_core.proofs.LevelLemmas.{halves_kept}
 use Rattle.broker_core.proofs.parts.Parts.append_delivery.Goals as goal
 
 pub delivered-requires-clause-few : goal.delivered-requires-clause-few
@@ -17,4 +21,8 @@ returns-clause-appended c s are may =
     let dispatched = are.state.dispatched in
     let flushed = are.state.flushed in
     let has = subst (λ (levels : Levels). HasLevels s.log s.dispatched levels) (sym c.append.ensures.levels) are.levels in
-    c.in_ok-append.ensures.appended s c.delivered.new.self are may (λ layout. c.delivered.ensures s.log s.dispatched r has (omega (arith, dispatched, flushed)) c.requires.copy)
+    c.in_ok-append.ensures.appended s c.append.new.self.halves c.delivered.new.self are may (λ layout. record {
+      halves = subst (λ (halves : Halves). HasHalves (with_appended s.log (r ∷ [])) halves) (sym c.append.ensures.halves)
+          (halves_kept c.args.self.now s d p are may layout c.requires.message);
+      levels = c.delivered.ensures s.log s.dispatched r has (omega (arith, dispatched, flushed)) c.requires.copy;
+    })

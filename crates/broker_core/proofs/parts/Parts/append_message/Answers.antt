@@ -1,11 +1,18 @@
-use Rattle.std.proofs.Common.{ℕ, subst, Option}
+use Rattle.std.proofs.Common.{subst}
 use Rattle.record_codec.specs.Drafts.{entry_of}
+use Rattle.broker_core.specs.declared.store.Kind.{Kind}
 use Rattle.broker_core.specs.Stores.{IsKeptAs}
-use Rattle.broker_core.proofs.LevelLemmas.{levels_kept}
+use Rattle.broker_core.proofs.LevelLemmas.{halves_kept, levels_kept}
 use Rattle.broker_core.proofs.StoreLemmas.{on_ok}
 use Rattle.broker_core.proofs.parts.Parts.append_message.Goals as goal
 
-pub returns-in-None-clause-appended : goal.returns-in-None-clause-appended
-returns-in-None-clause-appended c =
-    on_ok c.append.result c.append.ensures.plain (λ done s are may. done s are may (λ layout. levels_kept c.args.self.now s c.args.draft.now c.args.place.now are
-    (subst (λ (o : Option ℕ). IsKeptAs o (entry_of c.args.draft.now c.args.place.now)) c.in-None.is c.requires.kept)))
+pub returns-in-Plain-clause-appended : goal.returns-in-Plain-clause-appended
+returns-in-Plain-clause-appended c =
+    let old = c.args.self.now in
+    let d = c.args.draft.now in
+    let p = c.args.place.now in
+    let is = subst (λ (kind : Kind). IsKeptAs kind (entry_of d p)) c.in-Plain.is c.requires.kept in
+    on_ok c.append.result c.append.ensures.plain (λ done s are may. done s are may (λ layout. record {
+      halves = halves_kept old s d p are may layout is.0;
+      levels = levels_kept old s d p are is.1;
+    }))

@@ -1,5 +1,5 @@
 use Rattle.std.proofs.lemmas.Result.{IfOk-weaker}
-use Rattle.request_fields.specs.declared.request.Request.TheVariants.{Send, Pull, OffsetOf, SetOffset, MakeTopic, Search, MaxOffset, MinOffset, Beat, Unregister, Lock, Unlock}
+use Rattle.request_fields.specs.declared.request.Request.TheVariants.{Send, Pull, OffsetOf, SetOffset, MakeTopic, Search, MaxOffset, MinOffset, Beat, Unregister, EndTransaction, Lock, Unlock}
 use Rattle.broker_model.specs.Events as model
 use Rattle.broker_events.specs.Steps.{Says}
 use Rattle.broker_core.specs.Asked.{CarriesRequest}
@@ -47,6 +47,10 @@ returns-in-Beat-clause-carries c =
 pub returns-in-Unregister-clause-carries : goal.returns-in-Unregister-clause-carries
 returns-in-Unregister-clause-carries c =
     carried c.args.self.now c.unregister.new.self c.args.link c.args.host.now c.args.now c.args.request.now (Unregister c.in-Unregister.asked) c.unregister.result c.in-Unregister.is (c.unregister.ensures.carries c.args.link c.args.host.now)
+
+pub returns-in-EndTransaction-clause-carries : goal.returns-in-EndTransaction-clause-carries
+returns-in-EndTransaction-clause-carries c =
+    carried c.args.self.now c.end_transaction.new.self c.args.link c.args.host.now c.args.now c.args.request.now (EndTransaction c.in-EndTransaction.end) c.end_transaction.result c.in-EndTransaction.is (c.end_transaction.ensures.carries c.args.link c.args.host.now)
 
 pub returns-in-Send-clause-carries : goal.returns-in-Send-clause-carries
 returns-in-Send-clause-carries c =

@@ -1,21 +1,23 @@
-use Rattle.std.proofs.Common.{rules, ◌≡◌, ◌<◌, ◌≤◌, refl, ap, sym, ◌∙◌, subst, List, ℕ, max, Option, Some, None, IfSome}
+use Rattle.std.proofs.Common.{rules, ◌≡◌, ◌<◌, ◌≤◌, refl, ap, sym, ◌∙◌, subst, List, ℕ, max, Bool, true, false, Option, Some, None}
 use Rattle.std.specs.Option.{unwrap_or}
 use Rattle.std.proofs.lemmas.Result.{IfOk-weaker}
 use Rattle.record_codec.specs.Layout.{is_legal}
 use Rattle.record_codec.specs.declared.draft.Draft.{Draft}
-use Rattle.request_fields.specs.Requests.{SendSaid, KeepsSend}
+use Rattle.request_fields.specs.Requests.{SendSaid, KeepsSend, IsFieldName}
 use Rattle.request_fields.specs.declared.request.Request.TheVariants.{Send}
 use Rattle.client_tables.specs.Counts.{queues_of}
 use Rattle.broker_model.specs.State.{State}
 use Rattle.broker_model.specs.Refusals.{made_queues}
-use Rattle.broker_model.specs.Sends.{level_of, queue_named, plain_draft, delayed_or_plain}
+use Rattle.broker_model.specs.Sends.{is_half_send, level_of, queue_named, plain_draft}
+use Rattle.broker_core.specs.declared.store.Kind.{Kind}
+use Rattle.broker_core.specs.Kinds.{HasLevel, kind_in, kind_of, draft_by}
 use Rattle.broker_events.specs.declared.said.Said.{Said}
 use Rattle.broker_core.specs.SendRows.{refusal_by}
 use Rattle.broker_core.specs.Represents.{Represents}
 use Rattle.broker_core.specs.Asked.{CarriesRequest}
 use Rattle.broker_core.specs.Stores.{IsStorable, IsSent, IsTarget}
 use Rattle.broker_core.proofs.SendLemmas.{is_taken}
-use Rattle.broker_core.proofs.DelayedLemmas.{named_level}
+use Rattle.broker_core.proofs.StorableLemmas.{named_level}
 use Rattle.broker_core.proofs.RoomLemmas.{refused_send, made_some, draft_is_storable, carries_sent}
 use Rattle.broker_core.proofs.parts.Parts.send.Goals as goal
 
@@ -27,12 +29,22 @@ returns-in-Some-clause-carries c =
     let row : refusal_by core.setup.segment c.find-known.result send ≡ Some c.in-Some.refusal = sym c.refusal_of.ensures ∙ c.in-Some.is in
     refused_send core c.args.host c.args.now send c.find-known.result c.in-Some.refusal c.in_ok-reply.field-0 known row c.in_ok-reply.ensures
 
-some_first : (o : Option ℕ) → ((level : ℕ) → o ≡ Some level → 1 ≤ level) → IfSome o (λ level. 1 ≤ level)
-some_first None first = tt
-some_first (Some level) first = first level refl
+some_first : (half : Bool) (o : Option ℕ) → ((level : ℕ) → o ≡ Some level → 1 ≤ level) → HasLevel (kind_in half o)
+some_first true o first = tt
+some_first false None first = tt
+some_first false (Some level) first = first level refl
 
 pub kept_draft-requires-clause-level : goal.kept_draft-requires-clause-level
-kept_draft-requires-clause-level c = some_first c.level_of.result (λ level is. (named_level c.args.send.now level (sym c.level_of.ensures ∙ is)).0)
+kept_draft-requires-clause-level c =
+    let send : SendSaid = c.args.send.now in
+    subst HasLevel (sym c.kind_of.ensures) (some_first (is_half_send send) (level_of send) (λ level is. (named_level send level is).0))
+
+pub kept_draft-requires-clause-group : goal.kept_draft-requires-clause-group
+kept_draft-requires-clause-group c =
+    let send : SendSaid = c.args.send.now in
+    let keeps : KeepsSend send = subst (λ (u : SendSaid). KeepsSend u) c.send.view_is c.send.invariant in
+    let group : c.as_str-3.result.now ≡ send.group = search rules in
+    subst IsFieldName (sym group) keeps.group
 
 pub kept_draft-requires-clause-legal : goal.kept_draft-requires-clause-legal
 kept_draft-requires-clause-legal c =
@@ -47,10 +59,12 @@ try_store-requires-clause-storable c =
     let known : c.find-known.result ≡ queues_of core.topics send.topic = search rules in
     let none : refusal_by core.setup.segment c.find-known.result send ≡ None = search rules in
     let keeps : KeepsSend send = subst (λ (u : SendSaid). KeepsSend u) c.send.view_is c.send.invariant in
-    let draft = c.in_ok-draft.ensures ∙ ap (λ (o : Option ℕ). delayed_or_plain o c.in_ok-message.message) c.level_of.ensures ∙ ap (λ (d : Draft). delayed_or_plain (level_of send) d) c.in_ok-message.ensures in
-    subst (λ (o : Option ℕ). IsStorable core.setup.segment o c.in_ok-draft.draft) (sym c.level_of.ensures)
-    (subst (λ (d : Draft). IsStorable core.setup.segment (level_of send) d) (sym draft)
-    (draft_is_storable core c.requires.some.0 core.setup.host c.args.host send c.find-known.result c.requires.some.1 known none keeps.born))
+    let group : c.as_str-3.result.now ≡ send.group = search rules in
+    let draft = c.in_ok-draft.ensures ∙ ap (λ (g : List ℕ). draft_by c.kind_of.result g c.in_ok-message.message) group
+    ∙ ap (λ (k : Kind). draft_by k send.group c.in_ok-message.message) c.kind_of.ensures ∙ ap (λ (d : Draft). draft_by (kind_of send) send.group d) c.in_ok-message.ensures in
+    subst (λ (k : Kind). IsStorable core.setup.segment k c.in_ok-draft.draft) (sym c.kind_of.ensures)
+    (subst (λ (d : Draft). IsStorable core.setup.segment (kind_of send) d) (sym draft)
+    (draft_is_storable core c.requires.some.0 core.setup.host c.args.host send c.find-known.result c.requires.some.1 known none keeps))
 
 pub try_store-requires-clause-target : goal.try_store-requires-clause-target
 try_store-requires-clause-target c =
@@ -79,13 +93,15 @@ returns-clause-carries c =
     let topic : c.as_str-2.result.now ≡ send.topic = search rules in
     let made : c.made_queues.result ≡ made_queues send.default_queues = search rules in
     let queue : c.queue_named.result ≡ queue_named send.queue = search rules in
-    let draft = c.in_ok-draft.ensures ∙ ap (λ (o : Option ℕ). delayed_or_plain o c.in_ok-message.message) c.level_of.ensures ∙ ap (λ (d : Draft). delayed_or_plain (level_of send) d) c.in_ok-message.ensures in
-    let kept = delayed_or_plain (level_of send) (plain_draft core.setup.host c.args.host send) in
+    let group : c.as_str-3.result.now ≡ send.group = search rules in
+    let draft = c.in_ok-draft.ensures ∙ ap (λ (g : List ℕ). draft_by c.kind_of.result g c.in_ok-message.message) group
+    ∙ ap (λ (k : Kind). draft_by k send.group c.in_ok-message.message) c.kind_of.ensures ∙ ap (λ (d : Draft). draft_by (kind_of send) send.group d) c.in_ok-message.ensures in
+    let kept = draft_by (kind_of send) send.group (plain_draft core.setup.host c.args.host send) in
     IfOk-weaker c.try_store.result
     (λ (what : Said). (s : State) → Represents core s
     → IsSent s c.in_ok-draft.draft c.as_str-2.result.now c.queue_named.result (unwrap_or c.find-known.result c.made_queues.result) (max c.args.now s.now) what new)
     (λ (what : Said). CarriesRequest core c.args.host c.args.now (Send send) what new)
-    (λ what sent. carries_sent core new c.args.host c.args.now send what c.find-known.result c.requires.half known none
+    (λ what sent. carries_sent core new c.args.host c.args.now send what c.find-known.result known none
     (λ s are. subst (λ (n : ℕ). IsSent s kept send.topic (queue_named send.queue) (unwrap_or c.find-known.result n) (max c.args.now s.now) what new) made
     (subst (λ (q : ℕ). IsSent s kept send.topic q (unwrap_or c.find-known.result c.made_queues.result) (max c.args.now s.now) what new) queue
     (subst (λ (t : List ℕ). IsSent s kept t c.queue_named.result (unwrap_or c.find-known.result c.made_queues.result) (max c.args.now s.now) what new) topic

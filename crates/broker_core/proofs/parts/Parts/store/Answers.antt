@@ -23,7 +23,7 @@ append_in-requires-clause-some c =
     let are = c.in_ok-table.ensures.stays s c.requires.some.1 in
     let others = c.in_ok-table.ensures.others in
     let mine : number_of core.queues d.topic d.queue ≡ Some c.in_ok-table.table = search rules in
-    let found = found_place c.args.self.now core s c.args.target.now.level d c.next_place-place.result c.in_ok-table.table c.args.size c.args.now are (ap (λ (x : Parts). x.setup) others) (ap (λ (x : Parts). x.pending) others)
+    let found = found_place c.args.self.now core s c.args.target.now.kind d c.next_place-place.result c.in_ok-table.table c.args.size c.args.now are (ap (λ (x : Parts). x.setup) others) (ap (λ (x : Parts). x.pending) others)
     (ap (λ (x : Parts). x.now) others) c.requires.storable mine c.next_place-place.ensures.queue_offset c.next_place-place.ensures.offset (c.next_place-place.ensures.store ∙ c.max.ensures) c.requires.size c.requires.low c.requires.now in
     (s, are, found.1)
 
@@ -35,7 +35,7 @@ append_in-requires-clause-encodable c =
     let are = c.in_ok-table.ensures.stays s c.requires.some.1 in
     let others = c.in_ok-table.ensures.others in
     let mine : number_of core.queues d.topic d.queue ≡ Some c.in_ok-table.table = search rules in
-    let found = found_place c.args.self.now core s c.args.target.now.level d c.next_place-place.result c.in_ok-table.table c.args.size c.args.now are (ap (λ (x : Parts). x.setup) others) (ap (λ (x : Parts). x.pending) others)
+    let found = found_place c.args.self.now core s c.args.target.now.kind d c.next_place-place.result c.in_ok-table.table c.args.size c.args.now are (ap (λ (x : Parts). x.setup) others) (ap (λ (x : Parts). x.pending) others)
     (ap (λ (x : Parts). x.now) others) c.requires.storable mine c.next_place-place.ensures.queue_offset c.next_place-place.ensures.offset (c.next_place-place.ensures.store ∙ c.max.ensures) c.requires.size c.requires.low c.requires.now in
     found.0
 
@@ -47,7 +47,7 @@ returns-clause-stored c s are0 =
     let are = c.in_ok-table.ensures.stays s are0 in
     let others = c.in_ok-table.ensures.others in
     let mine : number_of core.queues d.topic d.queue ≡ Some c.in_ok-table.table = search rules in
-    let found = found_place c.args.self.now core s c.args.target.now.level d p c.in_ok-table.table c.args.size c.args.now are (ap (λ (x : Parts). x.setup) others) (ap (λ (x : Parts). x.pending) others)
+    let found = found_place c.args.self.now core s c.args.target.now.kind d p c.in_ok-table.table c.args.size c.args.now are (ap (λ (x : Parts). x.setup) others) (ap (λ (x : Parts). x.pending) others)
     (ap (λ (x : Parts). x.now) others) c.requires.storable mine c.next_place-place.ensures.queue_offset c.next_place-place.ensures.offset (c.next_place-place.ensures.store ∙ c.max.ensures) c.requires.size c.requires.low c.requires.now in
     let time = max c.args.now s.now in
     let is_record = is_next_record s d p time found.1.next found.2 in

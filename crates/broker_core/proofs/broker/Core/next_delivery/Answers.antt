@@ -1,0 +1,9 @@
+use Rattle.std.proofs.Common.{sym, subst}
+use Rattle.broker_core.specs.declared.parts.Parts.{Parts}
+use Rattle.broker_core.specs.Represents.{Represents}
+use Rattle.broker_core.proofs.broker.Core.next_delivery.Goals as goal
+
+pub returns : goal.returns
+returns c s now are =
+    let mine = subst (λ (p : Parts). Represents p s) (sym c.self.view_is) are in
+    c.next_due.ensures s.log s.dispatched now mine.levels
