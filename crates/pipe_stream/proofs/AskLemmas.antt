@@ -36,6 +36,7 @@ full_said (Some (said.Awaited what)) pending told = absurd cc
 full_said (Some (said.Moved number)) pending told = absurd cc
 full_said (Some said.LogEnd) pending told = absurd cc
 full_said (Some (said.Delivered what)) pending told = absurd cc
+full_said (Some (said.Checked what)) pending told = absurd cc
 
 tries_push : (event : Event) (tries : List Try) (t : Try) → tries_of event (tries ++ t ∷ []) ≡ tries_of event tries ++ try_of event t
 tries_push event [] t = append-nil (try_of event t)

@@ -5,3 +5,4 @@ mod PipeLemmas
 mod RemarkLemmas
 mod ServingLemmas
 mod TellingLemmas
+mod DueLemmas

@@ -7,7 +7,7 @@ use Rattle.remoting_frame.specs.Streams.{BeginsWith}
 use Rattle.remoting_frame.specs.declared.frame.Frame.{Frame}
 use Rattle.remoting_frame.proofs.StreamLaws.{begins_more}
 use Rattle.worker_turns.proofs.CountLemmas.{faults_grow}
-use Rattle.pipe_stream.specs.Serving.{Sides, Point, Ran, Broke, AreServed, Begun, Nothing, Closing, Breaks, IsNext, acts_of, begun_acts, begun_bytes, begun_readings, bytes_of, frames_of, readings_of}
+use Rattle.pipe_stream.specs.Serving.{Sides, Point, point_at, point_of, Ran, Broke, AreServed, Begun, Nothing, Closing, Breaks, IsNext, acts_of, begun_acts, begun_bytes, begun_readings, bytes_of, frames_of, readings_of}
 use Rattle.pipe_stream.specs.Piping.{Closes, CountsClosing, CountsHalt, CountsPipe, RanToEnd, ServesHeld, EndsBy, SourceSeen, source_of, Piped, SoFar, EndsHere, stream_limit, Gave}
 use Rattle.pipe_stream.specs.declared.stop.Stop.{Stop}
 use Rattle.pipe_stream.specs.declared.stop.Stop.TheVariants as stops
@@ -17,8 +17,8 @@ use Rattle.pipe_stream.proofs.ServingLemmas.{ran_nothing, ran_then, more_behind,
 use Rattle.pipe_stream.proofs.TellingLemmas.{took_none}
 use Rattle.worker_turns.proofs.ActLemmas.{acts_then}
 use Rattle.pipe_stream.proofs.HeldLemmas.{begins_then}
-use Rattle.worker_turns.specs.Acts.{Acts, change_of}
-use Rattle.pipe_stream.specs.Telling.{fault_counts}
+use Rattle.worker_turns.specs.Acts.{Acts, Change, Place, change_of}
+use Rattle.pipe_stream.specs.Telling.{TookPart, asks_bytes, fault_counts}
 
 pub none_waits : next_of 0 [] ≡ Ok None
 unfolding first_of
@@ -48,6 +48,7 @@ module _ {C D : Type 0} (sides : Sides C D) (source : Type 0) (given : List ℕ)
     given_is = λ told. same told ∙ far.given_is told;
     cut = far.cut;
     ends = ends;
+    asked = new.asked;
     ran = ran far.ran;
   }
 
@@ -61,7 +62,8 @@ module _ {C D : Type 0} (sides : Sides C D) (source : Type 0) (given : List ℕ)
     given_is = λ told. sym (append-nil given);
     cut = (refl, refl);
     ends = tt;
-    ran = broke_idle sides stops.Memory [] x old.place old.reads old.taken old.readings old.readings tt (λ told. refl);
+    asked = old.asked;
+    ran = broke_idle sides stops.Memory [] x old.place old.reads old.taken old.readings old.readings old.asked tt (λ told. refl);
   }
 
   -- the source failed
@@ -81,9 +83,9 @@ module _ {C D : Type 0} (sides : Sides C D) (source : Type 0) (given : List ℕ)
 
   -- it ended between two frames, and something broke off behind the last request
   broke_behind : (stop : Stop) (begun : Begun) (frames : List Frame) (y z : C) (mid new : Point D) → Ran sides frames (change_of x old y mid) → IsNext begun [] → Breaks sides.gives stop begun mid.reads new.reads
-      → Acts sides.makes sides.disk (begun_acts begun) (change_of y mid.place z new.place) → new.taken ≡ mid.taken → (sides.clock → new.readings ≡ mid.readings ++ begun_readings begun)
-      → Broke sides stop frames (change_of x old z new)
-  broke_behind stop begun frames y z mid new ran next breaks happened taken read = record {
+      → Acts sides.makes sides.disk (begun_acts begun) (change_of y mid.place z new.place) → (sides.sink → TookPart mid.taken new.taken (begun_bytes mid.asked begun))
+      → (sides.clock → new.readings ≡ mid.readings ++ begun_readings begun) → Broke sides stop frames (change_of x old z new)
+  broke_behind stop begun frames y z mid new ran next breaks happened took read = record {
     served = ran.served;
     begun = begun;
     left = [];
@@ -93,56 +95,61 @@ module _ {C D : Type 0} (sides : Sides C D) (source : Type 0) (given : List ℕ)
     each = ran.each;
     breaks = breaks;
     happened = acts_then sides.makes sides.disk (acts_of ran.served) (begun_acts begun) x y z old.place mid.place new.place ran.happened happened;
-    answered = λ told. took_none (old.taken ++ bytes_of ran.served) new.taken (begun_bytes begun) (taken ∙ ran.answered told);
+    answered = λ told. subst (λ (n : ℕ). TookPart (old.taken ++ bytes_of old.asked ran.served) new.taken (begun_bytes n begun)) ran.counted
+        (subst (λ (l : List ℕ). TookPart l new.taken (begun_bytes mid.asked begun)) (ran.answered told) (took told));
     read = λ told. more_behind old.readings (readings_of ran.served) (begun_readings begun) mid.readings new.readings (read told) (ran.read told);
   }
 
   closed_ran : {A : Type 0} (result : Result A Halt) (frames : List Frame) (y z : C) (mid new : Point D) → Ran sides frames (change_of x old y mid)
-      → Closes sides.makes sides.disk sides.clock result (change_of y (mid.place, mid.readings) z (new.place, new.readings)) → new.reads ≡ mid.reads → new.taken ≡ mid.taken
+      → Closes sides.makes sides.disk sides.sink sides.clock result (change_of y (point_at mid.place 0 mid.taken mid.readings mid.asked) z (point_at new.place 0 new.taken new.readings new.asked)) → new.reads ≡ mid.reads
       → RanToEnd sides result frames (change_of x old z new)
-  closed_ran (Ok done) frames y z mid new ran closed reads taken = record {
+  closed_ran (Ok done) frames y z mid new ran closed reads = record {
     served = ran.served;
     reading = closed.reading;
+    asks = closed.asks;
     last = closed.acts;
     due = closed.kind;
     asked = ran.asked;
     each = subst (λ (n : ℕ). AreServed sides.gives old.reads ran.served n) (sym reads) ran.each;
     happened = acts_then sides.makes sides.disk (acts_of ran.served) closed.acts x y z old.place mid.place new.place ran.happened closed.happened;
-    answered = λ told. taken ∙ ran.answered told;
+    answered = λ told. more_behind old.taken (bytes_of old.asked ran.served) (asks_bytes mid.asked closed.asks) mid.taken new.taken (closed.took told) (ran.answered told)
+        ∙ ap (λ (n : ℕ). old.taken ++ (bytes_of old.asked ran.served ++ asks_bytes n closed.asks)) ran.counted;
     read = λ told. more_behind old.readings (readings_of ran.served) (closed.reading ∷ []) mid.readings new.readings (closed.read told) (ran.read told);
   }
-  closed_ran (Err (BadFrame place)) frames y z mid new ran closed reads taken = absurd closed
-  closed_ran (Err Read) frames y z mid new ran closed reads taken = absurd closed
-  closed_ran (Err (Stopped stops.Clock)) frames y z mid new ran closed reads taken =
-      broke_behind stops.Clock Nothing frames y z mid new ran tt refl closed.0 taken (λ told. closed.1 told ∙ sym (append-nil mid.readings))
-  closed_ran (Err (Stopped stops.Sink)) frames y z mid new ran closed reads taken = absurd closed
-  closed_ran (Err (Stopped stops.Memory)) frames y z mid new ran closed reads taken =
-      broke_behind stops.Memory (Closing closed.reading closed.acts) frames y z mid new ran refl tt closed.happened taken closed.read
-  closed_ran (Err (Stopped stops.Misplaced)) frames y z mid new ran closed reads taken =
-      broke_behind stops.Misplaced (Closing closed.reading closed.acts) frames y z mid new ran refl closed.kind closed.happened taken closed.read
+  closed_ran (Err (BadFrame place)) frames y z mid new ran closed reads = absurd closed
+  closed_ran (Err Read) frames y z mid new ran closed reads = absurd closed
+  closed_ran (Err (Stopped stops.Clock)) frames y z mid new ran closed reads =
+      broke_behind stops.Clock Nothing frames y z mid new ran tt refl closed.still (λ told. took_none mid.taken new.taken [] (closed.took told)) (λ told. closed.read told ∙ sym (append-nil mid.readings))
+  closed_ran (Err (Stopped stops.Sink)) frames y z mid new ran closed reads =
+      broke_behind stops.Sink (Closing closed.reading closed.asks closed.acts) frames y z mid new ran refl closed.kind closed.happened closed.took closed.read
+  closed_ran (Err (Stopped stops.Memory)) frames y z mid new ran closed reads =
+      broke_behind stops.Memory (Closing closed.reading closed.asks closed.acts) frames y z mid new ran refl closed.kind closed.happened closed.took closed.read
+  closed_ran (Err (Stopped stops.Misplaced)) frames y z mid new ran closed reads =
+      broke_behind stops.Misplaced (Closing closed.reading closed.asks closed.acts) frames y z mid new ran refl closed.kind closed.happened closed.took closed.read
 
-  closed_ends : {A : Type 0} (result : Result A Halt) (y z : C) (mid new : Point D) (at : ℕ) (rest bytes left_then : List ℕ)
-      → Closes sides.makes sides.disk sides.clock result (change_of y (mid.place, mid.readings) z (new.place, new.readings)) → rest ≡ [] → (source → left_then ≡ [])
+  closed_ends : {A : Type 0} (result : Result A Halt) (change : Change C (Point D)) (at : ℕ) (rest bytes left_then : List ℕ)
+      → Closes sides.makes sides.disk sides.sink sides.clock result change → rest ≡ [] → (source → left_then ≡ [])
       → EndsBy result at rest bytes source left_then
-  closed_ends (Ok done) y z mid new at rest bytes left_then closed none over = (none, over)
-  closed_ends (Err (BadFrame place)) y z mid new at rest bytes left_then closed none over = absurd closed
-  closed_ends (Err Read) y z mid new at rest bytes left_then closed none over = absurd closed
-  closed_ends (Err (Stopped stop)) y z mid new at rest bytes left_then closed none over = tt
+  closed_ends (Ok done) change at rest bytes left_then closed none over = (none, over)
+  closed_ends (Err (BadFrame place)) change at rest bytes left_then closed none over = absurd closed
+  closed_ends (Err Read) change at rest bytes left_then closed none over = absurd closed
+  closed_ends (Err (Stopped stop)) change at rest bytes left_then closed none over = tt
 
   -- the last turns behind it
   pub source_closed : {A : Type 0} (result : Result A Halt) (total : ℕ) (held : Held) (given_mid given_then left_then : List ℕ) (y z : C) (mid new : Point D)
       → SoFar sides total held (Gave source given given_mid) (change_of x old y mid) → (source → given_then ≡ given_mid) → (source → left_then ≡ []) → held.bytes ≡ []
-      → Closes sides.makes sides.disk sides.clock result (change_of y (mid.place, mid.readings) z (new.place, new.readings)) → new.reads ≡ mid.reads → new.taken ≡ mid.taken
+      → Closes sides.makes sides.disk sides.sink sides.clock result (change_of y (point_at mid.place 0 mid.taken mid.readings mid.asked) z (point_at new.place 0 new.taken new.readings new.asked)) → new.reads ≡ mid.reads
       → Piped sides result (source_of source given given_then left_then) (change_of x old z new)
-  source_closed result total held given_mid given_then left_then y z mid new far same over none closed reads taken = record {
+  source_closed result total held given_mid given_then left_then y z mid new far same over none closed reads = record {
     bytes = far.bytes;
     frames = far.frames;
     at = held.at;
     rest = held.bytes;
     given_is = λ told. same told ∙ far.given_is told;
     cut = far.cut;
-    ends = closed_ends result y z mid new held.at held.bytes far.bytes left_then closed none over;
-    ran = closed_ran result far.frames y z mid new far.ran closed reads taken;
+    ends = closed_ends result (change_of y (point_at mid.place 0 mid.taken mid.readings mid.asked) z (point_at new.place 0 new.taken new.readings new.asked)) held.at held.bytes far.bytes left_then closed none over;
+    asked = new.asked;
+    ran = closed_ran result far.frames y z mid new far.ran closed reads;
   }
 
   -- as many bytes were read as a stream may have
@@ -166,6 +173,7 @@ module _ {C D : Type 0} (sides : Sides C D) (source : Type 0) (given : List ℕ)
     given_is = more_is far.bytes piece given_mid given_then more far.given_is;
     cut = begins_more 0 far.bytes piece far.frames held.at held.bytes far.cut;
     ends = tt;
+    asked = new.asked;
     ran = broke_memory sides far.frames x y old new far.ran;
   }
 
@@ -201,6 +209,7 @@ module _ {C D : Type 0} (sides : Sides C D) (source : Type 0) (given : List ℕ)
     given_is = more_is far.bytes piece given_mid given_then more far.given_is;
     cut = fed_begins far.bytes piece far.frames served.frames held fed held_then far.cut fed_is served.cut;
     ends = inl served.halts;
+    asked = new.asked;
     ran = ran_then sides far.frames served.frames x y z old mid new far.ran served.ran;
   }
   piece_halted Read total held fed held_then piece given_mid given_then left_then y z mid new far more fed_is served = absurd served.halts
@@ -212,6 +221,7 @@ module _ {C D : Type 0} (sides : Sides C D) (source : Type 0) (given : List ℕ)
     given_is = more_is far.bytes piece given_mid given_then more far.given_is;
     cut = fed_begins far.bytes piece far.frames served.frames held fed held_then far.cut fed_is served.cut;
     ends = tt;
+    asked = new.asked;
     ran = broke_then sides stop far.frames served.frames x y z old mid new far.ran served.ran;
   }
 
@@ -223,15 +233,15 @@ counts_end held (BadFrame place) source source_then sink sink_then clock clock_t
 counts_end held Read source source_then sink sink_then clock clock_then ends = absurd ends
 counts_end held (Stopped stop) source source_then sink sink_then clock clock_then ends = absurd ends
 
-pub counts_closed : {A : Type 0} (result : Result A Halt) (source source_then sink sink_then clock clock_mid clock_then : ℕ) → clock_mid ≡ clock
-    → CountsClosing result (fault_counts clock_mid clock_then) → CountsPipe result (fault_counts source source_then) (fault_counts sink sink_then) (fault_counts clock clock_then)
-counts_closed (Ok done) source source_then sink sink_then clock clock_mid clock_then same counts = tt
-counts_closed (Err (BadFrame place)) source source_then sink sink_then clock clock_mid clock_then same counts = absurd counts
-counts_closed (Err Read) source source_then sink sink_then clock clock_mid clock_then same counts = absurd counts
-counts_closed (Err (Stopped stops.Clock)) source source_then sink sink_then clock clock_mid clock_then same counts = subst (λ (n : ℕ). Rises n clock_then) same counts
-counts_closed (Err (Stopped stops.Sink)) source source_then sink sink_then clock clock_mid clock_then same counts = absurd counts
-counts_closed (Err (Stopped stops.Memory)) source source_then sink sink_then clock clock_mid clock_then same counts = tt
-counts_closed (Err (Stopped stops.Misplaced)) source source_then sink sink_then clock clock_mid clock_then same counts = tt
+pub counts_closed : {A : Type 0} (result : Result A Halt) (source source_then sink sink_mid sink_then clock clock_mid clock_then : ℕ) → sink_mid ≡ sink → clock_mid ≡ clock
+    → CountsClosing result (fault_counts sink_mid sink_then) (fault_counts clock_mid clock_then) → CountsPipe result (fault_counts source source_then) (fault_counts sink sink_then) (fault_counts clock clock_then)
+counts_closed (Ok done) source source_then sink sink_mid sink_then clock clock_mid clock_then same_sink same_clock counts = tt
+counts_closed (Err (BadFrame place)) source source_then sink sink_mid sink_then clock clock_mid clock_then same_sink same_clock counts = absurd counts
+counts_closed (Err Read) source source_then sink sink_mid sink_then clock clock_mid clock_then same_sink same_clock counts = absurd counts
+counts_closed (Err (Stopped stops.Clock)) source source_then sink sink_mid sink_then clock clock_mid clock_then same_sink same_clock counts = subst (λ (n : ℕ). Rises n clock_then) same_clock counts
+counts_closed (Err (Stopped stops.Sink)) source source_then sink sink_mid sink_then clock clock_mid clock_then same_sink same_clock counts = subst (λ (n : ℕ). Rises n sink_then) same_sink counts
+counts_closed (Err (Stopped stops.Memory)) source source_then sink sink_mid sink_then clock clock_mid clock_then same_sink same_clock counts = tt
+counts_closed (Err (Stopped stops.Misplaced)) source source_then sink sink_mid sink_then clock clock_mid clock_then same_sink same_clock counts = tt
 
 pub counts_halt : (halt : Halt) (source source_then sink sink_mid sink_then clock clock_mid clock_then : ℕ) → sink_mid ≡ sink → clock_mid ≡ clock
     → CountsHalt {A = Unit {0}} (Err halt) (fault_counts sink_mid sink_then) (fault_counts clock_mid clock_then) → CountsPipe {A = Unit {0}} (Err halt) (fault_counts source source_then) (fault_counts sink sink_then) (fault_counts clock clock_then)
@@ -250,3 +260,18 @@ piped_grows sides (Err (BadFrame place)) source x y old new piped = faults_grow 
 piped_grows sides (Err Read) source x y old new piped = faults_grow sides.makes sides.disk (acts_of piped.ran.served) x y old.place new.place piped.ran.happened
 piped_grows sides (Err (Stopped stop)) source x y old new piped =
     faults_grow sides.makes sides.disk (acts_of piped.ran.served ++ begun_acts piped.ran.begun) x y old.place new.place piped.ran.happened
+
+-- what is said of a stream tells the count behind it by itself
+pub piped_of : {C D A : Type 0} (sides : Sides C D) (result : Result A Halt) (source : SourceSeen) (x y : C) (old : Point D) (place : Place D) (reads : ℕ) (taken readings : List ℕ) (asked : ℕ)
+    → Piped sides result source (change_of x old y (point_at place reads taken readings asked)) → Piped sides result source (change_of x old y (point_of place reads taken readings))
+piped_of sides result source x y old place reads taken readings asked piped = record {
+  bytes = piped.bytes;
+  frames = piped.frames;
+  at = piped.at;
+  rest = piped.rest;
+  given_is = piped.given_is;
+  cut = piped.cut;
+  ends = piped.ends;
+  asked = piped.asked;
+  ran = piped.ran;
+}

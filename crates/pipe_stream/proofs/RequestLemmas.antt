@@ -2,7 +2,7 @@
 use Rattle.std.proofs.Common.{◌≡◌, Option, refl, subst}
 use Rattle.broker_events.specs.declared.event.Event.{Event}
 use Rattle.broker_events.specs.Shown.{Shown, moved}
-use Rattle.broker_events.specs.declared.event.Event.TheVariants.{Request, Take, Flushed, FlushFailed, Look, Dispatch, Deliver, Leave}
+use Rattle.broker_events.specs.declared.event.Event.TheVariants.{Request, Take, Flushed, FlushFailed, Look, Dispatch, Deliver, Check, Leave}
 use Rattle.broker_events.specs.declared.said.Said.{Said}
 use Rattle.session.specs.Owing.{IsRequest}
 use Rattle.worker_turns.specs.Acts.{IsBetween, TakesBatch}
@@ -16,6 +16,7 @@ request_out shown (FlushFailed count) what is = absurd is
 request_out shown (Look number turn) what is = absurd is
 request_out shown (Dispatch most) what is = absurd is
 request_out shown (Deliver now) what is = absurd is
+request_out shown (Check now) what is = absurd is
 request_out shown (Leave link) what is = absurd is
 
 -- takes none
@@ -31,4 +32,5 @@ request_between (FlushFailed count) is = tt
 request_between (Look number turn) is = tt
 request_between (Dispatch most) is = tt
 request_between (Deliver now) is = tt
+request_between (Check now) is = tt
 request_between (Leave link) is = tt

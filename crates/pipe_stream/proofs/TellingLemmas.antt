@@ -14,16 +14,15 @@ use Rattle.session.specs.declared.heard.Heard.{Heard}
 use Rattle.session.specs.declared.owed.Awaits.{Awaits}
 use Rattle.worker_turns.specs.Acts.{Act, Acts, Acted, Place, change_of}
 use Rattle.worker_turns.specs.Turning.{AreTurnsAndDispatch, BrokeBy}
-use Rattle.worker_turns.specs.Delays.{AreDueTurns}
 use Rattle.worker_turns.specs.declared.broken.Broken.{Broken}
 use Rattle.worker_turns.specs.declared.broken.Broken.TheVariants as broken
 use Rattle.pipe_stream.specs.Asking.{Chooses, IsGiven, Gives, IsLooked}
 use Rattle.pipe_stream.specs.Telling.{stopped_by, unread, Appends, AppendsUnread, IsTold, HasTold, HasWrittenReply, HasWrittenPart, TookPart, Tells, WritesReply, fault_counts, sink_of}
-use Rattle.pipe_stream.specs.Serving.{Sides, Point, point_of, caller_of, IsSettled, IsAnswered, StoppedIn, HasAnswered, HasPartly, HasBroken, Answers, HasPartlyServed, ServesAt, served_as}
+use Rattle.pipe_stream.specs.Serving.{Sides, Point, point_of, caller_of, IsSettled, IsAnswered, StoppedIn, HasAnswered, HasPartly, HasBroken, Answers, AnswersHeard, HasPartlyHeard, served_as}
 use Rattle.pipe_stream.specs.declared.answer.Answer.{Answer}
 use Rattle.pipe_stream.specs.declared.stop.Stop.{Stop}
 use Rattle.pipe_stream.specs.declared.stop.Stop.TheVariants as stops
-use Rattle.worker_turns.proofs.ActLemmas.{still, acts_then, acted_broke, unwritten_behind}
+use Rattle.worker_turns.proofs.ActLemmas.{still, acts_then, unwritten_behind}
 
 -- nothing was written of a piece
 pub took_none : (taken taken_then piece : List ℕ) → taken_then ≡ taken → TookPart taken taken_then piece
@@ -253,36 +252,26 @@ module _ {C D : Type 0} (sides : Sides C D) (frame : Frame) (now : ℕ) where
     are_all = refl;
   }
 
-  stopped_behind : (stop : Stop) (given later : List Act) → StoppedIn stop later → StoppedIn stop (given ++ later)
+  pub stopped_behind : (stop : Stop) (given later : List Act) → StoppedIn stop later → StoppedIn stop (given ++ later)
   stopped_behind stops.Clock given later stopped = tt
   stopped_behind stops.Sink given later stopped = tt
   stopped_behind stops.Memory given later stopped = tt
   stopped_behind stops.Misplaced given later stopped = unwritten_behind given later stopped
 
-  -- the acts of a request, with the turns before it
-  all_acts : (before given settled followed : List Act) → (before ++ given) ++ (settled ++ followed) ≡ before ++ ((given ++ settled) ++ followed)
-  all_acts before given settled followed =
-      append_assoc before given (settled ++ followed) ∙ ap (λ (l : List Act). before ++ l) (sym (append_assoc given settled followed))
-
-  partly : (stop : Stop) (request : Result Request RequestFault) (answer : Answer) (before given : List Act) (x y z : C) (old mid new : Point D)
-      → Reads request (request_of frame.header frame.body) → AreDueTurns now before → IsGiven frame.header.code now request answer given
-      → Acts sides.makes sides.disk (before ++ given) (change_of x old.place y mid.place) → mid.reads ≡ old.reads → mid.taken ≡ old.taken
-      → HasPartly sides stop (caller_of frame) answer (change_of y mid z new) → HasPartlyServed sides stop frame now (change_of x old z new)
-  partly stop request answer before given x y z old mid new read turned is_given gave reads taken it = record {
-    acts = (before ++ given) ++ (it.settled ++ it.followed);
+  partly : (stop : Stop) (request : Result Request RequestFault) (answer : Answer) (given : List Act) (x y z : C) (old mid new : Point D)
+      → Reads request (request_of frame.header frame.body) → IsGiven frame.header.code now request answer given
+      → Acts sides.makes sides.disk given (change_of x old.place y mid.place) → mid.reads ≡ old.reads → mid.taken ≡ old.taken
+      → HasPartly sides stop (caller_of frame) answer (change_of y mid z new) → HasPartlyHeard sides stop frame now (change_of x old z new)
+  partly stop request answer given x y z old mid new read is_given gave reads taken it = record {
+    answer = answer;
+    first = given ++ it.settled;
+    later = it.followed;
     bytes = it.bytes;
-    served = record {
-      answer = answer;
-      before = before;
-      first = given ++ it.settled;
-      later = it.followed;
-      turned = turned;
-      answered = answered request answer it.reply given it.settled it.bytes old.reads new.reads read is_given it.is_settled
-          (subst (λ (n : ℕ). IsTold sides.gives (caller_of frame) it.reply (fault_counts n new.reads) it.bytes) reads it.told);
-      are_all = all_acts before given it.settled it.followed;
-    };
-    happened = acts_then sides.makes sides.disk (before ++ given) (it.settled ++ it.followed) x y z old.place mid.place new.place gave it.happened;
-    stopped = stopped_behind stop (before ++ given) (it.settled ++ it.followed) it.stopped;
+    answered = answered request answer it.reply given it.settled it.bytes old.reads new.reads read is_given it.is_settled
+        (subst (λ (n : ℕ). IsTold sides.gives (caller_of frame) it.reply (fault_counts n new.reads) it.bytes) reads it.told);
+    happened = subst (λ (l : List Act). Acts sides.makes sides.disk l (change_of x old.place z new.place)) (sym (append_assoc given it.settled it.followed))
+        (acts_then sides.makes sides.disk given (it.settled ++ it.followed) x y z old.place mid.place new.place gave it.happened);
+    stopped = subst (StoppedIn stop) (sym (append_assoc given it.settled it.followed)) (stopped_behind stop given (it.settled ++ it.followed) it.stopped);
     took = λ tells. subst (λ (l : List ℕ). TookPart l new.taken it.bytes) taken (it.took tells);
   }
 
@@ -296,71 +285,58 @@ module _ {C D : Type 0} (sides : Sides C D) (frame : Frame) (now : ℕ) where
   }
 
   -- an answer that was told, or on which serving broke off
-  either_broken : (stop : Stop) (request : Result Request RequestFault) (answer : Answer) (before given : List Act) (x y z : C) (old mid new : Point D)
-      → Reads request (request_of frame.header frame.body) → AreDueTurns now before → IsGiven frame.header.code now request answer given
-      → Acts sides.makes sides.disk (before ++ given) (change_of x old.place y mid.place) → mid.reads ≡ old.reads → mid.taken ≡ old.taken
-      → HasPartly sides stop (caller_of frame) answer (change_of y mid z new) ⊎ HasBroken sides stop (change_of y mid z new) → HasPartlyServed sides stop frame now (change_of x old z new) ⊎ HasBroken sides stop (change_of x old z new)
-  either_broken stop request answer before given x y z old mid new read turned is_given gave reads taken = ⊎_elim
+  either_broken : (stop : Stop) (request : Result Request RequestFault) (answer : Answer) (given : List Act) (x y z : C) (old mid new : Point D)
+      → Reads request (request_of frame.header frame.body) → IsGiven frame.header.code now request answer given
+      → Acts sides.makes sides.disk given (change_of x old.place y mid.place) → mid.reads ≡ old.reads → mid.taken ≡ old.taken
+      → HasPartly sides stop (caller_of frame) answer (change_of y mid z new) ⊎ HasBroken sides stop (change_of y mid z new) → HasPartlyHeard sides stop frame now (change_of x old z new) ⊎ HasBroken sides stop (change_of x old z new)
+  either_broken stop request answer given x y z old mid new read is_given gave reads taken = ⊎_elim
       (λ (some : HasPartly sides stop (caller_of frame) answer (change_of y mid z new)).
-      inl (partly stop request answer before given x y z old mid new read turned is_given gave reads taken some))
-      (λ (none : HasBroken sides stop (change_of y mid z new)). inr (broken_on stop (before ++ given) x y z old mid new gave taken none))
+      inl (partly stop request answer given x y z old mid new read is_given gave reads taken some))
+      (λ (none : HasBroken sides stop (change_of y mid z new)). inr (broken_on stop given x y z old mid new gave taken none))
 
-  by_caller : {A : Type 0} (request : Result Request RequestFault) (answer : Answer) (before given : List Act) (result : Result A Stop) (x y z : C) (old mid new : Point D)
-      → Reads request (request_of frame.header frame.body) → AreDueTurns now before → IsGiven frame.header.code now request answer given
-      → Acts sides.makes sides.disk (before ++ given) (change_of x old.place y mid.place) → mid.reads ≡ old.reads → mid.taken ≡ old.taken
-      → Answers sides (caller_of frame) answer result (change_of y mid z new) → ServesAt sides frame now result (change_of x old z new)
-  by_caller request answer before given (Ok done) x y z old mid new read turned is_given gave reads taken it = record {
-    acts = (before ++ given) ++ (it.settled ++ it.followed);
+  by_caller : {A : Type 0} (request : Result Request RequestFault) (answer : Answer) (given : List Act) (result : Result A Stop) (x y z : C) (old mid new : Point D)
+      → Reads request (request_of frame.header frame.body) → IsGiven frame.header.code now request answer given
+      → Acts sides.makes sides.disk given (change_of x old.place y mid.place) → mid.reads ≡ old.reads → mid.taken ≡ old.taken
+      → Answers sides (caller_of frame) answer result (change_of y mid z new) → AnswersHeard sides frame now result (change_of x old z new)
+  by_caller request answer given (Ok done) x y z old mid new read is_given gave reads taken it = record {
+    answer = answer;
+    first = given ++ it.settled;
+    later = it.followed;
     bytes = it.bytes;
-    served = record {
-      answer = answer;
-      before = before;
-      first = given ++ it.settled;
-      later = it.followed;
-      turned = turned;
-      answered = answered request answer it.reply given it.settled it.bytes old.reads new.reads read is_given it.is_settled
-          (subst (λ (n : ℕ). IsTold sides.gives (caller_of frame) it.reply (fault_counts n new.reads) it.bytes) reads it.told);
-      followed = it.is_followed;
-      are_all = all_acts before given it.settled it.followed;
-    };
-    happened = acts_then sides.makes sides.disk (before ++ given) (it.settled ++ it.followed) x y z old.place mid.place new.place gave it.happened;
+    answered = answered request answer it.reply given it.settled it.bytes old.reads new.reads read is_given it.is_settled
+        (subst (λ (n : ℕ). IsTold sides.gives (caller_of frame) it.reply (fault_counts n new.reads) it.bytes) reads it.told);
+    followed = it.is_followed;
+    happened = subst (λ (l : List Act). Acts sides.makes sides.disk l (change_of x old.place z new.place)) (sym (append_assoc given it.settled it.followed))
+        (acts_then sides.makes sides.disk given (it.settled ++ it.followed) x y z old.place mid.place new.place gave it.happened);
     taken_is = λ tells. it.taken_is tells ∙ ap (λ (l : List ℕ). l ++ it.bytes) taken;
   }
-  by_caller request answer before given (Err stops.Clock) x y z old mid new read turned is_given gave reads taken it = it
-  by_caller request answer before given (Err stops.Sink) x y z old mid new read turned is_given gave reads taken it =
-      partly stops.Sink request answer before given x y z old mid new read turned is_given gave reads taken it
-  by_caller request answer before given (Err stops.Memory) x y z old mid new read turned is_given gave reads taken it =
-      either_broken stops.Memory request answer before given x y z old mid new read turned is_given gave reads taken it
-  by_caller request answer before given (Err stops.Misplaced) x y z old mid new read turned is_given gave reads taken it =
-      either_broken stops.Misplaced request answer before given x y z old mid new read turned is_given gave reads taken it
+  by_caller request answer given (Err stops.Clock) x y z old mid new read is_given gave reads taken it = it
+  by_caller request answer given (Err stops.Sink) x y z old mid new read is_given gave reads taken it =
+      partly stops.Sink request answer given x y z old mid new read is_given gave reads taken it
+  by_caller request answer given (Err stops.Memory) x y z old mid new read is_given gave reads taken it =
+      either_broken stops.Memory request answer given x y z old mid new read is_given gave reads taken it
+  by_caller request answer given (Err stops.Misplaced) x y z old mid new read is_given gave reads taken it =
+      either_broken stops.Misplaced request answer given x y z old mid new read is_given gave reads taken it
 
   -- what was heard was not answered, since acts broke off
-  serves_broken : (fault : Broken) (x y : C) (old new : Point D) → Acted sides.makes sides.disk (BrokeBy fault) (change_of x old.place y new.place) → new.taken ≡ old.taken
-      → ServesAt {A = Unit {0}} sides frame now (Err (stopped_by fault)) (change_of x old y new)
-  serves_broken broken.Misplaced x y old new acted same =
+  broken_by : (fault : Broken) (x y : C) (old new : Point D) → Acted sides.makes sides.disk (BrokeBy fault) (change_of x old.place y new.place) → new.taken ≡ old.taken
+      → AnswersHeard {A = Unit {0}} sides frame now (Err (stopped_by fault)) (change_of x old y new)
+  broken_by broken.Misplaced x y old new acted same =
       inr (record { acts = acted.acts; happened = acted.happened; stopped = acted.kind; still = λ tells. same })
-  serves_broken broken.Memory x y old new acted same =
+  broken_by broken.Memory x y old new acted same =
       inr (record { acts = acted.acts; happened = acted.happened; stopped = tt; still = λ tells. same })
 
-  pub served_broken : (fault : Broken) (stop : Stop) (x y : C) (old new : Point D) → stop ≡ stopped_by fault → Acted sides.makes sides.disk (BrokeBy fault) (change_of x old.place y new.place)
-      → new.taken ≡ old.taken → ServesAt {A = Unit {0}} sides frame now (Err stop) (change_of x old y new)
-  served_broken fault stop x y old new by acted same =
-      subst (λ (s : Stop). ServesAt {A = Unit {0}} sides frame now (Err s) (change_of x old y new)) (sym by) (serves_broken fault x y old new acted same)
+  pub heard_broken : (fault : Broken) (stop : Stop) (x y : C) (old new : Point D) → stop ≡ stopped_by fault → Acted sides.makes sides.disk (BrokeBy fault) (change_of x old.place y new.place)
+      → new.taken ≡ old.taken → AnswersHeard {A = Unit {0}} sides frame now (Err stop) (change_of x old y new)
+  heard_broken fault stop x y old new by acted same =
+      subst (λ (s : Stop). AnswersHeard {A = Unit {0}} sides frame now (Err s) (change_of x old y new)) (sym by) (broken_by fault x y old new acted same)
 
-  -- the same behind turns
-  pub given_broken : (fault : Broken) (stop : Stop) (w x y : C) (place : Place D) (old new : Point D) → stop ≡ stopped_by fault
-      → Acted sides.makes sides.disk (AreDueTurns now) (change_of w old.place x place) → Acted sides.makes sides.disk (BrokeBy fault) (change_of x place y new.place) → new.taken ≡ old.taken
-      → ServesAt {A = Unit {0}} sides frame now (Err stop) (change_of w old y new)
-  given_broken fault stop w x y place old new by turned acted same =
-      served_broken fault stop w y old new by (acted_broke sides.makes sides.disk (AreDueTurns now) fault w x y old.place place new.place turned acted) same
-
-  -- what was pending was flushed, and then what was heard was given to the broker, and its answer told
-  pub served_by : {A : Type 0} (heard : Heard) (answer : Answer) (code : ℤ) (caller : Caller) (result : Result A Stop) (w x y z : C) (place : Place D) (old mid new : Point D) → code ≡ heard.code
+  -- what was heard was given to the broker, and its answer told
+  pub heard_by : {A : Type 0} (heard : Heard) (answer : Answer) (code : ℤ) (caller : Caller) (result : Result A Stop) (x y z : C) (old mid new : Point D) → code ≡ heard.code
       → caller ≡ record { form = heard.form; opaque = heard.opaque; one_way = heard.one_way } → IsHeard heard frame
-      → Acted sides.makes sides.disk (AreDueTurns now) (change_of w old.place x place) → Acted sides.makes sides.disk (Gives code now heard.request (Ok answer)) (change_of x place y mid.place)
-      → mid.reads ≡ old.reads → mid.taken ≡ old.taken → Answers sides caller answer result (change_of y mid z new) → ServesAt sides frame now result (change_of w old z new)
-  served_by heard answer code caller result w x y z place old mid new same waits is turned gave reads taken it =
-      by_caller heard.request answer turned.acts gave.acts result w y z old mid new is.request turned.kind
-      (subst (λ (c : ℤ). IsGiven c now heard.request answer gave.acts) (same ∙ is.code) gave.kind)
-      (acts_then sides.makes sides.disk turned.acts gave.acts w x y old.place place mid.place turned.happened gave.happened) reads taken
+      → Acted sides.makes sides.disk (Gives code now heard.request (Ok answer)) (change_of x old.place y mid.place)
+      → mid.reads ≡ old.reads → mid.taken ≡ old.taken → Answers sides caller answer result (change_of y mid z new) → AnswersHeard sides frame now result (change_of x old z new)
+  heard_by heard answer code caller result x y z old mid new same waits is gave reads taken it =
+      by_caller heard.request answer gave.acts result x y z old mid new is.request
+      (subst (λ (c : ℤ). IsGiven c now heard.request answer gave.acts) (same ∙ is.code) gave.kind) gave.happened reads taken
       (subst (λ (c : Caller). Answers sides c answer result (change_of y mid z new)) (waits ∙ caller_is heard frame is) it)

@@ -9,11 +9,13 @@ use Rattle.remoting_frame.specs.declared.fault.FrameFault.{FrameFault}
 use Rattle.remoting_frame.specs.declared.fault.FrameFault.TheVariants as faults
 use Rattle.session.specs.Hearing.{HearsNext, HearsNone}
 use Rattle.session.specs.declared.heard.Heard.{Heard}
+use Rattle.reply_fields.specs.Parts.{AskParts}
 use Rattle.worker_turns.specs.Turns.{Steps}
-use Rattle.worker_turns.specs.Acts.{Act, Acts, Change, DiskView, IsStill, Place, HasUnwritten, change_of}
-use Rattle.worker_turns.specs.Delays.{AreDueTurns}
-use Rattle.pipe_stream.specs.Telling.{FaultCounts}
-use Rattle.pipe_stream.specs.Serving.{Sides, Point, Served, Ran, Broke, AreServed, acts_of, begun_acts, bytes_of, frames_of, places_of, readings_of}
+use Rattle.worker_turns.specs.Acts.{Act, Acts, Change, DiskView, IsStill, HasUnwritten}
+use Rattle.worker_turns.specs.Due.{AreDueAsks}
+use Rattle.pipe_stream.specs.Telling.{FaultCounts, TookPart, asks_bytes, count_after}
+use Rattle.pipe_stream.specs.Serving.{Sides, Point, Served, Ran, Broke, AreServed, acts_of, asks_of, begun_acts, bytes_of, frames_of}
+use Rattle.pipe_stream.specs.Serving.{places_of, readings_of}
 use Rattle.session.specs.Talks.{requests_of}
 use Rattle.pipe_stream.specs.declared.stop.Stop.{Stop}
 use Rattle.pipe_stream.specs.declared.stop.Stop.TheVariants.{Clock, Sink, Memory, Misplaced}
@@ -37,15 +39,12 @@ CountsHalt (Err (BadFrame place)) sink clock = Unit {0}
 CountsHalt (Err Read) sink clock = ⊥
 CountsHalt (Err (Stopped stop)) sink clock = CountsStop {A = Unit {0}} (Err stop) sink clock
 
--- of the last turns, the clock's alone
-abbrev pub CountsClosing : {A : Type 0} → Result A Halt → FaultCounts → Type 0
-CountsClosing (Ok done) clock = Unit {0}
-CountsClosing (Err (BadFrame place)) clock = ⊥
-CountsClosing (Err Read) clock = ⊥
-CountsClosing (Err (Stopped Clock)) clock = Rises clock.old clock.new
-CountsClosing (Err (Stopped Sink)) clock = ⊥
-CountsClosing (Err (Stopped Memory)) clock = Unit {0}
-CountsClosing (Err (Stopped Misplaced)) clock = Unit {0}
+-- of the last turns
+abbrev pub CountsClosing : {A : Type 0} → Result A Halt → FaultCounts → FaultCounts → Type 0
+CountsClosing (Ok done) sink clock = Unit {0}
+CountsClosing (Err (BadFrame place)) sink clock = ⊥
+CountsClosing (Err Read) sink clock = ⊥
+CountsClosing (Err (Stopped stop)) sink clock = CountsStop {A = Unit {0}} (Err stop) sink clock
 
 -- of a whole stream
 abbrev pub CountsPipe : {A : Type 0} → Result A Halt → (source sink clock : FaultCounts) → Type 0
@@ -148,16 +147,19 @@ EndsBy (Err (BadFrame place)) at rest bytes source left = IsBadAt place at rest 
 EndsBy (Err Read) at rest bytes source left = next_of at rest ≡ Ok None
 EndsBy (Err (Stopped stop)) at rest bytes source left = Unit {0}
 
--- All requests among the frames were served, in order, and behind them the last turns were made, at one more reading.
+-- All requests among the frames were served, in order, and behind them the last turns were made, at one more reading, and their
+-- check-backs written.
 pub record RanOut {C D : Type 0} (sides : Sides C D) (frames : List Frame) (change : Change C (Point D)) : Type 0 where
   pub served : List Served
   pub reading : ℕ
+  pub asks : List AskParts
   pub last : List Act
-  pub due : AreDueTurns reading last
+  pub due : AreDueAsks reading asks last
   pub asked : frames_of served ≡ requests_of frames
   pub each : AreServed sides.gives change.place.reads served change.place_then.reads
   pub happened : Acts sides.makes sides.disk (acts_of served ++ last) (places_of change)
-  pub answered : sides.sink → change.place_then.taken ≡ change.place.taken ++ bytes_of served
+  pub answered : sides.sink → change.place_then.taken ≡ change.place.taken
+      ++ (bytes_of change.place.asked served ++ asks_bytes (count_after change.place.asked (asks_of served)) asks)
   pub read : sides.clock → change.place_then.readings ≡ change.place.readings ++ (readings_of served ++ reading ∷ [])
 
 -- all requests were served, and the last turns made; or this ended it
@@ -166,6 +168,10 @@ RanToEnd sides (Ok done) frames change = RanOut sides frames change
 RanToEnd sides (Err (BadFrame place)) frames change = Ran sides frames change
 RanToEnd sides (Err Read) frames change = Ran sides frames change
 RanToEnd sides (Err (Stopped stop)) frames change = Broke sides stop frames change
+
+-- the change with this count of check-backs behind it
+abbrev pub counted_to : {C D : Type 0} → ℕ → Change C (Point D) → Change C (Point D)
+counted_to asked change = record change { place_then = record change.place_then { asked = asked } }
 
 -- The bytes that were read are these frames and what stands behind them, and the requests among the frames were served in order,
 -- with the last turns behind them, or those before the one at which this ended it.
@@ -178,7 +184,8 @@ pub record Piped {C D A : Type 0} (sides : Sides C D) (result : Result A Halt) (
   pub given_is : source.tells → source.given_then ≡ source.given ++ bytes
   pub cut : BeginsWith 0 bytes frames at rest
   pub ends : EndsBy result at rest bytes source.tells source.left_then
-  pub ran : RanToEnd sides result frames change
+  pub asked : ℕ
+  pub ran : RanToEnd sides result frames (counted_to asked change)
 
 -- the source gave these bytes, where it tells what it gives
 abbrev pub Gave : Type 0 → List ℕ → List ℕ → List ℕ → Type 0
@@ -201,26 +208,35 @@ EndsHere held (Err (BadFrame place)) = (place ≡ held.at) × (held.bytes ≢ []
 EndsHere held (Err Read) = ⊥
 EndsHere held (Err (Stopped stop)) = ⊥
 
--- the last turns were made, at one more reading, and of what happened this is so
-pub record HasClosed {C D : Type 0} (makes : Steps C) (view : DiskView D) (clock : Type 0) (IsKind : ℕ → List Act → Type 0)
-    (change : Change C (Place D × List ℕ)) : Type 0 where
+-- The last turns were made, at one more reading. Of what happened and its check-backs this is so, and of what was written of these.
+pub record HasClosed {C D : Type 0} (makes : Steps C) (view : DiskView D) (sink clock : Type 0)
+    (IsKind : ℕ → List AskParts → List Act → Type 0) (Took : (old new piece : List ℕ) → Type 0) (change : Change C (Point D)) : Type 0 where
   pub reading : ℕ
+  pub asks : List AskParts
   pub acts : List Act
-  pub kind : IsKind reading acts
-  pub happened : Acts makes view acts (change_of change.calls change.place.0 change.calls_then change.place_then.0)
-  pub read : clock → change.place_then.1 ≡ change.place.1 ++ reading ∷ []
+  pub kind : IsKind reading asks acts
+  pub happened : Acts makes view acts (places_of change)
+  pub took : sink → Took change.place.taken change.place_then.taken (asks_bytes change.place.asked asks)
+  pub read : clock → change.place_then.readings ≡ change.place.readings ++ reading ∷ []
+
+-- without a reading
+pub record HasNoReading {C D : Type 0} (sink clock : Type 0) (change : Change C (Point D)) : Type 0 where
+  pub still : IsStill (places_of change)
+  pub took : sink → change.place_then.taken ≡ change.place.taken
+  pub read : clock → change.place_then.readings ≡ change.place.readings
 
 -- how they ended: whole, without a reading, or broken off
-abbrev pub Closes : {C D A : Type 0} → Steps C → DiskView D → Type 0 → Result A Halt → Change C (Place D × List ℕ) → Type 0
-Closes makes view clock (Ok done) change = HasClosed makes view clock AreDueTurns change
-Closes makes view clock (Err (BadFrame place)) change = ⊥
-Closes makes view clock (Err Read) change = ⊥
-Closes makes view clock (Err (Stopped Clock)) change =
-    IsStill (change_of change.calls change.place.0 change.calls_then change.place_then.0)
-    × (clock → change.place_then.1 ≡ change.place.1)
-Closes makes view clock (Err (Stopped Sink)) change = ⊥
-Closes makes view clock (Err (Stopped Memory)) change = HasClosed makes view clock (λ reading acts. Unit {0}) change
-Closes makes view clock (Err (Stopped Misplaced)) change = HasClosed makes view clock (λ reading acts. HasUnwritten acts) change
+abbrev pub Closes : {C D A : Type 0} → Steps C → DiskView D → Type 0 → Type 0 → Result A Halt → Change C (Point D) → Type 0
+Closes makes view sink clock (Ok done) change =
+    HasClosed makes view sink clock AreDueAsks (λ old new piece. new ≡ old ++ piece) change
+Closes makes view sink clock (Err (BadFrame place)) change = ⊥
+Closes makes view sink clock (Err Read) change = ⊥
+Closes makes view sink clock (Err (Stopped Clock)) change = HasNoReading sink clock change
+Closes makes view sink clock (Err (Stopped Sink)) change = HasClosed makes view sink clock AreDueAsks TookPart change
+Closes makes view sink clock (Err (Stopped Memory)) change =
+    HasClosed makes view sink clock (λ reading asks acts. (asks ≡ []) ⊎ AreDueAsks reading asks acts) TookPart change
+Closes makes view sink clock (Err (Stopped Misplaced)) change =
+    HasClosed makes view sink clock (λ reading asks acts. HasUnwritten acts × (asks ≡ [])) TookPart change
 
 -- what happened for the requests, and in the last turns
 abbrev pub acts_in : {C D A : Type 0} (sides : Sides C D) (result : Result A Halt) (frames : List Frame) (change : Change C (Point D))
@@ -229,3 +245,8 @@ acts_in sides (Ok done) frames change ran = acts_of ran.served ++ ran.last
 acts_in sides (Err (BadFrame place)) frames change ran = acts_of ran.served
 acts_in sides (Err Read) frames change ran = acts_of ran.served
 acts_in sides (Err (Stopped stop)) frames change ran = acts_of ran.served ++ begun_acts ran.begun
+
+-- the same of a stream that was served
+abbrev pub acts_read : {C D A : Type 0} (sides : Sides C D) (result : Result A Halt) (source : SourceSeen) (change : Change C (Point D))
+    → Piped sides result source change → List Act
+acts_read sides result source change piped = acts_in sides result piped.frames (counted_to piped.asked change) piped.ran

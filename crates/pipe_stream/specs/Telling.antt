@@ -1,9 +1,10 @@
--- Which bytes answer a request.
-use Rattle.std.specs.Prelude.{◌≡◌, ◌⊎◌, ℕ, ◌++◌, List, [], pos, codes, Result, Ok, Err}
+-- Which bytes answer a request, and which ask about half messages.
+use Rattle.std.specs.Prelude.{◌≡◌, ◌⊎◌, ℕ, ◌+◌, ◌%◌, ◌^◌, ◌++◌, List, [], ◌∷◌, ℤ, pos, codes, Result, Ok, Err}
 use Rattle.mq_bytes.specs.Decimal.{digits_of}
 use Rattle.mq_outside.specs.Counts.{Rises}
 use Rattle.mq_outside.specs.Readings.{Giving}
-use Rattle.reply_fields.specs.Parts.{ReplyParts, plain}
+use Rattle.reply_fields.specs.Asks.{ask_bytes}
+use Rattle.reply_fields.specs.Parts.{AskParts, ReplyParts, plain}
 use Rattle.reply_fields.specs.Replies.{AppendsReply}
 use Rattle.session.specs.declared.caller.Caller.{Caller}
 use Rattle.pipe_stream.specs.Asking.{Chooses}
@@ -106,3 +107,36 @@ WritesReply gives caller reply faults sink (Err Clock) = ⊥
 WritesReply gives caller reply faults sink (Err Sink) = HasWrittenPart gives caller reply faults sink
 WritesReply gives caller reply faults sink (Err Memory) = sink.tells → sink.taken_then ≡ sink.taken
 WritesReply gives caller reply faults sink (Err Misplaced) = ⊥
+
+-- ---- check-backs
+
+-- the opaque of a check-back, before which so many were written: they are counted from 0, and from 0 again after 2^31 - 1
+abbrev pub opaque_of : ℕ → ℤ
+opaque_of asked = pos (asked % 2 ^ 31)
+
+-- the count behind one more, which begins anew after 2^32 - 1
+abbrev pub next_count : ℕ → ℕ
+next_count asked = (asked + 1) % 2 ^ 32
+
+-- the count behind these
+abbrev pub count_after : ℕ → List AskParts → ℕ
+count_after asked [] = asked
+count_after asked (ask ∷ asks) = count_after (next_count asked) asks
+
+-- the frames of these check-backs, one after another, where so many were written before
+abbrev pub asks_bytes : ℕ → List AskParts → List ℕ
+asks_bytes asked [] = []
+asks_bytes asked (ask ∷ asks) = ask_bytes (opaque_of asked) ask.view ++ asks_bytes (next_count asked) asks
+
+-- these bytes were written, or where that was ended a front of them
+abbrev pub WritesPiece : {A : Type 0} → Result A Stop → (old new piece : List ℕ) → Type 0
+WritesPiece (Ok done) old new piece = new ≡ old ++ piece
+WritesPiece (Err stop) old new piece = TookPart old new piece
+
+-- what ends writing is the sink, or want of memory
+abbrev pub EndsWriting : {A : Type 0} → Result A Stop → Type 0
+EndsWriting (Ok done) = Unit {0}
+EndsWriting (Err Clock) = ⊥
+EndsWriting (Err Sink) = Unit {0}
+EndsWriting (Err Memory) = Unit {0}
+EndsWriting (Err Misplaced) = ⊥

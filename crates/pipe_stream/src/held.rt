@@ -6,7 +6,7 @@ ghost use Rattle.log_model.specs.Stored.{StaysOutside};
 ghost use Rattle.segment_files.specs.Turn.{IsInside};
 ghost use Rattle.session.specs.Hearing.{IsHeard, is_response};
 ghost use Rattle.worker_turns.specs.Acts.{IsFree, place_of, view_of, change_of};
-ghost use Rattle.pipe_stream.specs.Serving.{Serves, sides_of, point_of};
+ghost use Rattle.pipe_stream.specs.Serving.{Serves, sides_of, point_at};
 ghost use Rattle.pipe_stream.specs.Piping.{halt_of as halt_of_fault, CountsStop, CountsHalt, NextHeard, ServesHeld};
 ghost use Rattle.pipe_stream.specs.Telling.{fault_counts};
 
@@ -48,6 +48,7 @@ fn serve_heard<C: Calls, D: Disk, R: Reader, K: Sink, T: Clock>(
     flusher: &mut Flusher,
     disk: &mut D,
     reader: &mut R,
+    asked: &mut u32,
     buffer: &mut Vec<u8>,
     sink: &mut K,
     clock: &mut T,
@@ -57,10 +58,10 @@ fn serve_heard<C: Calls, D: Disk, R: Reader, K: Sink, T: Clock>(
     requires inside { D.tells → IsInside flusher.old.file.base flusher.old.file.offset (D.state disk.old) }
     ensures served { (frame : Frame) → IsHeard heard frame → is_response frame.header ≡ false
         → Serves (sides_of C.makes R.gives (view_of D.tells D.state D.faults D.syncs) K.tells T.tells) result (frame ∷ [])
-        (change_of calls.old (point_of (place_of flusher.old.file disk.old)
-        (R.faults reader.old) (K.taken sink.old) (T.readings clock.old))
-        calls.new (point_of (place_of flusher.new.file disk.new)
-        (R.faults reader.new) (K.taken sink.new) (T.readings clock.new))) }
+        (change_of calls.old (point_at (place_of flusher.old.file disk.old)
+        (R.faults reader.old) (K.taken sink.old) (T.readings clock.old) asked.old)
+        calls.new (point_at (place_of flusher.new.file disk.new)
+        (R.faults reader.new) (K.taken sink.new) (T.readings clock.new) asked.new)) }
     ensures cause { CountsStop result (fault_counts (K.faults sink.old) (K.faults sink.new))
         (fault_counts (T.faults clock.old) (T.faults clock.new)) }
     ensures free { IsFree (C.has_key calls.new) (C.shown calls.new) }
@@ -71,7 +72,7 @@ fn serve_heard<C: Calls, D: Disk, R: Reader, K: Sink, T: Clock>(
         return Err(Stop::Clock);
     };
     serve_at(
-        alloc, calls, flusher, disk, reader, buffer, sink, now, heard,
+        alloc, calls, flusher, disk, reader, asked, buffer, sink, now, heard,
     )
 }
 
@@ -84,6 +85,7 @@ pub(crate) fn serve_held<C: Calls, D: Disk, R: Reader, K: Sink, T: Clock>(
     flusher: &mut Flusher,
     disk: &mut D,
     reader: &mut R,
+    asked: &mut u32,
     buffer: &mut Vec<u8>,
     sink: &mut K,
     clock: &mut T,
@@ -92,10 +94,10 @@ pub(crate) fn serve_held<C: Calls, D: Disk, R: Reader, K: Sink, T: Clock>(
     requires inside { D.tells → IsInside flusher.old.file.base flusher.old.file.offset (D.state disk.old) }
     ensures served { ServesHeld (sides_of C.makes R.gives (view_of D.tells D.state D.faults D.syncs) K.tells T.tells) result
         talk.old.cutter talk.new.cutter
-        (change_of calls.old (point_of (place_of flusher.old.file disk.old)
-        (R.faults reader.old) (K.taken sink.old) (T.readings clock.old))
-        calls.new (point_of (place_of flusher.new.file disk.new)
-        (R.faults reader.new) (K.taken sink.new) (T.readings clock.new))) }
+        (change_of calls.old (point_at (place_of flusher.old.file disk.old)
+        (R.faults reader.old) (K.taken sink.old) (T.readings clock.old) asked.old)
+        calls.new (point_at (place_of flusher.new.file disk.new)
+        (R.faults reader.new) (K.taken sink.new) (T.readings clock.new) asked.new)) }
     ensures cause { CountsHalt result (fault_counts (K.faults sink.old) (K.faults sink.new))
         (fault_counts (T.faults clock.old) (T.faults clock.new)) }
     ensures free { IsFree (C.has_key calls.new) (C.shown calls.new) }
@@ -109,7 +111,7 @@ pub(crate) fn serve_held<C: Calls, D: Disk, R: Reader, K: Sink, T: Clock>(
             Ok(Some(heard)) => heard,
         };
         match serve_heard(
-            alloc, calls, flusher, disk, reader, buffer, sink, clock, heard,
+            alloc, calls, flusher, disk, reader, asked, buffer, sink, clock, heard,
         ) {
             Err(stop) => return Err(Halt::Stopped(stop)),
             Ok(()) => {}

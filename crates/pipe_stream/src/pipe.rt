@@ -5,7 +5,7 @@ ghost use Rattle.mq_outside.specs.Counts.{CountsFailure};
 ghost use Rattle.log_model.specs.Stored.{StaysOutside};
 ghost use Rattle.segment_files.specs.Turn.{IsInside};
 ghost use Rattle.worker_turns.specs.Acts.{IsFree, place_of, view_of, change_of};
-ghost use Rattle.pipe_stream.specs.Serving.{sides_of, point_of};
+ghost use Rattle.pipe_stream.specs.Serving.{sides_of, point_of, point_at};
 ghost use Rattle.pipe_stream.specs.Piping.{CountsPipe, EndsHere, Piped, source_of};
 ghost use Rattle.pipe_stream.specs.Telling.{fault_counts};
 
@@ -81,6 +81,7 @@ fn serve_stream<S: Source, C: Calls, D: Disk, R: Reader, K: Sink, T: Clock>(
     flusher: &mut Flusher,
     disk: &mut D,
     reader: &mut R,
+    asked: &mut u32,
     buffer: &mut Vec<u8>,
     sink: &mut K,
     clock: &mut T,
@@ -91,10 +92,10 @@ fn serve_stream<S: Source, C: Calls, D: Disk, R: Reader, K: Sink, T: Clock>(
     requires inside { D.tells → IsInside flusher.old.file.base flusher.old.file.offset (D.state disk.old) }
     ensures served { Piped (sides_of C.makes R.gives (view_of D.tells D.state D.faults D.syncs) K.tells T.tells) result
         (source_of S.tells (S.given source.old) (S.given source.new) (S.left source.new))
-        (change_of calls.old (point_of (place_of flusher.old.file disk.old)
-        (R.faults reader.old) (K.taken sink.old) (T.readings clock.old))
-        calls.new (point_of (place_of flusher.new.file disk.new)
-        (R.faults reader.new) (K.taken sink.new) (T.readings clock.new))) }
+        (change_of calls.old (point_at (place_of flusher.old.file disk.old)
+        (R.faults reader.old) (K.taken sink.old) (T.readings clock.old) asked.old)
+        calls.new (point_at (place_of flusher.new.file disk.new)
+        (R.faults reader.new) (K.taken sink.new) (T.readings clock.new) asked.new)) }
     ensures cause { CountsPipe result (fault_counts (S.faults source.old) (S.faults source.new))
         (fault_counts (K.faults sink.old) (K.faults sink.new)) (fault_counts (T.faults clock.old) (T.faults clock.new)) }
     ensures free { IsFree (C.has_key calls.new) (C.shown calls.new) }
@@ -110,7 +111,9 @@ fn serve_stream<S: Source, C: Calls, D: Disk, R: Reader, K: Sink, T: Clock>(
         if read == 0 {
             match end_of(talk) {
                 Err(halt) => return Err(halt),
-                Ok(()) => return close(alloc, calls, flusher, disk, clock),
+                Ok(()) => {
+                    return close(alloc, calls, flusher, disk, asked, buffer, sink, clock);
+                }
             }
         }
         total += read as u64;
@@ -119,7 +122,7 @@ fn serve_stream<S: Source, C: Calls, D: Disk, R: Reader, K: Sink, T: Clock>(
             Ok(()) => {}
         }
         match serve_held(
-            alloc, talk, calls, flusher, disk, reader, buffer, sink, clock,
+            alloc, talk, calls, flusher, disk, reader, asked, buffer, sink, clock,
         ) {
             Err(halt) => return Err(halt),
             Ok(()) => {}
@@ -160,6 +163,7 @@ pub fn serve_source<S: Source, C: Calls, D: Disk, R: Reader, K: Sink, T: Clock>(
         return Err(Halt::Stopped(Stop::Memory));
     };
     let mut talk = Talk::new(alloc, 0, BORN_HOST);
+    let mut asked: u32 = 0;
     serve_stream(
         alloc,
         source,
@@ -169,6 +173,7 @@ pub fn serve_source<S: Source, C: Calls, D: Disk, R: Reader, K: Sink, T: Clock>(
         flusher,
         disk,
         reader,
+        &mut asked,
         buffer,
         sink,
         clock,

@@ -1,6 +1,6 @@
 //! Serves one request: it is given to the broker, its record is flushed where the answer waits for it, and it is answered.
 
-ghost use Rattle.std.specs.Prelude.{◌≡◌, ◌<◌, ◌^◌, [], Some, None};
+ghost use Rattle.std.specs.Prelude.{◌≡◌, ◌<◌, ◌^◌, ℕ, [], Some, None};
 ghost use Rattle.log_model.specs.Stored.{StaysOutside};
 ghost use Rattle.segment_files.specs.Turn.{IsInside};
 ghost use Rattle.remoting_frame.specs.declared.frame.Frame.{Frame};
@@ -8,20 +8,20 @@ ghost use Rattle.session.specs.Hearing.{IsHeard};
 ghost use Rattle.pipe_stream.specs.declared.answer.Answer.{Answer as AnAnswer};
 ghost use Rattle.worker_turns.specs.Acts.{IsFree, place_of, view_of, change_of};
 ghost use Rattle.pipe_stream.specs.Telling.{CountsTelling};
-ghost use Rattle.pipe_stream.specs.Serving.{Answers, ServesAt, sides_of, point_of};
+ghost use Rattle.pipe_stream.specs.Serving.{Answers, AsksFirst, AnswersHeard, ServesAt, sides_of, point_of, point_at};
 
 use crate::answer::Answer;
 use crate::asking::give_request;
 use crate::looking::flush_and_look;
 use crate::stop::{Stop, stop_of};
-use crate::telling::tell;
+use crate::telling::{tell, write_asks};
 use broker_events::Calls;
 use group_flush::Flusher;
 use mq_outside::{Disk, Reader, Sink};
 use reply_fields::Reply;
 use session::{Awaits, Caller, Heard};
 use std::alloc::Global;
-use worker_turns::{due_turns, flush_and_dispatch};
+use worker_turns::{due_asks, flush_and_dispatch};
 
 // Tells a reply that waits for nothing. What it appended is flushed behind it.
 #[tactic(auto, using(log_model::proofs::OutsideLemmas::outside_start))]
@@ -127,10 +127,38 @@ fn answer_request<C: Calls, D: Disk, R: Reader, K: Sink>(
     }
 }
 
-/// Serves a request at this reading of the clock, in milliseconds. What is due then is delivered and what is still pending flushed
-/// before.
+// Does what is due at this reading of the clock, and flushes it. Writes the check-backs that come of it.
 #[tactic(auto, using(log_model::proofs::OutsideLemmas::outside_start))]
-pub(crate) fn serve_at<C: Calls, D: Disk, R: Reader, K: Sink>(
+pub(crate) fn ask_due<C: Calls, D: Disk, K: Sink>(
+    alloc: Global,
+    calls: &mut C,
+    flusher: &mut Flusher,
+    disk: &mut D,
+    asked: &mut u32,
+    buffer: &mut Vec<u8>,
+    sink: &mut K,
+    now: u64,
+) -> Result<(), Stop>
+    requires now { now < 2 ^ 62 }
+    requires free { IsFree (C.has_key calls.old) (C.shown calls.old) }
+    requires inside { D.tells → IsInside flusher.old.file.base flusher.old.file.offset (D.state disk.old) }
+    ensures asked { (reads : ℕ) → AsksFirst C.makes (view_of D.tells D.state D.faults D.syncs) K.tells now result
+        (change_of calls.old (point_at (place_of flusher.old.file disk.old) reads (K.taken sink.old) [] asked.old)
+        calls.new (point_at (place_of flusher.new.file disk.new) reads (K.taken sink.new) [] asked.new)) }
+    ensures free { IsFree (C.has_key calls.new) (C.shown calls.new) }
+    ensures inside { D.tells → IsInside flusher.new.file.base flusher.new.file.offset (D.state disk.new) }
+    ensures outside { D.tells → StaysOutside (D.state disk.old) (D.state disk.new) }
+    ensures cause { CountsTelling result (K.faults sink.old) (K.faults sink.new) }
+{
+    match due_asks(alloc, calls, flusher, disk, now) {
+        Err(broken) => Err(stop_of(broken)),
+        Ok(asks) => write_asks(alloc, asks.as_slice(), asked, buffer, sink),
+    }
+}
+
+// Gives the request to the broker and tells its answer.
+#[tactic(auto, using(log_model::proofs::OutsideLemmas::outside_start))]
+fn answer_heard<C: Calls, D: Disk, R: Reader, K: Sink>(
     alloc: Global,
     calls: &mut C,
     flusher: &mut Flusher,
@@ -144,8 +172,8 @@ pub(crate) fn serve_at<C: Calls, D: Disk, R: Reader, K: Sink>(
     requires now { now < 2 ^ 62 }
     requires free { IsFree (C.has_key calls.old) (C.shown calls.old) }
     requires inside { D.tells → IsInside flusher.old.file.base flusher.old.file.offset (D.state disk.old) }
-    ensures served { (frame : Frame) → IsHeard heard frame
-        → ServesAt (sides_of C.makes R.gives (view_of D.tells D.state D.faults D.syncs) K.tells (Unit {0})) frame now result
+    ensures answered { (frame : Frame) → IsHeard heard frame
+        → AnswersHeard (sides_of C.makes R.gives (view_of D.tells D.state D.faults D.syncs) K.tells (Unit {0})) frame now result
         (change_of calls.old (point_of (place_of flusher.old.file disk.old)
         (R.faults reader.old) (K.taken sink.old) [])
         calls.new (point_of (place_of flusher.new.file disk.new)
@@ -155,10 +183,6 @@ pub(crate) fn serve_at<C: Calls, D: Disk, R: Reader, K: Sink>(
     ensures outside { D.tells → StaysOutside (D.state disk.old) (D.state disk.new) }
     ensures cause { CountsTelling result (K.faults sink.old) (K.faults sink.new) }
 {
-    match due_turns(alloc, calls, flusher, disk, now) {
-        Err(broken) => return Err(stop_of(broken)),
-        Ok(()) => {}
-    }
     let caller = heard.caller();
     let Heard {
         form: _,
@@ -171,6 +195,43 @@ pub(crate) fn serve_at<C: Calls, D: Disk, R: Reader, K: Sink>(
         Err(broken) => Err(stop_of(broken)),
         Ok(answer) => answer_request(
             alloc, calls, flusher, disk, reader, buffer, sink, caller, answer,
+        ),
+    }
+}
+
+/// Serves a request at this reading of the clock, in milliseconds. What is due then is delivered and checked, what is still pending
+/// flushed, and the check-backs that come of it are written before.
+#[tactic(auto, using(log_model::proofs::OutsideLemmas::outside_start))]
+pub(crate) fn serve_at<C: Calls, D: Disk, R: Reader, K: Sink>(
+    alloc: Global,
+    calls: &mut C,
+    flusher: &mut Flusher,
+    disk: &mut D,
+    reader: &mut R,
+    asked: &mut u32,
+    buffer: &mut Vec<u8>,
+    sink: &mut K,
+    now: u64,
+    heard: Heard,
+) -> Result<(), Stop>
+    requires now { now < 2 ^ 62 }
+    requires free { IsFree (C.has_key calls.old) (C.shown calls.old) }
+    requires inside { D.tells → IsInside flusher.old.file.base flusher.old.file.offset (D.state disk.old) }
+    ensures served { (frame : Frame) → IsHeard heard frame
+        → ServesAt (sides_of C.makes R.gives (view_of D.tells D.state D.faults D.syncs) K.tells (Unit {0})) frame now result
+        (change_of calls.old (point_at (place_of flusher.old.file disk.old)
+        (R.faults reader.old) (K.taken sink.old) [] asked.old)
+        calls.new (point_at (place_of flusher.new.file disk.new)
+        (R.faults reader.new) (K.taken sink.new) [] asked.new)) }
+    ensures free { IsFree (C.has_key calls.new) (C.shown calls.new) }
+    ensures inside { D.tells → IsInside flusher.new.file.base flusher.new.file.offset (D.state disk.new) }
+    ensures outside { D.tells → StaysOutside (D.state disk.old) (D.state disk.new) }
+    ensures cause { CountsTelling result (K.faults sink.old) (K.faults sink.new) }
+{
+    match ask_due(alloc, calls, flusher, disk, asked, buffer, sink, now) {
+        Err(stop) => Err(stop),
+        Ok(()) => answer_heard(
+            alloc, calls, flusher, disk, reader, buffer, sink, now, heard,
         ),
     }
 }

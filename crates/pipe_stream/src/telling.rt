@@ -1,13 +1,16 @@
-//! Writes the answer to a request, whole, to a sink, which may take it in parts.
+//! Writes the answer to a request, and check-backs, whole, to a sink, which may take them in parts.
 
 ghost use Rattle.std.specs.Prelude.{◌≡◌, ◌++◌, OnOk, OnErr, IfOk, MatchResult};
+ghost use Rattle.reply_fields.specs.Asks.{ask_bytes};
 ghost use Rattle.mq_outside.specs.Counts.{CountsFailure};
 ghost use Rattle.pipe_stream.specs.Telling.{Appends, AppendsUnread, Tells, WritesReply, CountsTelling, TookPart};
 ghost use Rattle.pipe_stream.specs.Telling.{unread as unread_of, fault_counts, sink_of};
+ghost use Rattle.pipe_stream.specs.Telling.{opaque_of as opaque_for, next_count as count_next, count_after, asks_bytes, WritesPiece};
+ghost use Rattle.pipe_stream.specs.Telling.{EndsWriting};
 
 use crate::stop::Stop;
 use mq_outside::{DiskFault, Failed, Reader, Sink};
-use reply_fields::Reply;
+use reply_fields::{Ask, Reply};
 use session::Caller;
 use std::alloc::{AllocError, Global};
 
@@ -109,4 +112,63 @@ pub(crate) fn tell<R: Reader, K: Sink>(
         return Ok(());
     }
     write_reply(alloc, caller, reply, reader, buffer, sink)
+}
+
+// The opaque of a check-back, before which so many were written.
+fn opaque_of(asked: u32) -> i32
+    ensures { result ≡ opaque_for asked }
+{
+    (asked % (1 << 31)) as i32
+}
+
+// The count behind one more.
+fn next_count(asked: u32) -> u32
+    ensures { result ≡ count_next asked }
+{
+    asked.wrapping_add(1)
+}
+
+// Writes the frame of a check-back, before which so many were written. The buffer is for its bytes.
+fn write_ask<K: Sink>(
+    alloc: Global,
+    ask: &Ask,
+    asked: u32,
+    buffer: &mut Vec<u8>,
+    sink: &mut K,
+) -> Result<(), Stop>
+    ensures written { K.tells
+        → WritesPiece result (K.taken sink.old) (K.taken sink.new) (ask_bytes (opaque_for asked) ask.now.view) }
+    ensures ends { EndsWriting result }
+    ensures cause { CountsTelling result (K.faults sink.old) (K.faults sink.new) }
+{
+    buffer.clear();
+    let Ok(()) = ask.write(alloc, opaque_of(asked), buffer) else {
+        return Err(Stop::Memory);
+    };
+    match write_all(sink, buffer.as_slice()) {
+        Ok(()) => Ok(()),
+        Err(_) => Err(Stop::Sink),
+    }
+}
+
+/// Writes the frames of these check-backs, one after another, and counts them. The buffer is for their bytes.
+pub(crate) fn write_asks<K: Sink>(
+    alloc: Global,
+    asks: &[Ask],
+    asked: &mut u32,
+    buffer: &mut Vec<u8>,
+    sink: &mut K,
+) -> Result<(), Stop>
+    ensures written { K.tells → WritesPiece result (K.taken sink.old) (K.taken sink.new) (asks_bytes asked.old asks.now) }
+    ensures counted { OnOk result (asked.new ≡ count_after asked.old asks.now) }
+    ensures ends { EndsWriting result }
+    ensures cause { CountsTelling result (K.faults sink.old) (K.faults sink.new) }
+{
+    for ask in asks {
+        match write_ask(alloc, ask, *asked, buffer, sink) {
+            Ok(()) => *asked = next_count(*asked),
+            Err(stop) => return Err(stop),
+        }
+    }
+    Ok(())
 }

@@ -2,7 +2,7 @@
 use Rattle.std.proofs.Common.{◌≡◌, ◌≢◌, ⊎_elim, inl, inr, ◌++◌, List, [], ◌∷◌, Option, Some, None, refl, sym, ap, ◌∙◌, subst}
 use Rattle.broker_events.specs.declared.event.Event.{Event}
 use Rattle.broker_events.specs.Shown.{Shown, moved}
-use Rattle.broker_events.specs.declared.event.Event.TheVariants.{Request, Take, Flushed, FlushFailed, Look, Dispatch, Deliver, Leave}
+use Rattle.broker_events.specs.declared.event.Event.TheVariants.{Request, Take, Flushed, FlushFailed, Look, Dispatch, Deliver, Check, Leave}
 use Rattle.broker_events.specs.declared.said.Said.{Said}
 use Rattle.broker_events.specs.declared.said.Said.TheVariants as said
 use Rattle.worker_turns.specs.Turns.{Steps, TakesFrom, Writes, HasEnded, WroteNone, CountsEnd}
@@ -36,7 +36,7 @@ pub memory_broke : (fault : Broken) (acts : List Act) → fault ≡ broken.Memor
 memory_broke fault acts is = subst (λ (f : Broken). BrokeBy f acts) (sym is) tt
 
 -- the events that take no batch
-abbrev IsOther : Event → Type 0
+abbrev pub IsOther : Event → Type 0
 IsOther (Request link host now request) = Unit {0}
 IsOther Take = ⊥
 IsOther (Flushed receipt) = Unit {0}
@@ -44,6 +44,7 @@ IsOther (FlushFailed count) = Unit {0}
 IsOther (Look number turn) = Unit {0}
 IsOther (Dispatch most) = Unit {0}
 IsOther (Deliver now) = Unit {0}
+IsOther (Check now) = Unit {0}
 IsOther (Leave link) = Unit {0}
 
 pub takes_none : (e : Event) (what : Option Said) → IsOther e → TakesBatch e what → ⊥

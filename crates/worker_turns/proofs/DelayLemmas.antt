@@ -9,11 +9,10 @@ use Rattle.broker_events.specs.declared.said.Said.{Said}
 use Rattle.broker_events.specs.declared.said.Said.TheVariants as said
 use Rattle.broker_events.proofs.Makes.{makes_snoc}
 use Rattle.worker_turns.specs.Turns.{Steps}
-use Rattle.worker_turns.specs.Acts.{Act, Made, DiskView, Place, Acts, Acted, change_of}
-use Rattle.worker_turns.specs.Turning.{AllTurnsDispatched}
-use Rattle.worker_turns.specs.Delays.{delivery, Delivers, most_delivered, IsLastOf, AreDeliveries, HasDelivered, acts_of_steps, AreDelayActs, DueTurns}
-use Rattle.worker_turns.specs.declared.broken.Broken.{Broken}
-use Rattle.worker_turns.proofs.ActLemmas.{still, one_step, takes_none, acts_then, acted_then, broke_behind}
+use Rattle.worker_turns.specs.Acts.{DiskView, Place, Acted, change_of}
+use Rattle.worker_turns.specs.Delays.{delivery, Delivers, most_delivered, IsLastOf, AreDeliveries, HasDelivered}
+use Rattle.worker_turns.specs.Due.{acts_of_steps, AreDelayActs}
+use Rattle.worker_turns.proofs.StepLemmas.{AreOf, of_append, of_none, of_one, steps_acts}
 
 -- so many deliveries were made, and nothing else
 pub record HasMadeOnly {C : Type 0} (makes : Steps C) (now : ℕ) (x : C) (count : ℕ) (y : C) : Type 0 where
@@ -60,60 +59,27 @@ module _ {C : Type 0} (makes : Steps C) (now : ℕ) (x : C) where
 
 -- ---- acts
 
--- these steps are deliveries
-abbrev AreDelivering : ℕ → List (Event × Option Said) → Type 0
-AreDelivering now [] = Unit {0}
-AreDelivering now (step ∷ steps) = (step.0 ≡ Deliver now) × AreDelivering now steps
-
-delivering_append : (now : ℕ) (first later : List (Event × Option Said)) → AreDelivering now first → AreDelivering now later → AreDelivering now (first ++ later)
-delivering_append now [] later are more = more
-delivering_append now (step ∷ first) later are more = (are.0, delivering_append now first later are.1 more)
-
-delivering_made : (now : ℕ) (delivered : List (ℕ × ℕ)) → AreDelivering now (map (delivery now) delivered)
+delivering_made : (now : ℕ) (delivered : List (ℕ × ℕ)) → AreOf (Deliver now) (map (delivery now) delivered)
 delivering_made now [] = tt
 delivering_made now (what ∷ delivered) = (refl, delivering_made now delivered)
 
-last_delivering : (now : ℕ) (delivered : List (ℕ × ℕ)) (last : List (Event × Option Said)) → IsLastOf now delivered last → AreDelivering now last
-last_delivering now delivered last (inl it) = subst (λ (l : List (Event × Option Said)). AreDelivering now l) (sym it.2) (refl, tt)
-last_delivering now delivered last (inr it) = subst (λ (l : List (Event × Option Said)). AreDelivering now l) (sym it.1) tt
+last_delivering : (now : ℕ) (delivered : List (ℕ × ℕ)) (last : List (Event × Option Said)) → IsLastOf now delivered last → AreOf (Deliver now) last
+last_delivering now delivered last (inl it) = of_one (Deliver now) (Some it.0) last it.2
+last_delivering now delivered last (inr it) = of_none (Deliver now) last it.1
 
-ends_delivering : (now : ℕ) (result : Result ℕ AllocError) (steps : List (Event × Option Said)) → AreDeliveries now result steps → AreDelivering now steps
+ends_delivering : (now : ℕ) (result : Result ℕ AllocError) (steps : List (Event × Option Said)) → AreDeliveries now result steps → AreOf (Deliver now) steps
 ends_delivering now (Ok count) steps it =
-    subst (λ (l : List (Event × Option Said)). AreDelivering now l) (sym it.are)
-    (delivering_append now (map (delivery now) it.delivered) it.last (delivering_made now it.delivered) (last_delivering now it.delivered it.last it.ends.1))
+    subst (λ (l : List (Event × Option Said)). AreOf (Deliver now) l) (sym it.are)
+    (of_append (Deliver now) (map (delivery now) it.delivered) it.last (delivering_made now it.delivered) (last_delivering now it.delivered it.last it.ends.1))
 ends_delivering now (Err fault) steps it =
-    subst (λ (l : List (Event × Option Said)). AreDelivering now l) (sym it.are)
-    (delivering_append now (map (delivery now) it.delivered) it.last (delivering_made now it.delivered)
-    (subst (λ (l : List (Event × Option Said)). AreDelivering now l) (sym it.ends) (refl, tt)))
+    subst (λ (l : List (Event × Option Said)). AreOf (Deliver now) l) (sym it.are)
+    (of_append (Deliver now) (map (delivery now) it.delivered) it.last (delivering_made now it.delivered) (of_one (Deliver now) None it.last it.ends))
 
-module _ {C D : Type 0} (makes : Steps C) (view : DiskView D) (p : Place D) where
-  -- a delivery leaves the disk as it is
-  one_delivery : (now : ℕ) (e : Event) (what : Option Said) (x y : C) → e ≡ Deliver now → makes x e what y → Acts makes view (Made e what ∷ []) (change_of x p y p)
-  one_delivery now e what x y is made =
-      subst (λ (it : Event). Acts makes view (Made it what ∷ []) (change_of x p y p)) (sym is)
-      (one_step makes view (Deliver now) what x y p p tt (takes_none (Deliver now) what tt) (subst (λ (it : Event). makes x it what y) is made) refl)
-
-  delay_acts : (now : ℕ) (steps : List (Event × Option Said)) (x y : C) → AreDelivering now steps → Makes makes x steps y → Acts makes view (acts_of_steps steps) (change_of x p y p)
-  delay_acts now [] x y are made = subst (λ (w : C). Acts makes view [] (change_of x p w p)) made (still makes view x p)
-  delay_acts now (step ∷ steps) x y are made =
-      acts_then makes view (Made step.0 step.1 ∷ []) (acts_of_steps steps) x made.0 y p p p
-      (one_delivery now step.0 step.1 x made.0 are.0 made.1) (delay_acts now steps made.0 y are.1 made.2)
-
-  -- a delay turn
-  pub delay_acted : (now : ℕ) (result : Result ℕ AllocError) (x y : C) → HasDelivered makes now x result y → Acted makes view (AreDelayActs now result) (change_of x p y p)
-  delay_acted now result x y it = record {
-    acts = acts_of_steps it.steps;
-    kind = (it.steps, it.are, refl);
-    happened = delay_acts now it.steps x y (ends_delivering now result it.steps it.are) it.made;
-  }
-
--- flush turns behind it
-due_joined : {A : Type 0} (now count : ℕ) (result : Result A Broken) (first later : List Act) → AreDelayActs now (Ok count) first → AllTurnsDispatched result later → DueTurns now result (first ++ later)
-due_joined now count (Ok done) first later delivered turned = record { count = count; delays = first; turns = later; delivered = delivered; turned = turned; are_all = refl }
-due_joined now count (Err fault) first later delivered broke = broke_behind fault first later broke
-
-pub due_acted : {C D A : Type 0} (makes : Steps C) (view : DiskView D) (now count : ℕ) (result : Result A Broken) (x y z : C) (p q r : Place D)
-    → Acted makes view (AreDelayActs now (Ok count)) (change_of x p y q) → Acted makes view (AllTurnsDispatched result) (change_of y q z r) → Acted makes view (DueTurns now result) (change_of x p z r)
-due_acted makes view now count result x y z p q r first later =
-    acted_then makes view (AreDelayActs now (Ok count)) (AllTurnsDispatched result) (DueTurns now result) x y z p q r first later
-    (λ before behind delivered turned. due_joined now count result before behind delivered turned)
+-- a delay turn
+pub delay_acted : {C D : Type 0} (makes : Steps C) (view : DiskView D) (p : Place D) (now : ℕ) (result : Result ℕ AllocError) (x y : C) → HasDelivered makes now x result y
+    → Acted makes view (AreDelayActs now result) (change_of x p y p)
+delay_acted makes view p now result x y it = record {
+  acts = acts_of_steps it.steps;
+  kind = (it.steps, it.are, refl);
+  happened = steps_acts makes view p (Deliver now) it.steps x y tt tt (ends_delivering now result it.steps it.are) it.made;
+}

@@ -11,7 +11,7 @@ use Rattle.segment_files.specs.declared.last_file.LastFile.{LastFile}
 use Rattle.broker_events.specs.Makes.{Makes}
 use Rattle.broker_events.specs.Shown.{Shown}
 use Rattle.broker_events.specs.declared.event.Event.{Event}
-use Rattle.broker_events.specs.declared.event.Event.TheVariants.{Request, Take, Flushed, FlushFailed, Look, Dispatch, Deliver, Leave}
+use Rattle.broker_events.specs.declared.event.Event.TheVariants.{Request, Take, Flushed, FlushFailed, Look, Dispatch, Deliver, Check, Leave}
 use Rattle.broker_events.specs.declared.said.Said.{Said}
 use Rattle.broker_events.specs.declared.said.Said.TheVariants as said
 use Rattle.worker_turns.specs.Turns.{Steps, TakesFrom, SyncedLog, synced_log, Writes}
@@ -79,6 +79,7 @@ IsBetween (FlushFailed count) = Unit {0}
 IsBetween (Look number turn) = Unit {0}
 IsBetween (Dispatch most) = Unit {0}
 IsBetween (Deliver now) = Unit {0}
+IsBetween (Check now) = Unit {0}
 IsBetween (Leave link) = Unit {0}
 
 -- a batch was taken by the step

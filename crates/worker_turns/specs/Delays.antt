@@ -1,5 +1,6 @@
 -- What a delay turn is: deliveries, one after another, until one finds nothing that it may deliver.
-use Rattle.std.specs.Prelude.{◌≡◌, ◌⊎◌, ℕ, ◌^◌, ◌-◌, ◌++◌, List, [], ◌∷◌, length, map, Bool, true, false, Option, Some, None, Result, Ok, Err}
+use Rattle.std.specs.Prelude.{◌≡◌, ◌⊎◌, ℕ, ◌^◌, ◌-◌, ◌++◌, List, [], ◌∷◌, length, map}
+use Rattle.std.specs.Prelude.{Bool, true, false, Option, Some, None, Result, Ok, Err}
 use Rattle.std.specs.declared.alloc.AllocError.{AllocError}
 use Rattle.broker_events.specs.Makes.{Makes}
 use Rattle.broker_events.specs.declared.event.Event.{Event}
@@ -7,9 +8,6 @@ use Rattle.broker_events.specs.declared.event.Event.TheVariants.{Deliver}
 use Rattle.broker_events.specs.declared.said.Said.{Said}
 use Rattle.broker_events.specs.declared.said.Said.TheVariants as said
 use Rattle.worker_turns.specs.Turns.{Steps}
-use Rattle.worker_turns.specs.Acts.{Act, Made}
-use Rattle.worker_turns.specs.Turning.{AreTurnsAndDispatch, BrokeBy}
-use Rattle.worker_turns.specs.declared.broken.Broken.{Broken}
 
 -- a delivery at this reading, of this level and with this number in it
 abbrev pub delivery : ℕ → (ℕ × ℕ) → Event × Option Said
@@ -27,6 +25,7 @@ DeliversNone (said.Moved number) = ⊥
 DeliversNone said.LogEnd = Unit {0}
 DeliversNone (said.Delivered None) = Unit {0}
 DeliversNone (said.Delivered (Some what)) = ⊥
+DeliversNone (said.Checked what) = ⊥
 
 -- one event was made, and by its answer a message was delivered, or none was; where memory ran out nothing was said
 abbrev pub Delivers : {C : Type 0} → Steps C → ℕ → C → Result Bool AllocError → C → Type 0
@@ -60,28 +59,3 @@ pub record HasDelivered {C : Type 0} (makes : Steps C) (now : ℕ) (x : C) (resu
   pub steps : List (Event × Option Said)
   pub are : AreDeliveries now result steps
   pub made : Makes makes x steps y
-
--- ---- and flush turns behind it
-
--- the acts of these steps
-abbrev pub acts_of_steps : List (Event × Option Said) → List Act
-acts_of_steps = map (λ step. Made step.0 step.1)
-
--- the acts of a delay turn, unless memory ran out
-abbrev pub AreDelayActs : ℕ → Result ℕ AllocError → List Act → Type 0
-AreDelayActs now result acts = (steps : List (Event × Option Said)) × AreDeliveries now result steps × (acts ≡ acts_of_steps steps)
-
--- What was due at this reading was delivered; then came flush turns until nothing was pending or one failed; and then consumers see
--- what is flushed.
-pub record AreDueTurns (now : ℕ) (acts : List Act) : Type 0 where
-  pub count : ℕ
-  pub delays : List Act
-  pub turns : List Act
-  pub delivered : AreDelayActs now (Ok count) delays
-  pub turned : AreTurnsAndDispatch turns
-  pub are_all : acts ≡ delays ++ turns
-
--- the same, unless they broke off
-abbrev pub DueTurns : {A : Type 0} → ℕ → Result A Broken → List Act → Type 0
-DueTurns now (Ok done) acts = AreDueTurns now acts
-DueTurns now (Err fault) acts = BrokeBy fault acts

@@ -1,21 +1,19 @@
 //! Flush turns, one after another, until nothing is pending or one failed.
 
-ghost use Rattle.std.specs.Prelude.{◌≡◌, ◌≢◌, ◌<◌, ◌^◌};
+ghost use Rattle.std.specs.Prelude.{◌≡◌, ◌≢◌};
 ghost use Rattle.log_model.specs.Stored.{StaysOutside};
 ghost use Rattle.segment_files.specs.Turn.{IsInside};
 ghost use Rattle.worker_turns.specs.Turns.{CountsEnd, TakesFrom};
 ghost use Rattle.worker_turns.specs.Acts.{IsFree, Acted, place_of, view_of, change_of};
 ghost use Rattle.worker_turns.specs.Turning.{IsTurn, AreAllTurns, AllTurnsDispatched, IsDispatch, CountsAll};
-ghost use Rattle.worker_turns.specs.Delays.{AreDelayActs, DueTurns};
 
 use crate::broken::Broken;
-use crate::delays::delay_turn;
 use crate::dispatch::dispatch_turn;
 use crate::flush::{FlushEnd, flush_turn};
 use broker_events::Calls;
 use group_flush::Flusher;
 use mq_outside::Disk;
-use std::alloc::{AllocError, Global};
+use std::alloc::Global;
 
 /// One flush turn.
 pub fn turn<C: Calls, D: Disk>(
@@ -100,49 +98,5 @@ pub fn flush_and_dispatch<C: Calls, D: Disk>(
             dispatch(alloc, calls);
             Ok(())
         }
-    }
-}
-
-// Delivers what is due. The disk stays as it is.
-fn deliver_due<C: Calls, D: Disk>(
-    alloc: Global,
-    calls: &mut C,
-    flusher: &Flusher,
-    disk: &D,
-    now: u64,
-) -> Result<u32, AllocError>
-    requires now { now < 2 ^ 62 }
-    requires free { IsFree (C.has_key calls.old) (C.shown calls.old) }
-    ensures acted { Acted C.makes (view_of D.tells D.state D.faults D.syncs) (AreDelayActs now result)
-        (change_of calls.old (place_of flusher.now.file disk.now)
-        calls.new (place_of flusher.now.file disk.now)) }
-    ensures free { IsFree (C.has_key calls.new) (C.shown calls.new) }
-{
-    delay_turn(alloc, calls, now)
-}
-
-/// Delivers what is due at this reading of the clock, in milliseconds, makes flush turns until nothing is pending or one fails, and
-/// then consumers see what is flushed. What found no room among the pending bytes is left to the next call.
-#[tactic(auto, using(log_model::proofs::OutsideLemmas::outside_start))]
-pub fn due_turns<C: Calls, D: Disk>(
-    alloc: Global,
-    calls: &mut C,
-    flusher: &mut Flusher,
-    disk: &mut D,
-    now: u64,
-) -> Result<(), Broken>
-    requires now { now < 2 ^ 62 }
-    requires free { IsFree (C.has_key calls.old) (C.shown calls.old) }
-    requires inside { D.tells → IsInside flusher.old.file.base flusher.old.file.offset (D.state disk.old) }
-    ensures acted { Acted C.makes (view_of D.tells D.state D.faults D.syncs) (DueTurns now result)
-        (change_of calls.old (place_of flusher.old.file disk.old)
-        calls.new (place_of flusher.new.file disk.new)) }
-    ensures free { IsFree (C.has_key calls.new) (C.shown calls.new) }
-    ensures inside { D.tells → IsInside flusher.new.file.base flusher.new.file.offset (D.state disk.new) }
-    ensures outside { D.tells → StaysOutside (D.state disk.old) (D.state disk.new) }
-{
-    match deliver_due(alloc, calls, flusher, disk, now) {
-        Err(_) => Err(Broken::Memory),
-        Ok(_count) => flush_and_dispatch(alloc, calls, flusher, disk),
     }
 }

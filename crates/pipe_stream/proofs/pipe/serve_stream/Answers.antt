@@ -36,10 +36,10 @@ returns-in-Ok-end_of-clause-served g c =
     (λ told. c.in-Ok.ensures.given told ∙ ap (λ (n : ℕ). g.S.Source.given c.loop-total.source ++ take n c.read_piece.new.input) c.if-read-eq0.true
     ∙ append-nil (g.S.Source.given c.loop-total.source))
     (λ told. c.in-Ok.ensures.end told c.if-read-eq0.true)
-    c.in-Ok-end_of.ensures c.close.ensures.closed refl refl
+    c.in-Ok-end_of.ensures c.close.ensures.closed refl
 
 pub returns-in-Ok-end_of-clause-cause : goal.returns-in-Ok-end_of-clause-cause
-returns-in-Ok-end_of-clause-cause g c = counts_closed c.close.result _ _ _ _ _ _ _ c.loop-total.invariant.clock c.close.ensures.cause
+returns-in-Ok-end_of-clause-cause g c = counts_closed c.close.result _ _ _ _ _ _ _ _ c.loop-total.invariant.sink c.loop-total.invariant.clock c.close.ensures.cause
 
 pub returns-in-Err-end_of-clause-cause : goal.returns-in-Err-end_of-clause-cause
 returns-in-Err-end_of-clause-cause g c = counts_end _ c.in-Err-end_of.halt _ _ _ _ _ _ c.in-Err-end_of.ensures

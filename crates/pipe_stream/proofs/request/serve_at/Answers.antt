@@ -1,27 +1,15 @@
-use Rattle.std.proofs.Common.{rules, refl}
-use Rattle.std.proofs.lemmas.Int.{to_z-of_z}
-use Rattle.std.specs.Int.{w32}
+use Rattle.std.proofs.Common.{refl}
 use Rattle.log_model.proofs.OutsideLemmas.{outside_then}
-use Rattle.pipe_stream.proofs.TellingLemmas.{served_broken, given_broken, served_by}
+use Rattle.pipe_stream.proofs.DueLemmas.{asked_broke, asked_served, heard_at}
 use Rattle.pipe_stream.proofs.request.serve_at.Goals as goal
 
 pub returns-in-Err-clause-served : goal.returns-in-Err-clause-served
-returns-in-Err-clause-served g c = λ frame is.
-    served_broken _ frame c.args.now c.in-Err.broken c.stop_of.result _ _ _ _ c.stop_of.ensures c.in-Err.ensures.acted refl
+returns-in-Err-clause-served g c = λ frame is. asked_broke _ frame c.args.now c.in-Err.stop _ _ _ _ (c.in-Err.ensures.asked (g.R.Reader.faults c.args.reader.now))
 
-pub returns-in-Err-give_request-clause-served : goal.returns-in-Err-give_request-clause-served
-returns-in-Err-give_request-clause-served g c = λ frame is.
-    given_broken _ frame c.args.now c.in-Err-give_request.broken c.stop_of-in-Err-give_request.result _ _ _ _ _ _ c.stop_of-in-Err-give_request.ensures
-    c.in-Ok.ensures.acted c.in-Err-give_request.ensures.acted refl
+pub returns-in-Ok-clause-served : goal.returns-in-Ok-clause-served
+returns-in-Ok-clause-served g c = λ frame is.
+    asked_served _ frame c.args.now c.answer_heard.result _ _ _ _ _ _ (c.in-Ok.ensures.asked (g.R.Reader.faults c.args.reader.now)) refl refl
+    (heard_at _ frame c.args.now c.answer_heard.result _ _ _ _ _ _ _ _ c.ask_due.new.asked (c.answer_heard.ensures.answered frame is))
 
-pub returns-in-Ok-give_request-clause-served : goal.returns-in-Ok-give_request-clause-served
-returns-in-Ok-give_request-clause-served g c = λ frame is.
-    served_by _ frame c.args.now c.args.heard c.in-Ok-give_request.answer _ c.caller-caller.result c.answer_request.result _ _ _ _ _ _ _ _ (to_z-of_z w32 c.args.heard.code (search rules))
-    c.caller-caller.ensures is c.in-Ok.ensures.acted c.in-Ok-give_request.ensures.acted refl refl c.answer_request.ensures.answered
-
-pub returns-in-Err-give_request-clause-outside : goal.returns-in-Err-give_request-clause-outside
-returns-in-Err-give_request-clause-outside g c tells = outside_then (c.in-Ok.ensures.outside tells) (c.in-Err-give_request.ensures.outside tells)
-
-pub returns-in-Ok-give_request-clause-outside : goal.returns-in-Ok-give_request-clause-outside
-returns-in-Ok-give_request-clause-outside g c tells =
-    outside_then (outside_then (c.in-Ok.ensures.outside tells) (c.in-Ok-give_request.ensures.outside tells)) (c.answer_request.ensures.outside tells)
+pub returns-in-Ok-clause-outside : goal.returns-in-Ok-clause-outside
+returns-in-Ok-clause-outside g c tells = outside_then (c.in-Ok.ensures.outside tells) (c.answer_heard.ensures.outside tells)
