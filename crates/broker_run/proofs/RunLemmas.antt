@@ -30,7 +30,7 @@ use Rattle.log_opening.specs.Opens.{OpensWith, OpensKeptWith, OpensOursWith, Ope
 use Rattle.log_opening.specs.declared.opening.Opened.{Opened}
 use Rattle.worker_turns.specs.Acts.{Act, HasUnwritten, Acts, Acted, DiskView, Place, place_of, growing_at, turns_of, steps_of, change_of}
 use Rattle.worker_turns.specs.Turning.{AreAllTurns}
-use Rattle.pipe_stream.specs.Serving.{Sides, Point, point_of, acts_of, Begun, Nothing, Asked, Closing, begun_acts, Breaks}
+use Rattle.pipe_stream.specs.Serving.{Sides, Point, point_at, point_of, acts_of, Begun, Nothing, Asked, Closing, begun_acts, Breaks}
 use Rattle.pipe_stream.specs.Piping.{RanToEnd, acts_in}
 use Rattle.log_recovery.specs.Recovered.{OnDamage, StaysFlushed}
 use Rattle.log_recovery.specs.declared.fault.RecoverFault.{RecoverFault}
@@ -158,7 +158,7 @@ run_from {D = D} it ended seen setup saved log x y reads opens same served =
     let s = (opened_over setup saved log).now in
     let place : Place D = place_of it.flusher.file seen.old in
     let start = point_of place reads seen.taken seen.readings in
-    let mid = point_of served.mid served.reads seen.taken_then seen.readings_then in
+    let mid = point_at served.mid served.reads seen.taken_then seen.readings_then served.piped.asked in
     let are : Represents x.core s = subst (λ (c : Parts). Represents c s) (sym same) opens.represents in
     let first = acts_in sides ended.reading served.piped.frames (change_of x start served.served mid) served.piped.ran in
     let acts = first ++ served.flushed.acts in
@@ -223,7 +223,7 @@ placed_for setup saved log it opens =
 begun_unwritten : (gives : Giving) (begun : Begun) (faults faults_then : ℕ) → Breaks gives stops.Misplaced begun faults faults_then → HasUnwritten (begun_acts begun)
 begun_unwritten gives Nothing faults faults_then breaks = absurd breaks
 begun_unwritten gives (Asked it) faults faults_then breaks = breaks.0
-begun_unwritten gives (Closing reading acts) faults faults_then breaks = breaks
+begun_unwritten gives (Closing reading asks acts) faults faults_then breaks = breaks.0
 
 reads_placed : {D A : Type 0} (seen : Seen D) (result : Result A Halt) (frames : List Frame) (s : State) (x y : Alone) (old new : Point D) → Represents x.core s
     → IsPlacedFor s old.place.file → RanToEnd (sides_for seen) result frames (change_of x old y new) → ReadsPlaced result
@@ -252,7 +252,7 @@ run_placed {D = D} it ended seen setup saved log x y reads opens same served =
     let s = (opened_over setup saved log).now in
     let place : Place D = place_of it.flusher.file seen.old in
     let start = point_of place reads seen.taken seen.readings in
-    let mid = point_of served.mid served.reads seen.taken_then seen.readings_then in
+    let mid = point_at served.mid served.reads seen.taken_then seen.readings_then served.piped.asked in
     let are : Represents x.core s = subst (λ (c : Parts). Represents c s) (sym same) opens.represents in
     let here = placed_for setup saved log it opens in
     let first = acts_in sides ended.reading served.piped.frames (change_of x start served.served mid) served.piped.ran in

@@ -44,7 +44,7 @@ use Rattle.worker_turns.specs.Turning.{AreAllTurns}
 use Rattle.worker_turns.specs.declared.broken.Broken.{Broken}
 use Rattle.worker_turns.specs.declared.broken.Broken.TheVariants as broken
 use Rattle.pipe_stream.specs.Serving.{Sides, sides_of, point_of}
-use Rattle.pipe_stream.specs.Piping.{SourceSeen, Piped, acts_in, stream_limit}
+use Rattle.pipe_stream.specs.Piping.{SourceSeen, Piped, acts_read, stream_limit}
 use Rattle.flush_story.specs.Keeping.{AreInOrder, AreExact}
 use Rattle.flush_story.specs.Leads.{alone}
 use Rattle.pipe_stream.specs.declared.stop.Halt.{Halt}
@@ -245,9 +245,9 @@ pub record RunFrom {D : Type 0} (setup : Setup) (saved : Saved) (log : List Entr
   pub piped : Piped (sides_for seen) ended.reading seen.source
       (change_of calls (point_of place reads seen.taken seen.readings)
       served (point_of mid reads_then seen.taken_then seen.readings_then))
-  pub first_is : first ≡ acts_in (sides_for seen) ended.reading piped.frames
+  pub first_is : first ≡ acts_read (sides_for seen) ended.reading seen.source
       (change_of calls (point_of place reads seen.taken seen.readings)
-      served (point_of mid reads_then seen.taken_then seen.readings_then)) piped.ran
+      served (point_of mid reads_then seen.taken_then seen.readings_then)) piped
   pub flushed : Acted alone seen.disk (AreAllTurns ended.last) (change_of served mid closed final)
   pub reached : State
   pub runs : RunsTo setup saved log (first ++ flushed.acts) reached

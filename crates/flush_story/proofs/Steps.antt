@@ -15,7 +15,8 @@ use Rattle.broker_model.specs.Step.{Step, after, changed, request_changed, with_
 use Rattle.broker_model.specs.Laws.{IsRemoval}
 use Rattle.broker_model.proofs.StepLemmas.{log_grows, with_appended-nil}
 use Rattle.broker_events.specs.declared.event.Event.{Event}
-use Rattle.broker_events.specs.declared.event.Event.TheVariants.{Request as Asks, Take, Flushed, FlushFailed, Look, Dispatch, Deliver, Leave}
+use Rattle.broker_events.specs.declared.event.Event.TheVariants.{Request as Asks, Take, Flushed, FlushFailed}
+use Rattle.broker_events.specs.declared.event.Event.TheVariants.{Look, Dispatch, Deliver, Check, Leave}
 use Rattle.broker_events.specs.Steps.{event_of}
 use Rattle.log_model.specs.declared.batch.Receipt.{Receipt}
 use Rattle.flush_story.specs.Story.{IsBetween}
@@ -54,6 +55,7 @@ changed_alike s (FlushFailed count) between = record { setup = refl; flushed = r
 changed_alike s (Look number turn) between = record { setup = refl; flushed = refl }
 changed_alike s (Dispatch most) between = record { setup = refl; flushed = refl }
 changed_alike s (Deliver now) between = record { setup = refl; flushed = refl }
+changed_alike s (Check now) between = record { setup = refl; flushed = refl }
 changed_alike s (Leave link) between = record { setup = refl; flushed = refl }
 
 after_alike : (s : State) (e : Event) → IsBetween e → Alike s (after s (event_of e))
@@ -98,6 +100,7 @@ no_removal (FlushFailed count) removal = removal
 no_removal (Look number turn) removal = removal
 no_removal (Dispatch most) removal = removal
 no_removal (Deliver now) removal = removal
+no_removal (Check now) removal = removal
 no_removal (Leave link) removal = removal
 
 setup_stays : (s : State) (e : Event) → (after s (event_of e)).setup ≡ s.setup
@@ -108,6 +111,7 @@ setup_stays s (FlushFailed count) = (after_alike s (FlushFailed count) tt).setup
 setup_stays s (Look number turn) = (after_alike s (Look number turn) tt).setup
 setup_stays s (Dispatch most) = (after_alike s (Dispatch most) tt).setup
 setup_stays s (Deliver now) = (after_alike s (Deliver now) tt).setup
+setup_stays s (Check now) = (after_alike s (Check now) tt).setup
 setup_stays s (Leave link) = (after_alike s (Leave link) tt).setup
 
 pub step_grows : (s t : State) (e : Event) (answer : Option events.Answer) → Step s (event_of e) answer t → Grows s t

@@ -12,7 +12,7 @@ use Rattle.broker_model.specs.Events as model
 use Rattle.broker_model.specs.Step.{Step}
 use Rattle.broker_events.specs.Steps.{event_of, SaysIn}
 use Rattle.broker_events.specs.declared.event.Event.{Event}
-use Rattle.broker_events.specs.declared.event.Event.TheVariants.{Request, Take, Flushed, FlushFailed, Look, Dispatch, Deliver, Leave}
+use Rattle.broker_events.specs.declared.event.Event.TheVariants.{Request, Take, Flushed, FlushFailed, Look, Dispatch, Deliver, Check, Leave}
 use Rattle.broker_events.specs.declared.said.Said.{Said}
 use Rattle.broker_events.specs.declared.said.Said.TheVariants as said
 
@@ -38,6 +38,7 @@ IsBetween (FlushFailed count) = Unit {0}
 IsBetween (Look number turn) = Unit {0}
 IsBetween (Dispatch most) = Unit {0}
 IsBetween (Deliver now) = Unit {0}
+IsBetween (Check now) = Unit {0}
 IsBetween (Leave link) = Unit {0}
 
 -- none of the events does

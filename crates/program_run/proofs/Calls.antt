@@ -17,7 +17,7 @@ use Rattle.flush_story.specs.Leads.{alone}
 use Rattle.worker_turns.specs.Acts.{Act, Acts, Change, Place, change_of, turns_of}
 use Rattle.worker_turns.specs.declared.broken.Broken.{Broken}
 use Rattle.worker_turns.proofs.ActLemmas.{acts_then}
-use Rattle.pipe_stream.specs.Serving.{Point, Sides, places_of, point_of}
+use Rattle.pipe_stream.specs.Serving.{Point, Sides, places_of, point_at, point_of}
 use Rattle.pipe_stream.specs.Piping.{RanToEnd, acts_in}
 use Rattle.pipe_stream.specs.declared.stop.Halt.{Halt}
 use Rattle.pipe_stream.specs.declared.stop.Halt.TheVariants.{BadFrame, Read, Stopped}
@@ -48,7 +48,7 @@ module _ {D : Type 0} (seen : Seen D) (sends : KeepsSent seen) where
   run_stand setup offsets topics reading last S log first flushed kept sync ran =
       let piped = ran.piped in
       let change : Change Alone (Point D) = change_of ran.calls (point_of ran.place ran.reads seen.taken seen.readings)
-      ran.served (point_of ran.mid ran.reads_then seen.taken_then seen.readings_then) in
+      ran.served (point_at ran.mid ran.reads_then seen.taken_then seen.readings_then piped.asked) in
       let acts : List Act = ran.first ++ ran.flushed.acts in
       let served : Acts alone seen.disk ran.first (change_of ran.calls ran.place ran.served ran.mid) =
       subst (λ (l : List Act). Acts alone seen.disk l (change_of ran.calls ran.place ran.served ran.mid)) (sym ran.first_is)
@@ -59,13 +59,14 @@ module _ {D : Type 0} (seen : Seen D) (sends : KeepsSent seen) where
       (sends setup offsets topics first acts ran.reached (change_of ran.calls ran.place ran.closed ran.final) ran.runs happened sync)
       survives.order survives.stores.at.well_formed (λ m files low high image. (survives.after m files low high image).has)
       (sides_for seen) refl piped.frames change reading ran.flushed.acts piped.ran (ap (λ (l : List Act). l ++ ran.flushed.acts) ran.first_is) in
-      let on = answers_before seen.gives S ran.reached.log.records survives.opening (before seen).moment (behind seen) (requests_of piped.frames) seen.sink seen.taken seen.taken_then survives.later all in
+      let on = answers_before seen.gives S ran.reached.log.records survives.opening (before seen).moment (behind seen) (requests_of piped.frames) seen.sink seen.taken seen.taken_then 0 survives.later all in
       record {
         bytes = piped.bytes;
         frames = piped.frames;
         end = piped.at;
         rest = piped.rest;
         answers = on.answers;
+        last_asks = on.behind;
         left = on.left;
         log = ran.reached.log.records;
         flushed = length first + turned_in (turns_of acts);

@@ -1,9 +1,8 @@
 -- What the model answers to a message that waits for the disk, and the record that it appends.
-use Rattle.std.proofs.Common.{◌≡◌, ◌⊎◌, ⊎_elim, inl, inr, ℕ, ◌+◌, ◌-◌, ◌<◌, max, List, [], ◌∷◌, length, Bool, true, false, Option, Some, None, refl, sym, ap, ◌∙◌, subst, arith}
+use Rattle.std.proofs.Common.{◌≡◌, ◌⊎◌, ⊎_elim, inl, inr, ℕ, ◌+◌, ◌-◌, ◌<◌, max, List, [], ◌∷◌, length, Bool, true, false, Option, Some, None, refl, ap, ◌∙◌, subst, arith}
 use Rattle.std.specs.Prelude.{◌&&◌, ◌==◌, not, nat_lt, codes, is_none, if◌then◌else◌}
 use Rattle.record_codec.specs.Entry.{Entry}
 use Rattle.record_codec.specs.Layout.{is_legal, are_hosts_short}
-use Rattle.record_codec.specs.declared.draft.Draft.{Draft}
 use Rattle.log_model.specs.Admissible.{is_system_topic}
 use Rattle.log_model.specs.Numbered.{count_of, next_record, with_appended}
 use Rattle.request_fields.specs.Requests.{SendSaid}
@@ -17,7 +16,7 @@ use Rattle.broker_model.specs.Appended.{drafts_of, made_by, appended, is_refused
 use Rattle.broker_model.specs.Answers.{reply_with, send_ext, send_answer, request_answer, carried_out_answer, refused_answer, or_refused, answer_of}
 use Rattle.broker_model.specs.Step.{after}
 use Rattle.broker_model.proofs.StepLemmas.{log_grows}
-use Rattle.program_run.specs.Stand.{IsKeptFor, IsMessage}
+use Rattle.program_run.specs.Stand.{IsKeptAs, IsKeptFor, IsMessage}
 
 -- a message that came on this link from this host, at this reading
 abbrev pub asks : ℕ → List ℕ → ℕ → SendSaid → model.Event
@@ -34,29 +33,26 @@ pub made_one : (s : State) (link : ℕ) (host : List ℕ) (now : ℕ) (send : Se
 unfolding drafts_of
 made_one s link host now send = refl
 
-chosen_draft : (half : Bool) (level : Option ℕ) (group : List ℕ) (d : Draft) → not half ≡ true → (if half then half_draft group d else delayed_or_plain level d) ≡ delayed_or_plain level d
-chosen_draft true level group d whole = absurd (cc)
-chosen_draft false level group d whole = refl
-
--- a message that is no half message is kept as it was sent, or as a delayed one
-whole_kept : (store_host born_host : List ℕ) (send : SendSaid) → not (is_half_send send) ≡ true
-    → send_draft store_host born_host send ≡ delayed_or_plain (level_of send) (plain_draft store_host born_host send)
-whole_kept store_host born_host send whole = chosen_draft (is_half_send send) (level_of send) send.group (plain_draft store_host born_host send) whole
-
--- the record of a draft that is kept so
+-- the record of a message that is kept as a delayed one, or as it was sent
 message_for : (s : State) (host : List ℕ) (now : ℕ) (send : SendSaid) (level : Option ℕ)
     → (r : Entry) × (r ≡ next_record s.setup.segment (max now s.now) s.log (delayed_or_plain level (plain_draft s.setup.host host send))) × (r.body ≡ send.body) × IsKeptFor level send r
 message_for s host now send None = (next_record s.setup.segment (max now s.now) s.log (plain_draft s.setup.host host send), refl, refl, (refl, refl, refl))
 message_for s host now send (Some level) =
     (next_record s.setup.segment (max now s.now) s.log (delayed_draft level (plain_draft s.setup.host host send)), refl, refl, (refl, refl, refl))
 
+-- the record of a half message, and of any other
+kept_as : (s : State) (host : List ℕ) (now : ℕ) (send : SendSaid) (half : Bool)
+    → (r : Entry) × (r ≡ next_record s.setup.segment (max now s.now) s.log (if half then half_draft send.group (plain_draft s.setup.host host send) else delayed_or_plain (level_of send) (plain_draft s.setup.host host send)))
+    × (r.body ≡ send.body) × IsKeptAs half send r
+kept_as s host now send true =
+    (next_record s.setup.segment (max now s.now) s.log (half_draft send.group (plain_draft s.setup.host host send)), refl, refl, (refl, refl, refl))
+kept_as s host now send false = message_for s host now send (level_of send)
+
 -- the record is the message
-pub is_message : (s : State) (host : List ℕ) (now : ℕ) (send : SendSaid) → not (is_half_send send) ≡ true → IsMessage send (record_for s host now send)
-is_message s host now send whole =
-    let it = message_for s host now send (level_of send) in
-    let same : it.0 ≡ record_for s host now send =
-    it.1 ∙ sym (ap (λ (d : Draft). next_record s.setup.segment (max now s.now) s.log d) (whole_kept s.setup.host host send whole)) in
-    subst (λ (r : Entry). IsMessage send r) same (record { body = it.2; kept = it.3 })
+pub is_message : (s : State) (host : List ℕ) (now : ℕ) (send : SendSaid) → IsMessage send (record_for s host now send)
+is_message s host now send =
+    let it = kept_as s host now send (is_half_send send) in
+    subst (λ (r : Entry). IsMessage send r) it.1 (record { body = it.2; kept = it.3 })
 
 -- ---- refusals
 

@@ -147,6 +147,7 @@ owed_cases (Some (said.Awaited what)) reply awaits is = absurd (cc)
 owed_cases (Some (said.Moved number)) reply awaits is = absurd (cc)
 owed_cases (Some said.LogEnd) reply awaits is = absurd (cc)
 owed_cases (Some (said.Delivered what)) reply awaits is = absurd (cc)
+owed_cases (Some (said.Checked what)) reply awaits is = absurd (cc)
 
 -- what is owed at once for a message that waits for the disk is no 0
 pub once_code : (s t : State) (now : ℕ) (send : SendSaid) (what : Option Said) (reply : ReplyParts) → s.setup.sync ≡ true → waits (kept_props send.props) ≡ true

@@ -1,6 +1,6 @@
 -- A message that was answered with 0 once it was on the disk: its record stands in the log of the run, and flush turns flushed it.
 use Rattle.std.proofs.Common.{◌≡◌, ◌⊎◌, ⊎_elim, inl, inr, ℕ, ◌+◌, ◌<◌, List, [], ◌∷◌, ◌++◌, length, slice_get, Bool, true, false, Option, Some, None, Result, Ok, Err, refl, sym, ap, ◌∙◌, subst, arith}
-use Rattle.std.specs.Prelude.{ℤ, not, pos}
+use Rattle.std.specs.Prelude.{ℤ, pos}
 use Rattle.mq_outside.specs.Readings.{Giving}
 use Rattle.record_codec.specs.Entry.{Entry}
 use Rattle.log_model.specs.Numbered.{Log}
@@ -13,7 +13,7 @@ use Rattle.request_fields.specs.declared.fault.RequestFault.{RequestFault}
 use Rattle.request_fields.specs.declared.fault.RequestFault.TheVariants as faults
 use Rattle.reply_fields.specs.Parts.{ReplyParts}
 use Rattle.broker_model.specs.State.{State, Saved, Setup as ModelSetup}
-use Rattle.broker_model.specs.Sends.{is_half_send, kept_props, waits}
+use Rattle.broker_model.specs.Sends.{kept_props, waits}
 use Rattle.broker_events.specs.declared.event.Setup.{Setup}
 use Rattle.broker_events.specs.declared.event.Event.TheVariants as events
 use Rattle.broker_events.specs.declared.said.Said.{Said}
@@ -21,7 +21,7 @@ use Rattle.broker_events.specs.declared.said.Said.TheVariants as said
 use Rattle.broker_core.specs.declared.alone.Alone.{Alone}
 use Rattle.session.specs.declared.owed.Awaits.{Awaits}
 use Rattle.worker_turns.specs.Acts.{Act, Made, Acts, Change, DiskView, Place, turns_of}
-use Rattle.pipe_stream.specs.Asking.{born_host, event_for, tries_of, no_room, refusal, IsSaid, IsGivenUp, IsAsked, IsRefused, IsGiven, IsLooked, Chooses}
+use Rattle.pipe_stream.specs.Asking.{born_host, event_for, tries_of, no_room, refusal, IsSaid, IsGivenUp, IsAsked, IsRefused, IsGiven, IsLooked}
 use Rattle.pipe_stream.specs.declared.answer.Answer.{Answer}
 use Rattle.pipe_stream.specs.Serving.{Served, IsAnswered, IsSettled}
 use Rattle.pipe_stream.specs.Telling.{FaultCounts}
@@ -70,24 +70,16 @@ settled_once answer reply settled none is = let once = subst (λ (a : Option Awa
 
 -- ---- how it was given
 
-chosen : (b : Bool) (A B : Type 0) → Chooses b A B → (A × (b ≡ true)) ⊎ B
-chosen true A B holds = inl (holds, refl)
-chosen false A B holds = inr holds
-
 same_request : (x y : Request) → ◌≡◌ {A = Result Request RequestFault} (Ok x) (Ok y) → x ≡ y
 same_request x y is = cc
 
--- a message that is no half message was given to the broker, and else it was refused
+-- a message that was read was given to the broker, and else it was refused
 given_cases : (code : ℤ) (now : ℕ) (request : Result Request RequestFault) (send : SendSaid) (answer : Answer) (given : List Act)
     → Reads request (Ok (Send send)) → IsGiven code now request answer given
-    → (IsAsked (event_for now (Send send)) answer given × (not (is_half_send send) ≡ true)) ⊎ ((fault : RequestFault) × IsRefused fault answer given)
+    → IsAsked (event_for now (Send send)) answer given ⊎ ((fault : RequestFault) × IsRefused fault answer given)
 given_cases code now (Err fault) send answer given read is = inr (fault, is)
 given_cases code now (Ok x) send answer given read is =
-    let there : IsGiven code now (Ok (Send send)) answer given = subst (λ (r : Request). IsGiven code now (Ok r) answer given) (sym (same_request (Send send) x read)) is in
-    ⊎_elim
-    (λ (asked : IsAsked (event_for now (Send send)) answer given × (not (is_half_send send) ≡ true)). inl asked)
-    (λ (refused : IsRefused (faults.Unsupported code) answer given). inr (faults.Unsupported code, refused))
-    (chosen (not (is_half_send send)) (IsAsked (event_for now (Send send)) answer given) (IsRefused (faults.Unsupported code) answer given) there)
+    inl (subst (λ (r : Request). IsGiven code now (Ok r) answer given) (sym (same_request (Send send) x read)) is)
 
 -- what was refused is not answered with 0
 refused_code : (fault : RequestFault) (answer : Answer) (reply : ReplyParts) (given settled : List Act) → IsRefused fault answer given
@@ -111,10 +103,10 @@ given_up_code count answer reply settled told is code =
 -- The message is given from the first state on, and answered in the second one, up to which these turns flushed.
 module _ (opened : ℕ) (s t reached : State) (turns : List FlushTurn) (now : ℕ) (send : SendSaid) (answer : Answer) (reply : ReplyParts) where
   -- what was said to it is owed for it
-  said_sent : (mid : State) (tries last settled : List Act) → s.setup.sync ≡ true → s.log.base.records ≡ 0 → not (is_half_send send) ≡ true → waits (kept_props send.props) ≡ true
+  said_sent : (mid : State) (tries last settled : List Act) → s.setup.sync ≡ true → s.log.base.records ≡ 0 → waits (kept_props send.props) ≡ true
       → Walks s (tries ++ last) mid → Walks mid settled t → Grows t reached → t.flushed ≡ opened + turned_in turns → IsSaid (event_for now (Send send)) answer last
       → IsSettled answer.reply answer.awaits reply settled → reply.code ≡ pos 0 → IsSent opened reached turns send reply
-  said_sent mid tries last settled sync base unhalved waiting first later grows total told is code =
+  said_sent mid tries last settled sync base waiting first later grows total told is code =
       let act : Act = Made (event_for now (Send send)) told.what in
       let parts = walks_parted s tries (act ∷ []) mid (subst (λ (l : List Act). Walks s (tries ++ l) mid) told.given first) in
       let from : State = parts.mid in
@@ -137,20 +129,20 @@ module _ (opened : ℕ) (s t reached : State) (turns : List FlushTurn) (now : �
         r = record_for from born_host now send;
         is = appended_stands from mid reached now send answer.reply waits_for.number whole appended (grows_then mid t reached (walks_grows mid settled t later) grows);
         flushed = omega (arith, found.0, total);
-        message = is_message from born_host now send unhalved;
+        message = is_message from born_host now send;
         named = ap (λ (r : ReplyParts). r.ext) found.1 ∙ appended.named;
       })
       (owed_cases told.what answer.reply answer.awaits told.told)
 
   -- it was given as often as there was no room
-  asked_sent : (mid : State) (given settled : List Act) → s.setup.sync ≡ true → s.log.base.records ≡ 0 → not (is_half_send send) ≡ true → waits (kept_props send.props) ≡ true
+  asked_sent : (mid : State) (given settled : List Act) → s.setup.sync ≡ true → s.log.base.records ≡ 0 → waits (kept_props send.props) ≡ true
       → Walks s given mid → Walks mid settled t → Grows t reached → t.flushed ≡ opened + turned_in turns → IsAsked (event_for now (Send send)) answer given
       → IsSettled answer.reply answer.awaits reply settled → reply.code ≡ pos 0 → IsSent opened reached turns send reply
-  asked_sent mid given settled sync base unhalved waiting first later grows total asked is code =
+  asked_sent mid given settled sync base waiting first later grows total asked is code =
       let tries : List Act = tries_of (event_for now (Send send)) asked.tries in
       let walks = subst (λ (l : List Act). Walks s l mid) asked.are_all first in
       ⊎_elim
-      (λ (told : IsSaid (event_for now (Send send)) answer asked.last). said_sent mid tries asked.last settled sync base unhalved waiting walks later grows total told is code)
+      (λ (told : IsSaid (event_for now (Send send)) answer asked.last). said_sent mid tries asked.last settled sync base waiting walks later grows total told is code)
       (λ (up : IsGivenUp (event_for now (Send send)) answer asked.last). absurd (given_up_code up.count answer reply settled up.told is code))
       asked.ended
 
@@ -161,8 +153,7 @@ module _ (opened : ℕ) (s t reached : State) (turns : List FlushTurn) (now : �
   answered_sent code request given settled sync base waiting walks grows total read is_given is zero_is =
       let parts = walks_parted s given settled t walks in
       ⊎_elim
-      (λ (asked : IsAsked (event_for now (Send send)) answer given × (not (is_half_send send) ≡ true)).
-      asked_sent parts.mid given settled sync base asked.1 waiting parts.before parts.behind grows total asked.0 is zero_is)
+      (λ (asked : IsAsked (event_for now (Send send)) answer given). asked_sent parts.mid given settled sync base waiting parts.before parts.behind grows total asked is zero_is)
       (λ (refused : (fault : RequestFault) × IsRefused fault answer given). absurd (refused_code refused.0 answer reply given settled refused.1 is zero_is))
       (given_cases code now request send answer given read is_given)
 

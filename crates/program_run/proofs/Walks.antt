@@ -9,7 +9,7 @@ use Rattle.broker_model.specs.Run.{Boot, Move, Steps, Run, Goes}
 use Rattle.broker_model.specs.Step.{Step}
 use Rattle.broker_events.specs.Steps.{event_of, SaysIn}
 use Rattle.broker_events.specs.declared.event.Event.{Event}
-use Rattle.broker_events.specs.declared.event.Event.TheVariants.{Request, Take, Flushed, FlushFailed, Look, Dispatch, Deliver, Leave}
+use Rattle.broker_events.specs.declared.event.Event.TheVariants.{Request, Take, Flushed, FlushFailed, Look, Dispatch, Deliver, Check, Leave}
 use Rattle.broker_events.specs.declared.said.Said.{Said}
 use Rattle.broker_events.specs.declared.said.Said.TheVariants as said
 use Rattle.worker_turns.specs.Turns.{Steps as MakesSteps}
@@ -61,6 +61,7 @@ between_as (FlushFailed count) between = tt
 between_as (Look number turn) between = tt
 between_as (Dispatch most) between = tt
 between_as (Deliver now) between = tt
+between_as (Check now) between = tt
 between_as (Leave link) between = tt
 
 act_by_turn : {C D : Type 0} (makes : MakesSteps C) (view : DiskView D) (act : Act) (change : Change C (Place D)) → Happens makes view act change → IsByTurn act

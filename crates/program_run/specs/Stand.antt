@@ -1,23 +1,25 @@
 -- What a client of `pipe` may rely on: a message that was answered with 0 stands on the disk, at the place that the reply names.
-use Rattle.std.specs.Prelude.{◌≡◌, ◌⊎◌, ℕ, ◌+◌, ◌-◌, ◌≤◌, ◌++◌, List, [], ◌∷◌, flat_map, map, pos, slice_get, All, true, Option, Some, None, Ok}
+use Rattle.std.specs.Prelude.{◌≡◌, ◌⊎◌, ℕ, ◌+◌, ◌-◌, ◌≤◌, ◌++◌, List, [], ◌∷◌, map, pos, slice_get, All}
+use Rattle.std.specs.Prelude.{Bool, true, false, codes, Option, Some, None, Ok}
 use Rattle.mq_outside.specs.Files.{Files}
 use Rattle.mq_outside.specs.Disk.{DiskState}
 use Rattle.mq_outside.specs.Readings.{Giving}
 use Rattle.remoting_frame.specs.Streams.{BeginsWith}
 use Rattle.remoting_frame.specs.declared.frame.Frame.{Frame}
 use Rattle.record_codec.specs.Entry.{Entry}
+use Rattle.record_codec.specs.Props.{without}
 use Rattle.request_fields.specs.Reading.{request_of}
 use Rattle.request_fields.specs.Requests.{SendSaid}
 use Rattle.request_fields.specs.declared.request.Request.TheVariants.{Send}
-use Rattle.reply_fields.specs.Parts.{ReplyParts}
+use Rattle.reply_fields.specs.Parts.{AskParts, ReplyParts}
 use Rattle.log_model.specs.Bases.{Geometry, whole}
 use Rattle.log_model.specs.Store.{IsHonest, KeepsIfHonest, StandsAtPlace, StoresLog}
 use Rattle.broker_model.specs.Answers.{send_ext}
-use Rattle.log_model.specs.Admissible.{level_topic}
-use Rattle.broker_model.specs.Sends.{kept_props, level_of, queue_named, waits, with_real}
+use Rattle.log_model.specs.Admissible.{half_topic, level_topic}
+use Rattle.broker_model.specs.Sends.{is_half_send, kept_props, level_of, queue_named, waits, with_group, with_real}
 use Rattle.session.specs.Talks.{requests_of}
 use Rattle.pipe_stream.specs.Serving.{caller_of}
-use Rattle.pipe_stream.specs.Telling.{FaultCounts, IsTold, TookPart}
+use Rattle.pipe_stream.specs.Telling.{FaultCounts, IsTold, TookPart, asks_bytes, count_after}
 use Rattle.store_open.specs.Openings.{FORMAT, AreSizesOf}
 use Rattle.store_open.specs.Words.{IsCommand}
 use Rattle.store_open.specs.declared.format.Sizes.{Sizes}
@@ -27,14 +29,22 @@ use Rattle.broker_run.specs.Promise.{Call, KeepSeen, Seen, before, behind}
 
 -- ---- an answer
 
--- a request, the reply that was made to it, and the bytes that were to be written for it
+-- a request, the check-backs that were written before its reply, the reply that was made to it, and the bytes that were to be written
+-- for that
 pub record Answered : Type 0 where
   pub frame : Frame
+  pub asks : List AskParts
   pub reply : ReplyParts
   pub bytes : List ℕ
 
-abbrev pub answered : Frame → ReplyParts → List ℕ → Answered
-answered frame reply bytes = record { frame = frame; reply = reply; bytes = bytes }
+abbrev pub answered : Frame → List AskParts → ReplyParts → List ℕ → Answered
+answered frame asks reply bytes = record { frame = frame; asks = asks; reply = reply; bytes = bytes }
+
+-- the bytes for these requests, and of the check-backs behind them, where so many check-backs were written before
+abbrev pub answers_bytes : ℕ → List Answered → List AskParts → List ℕ
+answers_bytes asked [] behind = asks_bytes asked behind
+answers_bytes asked (it ∷ answers) behind =
+    asks_bytes asked it.asks ++ (it.bytes ++ answers_bytes (count_after asked it.asks) answers behind)
 
 -- the bytes are the reply's, as the frame asks for them
 abbrev pub IsWritten : Giving → Answered → Type 0
@@ -55,11 +65,22 @@ IsKeptFor None send r = (r.topic ≡ send.topic) × (r.queue ≡ queue_named sen
 IsKeptFor (Some level) send r = (r.topic ≡ level_topic) × (r.queue ≡ level - 1)
     × (r.props ≡ with_real send.topic (queue_named send.queue) (kept_props send.props))
 
--- the record has the message's body, its topic and queue or those of its delay level, and its properties without the names that the
--- broker keeps for itself
+-- a half message stands in the one queue of the topic of half messages, tells its own topic and queue by its properties, and its
+-- producer group where it names none; it has no `DELAY`
+abbrev pub IsHalfFor : SendSaid → Entry → Type 0
+IsHalfFor send r = (r.topic ≡ half_topic) × (r.queue ≡ 0)
+    × (r.props ≡ with_group send.group (with_real send.topic (queue_named send.queue) (without (codes "DELAY") (kept_props send.props))))
+
+-- a half message is kept as one, and any other message as a delayed or a plain one
+abbrev pub IsKeptAs : Bool → SendSaid → Entry → Type 0
+IsKeptAs true send r = IsHalfFor send r
+IsKeptAs false send r = IsKeptFor (level_of send) send r
+
+-- the record has the message's body, its topic and queue or those of its delay level or of half messages, and its properties without
+-- the names that the broker keeps for itself
 pub record IsMessage (send : SendSaid) (r : Entry) : Type 0 where
   pub body : r.body ≡ send.body
-  pub kept : IsKeptFor (level_of send) send r
+  pub kept : IsKeptAs (is_half_send send) send r
 
 -- From this moment on each crash leaves record `number` of the log at its place, and recovery keeps it, unless torn bytes pass for
 -- another record.
@@ -86,14 +107,15 @@ AreOnDisk S log low (it ∷ answers) disk = (moment : ℕ) × (low ≤ moment)
 -- ---- a call
 
 -- The bytes that were read are these frames and a rest. The first requests among them were answered, in order; what was written is a
--- front of the bytes of these answers; and each message that was accepted is on the disk, in the log that it stores behind the call.
--- What is said of the source and of the sink is said where these tell what they hold.
+-- front of the bytes of these answers, with check-backs before each and behind the last; and each message that was accepted is on the
+-- disk, in the log that it stores behind the call. What is said of the source and of the sink is said where these tell what they hold.
 pub record AnswersStand {D : Type 0} (S : Geometry) (seen : Seen D) : Type 0 where
   pub bytes : List ℕ
   pub frames : List Frame
   pub end : ℕ
   pub rest : List ℕ
   pub answers : List Answered
+  pub last_asks : List AskParts
   pub left : List Frame
   pub log : List Entry
   pub flushed : ℕ
@@ -101,7 +123,7 @@ pub record AnswersStand {D : Type 0} (S : Geometry) (seen : Seen D) : Type 0 whe
   pub cut : BeginsWith 0 bytes frames end rest
   pub asked : map (λ it. it.frame) answers ++ left ≡ requests_of frames
   pub written : All (IsWritten seen.gives) answers
-  pub taken : seen.sink → TookPart seen.taken seen.taken_then (flat_map (λ it. it.bytes) answers)
+  pub taken : seen.sink → TookPart seen.taken seen.taken_then (answers_bytes 0 answers last_asks)
   pub stand : AreOnDisk S log (before seen).moment answers (behind seen)
   pub stores : StoresLog S log flushed (behind seen)
 

@@ -82,6 +82,7 @@ impl Calls for OneBatch {
             Event::Look { .. } => Ok(Said::Awaited(Awaited::NotYet)),
             Event::Dispatch { .. } => Ok(Said::Moved(self.flushed)),
             Event::Deliver { .. } => Ok(Said::Delivered(None)),
+            Event::Check { .. } => Ok(Said::Checked(None)),
             Event::Leave { .. } => Ok(Said::Done),
         }
     }

@@ -9,7 +9,7 @@ use Rattle.segment_files.specs.declared.last_file.LastFile.{LastFile}
 use Rattle.group_flush.specs.declared.flusher.FlushFault.{FlushFault}
 use Rattle.broker_model.specs.State.{State}
 use Rattle.broker_events.specs.declared.event.Event.{Event}
-use Rattle.broker_events.specs.declared.event.Event.TheVariants.{Request, Take, Flushed, FlushFailed, Look, Dispatch, Deliver, Leave}
+use Rattle.broker_events.specs.declared.event.Event.TheVariants.{Request, Take, Flushed, FlushFailed, Look, Dispatch, Deliver, Check, Leave}
 use Rattle.broker_events.specs.declared.said.Said.{Said}
 use Rattle.broker_events.specs.declared.said.Said.TheVariants as said
 use Rattle.broker_core.specs.Represents.{Represents}
@@ -37,6 +37,7 @@ between_as (FlushFailed count) between = tt
 between_as (Look number turn) between = tt
 between_as (Dispatch most) between = tt
 between_as (Deliver now) between = tt
+between_as (Check now) between = tt
 between_as (Leave link) between = tt
 
 ok_turned : (it : Stored) (behind : ℕ) (batch : Batch) (receipt : Receipt) (old new : Growing) → HasTurned {E = FlushFault} it behind batch (Ok receipt) old new → HasTurned {E = ℕ} it behind batch (Ok receipt) old new

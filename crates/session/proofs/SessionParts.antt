@@ -83,6 +83,7 @@ had_room (Some (said.Awaited what)) reply awaits h = refl
 had_room (Some (said.Moved number)) reply awaits h = refl
 had_room (Some said.LogEnd) reply awaits h = refl
 had_room (Some (said.Delivered what)) reply awaits h = refl
+had_room (Some (said.Checked what)) reply awaits h = refl
 
 pub had_none : (what : Option Said) (pending : ℕ) → applied_of what ≡ Some (Full pending) → has_room what ≡ false
 had_none None pending h = cc
@@ -95,6 +96,7 @@ had_none (Some (said.Awaited what)) pending h = cc
 had_none (Some (said.Moved number)) pending h = cc
 had_none (Some said.LogEnd) pending h = cc
 had_none (Some (said.Delivered what)) pending h = cc
+had_none (Some (said.Checked what)) pending h = cc
 
 -- a step of which a test holds, or does not
 pub one_applied : (step : Event × Option Said) (b : Bool) → b ≡ true → (if b then step ∷ [] else []) ≡ step ∷ []

@@ -33,6 +33,7 @@ IsRequest (events.FlushFailed count) = ⊥
 IsRequest (events.Look number turn) = ⊥
 IsRequest (events.Dispatch most) = ⊥
 IsRequest (events.Deliver now) = ⊥
+IsRequest (events.Check now) = ⊥
 IsRequest (events.Leave link) = ⊥
 
 -- what was said to a request is what came of it
@@ -47,6 +48,7 @@ applied_of (Some (said.Awaited what)) = None
 applied_of (Some (said.Moved number)) = None
 applied_of (Some said.LogEnd) = None
 applied_of (Some (said.Delivered what)) = None
+applied_of (Some (said.Checked what)) = None
 
 -- what came of it is what was said; where memory wants for telling so, nothing was said
 abbrev pub IsTold : {E : Type 0} → Option Said → Result Applied E → Type 0

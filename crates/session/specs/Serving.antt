@@ -158,6 +158,7 @@ OnRequest (events.FlushFailed count) P = ⊥
 OnRequest (events.Look number turn) P = ⊥
 OnRequest (events.Dispatch most) P = ⊥
 OnRequest (events.Deliver now) P = ⊥
+OnRequest (events.Check now) P = ⊥
 OnRequest (events.Leave link) P = ⊥
 
 -- a request that was heard, by its caller and its code

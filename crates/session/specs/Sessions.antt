@@ -105,6 +105,7 @@ has_room (Some (said.Awaited what)) = true
 has_room (Some (said.Moved number)) = true
 has_room (Some said.LogEnd) = true
 has_room (Some (said.Delivered what)) = true
+has_room (Some (said.Checked what)) = true
 
 -- the event is a request, and found room
 abbrev pub applies : Event → Option Said → Bool
@@ -115,6 +116,7 @@ applies (events.FlushFailed count) what = false
 applies (events.Look number turn) what = false
 applies (events.Dispatch most) what = false
 applies (events.Deliver now) what = false
+applies (events.Check now) what = false
 applies (events.Leave link) what = false
 
 -- the steps at which a request was applied: those at requests, but where there was no room
@@ -135,6 +137,7 @@ has_come (Some (said.Awaited NotYet)) = false
 has_come (Some (said.Moved number)) = false
 has_come (Some said.LogEnd) = false
 has_come (Some (said.Delivered what)) = false
+has_come (Some (said.Checked what)) = false
 
 -- the event is a look for a record that is not pending any more
 abbrev pub finds : Event → Option Said → Bool
@@ -145,6 +148,7 @@ finds (events.FlushFailed count) what = false
 finds (events.Look number turn) what = has_come what
 finds (events.Dispatch most) what = false
 finds (events.Deliver now) what = false
+finds (events.Check now) what = false
 finds (events.Leave link) what = false
 
 -- the looks for records that were not pending any more

@@ -1,7 +1,7 @@
 -- At its turn a pass with the key finds that the core shows what the history shows that it had seen. So what it could accept is accepted.
 use Rattle.std.proofs.Common.{◌≡◌, List, Option, Some, sym, ap, ◌∙◌, subst}
 use Rattle.broker_events.specs.declared.event.Event.{Event}
-use Rattle.broker_events.specs.declared.event.Event.TheVariants.{Request, Take, Flushed, FlushFailed, Look, Dispatch, Deliver, Leave}
+use Rattle.broker_events.specs.declared.event.Event.TheVariants.{Request, Take, Flushed, FlushFailed, Look, Dispatch, Deliver, Check, Leave}
 use Rattle.broker_events.specs.declared.said.Said.{Said}
 use Rattle.broker_events.specs.Steps.{IsKeyed}
 use Rattle.broker_events.specs.Shown.{Shown, Accepts}
@@ -25,6 +25,7 @@ accepts shown now (FlushFailed count) same may = subst (λ (z : Shown). Accepts 
 accepts shown now (Look number turn) same may = tt
 accepts shown now (Dispatch most) same may = tt
 accepts shown now (Deliver time) same may = may
+accepts shown now (Check time) same may = may
 accepts shown now (Leave link) same may = tt
 
 module _ {chronicle : Ghosts Shared Event (Option Said)} where

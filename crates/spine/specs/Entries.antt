@@ -1,7 +1,7 @@
 -- Entries of the history of a broker: events with what was said, nothing where memory ran out.
 use Rattle.std.specs.Prelude.{Bool, true, false, Option, Some, None}
 use Rattle.broker_events.specs.declared.event.Event.{Event}
-use Rattle.broker_events.specs.declared.event.Event.TheVariants.{Request, Take, Flushed, FlushFailed, Look, Dispatch, Deliver, Leave}
+use Rattle.broker_events.specs.declared.event.Event.TheVariants.{Request, Take, Flushed, FlushFailed, Look, Dispatch, Deliver, Check, Leave}
 use Rattle.broker_events.specs.declared.said.Said.{Said}
 use Rattle.broker_events.specs.Steps.{IsAnswerTo, MayTakeMemory}
 
@@ -14,6 +14,7 @@ is_keyed (FlushFailed count) = true
 is_keyed (Look number turn) = false
 is_keyed (Dispatch most) = false
 is_keyed (Deliver now) = false
+is_keyed (Check now) = false
 is_keyed (Leave link) = false
 
 -- nothing is said only where memory may run out

@@ -2,7 +2,7 @@
 use Rattle.std.specs.Prelude.{◌≡◌, ℕ, ◌<◌, List, [], ◌∷◌, ◌++◌, Bool, false, Option, Some, None, IfSome}
 use Rattle.std.proofs.Common.{refl, sym, ap, ◌∙◌, subst}
 use Rattle.broker_events.specs.declared.event.Event.{Event}
-use Rattle.broker_events.specs.declared.event.Event.TheVariants.{Request, Take, Flushed, FlushFailed, Look, Dispatch, Deliver, Leave}
+use Rattle.broker_events.specs.declared.event.Event.TheVariants.{Request, Take, Flushed, FlushFailed, Look, Dispatch, Deliver, Check, Leave}
 use Rattle.broker_events.specs.declared.said.Said.{Said}
 use Rattle.broker_events.specs.Shown.{Shown, moved}
 use Rattle.broker_core.specs.Makes.{shown_of}
@@ -40,6 +40,7 @@ unmoved_by shown (FlushFailed count) what un = absurd (cc)
 unmoved_by shown (Look number turn) what un = refl
 unmoved_by shown (Dispatch most) what un = refl
 unmoved_by shown (Deliver now) what un = refl
+unmoved_by shown (Check now) what un = refl
 unmoved_by shown (Leave link) what un = refl
 
 pub unmoved : (keyed : Event → Option Said → Bool) → ((e : Event) (a : Option Said) → keyed e a ≡ is_keyed e)

@@ -1,4 +1,4 @@
-use Rattle.std.proofs.Common.{◌≡◌, ℕ, List, rules, subst}
+use Rattle.std.proofs.Common.{◌≡◌, ℕ, List, subst}
 use Rattle.mq_outside.specs.Disk.{DiskState}
 use Rattle.record_codec.specs.Entry.{Entry}
 use Rattle.log_model.specs.Bases.{Base, geometry}
@@ -22,7 +22,7 @@ returns-clause-flushed g c = subst (λ (b : Base). g.D.Disk.tells → StaysFlush
 
 pub returns-clause-loaded : goal.returns-clause-loaded
 returns-clause-loaded g c =
-    let same : c.recover.new.each.topics.now ≡ c.args.topics.now = search rules in
+    let same : c.recover.new.each.topics.now ≡ c.args.topics.now = c.are_same.ensures c.if-not-are_same.false in
     subst (λ (b : Base). Handed (geometry c.args.segment b) (loaded_in c.args.topics.now c.recover.new.each.loaded) c.in-Ok.end) c.none-base.ensures
     (subst (λ (t : List TopicRow). Handed (geometry c.args.segment (base_of c.none-base.result)) (loaded_in t c.recover.new.each.loaded) c.in-Ok.end) same (c.in-Ok.ensures.handed c.requires.topics))
 
@@ -32,7 +32,7 @@ returns-clause-kept g c = λ tells.
     let new : DiskState = g.D.Disk.state c.recover.new.disk in
     let topics = c.args.topics.now in
     let loaded = c.recover.new.each.loaded in
-    let same : c.recover.new.each.topics.now ≡ topics = search rules in
+    let same : c.recover.new.each.topics.now ≡ topics = c.are_same.ensures c.if-not-are_same.false in
     let S = geometry c.args.segment (base_of c.none-base.result) in
     subst (λ (b : Base). IsKeptLog (geometry c.args.segment b) topics old.reads new.reads (record { loaded = loaded; end = c.in-Ok.end })) c.none-base.ensures
     (kept_log S topics old.reads new.reads c.args.loaded (record { loaded = loaded; end = c.in-Ok.end }) c.requires.topics
@@ -44,7 +44,7 @@ returns-clause-ours g c = λ tells.
     let new : DiskState = g.D.Disk.state c.recover.new.disk in
     let topics = c.args.topics.now in
     let loaded = c.recover.new.each.loaded in
-    let same : c.recover.new.each.topics.now ≡ topics = search rules in
+    let same : c.recover.new.each.topics.now ≡ topics = c.are_same.ensures c.if-not-are_same.false in
     let S = geometry c.args.segment (base_of c.none-base.result) in
     subst (λ (b : Base). (log : List Entry) (flushed : ℕ) → StoresLog (geometry c.args.segment b) log flushed old → IsHonest (geometry c.args.segment b) log flushed old.reads
     → IsOurLog (geometry c.args.segment b) topics log flushed new (record { loaded = loaded; end = c.in-Ok.end })) c.none-base.ensures

@@ -1,6 +1,6 @@
 use Rattle.std.proofs.Common.{◌≡◌, IfSome, refl, ap, sym, ◌∙◌, subst, arith, ℕ, List, true}
 use Rattle.broker_events.specs.declared.event.Event.{Event}
-use Rattle.broker_events.specs.declared.event.Event.TheVariants.{Request, Take, Flushed, FlushFailed, Look, Dispatch, Deliver, Leave}
+use Rattle.broker_events.specs.declared.event.Event.TheVariants.{Request, Take, Flushed, FlushFailed, Look, Dispatch, Deliver, Check, Leave}
 use Rattle.broker_events.specs.Steps.{IsKeyed}
 use Rattle.broker_events.specs.Shown.{Accepts}
 use Rattle.broker_core.specs.Makes.{MakesStep, shown_of}
@@ -33,6 +33,7 @@ keyed_event (FlushFailed count) is = tt
 keyed_event (Look number turn) is = absurd (cc)
 keyed_event (Dispatch most) is = absurd (cc)
 keyed_event (Deliver now) is = absurd (cc)
+keyed_event (Check now) is = absurd (cc)
 keyed_event (Leave link) is = absurd (cc)
 
 pub end-requires-clause-key : goal.end-requires-clause-key
