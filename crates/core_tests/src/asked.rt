@@ -1,10 +1,6 @@
-//! What happens to both brokers, and the frame of a request as a client writes it.
+//! What happens to the core.
 
-use remoting_frame::Frame;
-use slow_script::request_frame;
-use std::alloc::{AllocError, Global};
-
-/// A request. Which of these fields it uses depends on its kind; numbers stand here as a client writes them.
+/// A request. Which of these fields it uses depends on its kind; texts stand here as a client writes them.
 #[derive(Clone, Copy)]
 pub(crate) struct Asked {
     /// Its kind.
@@ -15,18 +11,19 @@ pub(crate) struct Asked {
     /// The group, of producers and of consumers.
     pub(crate) group: &'static str,
     pub(crate) client: &'static str,
-    pub(crate) queue: &'static str,
+    pub(crate) queue: i32,
     /// The topic whose queues a new topic gets.
     pub(crate) default_topic: &'static str,
     /// How many queues a topic is to have.
     pub(crate) queues: &'static str,
     /// Properties, with `\u0001` behind their names and `\u0002` behind their values.
     pub(crate) props: &'static str,
-    /// The words of a subscription.
+    /// The words of a subscription, and how they choose messages.
     pub(crate) words: &'static str,
+    pub(crate) expression: &'static str,
     pub(crate) sysflag: &'static str,
     /// From which offset messages are pulled.
-    pub(crate) from: &'static str,
+    pub(crate) from: i32,
     /// How many messages are pulled at most.
     pub(crate) most: &'static str,
     /// The offset to be stored.
@@ -35,6 +32,18 @@ pub(crate) struct Asked {
     pub(crate) time: &'static str,
     /// The bytes of a message's body.
     pub(crate) size: u32,
+}
+
+/// A verdict of a group on the half message with this queue offset and place.
+#[derive(Clone, Copy)]
+pub(crate) struct Verdict {
+    pub(crate) group: &'static str,
+    pub(crate) queue_offset: u64,
+    pub(crate) place: u64,
+    /// 8 commits, 12 rolls back, 0 is none.
+    pub(crate) verdict: u32,
+    /// The id that the message is to have, if there is text in it.
+    pub(crate) id: &'static str,
 }
 
 /// What happens.
@@ -48,8 +57,12 @@ pub(crate) enum What {
     Dispatch { most: u32 },
     /// A link ends.
     Leave { link: u32 },
+    /// A verdict comes on link 1.
+    End(Verdict),
     /// A delayed message is delivered, if one is due.
     Deliver,
+    /// A half message is asked for or given up, if one is due.
+    Check,
     /// A flush turn begins, and ends as the disk lets it.
     Flush,
 }
@@ -61,13 +74,14 @@ pub(crate) const SEND: Asked = Asked {
     topic: "T",
     group: "G",
     client: "c1",
-    queue: "0",
+    queue: 0,
     default_topic: "TBW102",
     queues: "4",
     props: "",
     words: "*",
+    expression: "TAG",
     sysflag: "0",
-    from: "0",
+    from: 0,
     most: "32",
     commit: "0",
     time: "0",
@@ -81,57 +95,10 @@ pub(crate) const PULL: Asked = Asked {
     ..SEND
 };
 
-// The body of a message.
-fn message(alloc: Global, size: u32) -> Result<Vec<u8>, AllocError> {
-    vec![in alloc; b'x'; size as usize]
-}
+/// The same as events.
+pub(crate) const SENT: What = What::Ask(SEND);
 
-// A heartbeat of a client that produces and consumes for its group, which is also the list of a queue that it wants.
-fn beat(alloc: Global, asked: &Asked) -> Result<String, AllocError> {
-    let (client, group) = (asked.client, asked.group);
-    let (words, queue) = (asked.words, asked.queue);
-    format!(in alloc;
-        "{{\"clientID\":\"{client}\",\"producerDataSet\":[{{\"groupName\":\"{group}\"}}],\
-\"consumerDataSet\":[{{\"groupName\":\"{group}\",\"subscriptionDataSet\":[{{\"topic\":\"T\",\"subString\":\"{words}\"}}]}}],\
-\"clientId\":\"{client}\",\"consumerGroup\":\"{group}\",\
-\"mqSet\":[{{\"topic\":\"T\",\"brokerName\":\"broker\",\"queueId\":{queue}}}]}}"
-    )
-}
+pub(crate) const PULLED: What = What::Ask(PULL);
 
-// The frame with this body.
-fn frame_with(alloc: Global, asked: &Asked, body: &[u8]) -> Result<Option<Frame>, AllocError> {
-    let fields = [
-        ("producerGroup", asked.group),
-        ("consumerGroup", asked.group),
-        ("clientID", asked.client),
-        ("topic", asked.topic),
-        ("queueId", asked.queue),
-        ("defaultTopic", asked.default_topic),
-        ("defaultTopicQueueNums", asked.queues),
-        ("readQueueNums", asked.queues),
-        ("writeQueueNums", asked.queues),
-        ("bornTimestamp", "1000"),
-        ("flag", "7"),
-        ("properties", asked.props),
-        ("sysFlag", asked.sysflag),
-        ("queueOffset", asked.from),
-        ("maxMsgNums", asked.most),
-        ("subscription", asked.words),
-        ("commitOffset", asked.commit),
-        ("timestamp", asked.time),
-    ];
-    request_frame(alloc, asked.code, &fields, body)
-}
-
-/// The frame of a request. Its header has the fields of all kinds, since those of other kinds are ignored.
-pub(crate) fn frame_of(alloc: Global, asked: &Asked) -> Result<Option<Frame>, AllocError> {
-    if asked.code == 10 {
-        let body = message(alloc, asked.size)?;
-        return frame_with(alloc, asked, &body);
-    }
-    let body = beat(alloc, asked)?;
-    frame_with(alloc, asked, body.as_bytes())
-}
-
-/// The host of each client.
-pub(crate) const HOST: [u8; 8] = [127, 0, 0, 1, 0, 0, 0, 0];
+/// Consumers see all that is on the disk.
+pub(crate) const SEE: What = What::Dispatch { most: 1000 };

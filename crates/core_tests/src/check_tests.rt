@@ -4,15 +4,12 @@ ghost use Rattle.std.specs.Prelude.{◌≡◌, None, All, IfOk};
 ghost use Rattle.log_model.specs.Queues.{IsStored};
 ghost use Rattle.broker_core.specs.Makes.{shown_of};
 
-use crate::asked::{SEND, What};
-use crate::core_side::tell_core;
-use crate::stage::{empty_disk, open};
-use crate::tests::SETUP;
+use crate::answers::tell;
+use crate::asked::SENT;
+use crate::stage::{SETUP, Stage, begin};
 use broker_core::{Alone, Core, Counts};
 use core_check::compare;
 use log_model::Base;
-use log_opening::Opened;
-use mq_outside::Disk;
 use record_codec::{Record, test};
 use std::alloc::Global;
 use std::test::Fail;
@@ -49,15 +46,12 @@ fn has(alloc: Global, core: &Core, count: usize) -> Result<bool, Fail> {
 fn core_of_one(alloc: Global) -> Result<Core, Fail>
     ensures { IfOk result (λ core. (shown_of core).out ≡ None) }
 {
-    let mut disk = empty_disk(alloc, Vec::new(alloc))?;
-    if disk
-        .write_at("commitlog/00000000000000000000", 0, HI)
-        .is_err()
-    {
-        return Err(Fail::from("the disk fails"));
-    }
-    let Opened { core, flusher: _ } = open(alloc, &mut disk, SETUP)?;
-    Ok(core)
+    let Stage {
+        alone,
+        flusher: _,
+        disk: _,
+    } = begin(alloc, SETUP, HI, &[])?;
+    Ok(alone.into_core())
 }
 
 // The core behind one more send, whose record is pending.
@@ -65,7 +59,7 @@ fn with_pending(alloc: Global, core: Core) -> Result<Core, Fail>
     requires { (shown_of core).out ≡ None }
 {
     let mut alone = Alone::new(core);
-    tell_core(alloc, &mut alone, 1000, What::Ask(SEND))?;
+    tell(alloc, &mut alone, 1000, SENT)?;
     Ok(alone.into_core())
 }
 

@@ -1,61 +1,8 @@
-//! Delayed messages: worked sequences, each given to both brokers, and what the core says once it is opened again.
+//! Delayed messages: when they are delivered, and what the core says of them once its log is opened again.
 
-ghost use Rattle.std.specs.Prelude.{◌≡◌, None, IfOk};
-ghost use Rattle.mq_outside.specs.MemDiskState.{state_of};
-ghost use Rattle.segment_files.specs.Turn.{IsInside};
-ghost use Rattle.broker_core.specs.Makes.{shown_of};
-ghost use Rattle.slow_steps.specs.Bounds.{IsBounded};
-
-use crate::asked::{Asked, PULL, SEND, What};
-use crate::core_side::tell_core;
-use crate::stage::{Stage, begin, open, play};
-use crate::tests::SETUP;
-use broker_core::Alone;
-use std::alloc::Global;
-use std::process::Abort;
+use crate::asked::{Asked, PULLED, SEE, SEND, What};
+use crate::sequences::{Row, follow, follow_over_restart};
 use std::test::Fail;
-
-/// A reading of the clock, what happens, and what both brokers say.
-type Row = (u64, What, &'static str);
-
-// Goes through a table.
-fn follow_on(rt: &impl Abort, alloc: Global, stage: &mut Stage, rows: &[Row]) -> Result<(), Fail>
-    requires none_out { (shown_of stage.old.alone.core).out ≡ None }
-    requires inside { IsInside stage.old.flusher.file.base stage.old.flusher.file.offset (state_of stage.old.disk) }
-    requires bounded { IsBounded stage.old.broker }
-{
-    for row in rows {
-        let (core, slow) = play(alloc, stage, row.0, row.1)?;
-        assert!(rt; core.as_str() == row.2, "{}: {core}", row.0);
-        assert!(rt; slow.as_str() == row.2, "{}: {slow}", row.0);
-    }
-    Ok(())
-}
-
-// Goes through a table with the core alone.
-fn follow_core(rt: &impl Abort, alloc: Global, alone: &mut Alone, rows: &[Row]) -> Result<(), Fail>
-    requires { (shown_of alone.old.core).out ≡ None }
-{
-    for row in rows {
-        let core = tell_core(alloc, alone, row.0, row.1)?;
-        assert!(rt; core.as_str() == row.2, "{}: {core}", row.0);
-    }
-    Ok(())
-}
-
-// The store of this stage is opened again, and the core is gone with all that wasn't on the disk.
-fn reopen(alloc: Global, stage: Stage) -> Result<Alone, Fail>
-    ensures { IfOk result (λ alone. (shown_of alone.core).out ≡ None) }
-{
-    let mut disk = stage.disk;
-    let opened = open(alloc, &mut disk, SETUP)?;
-    Ok(Alone::new(opened.core))
-}
-
-/// Consumers see all that is on the disk.
-const SEE: What = What::Dispatch { most: 100 };
-
-const PULLED: What = What::Ask(PULL);
 
 /// A message of level 1, in a record of 158 bytes; its delivery has 123.
 const SECOND: What = What::Ask(Asked {
@@ -102,13 +49,18 @@ const DELIVERY: &[Row] = &[
     (2000, What::Flush, "Done"),
 ];
 
-/// All of it is there.
+/// All of it is there once the log is opened again.
 const DELIVERED: &[Row] = &[
     (5000, What::Deliver, "nothing due"),
     (7_201_999, What::Deliver, "nothing due"),
     (7_202_000, What::Deliver, "delivers 0 of 18"),
     (7_202_000, What::Deliver, "nothing due"),
 ];
+
+#[test]
+fn a_delayed_message_is_delivered_once_over_a_restart(rt: HostRuntime) -> Result<(), Fail> {
+    follow_over_restart(&rt, rt.alloc(), DELIVERY, u64::MAX, DELIVERED)
+}
 
 /// A delivery that isn't flushed.
 const LOST: &[Row] = &[
@@ -123,7 +75,7 @@ const LOST: &[Row] = &[
     (2000, What::Deliver, "nothing due"),
 ];
 
-/// The message alone is there.
+/// The message alone is there once the log is opened again.
 const AGAIN: &[Row] = &[
     (1999, What::Deliver, "nothing due"),
     (5000, What::Deliver, "delivers 0 of 1"),
@@ -131,21 +83,8 @@ const AGAIN: &[Row] = &[
 ];
 
 #[test]
-fn a_delayed_message_is_delivered_once_over_a_restart(rt: HostRuntime) -> Result<(), Fail> {
-    let alloc = rt.alloc();
-    let mut stage = begin(alloc, SETUP, Vec::new(alloc))?;
-    follow_on(&rt, alloc, &mut stage, DELIVERY)?;
-    let mut alone = reopen(alloc, stage)?;
-    follow_core(&rt, alloc, &mut alone, DELIVERED)
-}
-
-#[test]
 fn a_delivery_that_a_crash_lost_is_made_again(rt: HostRuntime) -> Result<(), Fail> {
-    let alloc = rt.alloc();
-    let mut stage = begin(alloc, SETUP, Vec::new(alloc))?;
-    follow_on(&rt, alloc, &mut stage, LOST)?;
-    let mut alone = reopen(alloc, stage)?;
-    follow_core(&rt, alloc, &mut alone, AGAIN)
+    follow_over_restart(&rt, rt.alloc(), LOST, u64::MAX, AGAIN)
 }
 
 /// Both levels are due at once: the lower one comes first, and each in order.
@@ -175,7 +114,45 @@ const LEVELS: &[Row] = &[
 
 #[test]
 fn of_what_is_due_the_lowest_level_comes_first(rt: HostRuntime) -> Result<(), Fail> {
-    let alloc = rt.alloc();
-    let mut stage = begin(alloc, SETUP, Vec::new(alloc))?;
-    follow_on(&rt, alloc, &mut stage, LEVELS)
+    follow(&rt, rt.alloc(), LEVELS)
+}
+
+/// 19 is 18, the greatest; 0 and what is no number say no level.
+const NAMES_OF_LEVELS: &[Row] = &[
+    (
+        1000,
+        LONGEST,
+        "after 0 from turn 0: 0  msgId=7F00000100002A9F0000000000000000 queueId=0 queueOffset=0",
+    ),
+    (
+        1000,
+        What::Ask(Asked {
+            props: r"DELAY\u0001x\u0002",
+            ..SEND
+        }),
+        "after 1 from turn 0: 0  msgId=7F00000100002A9F000000000000009F queueId=0 queueOffset=0",
+    ),
+    (
+        1000,
+        What::Ask(Asked {
+            props: r"DELAY\u00010\u0002",
+            ..SEND
+        }),
+        "after 2 from turn 0: 0  msgId=7F00000100002A9F0000000000000113 queueId=0 queueOffset=1",
+    ),
+    (1000, What::Flush, "Done"),
+    (1000, SEE, "sees 3"),
+    (
+        1000,
+        PULLED,
+        "0  maxOffset=2 minOffset=0 nextBeginOffset=2 suggestWhichBrokerId=0 [159 116] [275 116]",
+    ),
+    (7_200_999, What::Deliver, "nothing due"),
+    (7_201_000, What::Deliver, "delivers 0 of 18"),
+    (7_201_000, What::Deliver, "nothing due"),
+];
+
+#[test]
+fn a_level_is_at_most_18_and_what_says_none_is_not_delayed(rt: HostRuntime) -> Result<(), Fail> {
+    follow(&rt, rt.alloc(), NAMES_OF_LEVELS)
 }

@@ -1,46 +1,57 @@
-//! The core over a disk in memory and the slow broker, side by side.
+//! The core over a disk in memory, and tables of what happens to it.
 
-ghost use Rattle.std.specs.Prelude.{◌≡◌, None, IfOk};
+ghost use Rattle.std.specs.Prelude.{◌≡◌, None, IfOk, OnOk};
 ghost use Rattle.mq_outside.specs.MemDiskState.{state_of};
 ghost use Rattle.log_model.specs.Log.{IsSegmentSize};
 ghost use Rattle.segment_files.specs.Turn.{IsInside};
 ghost use Rattle.broker_core.specs.Makes.{shown_of};
-ghost use Rattle.slow_steps.specs.Bounds.{IsBounded};
 
+use crate::answers::tell;
 use crate::asked::What;
-use crate::core_side::tell_core;
-use crate::slow_side::{flush_slow, tell_slow};
+use crate::words::Answer;
 use broker_core::Alone;
 use broker_events::Setup;
 use group_flush::Flusher;
 use log_opening::{Opened, open_log};
-use mq_outside::{MemDisk, Room};
-use slow_broker::SlowBroker;
-use std::alloc::{AllocError, Global};
+use mq_outside::{Disk, MemDisk, Room};
+use std::alloc::Global;
 use std::test::Fail;
 use worker_turns::flush_turn;
 
-/// Both brokers, and what the core's flush turns need.
+/// The broker's host is 127.0.0.1:10911, segments have 1 GiB, and replies wait for the disk.
+pub(crate) const SETUP: Setup = Setup {
+    segment: 1 << 30,
+    host: [127, 0, 0, 1, 0, 0, 42, 159],
+    sync: true,
+};
+
+/// The file of the log's first segment.
+const FIRST_FILE: &str = "commitlog/00000000000000000000";
+
+/// The core, and what its flush turns need.
 #[derive(Drop)]
 pub(crate) struct Stage {
     pub(crate) alone: Alone,
     pub(crate) flusher: Flusher,
     pub(crate) disk: MemDisk,
-    pub(crate) broker: SlowBroker,
 }
 
-/// A disk without files, of which the calls with these numbers fail.
-pub(crate) fn empty_disk(alloc: Global, fails: Vec<u64>) -> Result<MemDisk, AllocError> {
+// A disk with these bytes in the file of the log's first segment, if any. The calls with these numbers fail.
+fn disk_with(alloc: Global, log: &[u8], fails: &[u64]) -> Result<MemDisk, Fail> {
     let room = Room {
         bytes: 1_000_000,
         files: 256,
         calls: 4096,
     };
-    MemDisk::new(alloc, Vec::new(alloc), room, fails)
+    let mut disk = MemDisk::new(alloc, Vec::new(alloc), room, Vec::from_slice(alloc, fails)?)?;
+    if !log.is_empty() && disk.write_at(FIRST_FILE, 0, log).is_err() {
+        return Err(Fail::from("not written"));
+    }
+    Ok(disk)
 }
 
-/// The log of this disk opens.
-pub(crate) fn open(alloc: Global, disk: &mut MemDisk, setup: Setup) -> Result<Opened, Fail>
+// The core over the log of this disk, and its flusher.
+fn open(alloc: Global, disk: &mut MemDisk, setup: Setup) -> Result<Opened, Fail>
     requires { IsSegmentSize setup.segment }
     ensures none_out { IfOk result (λ it. (shown_of it.core).out ≡ None) }
     ensures inside { IfOk result (λ it. IsInside it.flusher.file.base it.flusher.file.offset (state_of disk.new)) }
@@ -51,70 +62,67 @@ pub(crate) fn open(alloc: Global, disk: &mut MemDisk, setup: Setup) -> Result<Op
     }
 }
 
-/// Both brokers over an empty store. The calls of the core's disk with these numbers fail.
-pub(crate) fn begin(alloc: Global, setup: Setup, fails: Vec<u64>) -> Result<Stage, Fail>
+/// The core over a log with these bytes in its first segment. The calls of its disk with these numbers fail.
+pub(crate) fn begin(alloc: Global, setup: Setup, log: &[u8], fails: &[u64]) -> Result<Stage, Fail>
     requires { IsSegmentSize setup.segment }
     ensures none_out { IfOk result (λ it. (shown_of it.alone.core).out ≡ None) }
     ensures inside { IfOk result (λ it. IsInside it.flusher.file.base it.flusher.file.offset (state_of it.disk)) }
-    ensures bounded { IfOk result (λ it. IsBounded it.broker) }
 {
-    let mut disk = empty_disk(alloc, fails)?;
+    let mut disk = disk_with(alloc, log, fails)?;
     let Opened { core, flusher } = open(alloc, &mut disk, setup)?;
     Ok(Stage {
         alone: Alone::new(core),
         flusher,
         disk,
-        broker: slow_steps::open(alloc, setup),
     })
 }
 
-// A flush turn of both, and how it ended.
-fn flush(alloc: Global, stage: &mut Stage) -> Result<(String, String), Fail>
+// The first segment of the log is cut to so many bytes, where it has more.
+fn cut(disk: &mut MemDisk, left: u64) -> Result<(), Fail> {
+    let Ok(len) = disk.len(FIRST_FILE) else {
+        return Err(Fail::from("not read"));
+    };
+    if left < len && disk.cut(FIRST_FILE, left).is_err() {
+        return Err(Fail::from("not cut"));
+    }
+    Ok(())
+}
+
+/// The core is gone with all that isn't on the disk, where at most so many bytes of the first segment are left, and its log is
+/// opened again.
+pub(crate) fn reopen(alloc: Global, stage: &mut Stage, setup: Setup, left: u64) -> Result<(), Fail>
+    requires { IsSegmentSize setup.segment }
+    ensures none_out { OnOk result ((shown_of stage.new.alone.core).out ≡ None) }
+    ensures inside { OnOk result (IsInside stage.new.flusher.file.base stage.new.flusher.file.offset (state_of stage.new.disk)) }
+{
+    cut(&mut stage.disk, left)?;
+    let Opened { core, flusher } = open(alloc, &mut stage.disk, setup)?;
+    stage.alone = Alone::new(core);
+    stage.flusher = flusher;
+    Ok(())
+}
+
+// A flush turn, and how it ended.
+fn flush(alloc: Global, stage: &mut Stage) -> Result<Answer, Fail>
     requires none_out { (shown_of stage.old.alone.core).out ≡ None }
     requires inside { IsInside stage.old.flusher.file.base stage.old.flusher.file.offset (state_of stage.old.disk) }
-    requires bounded { IsBounded stage.old.broker }
     ensures none_out { (shown_of stage.new.alone.core).out ≡ None }
     ensures inside { IsInside stage.new.flusher.file.base stage.new.flusher.file.offset (state_of stage.new.disk) }
-    ensures bounded { IsBounded stage.new.broker }
 {
     let end = flush_turn(alloc, &mut stage.alone, &mut stage.flusher, &mut stage.disk);
-    let slow_end = flush_slow(alloc, &mut stage.broker, end)?;
-    Ok((
-        format!(in alloc; "{end:?}")?,
-        format!(in alloc; "{slow_end:?}")?,
-    ))
+    let words = format!(in alloc; "{end:?}")?;
+    Ok(Answer::new(alloc, words))
 }
 
-// The same event to both.
-fn tell(alloc: Global, stage: &mut Stage, now: u64, what: What) -> Result<(String, String), Fail>
-    requires none_out { (shown_of stage.old.alone.core).out ≡ None }
-    requires bounded { IsBounded stage.old.broker }
-    ensures none_out { (shown_of stage.new.alone.core).out ≡ None }
-    ensures bounded { IsBounded stage.new.broker }
-    ensures flusher { stage.new.flusher ≡ stage.old.flusher }
-    ensures disk { stage.new.disk ≡ stage.old.disk }
-{
-    let core = tell_core(alloc, &mut stage.alone, now, what)?;
-    let slow = tell_slow(alloc, &mut stage.broker, now, what)?;
-    Ok((core, slow))
-}
-
-/// What both say to this at this reading of the clock, in words: the core, and the slow broker.
-pub(crate) fn play(
-    alloc: Global,
-    stage: &mut Stage,
-    now: u64,
-    what: What,
-) -> Result<(String, String), Fail>
+/// What is said to this at this reading of the clock.
+pub(crate) fn play(alloc: Global, stage: &mut Stage, now: u64, what: What) -> Result<Answer, Fail>
     requires none_out { (shown_of stage.old.alone.core).out ≡ None }
     requires inside { IsInside stage.old.flusher.file.base stage.old.flusher.file.offset (state_of stage.old.disk) }
-    requires bounded { IsBounded stage.old.broker }
     ensures none_out { (shown_of stage.new.alone.core).out ≡ None }
     ensures inside { IsInside stage.new.flusher.file.base stage.new.flusher.file.offset (state_of stage.new.disk) }
-    ensures bounded { IsBounded stage.new.broker }
 {
     match what {
         What::Flush => flush(alloc, stage),
-        _ => tell(alloc, stage, now, what),
+        _ => tell(alloc, &mut stage.alone, now, what),
     }
 }

@@ -1,1 +1,0 @@
-use Rattle.slow_broker.proofs.broker.SlowBroker.new.Goals as goal

@@ -1,6 +1,0 @@
-pub mod Answers
-pub mod Requests
-pub mod Sends
-pub mod Sound
-pub mod States
-pub mod Steps

@@ -1,4 +1,0 @@
-pub mod Settling
-pub mod Due
-pub mod Checks
-pub mod Verdicts

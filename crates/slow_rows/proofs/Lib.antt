@@ -1,4 +1,0 @@
-pub mod GroupLemmas
-pub mod Kept
-pub mod Lists
-pub mod PairLemmas

@@ -1,4 +1,0 @@
-pub mod Records
-pub mod Replies
-pub mod Rows
-pub mod Sends

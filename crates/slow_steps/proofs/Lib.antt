@@ -1,9 +1,0 @@
-pub mod Basics
-pub mod Bounded
-pub mod ByRoom
-pub mod Checks
-pub mod Deliveries
-pub mod Stored
-pub mod Trims
-pub mod Unwritten
-pub mod Verdicts

@@ -1,9 +1,0 @@
-pub mod Answers
-pub mod Appending
-pub mod Bounds
-pub mod Built
-pub mod Checks
-pub mod States
-pub mod Steps
-pub mod Unwritable
-pub mod Verdicts

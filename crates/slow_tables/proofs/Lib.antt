@@ -1,3 +1,0 @@
-pub mod Granted
-pub mod Heard
-pub mod Left
