@@ -2,8 +2,8 @@
 """Uses the real program through the client of clients/python: checks/client.py PROGRAM [--seconds N].
 
 First come the client's own tests, which need no broker, then checks of single calls, the commands of examples/tour.md
-with what they print, and at last a soak of N seconds (default: 20) in which the broker is killed twice. Each check
-prints its name; the first that fails ends it.
+and of the README with what they print, and at last a soak of N seconds (default: 20) in which the broker is killed
+twice. Each check prints its name; the first that fails ends it.
 """
 import logging
 import os
@@ -19,10 +19,13 @@ import time
 HERE = os.path.dirname(os.path.abspath(__file__))
 CLIENT = os.path.join(HERE, "..", "clients", "python")
 TOUR = os.path.join(HERE, "..", "examples", "tour.md")
+README = os.path.join(HERE, "..", "README.md")
 sys.path.insert(0, CLIENT)
 
-from mq_client import (Admin, BrokerUnavailable, ClientError, Connection, Consumer, Decision, Form,  # noqa: E402
-                       NotSupported, Producer, ProtocolError, SendUnknown, TopicNotFound, TransactionProducer)
+from mq_client import (Admin, BrokerError, BrokerUnavailable, ClientError, Connection, Consumer,  # noqa: E402
+                       Decision, Form, HalfName, NotSupported, Producer, ProtocolError, SendUnknown, TopicNotFound,
+                       TransactionProducer)
+from clocked import Clock, is_clock_taken  # noqa: E402
 from wire import PROGRAM, check  # noqa: E402
 
 SECONDS = float(sys.argv[sys.argv.index("--seconds") + 1]) if "--seconds" in sys.argv else 20.0
@@ -95,7 +98,7 @@ def _(folder):
     for name, test in zip(names, tests):
         said, _ = test.communicate(timeout=300)
         assert test.returncode == 0, f"{name}\n{said}"
-    assert len(names) >= 4, names
+    assert len(names) >= 5, names
 
 
 @check("the package is built without a network, and what is built runs")
@@ -188,6 +191,78 @@ def transaction(connection):
         assert producer.send_in_transaction("T", "x").fault is None
 
 
+def remark_of(call):
+    """The remark with which the broker refuses this."""
+    try:
+        call()
+    except BrokerError as fault:
+        return fault.remark
+    raise AssertionError("it isn't refused")
+
+
+@check("half messages that are committed are consumed and others not, over a kill too; another decision is refused")
+def _(folder):
+    with Broker(folder) as broker, Connection(broker.address) as connection, \
+            TransactionProducer(connection, "G") as producer:
+        halves = [producer.send_half("T", str(k), tags="A", queue=0) for k in range(6)]
+        for half, decision in zip(halves, (Decision.COMMIT, Decision.ROLLBACK, Decision.UNKNOWN)):
+            producer.end_transaction(half, decision)
+        broker.kill()
+        broker.start()
+        names = [HalfName.read(str(HalfName.of(half))) for half in halves]
+        for half, decision in zip(names[3:], (Decision.COMMIT, Decision.ROLLBACK, Decision.UNKNOWN)):
+            producer.end_transaction(half, decision)
+        for half in names[::3]:
+            producer.end_transaction(half, Decision.COMMIT)
+        refused = [remark_of(lambda: producer.end_transaction(names[0], Decision.ROLLBACK)),
+                   remark_of(lambda: producer.end_transaction(names[1], Decision.COMMIT)),
+                   remark_of(lambda: producer.end_transaction(HalfName(6, names[5].message_id), Decision.COMMIT)),
+                   remark_of(lambda: producer.end_transaction(HalfName(2, names[2].message_id, "x"), Decision.COMMIT))]
+        assert refused == ["settled committed", "settled rolledback", "half", "half"], refused
+        with TransactionProducer(broker.address, "other") as other:
+            assert remark_of(lambda: other.end_transaction(names[2], Decision.COMMIT)) == "half"
+        with Consumer(connection, "C", "T") as consumer:
+            found = list(consumer.messages(count=2, idle=WAIT))
+            assert [(one.text(), one.tags, one.unique_key) for one in found] == [
+                (str(k), "A", halves[k].unique_key) for k in (0, 3)], found
+            assert consumer.poll(0.5) is None
+
+
+def heard_once(producer, clock, wanted):
+    """The check-backs that come once the clock is moved on: as many as wanted."""
+    time.sleep(1.5)  # by then a heartbeat has told who is there
+    clock.set(clock.now + 60000)
+    found = list(producer.checks(count=wanted, idle=WAIT))
+    assert len(found) == wanted, found
+    return found
+
+
+@check("pipe is asked by the client too, and its check-backs are answered; a listener answers them by itself")
+def _(folder):
+    if not is_clock_taken():
+        return print("    skipped: there is no cc, or the program takes no clock of a library")
+    clock = Clock(folder)
+    words = ["env", *(f"{name}={clock.words()[name]}" for name in ("LD_PRELOAD", "SET_CLOCK")), PROGRAM, "pipe"]
+    pipe = "pipe:" + shlex.join([*words, "--store", os.path.join(folder, "store")])
+    with Connection(pipe) as connection:
+        with TransactionProducer(connection, "G") as producer:
+            halves = [producer.send_half("T", str(k), queue=0) for k in range(3)]
+            asked = heard_once(producer, clock, 3)
+            assert [(one.message.topic, one.message.text(), one.unique_key) for one in asked] == [
+                ("T", str(k), half.unique_key) for k, half in enumerate(halves)], asked
+            for one, decision in zip(asked, (Decision.UNKNOWN, Decision.COMMIT, Decision.ROLLBACK)):
+                producer.end_transaction(one, decision)
+            assert [one.message.text() for one in heard_once(producer, clock, 1)] == ["0"]
+        with TransactionProducer(connection, "G", Commits()):
+            time.sleep(1.5)
+            clock.set(clock.now + 60000)
+            until(lambda: Admin(connection).max_offset("T", 0) == 2, "the listener's answer isn't taken")
+        with TransactionProducer(connection, "G") as producer:
+            assert remark_of(lambda: producer.end_transaction(halves[0], Decision.ROLLBACK)) == "settled committed"
+    with Connection(pipe) as again:
+        assert [one.text() for one in Admin(again).pull("T", 0, 0).messages] == ["1", "0"]
+
+
 def has_key(admin):
     until(lambda: [one.body for one in admin.query("T", "k")] == [b"hi"], "the message isn't found by its key")
 
@@ -201,9 +276,9 @@ def _(folder):
         with Consumer(connection, "C", "T") as consumer:
             message = consumer.poll(WAIT)
             assert message.body == b"hi", message
-            rows = [("transactions", lambda: transaction(connection)),
-                    ("delays", lambda: producer.send("T", "x", delay_level=1)),
-                    ("batches", lambda: producer.send_batch("T", ["x", "y"])),
+            transaction(connection)
+            producer.send("T", "x", delay_level=1)
+            rows = [("batches", lambda: producer.send_batch("T", ["x", "y"])),
                     ("sending back", lambda: consumer.send_back(message)),
                     ("queries by key", lambda: has_key(admin)),
                     ("views by id", lambda: admin.view(sent.message_id))]
@@ -270,11 +345,12 @@ def _(folder):
                               stdin=subprocess.DEVNULL,
                               stdout=subprocess.PIPE, stderr=subprocess.PIPE, timeout=60, text=True)
         return done.returncode, done.stdout.splitlines(), done.stderr.splitlines()
-    for command in ("send", "pull", "consume", "transaction", "delay", "query", "view", "topics", "offsets"):
+    for command in ("send", "pull", "consume", "transaction", "commit", "rollback", "check", "delay", "query", "view",
+                    "topics", "offsets"):
         status, said, _ = run(command, "--help")
         assert status == 0 and said[0].startswith(f"usage: mq_client {command}"), (command, said)
-        status, said, complaint = run(command)
-        assert (status, said) == (1, []) and "required" in complaint[-1], (command, complaint)
+        status, said, complaint = run(command, *(["--count", "x"] if command == "check" else []))
+        assert (status, said) == (1, []) and re.search("required|invalid", complaint[-1]), (command, complaint)
     for arguments in (("send", "T", "x"), ("topics", "T"), ("consume", "T"), ("view", "F" * 32)):
         status, said, complaint = run(*arguments)
         assert (status, said) == (1, []) and "no broker at 127.0.0.1:1" in complaint[-1], (arguments, complaint)
@@ -289,16 +365,37 @@ def _(folder):
             assert (status, said) == (1, []) and complaint[-1].startswith("mq_client: "), (arguments, complaint)
 
 
-def tour():
-    """The commands of the tour, each with the lines that it prints."""
+def steps_of(path):
+    """The commands of a document, each with the lines that it prints."""
     found = []
-    for block in re.findall(r"^```console\n(.*?)^```", open(TOUR).read(), re.MULTILINE | re.DOTALL):
+    for block in re.findall(r"^```console\n(.*?)^```", open(path).read(), re.MULTILINE | re.DOTALL):
         for line in block.splitlines():
             if line.startswith("$ "):
                 found.append((line[2:], []))
             else:
                 found[-1][1].append(line)
     return found
+
+
+def printed(folder, commands):
+    """What these commands of one shell print, each some lines."""
+    bin_folder = os.path.join(folder, "bin")
+    os.mkdir(bin_folder)
+    with open(os.path.join(bin_folder, "mq_broker"), "w") as file:
+        file.write(f"#!/bin/sh\nexec {shlex.quote(PROGRAM)} \"$@\"\n")
+    os.chmod(file.name, 0o755)
+    os.symlink(sys.executable, os.path.join(bin_folder, "python3"))
+    script = "trap 'kill -9 $broker 2>/dev/null' EXIT\n"
+    script += "".join(f"echo '@@ {k}'\n{command}\n" for k, command in enumerate(commands))
+    environment = {**os.environ, "PATH": bin_folder + os.pathsep + os.environ["PATH"],
+                   "PYTHONPATH": os.path.abspath(CLIENT), "MQ_BROKER": f"127.0.0.1:{free_port()}"}
+    with open(os.path.join(folder, "said"), "w+") as said:
+        subprocess.run(["bash", "-c", script], cwd=folder, env=environment, stdin=subprocess.DEVNULL, stdout=said,
+                       stderr=subprocess.STDOUT, timeout=240)
+        said.seek(0)
+        parts = re.split(r"^@@ \d+\n", said.read(), flags=re.MULTILINE)[1:]
+    assert len(parts) == len(commands), parts
+    return [[line for line in part.splitlines() if not re.search(r"Killed +mq_broker", line)] for part in parts]
 
 
 def matches(wanted, line):
@@ -308,26 +405,19 @@ def matches(wanted, line):
 
 @check("the tour's commands print what it says")
 def _(folder):
-    steps, bin_folder = tour(), os.path.join(folder, "bin")
-    os.mkdir(bin_folder)
-    with open(os.path.join(bin_folder, "mq_broker"), "w") as file:
-        file.write(f"#!/bin/sh\nexec {shlex.quote(PROGRAM)} \"$@\"\n")
-    os.chmod(file.name, 0o755)
-    os.symlink(sys.executable, os.path.join(bin_folder, "python3"))
-    script = "trap 'kill -9 $broker 2>/dev/null' EXIT\n"
-    script += "".join(f"echo '@@ {k}'\n{command}\n" for k, (command, _) in enumerate(steps))
-    environment = {**os.environ, "PATH": bin_folder + os.pathsep + os.environ["PATH"],
-                   "PYTHONPATH": os.path.abspath(CLIENT), "MQ_BROKER": f"127.0.0.1:{free_port()}"}
-    with open(os.path.join(folder, "said"), "w+") as said:
-        subprocess.run(["bash", "-c", script], cwd=folder, env=environment, stdin=subprocess.DEVNULL, stdout=said,
-                       stderr=subprocess.STDOUT, timeout=180)
-        said.seek(0)
-        parts = re.split(r"^@@ \d+\n", said.read(), flags=re.MULTILINE)[1:]
-    assert len(parts) == len(steps), parts
-    for (command, wanted), part in zip(steps, parts):
-        lines = [line for line in part.splitlines() if not re.search(r"Killed +mq_broker", line)]
+    steps = steps_of(TOUR)
+    for (command, wanted), lines in zip(steps, printed(folder, [command for command, _ in steps])):
         is_so = len(lines) == len(wanted) and all(map(matches, wanted, lines))
         assert is_so, f"$ {command}\nshould print {wanted}\nand prints   {lines}"
+
+
+@check("the commands of the README print what it says, messages of two topics in any order")
+def _(folder):
+    steps = steps_of(README)
+    commands = [command.replace("$PWD/clients/python", os.path.abspath(CLIENT)) for command, _ in steps]
+    for (command, wanted), lines in zip(steps, printed(folder, commands)):
+        assert sorted(lines) == sorted(wanted), f"$ {command}\nshould print {wanted}\nand prints   {lines}"
+    assert len(steps) > 3, steps
 
 
 class Soak:

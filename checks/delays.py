@@ -9,95 +9,21 @@ import collections
 import os
 import random
 import resource
-import shutil
 import signal
-import socket
 import subprocess
 import sys
-import tempfile
 import time
 
-from wire import PROGRAM, SYSTEM_TOPICS, all_replies, check, frame, frames_of, properties, pull, pulled, records, reply_of, send
+from clocked import FIRST, Clock, Pipe, Serve, answers, greatest, is_clock_taken, pairs_of, pulled_all, run, said_of
+from wire import PROGRAM, SYSTEM_TOPICS, all_replies, check, properties, pull, pulled, records, send
 
-HERE = os.path.dirname(os.path.abspath(__file__))
 LEVEL_TOPIC = SYSTEM_TOPICS[0]
 DELAYS = [1000 * seconds for seconds in (1, 5, 10, 30, 60, 120, 180, 240, 300, 360, 420, 480, 540, 600, 1200, 1800, 3600, 7200)]
-FIRST = "store/commitlog/" + "0" * 20
-LIBRARY_FOLDER = tempfile.TemporaryDirectory()
-LIBRARY = LIBRARY_FOLDER.name + "/set_clock.so"
-
-
-class Clock:
-    """The clock of the program in a folder, in milliseconds."""
-
-    def __init__(self, folder, now=1000):
-        self.path = folder + "/clock"
-        self.set(now)
-
-    def set(self, now):
-        self.now = now
-        with open(self.path + ".new", "w") as file:
-            file.write(str(now))
-        os.replace(self.path + ".new", self.path)
-
-    def words(self):
-        return {**os.environ, "LD_PRELOAD": LIBRARY, "SET_CLOCK": self.path}
-
-
-class Pipe:
-    """A run of `pipe` that is asked one request after another."""
-
-    def __init__(self, folder, clock, *words):
-        self.child = subprocess.Popen([PROGRAM, "pipe", *words], stdin=subprocess.PIPE, stdout=subprocess.PIPE, cwd=folder,
-                                      env=clock.words())
-
-    def ask(self, request):
-        self.child.stdin.write(request)
-        self.child.stdin.flush()
-        size = self.child.stdout.read(4)
-        return reply_of(size + self.child.stdout.read(int.from_bytes(size, "big")))
-
-    def end(self):
-        self.child.stdin.close()
-        assert self.child.wait(60) == 0, self.child.returncode
-
-    def kill(self):
-        self.child.kill()
-        self.child.wait(60)
-
-    def __enter__(self):
-        return self
-
-    def __exit__(self, *_):
-        self.kill()
-        self.child.stdin.close()
-        self.child.stdout.close()
-
-
-def run(folder, clock, data=b"", words=("pipe",), **more):
-    """The status of a run, and its replies."""
-    done = subprocess.run([PROGRAM, *words], input=data, cwd=folder, stdout=subprocess.PIPE, env=clock.words(), timeout=60, **more)
-    return done.returncode, all_replies(done.stdout)
-
-
-def answers(folder, clock, data=b"", words=("pipe",)):
-    status, told = run(folder, clock, data, words)
-    assert status == 0, status
-    return told
 
 
 def delayed(opaque, body, delay, more=(), **fields):
     """A send with the property DELAY and perhaps `more`."""
     return send(opaque, body, properties=properties([("DELAY", delay), *more]), **fields)
-
-
-def greatest(opaque, topic, queue=0):
-    return frame({"code": 30, "extFields": {"topic": topic, "queueId": str(queue)}, "flag": 0, "opaque": opaque, "version": 395})
-
-
-def pairs_of(text):
-    """The properties of a record, in order."""
-    return [tuple(piece.split("\x01")) for piece in text.split("\x02")[:-1]]
 
 
 def is_delivery(r):
@@ -110,11 +36,6 @@ def delivery_of(item):
     kept = [pair for pair in pairs if pair[0] not in ("DELAY", "REAL_TOPIC", "REAL_QID")]
     return {**said_of(item), "topic": dict(pairs)["REAL_TOPIC"], "queue": int(dict(pairs)["REAL_QID"]),
             "props": properties([*kept, ("DELAY_FROM", f"{item['queue'] + 1}-{item['queue_offset']}")])}
-
-
-def said_of(r):
-    """What a record has of what was sent."""
-    return {name: r[name] for name in ("topic", "queue", "body", "props", "sysflag", "born", "reconsume")}
 
 
 def follow(log):
@@ -139,16 +60,6 @@ def follow(log):
 
 def delivered(folder):
     return [r for r in records(folder) if is_delivery(r)]
-
-
-def is_clock_taken():
-    """Builds the clock, and tries whether the program reads it."""
-    if shutil.which("cc") is None:
-        return False
-    subprocess.run(["cc", "-shared", "-fPIC", "-O1", "-o", LIBRARY, HERE + "/set_clock.c"], check=True)
-    with tempfile.TemporaryDirectory() as folder:
-        run(folder, Clock(folder, 4711), send(0, b"hi"))
-        return [r["store"] for r in records(folder)] == [4711]
 
 
 if not is_clock_taken():
@@ -190,12 +101,13 @@ def _(folder):
     assert [(r["topic"], r["props"]) for r in delivered(folder)] == [("T", properties([("B", "y"), ("DELAY_FROM", "1-0")]))]
 
 
-@check("a delayed send is refused as another is, and takes no place; a half message is no delayed one")
+@check("a delayed send is refused as another is, and takes no place, also where it is a half message")
 def _(folder):
     half = [("TRAN_MSG", "true")]
     rows = [({"topic": "a b"}, 13, "topic"), ({"sysFlag": "16"}, 13, "sysFlag"), ({"topic": LEVEL_TOPIC}, 16, "system topic"),
             ({"defaultTopic": ""}, 17, "no topic"), ({"queueId": "4"}, 1, "queue"), ({"queueId": "x"}, 1, "field queueId"),
-            ({"more": [("A", "x" * 32000)]}, 13, "properties"), ({"more": half}, 3, "code 10"), ({"sysFlag": "4"}, 3, "code 10")]
+            ({"more": [("A", "x" * 32000)]}, 13, "properties"), ({"more": half, "topic": "a b"}, 13, "topic"),
+            ({"sysFlag": "4", "queueId": "4"}, 1, "queue")]
     clock = Clock(folder)
     told = answers(folder, clock, b"".join(delayed(k, b"", "1", **fields) for k, (fields, _, _) in enumerate(rows))
                    + delayed(20, b"x" * 4194305, "1") + pull(21, LEVEL_TOPIC, 0) + greatest(22, LEVEL_TOPIC, 18))
@@ -342,30 +254,12 @@ def _(folder):
     assert [r["code"] for r in told] == [0, 1, 17], told
 
 
-def free_port():
-    with socket.socket() as door:
-        door.bind(("127.0.0.1", 0))
-        return door.getsockname()[1]
-
-
 @check("serve keeps delayed messages, and the next run of pipe delivers what is due")
 def _(folder):
-    clock, port = Clock(folder), free_port()
-    child = subprocess.Popen([PROGRAM, "serve", "--host", f"127.0.0.1:{port}"], cwd=folder, env=clock.words(), stderr=subprocess.DEVNULL)
-    link, end, out = None, time.time() + 20, b""
-    while link is None:
-        assert time.time() < end and child.poll() is None
-        try:
-            link = socket.create_connection(("127.0.0.1", port), 20)
-        except OSError:
-            time.sleep(0.02)
-    with link:
-        link.sendall(b"".join(delayed(k, b"%d" % k, str(1 + k % 2)) for k in range(10)))
-        while len(frames_of(out)[0]) < 10:
-            out += link.recv(1 << 16) or b"-" * 4
-    child.kill()
-    child.wait(20)
-    assert [r["code"] for r in all_replies(out)] == [0] * 10
+    clock = Clock(folder)
+    with Serve(folder, clock) as serve:
+        told = serve.ask(*(delayed(k, b"%d" % k, str(1 + k % 2)) for k in range(10)))
+    assert [r["code"] for r in told] == [0] * 10, told
     clock.set(2000)
     found = pulled(answers(folder, clock, pull(0, "T", 0))[0]["body"])
     assert [r["body"] for r in found] == [b"%d" % k for k in range(0, 10, 2)]
@@ -446,21 +340,6 @@ def killed_run(folder, clock, sent, chance, steps, sends):
     return out
 
 
-def pulled_all(folder, clock):
-    """The records of all queues of the story's topics, as a consumer pulls them."""
-    found = []
-    with Pipe(folder, clock) as pipe:
-        for topic in ("Tea", "Milk", "Water"):
-            for queue in range(4):
-                offset, code = 0, 0
-                while code == 0:
-                    reply = pipe.ask(pull(0, topic, offset, queueId=str(queue)))
-                    found += pulled(reply["body"])
-                    code, offset = reply["code"], int(reply["extFields"]["nextBeginOffset"])
-                assert code == 19, reply
-    return found
-
-
 @check("a thousand delayed messages through killed runs are each delivered once, in order, at the first request from their time on")
 def _(folder):
     chance, clock = random.Random(20261129), Clock(folder, 10 ** 12)
@@ -478,7 +357,7 @@ def _(folder):
     log = records(folder)
     sent.compare(log)
     assert not any(follow(log)) and waited > 3, waited
-    found = {(r["topic"], r["queue"], r["queue_offset"]): r for r in pulled_all(folder, clock)}
+    found = {(r["topic"], r["queue"], r["queue_offset"]): r for r in pulled_all(folder, clock, ("Tea", "Milk", "Water"))}
     assert sorted(r["place"] for r in found.values()) == [r["place"] for r in log if r["topic"] != LEVEL_TOPIC]
     clock.set(clock.now + 10 ** 9)
     answers(folder, clock)

@@ -47,11 +47,10 @@ def _(folder):
         ({"queueId": "4"}, 1, "queue"), ({"queueId": "1", "defaultTopicQueueNums": "1"}, 1, "queue"),
         ({"queueId": "8", "defaultTopicQueueNums": "9"}, 1, "queue"), ({"queueId": "1", "defaultTopicQueueNums": "-1"}, 1, "queue"),
     ]
-    later = [{"properties": half}, {"sysFlag": "4"}, {"properties": half, "topic": "a b"}, {"sysFlag": "4", "queueId": "4"}]
+    rows += [({"properties": half, "topic": "a b"}, 13, "topic"), ({"sysFlag": "4", "queueId": "4"}, 1, "queue"),
+             ({"properties": half, "topic": SYSTEM_TOPICS[1]}, 16, "system topic")]
     for binary, short in KINDS:
-        code = 310 if short else 10
         table = [(fields, status, as_named(remark, short)) for fields, status, remark in rows]
-        table += [(fields, 3, f"code {code}") for fields in later]
         data = b"".join(send(k, b"hi", binary=binary, short=short, **fields) for k, (fields, _, _) in enumerate(table))
         for (fields, status, remark), reply in zip(table, answers(data, folder), strict=True):
             assert (reply["code"], reply.get("remark"), reply["extFields"]) == (status, remark, {}), (fields, reply)

@@ -1,4 +1,4 @@
-/* A clock that a check sets: checks/delays.py compiles this library and preloads it into the program.
+/* A clock that a check sets: checks/clocked.py compiles this library and preloads it into the program.
 
    Each reading of the real-time clock gives the milliseconds since 1970 that the file $SET_CLOCK has then, in decimal. So the clock
    stands still until the file is replaced. The other clocks are the machine's. */

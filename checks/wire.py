@@ -150,7 +150,8 @@ def record(data, at, base=0):
     return {"place": base + at, "size": size, "body": body, "topic": r[body_end + 1:topic_end].decode(), "props": text[:-14].decode(),
             "queue": int.from_bytes(r[12:16], "big"), "queue_offset": int.from_bytes(r[20:28], "big"),
             "sysflag": int.from_bytes(r[36:40], "big"), "born": int.from_bytes(r[40:48], "big"),
-            "store": int.from_bytes(r[56:64], "big"), "reconsume": int.from_bytes(r[72:76], "big", signed=True)}
+            "store": int.from_bytes(r[56:64], "big"), "reconsume": int.from_bytes(r[72:76], "big", signed=True),
+            "prepared": int.from_bytes(r[76:84], "big")}
 
 
 def log_files(folder):

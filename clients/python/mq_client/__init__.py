@@ -9,13 +9,13 @@ from .errors import (BrokerError, BrokerUnavailable, ClientError, ConnectionClos
 from .frame import Form
 from .message import Message, Outgoing
 from .producer import Producer, SendResult
-from .transaction import Decision, TransactionListener, TransactionProducer, TransactionResult
+from .transaction import Check, Decision, HalfName, TransactionListener, TransactionProducer, TransactionResult
 
 __version__ = "0.1.0"
 
 __all__ = [
-    "Admin", "BrokerError", "BrokerUnavailable", "ClientError", "Connection", "ConnectionClosed", "ConnectionLost",
-    "Consumer", "Decision", "Form", "Message", "NotFound", "NotSupported", "Outgoing", "Producer", "ProtocolError",
-    "PullResult", "ReplyLost", "RequestTimeout", "SendResult", "SendUnknown", "TopicNotFound", "TransactionListener",
-    "TransactionProducer", "TransactionResult",
+    "Admin", "BrokerError", "BrokerUnavailable", "Check", "ClientError", "Connection", "ConnectionClosed",
+    "ConnectionLost", "Consumer", "Decision", "Form", "HalfName", "Message", "NotFound", "NotSupported", "Outgoing",
+    "Producer", "ProtocolError", "PullResult", "ReplyLost", "RequestTimeout", "SendResult", "SendUnknown",
+    "TopicNotFound", "TransactionListener", "TransactionProducer", "TransactionResult",
 ]

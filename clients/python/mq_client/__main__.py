@@ -20,7 +20,10 @@ from .errors import ClientError
 from .frame import Form
 from .message import Message
 from .producer import Producer, SendResult
-from .transaction import Decision, TransactionProducer
+from .transaction import Decision, HalfName, TransactionProducer
+
+
+DECISIONS = [decision.name.lower() for decision in Decision]
 
 
 class _Parser(argparse.ArgumentParser):
@@ -53,15 +56,16 @@ def main(arguments: Optional[Sequence[str]] = None) -> int:
 def _parser() -> argparse.ArgumentParser:
     parser = _Parser(prog="mq_client", description="Sends and takes messages of an mq_broker, and asks about them.")
     parser.add_argument("--broker", default=default_broker(), metavar="HOST:PORT",
-                        help="the broker's address (default: %(default)s, or what MQ_BROKER is in the environment)")
+                        help="the broker's address, or `pipe:` and the command of one that is run for this, as "
+                        "'pipe:mq_broker pipe' (default: %(default)s, or what MQ_BROKER is in the environment)")
     parser.add_argument("--timeout", type=float, default=3.0, metavar="SECONDS",
                         help="for each request (default: %(default)s)")
     parser.add_argument("--binary", action="store_true", help="use the binary form of headers rather than JSON")
     parser.add_argument("--verbose", action="store_true", help="log on standard error what happens on the connection")
     parser.add_argument("--version", action="version", version=f"mq_client {__version__}")
     commands = parser.add_subparsers(dest="command", required=True, metavar="COMMAND", parser_class=_Parser)
-    for add in (_add_send, _add_pull, _add_consume, _add_transaction, _add_delay, _add_query, _add_view, _add_topics,
-                _add_offsets):
+    for add in (_add_send, _add_pull, _add_consume, _add_transaction, _add_commit, _add_rollback, _add_check,
+                _add_delay, _add_query, _add_view, _add_topics, _add_offsets):
         add(commands)
     return parser
 
@@ -89,6 +93,8 @@ def _add_send(commands: Any) -> None:
     parser.add_argument("--no-wait", action="store_true", help="have it answered before it is on the broker's disk")
     parser.add_argument("--delay", type=int, choices=range(1, len(DELAYS) + 1), default=0, metavar="LEVEL",
                         help="have it held back: level 1 is 1 s, 18 is 2 h; `delay` finds the level for a time")
+    parser.add_argument("--half", action="store_true",
+                        help="store half messages, which nobody sees before `commit`; their names are printed")
 
 
 def _add_pull(commands: Any) -> None:
@@ -118,12 +124,34 @@ def _add_transaction(commands: Any) -> None:
     parser = _command(commands, "transaction", _transaction, "send a half message, and then decide about it")
     _add_message(parser, "?")
     parser.set_defaults(text="", group="transactions")
-    decisions = [decision.name.lower() for decision in Decision]
-    parser.add_argument("--decide", choices=decisions, default="commit",
+    parser.add_argument("--decide", choices=DECISIONS, default="commit",
                         help="at once; after `unknown` the broker asks (default: %(default)s)")
-    parser.add_argument("--check", choices=decisions, default="commit",
+    parser.add_argument("--check", choices=DECISIONS, default="commit",
                         help="what the broker is answered when it asks (default: %(default)s)")
     parser.add_argument("--stay", type=float, default=0.0, metavar="SECONDS", help="wait so long for the broker to ask")
+
+
+def _add_commit(commands: Any) -> None:
+    _add_decision(_command(commands, "commit", _commit, "have consumers see half messages"))
+
+
+def _add_rollback(commands: Any) -> None:
+    _add_decision(_command(commands, "rollback", _rollback, "have nobody see half messages"))
+
+
+def _add_decision(parser: argparse.ArgumentParser) -> None:
+    parser.add_argument("half", nargs="+", help="the name of a half message, as `send --half` prints it")
+    parser.add_argument("--group", default="producers", help="the producer group (default: %(default)s)")
+
+
+def _add_check(commands: Any) -> None:
+    parser = _command(commands, "check", _check, "answer what the broker asks about a group's half messages")
+    parser.add_argument("--group", default="producers", help="the producer group (default: %(default)s)")
+    parser.add_argument("--answer", choices=DECISIONS, default="unknown",
+                        help="for each; after `unknown` the broker asks again (default: %(default)s)")
+    parser.add_argument("--count", type=int, help="end after so many")
+    parser.add_argument("--idle", type=float, metavar="SECONDS",
+                        help="end once none came for so long (default: never)")
 
 
 def _add_delay(commands: Any) -> None:
@@ -172,6 +200,10 @@ def _message(said: Any) -> Dict[str, Any]:
 
 
 def _send(connection: Connection, said: Any) -> None:
+    if said.half:
+        if said.delay or said.no_wait:
+            raise ValueError("a half message isn't delayed, and is answered once it is on the disk")
+        return _send_halves(connection, said)
     _send_all(connection, said, said.delay, wait=not said.no_wait)
 
 
@@ -186,6 +218,38 @@ def _send_all(connection: Connection, said: Any, level: int, wait: bool = True) 
             else:
                 where += f", held back for {DELAYS[level - 1] // 1000} s"
             print(f"sent {text!r} to {where}", flush=True)
+
+
+def _send_halves(connection: Connection, said: Any) -> None:
+    """Stores the texts as half messages, and prints the name of each."""
+    with TransactionProducer(connection, said.group) as producer:
+        for text in said.text:
+            sent = producer.send_half(said.topic, text, **_message(said))
+            where = f"{sent.topic}, queue {sent.queue}"
+            print(f"stored {text!r} for {where}, as half message {HalfName.of(sent)}", flush=True)
+
+
+def _commit(connection: Connection, said: Any) -> None:
+    _decide(connection, said, Decision.COMMIT, "committed")
+
+
+def _rollback(connection: Connection, said: Any) -> None:
+    _decide(connection, said, Decision.ROLLBACK, "rolled back")
+
+
+def _decide(connection: Connection, said: Any, decision: Decision, done: str) -> None:
+    halves = [HalfName.read(text) for text in said.half]
+    with TransactionProducer(connection, said.group) as producer:
+        for half in halves:
+            producer.end_transaction(half, decision)
+            print(f"{done} {half}", flush=True)
+
+
+def _check(connection: Connection, said: Any) -> None:
+    with TransactionProducer(connection, said.group) as producer:
+        for check in producer.checks(count=said.count, idle=said.idle):
+            producer.end_transaction(check, Decision[said.answer.upper()])
+            print(f"the broker asks about {check.message.text()!r}; answered: {said.answer}", flush=True)
 
 
 def _delay(connection: Connection, said: Any) -> None:

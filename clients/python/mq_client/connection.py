@@ -25,10 +25,12 @@ from types import TracebackType
 from typing import Callable, Dict, Mapping, NamedTuple, Optional, Tuple, Type, Union
 
 from .codes import ONE_WAY_FLAG, RequestCode
+from .child import Child
 from .errors import BrokerUnavailable, ClientError, ConnectionClosed, ConnectionLost, ReplyLost, RequestTimeout
 from .frame import Form, Frame, FrameReader
 
 DEFAULT_BROKER = "127.0.0.1:10911"
+PIPE = "pipe:"  # before the command of a broker that is asked over its standard input and output
 TICK = 0.1  # seconds: how much later than its deadline a request may be found overdue
 
 log = logging.getLogger("mq_client")
@@ -37,7 +39,7 @@ Handler = Callable[[Frame], None]
 
 
 def default_broker() -> str:
-    """The address in the environment's `MQ_BROKER`, else `127.0.0.1:10911`."""
+    """The broker in the environment's `MQ_BROKER`, else `127.0.0.1:10911`."""
     return os.environ.get("MQ_BROKER") or DEFAULT_BROKER
 
 
@@ -72,7 +74,8 @@ class _Link:
         self._fault: Optional[ReplyLost] = None
         self._heard_at = time.monotonic()  # the last bytes
         self.frame_at = 0.0  # the last whole frame, 0 where none came
-        threading.Thread(target=self._read, name=f"mq_client reads {name}", daemon=True).start()
+        self._reader = threading.Thread(target=self._read, name=f"mq_client reads {name}", daemon=True)
+        self._reader.start()
 
     @property
     def is_ended(self) -> bool:
@@ -109,6 +112,15 @@ class _Link:
             self.end(ConnectionLost(f"the connection to {self._name} failed in the middle of a request: {fault}"))
         finally:
             self._writing.release()
+
+    def finish(self, seconds: float) -> None:
+        """Says that nothing more is asked, and waits so long for the peer to end the connection."""
+        try:
+            self._stream.shutdown(socket.SHUT_WR)
+        except OSError:
+            return  # it has ended
+        if threading.current_thread() is not self._reader:
+            self._reader.join(seconds)
 
     def end(self, fault: ReplyLost) -> None:
         """Ends the connection. All requests that wait for their replies fail with this."""
@@ -175,12 +187,16 @@ class _Link:
 class Connection:
     """A connection to the broker at `HOST:PORT`, made at the first request and again whenever it was lost.
 
+    `pipe:COMMAND`, as `pipe:mq_broker pipe`, is a broker that this program runs itself, from the first request until
+    `close`; it is asked over its standard input and output, and run again where it has ended.
+
     `timeout` is how many seconds a request may take by default, and `form` how its header is spelled.
     """
 
     def __init__(self, broker: Optional[str] = None, *, timeout: float = 3.0, form: Form = Form.JSON) -> None:
         self.address = broker if broker is not None else default_broker()
-        self._host, self._port = parse_address(self.address)
+        self._child = Child(self.address[len(PIPE):]) if self.address.startswith(PIPE) else None
+        self._host, self._port = parse_address(self.address) if self._child is None else ("", 0)
         self.timeout, self.form = timeout, form
         self._numbers = itertools.count(1)
         self._handlers: Dict[int, Handler] = {}
@@ -195,6 +211,11 @@ class Connection:
     def times_made(self) -> int:
         """How often the connection was made. When it rises, the broker may have forgotten this client's locks."""
         return self._made
+
+    @property
+    def is_pipe(self) -> bool:
+        """Whether the broker is run by this program. Such a one does nothing by itself between two requests."""
+        return self._child is not None
 
     @property
     def heard_at(self) -> float:
@@ -245,11 +266,18 @@ class Connection:
                 continue
 
     def close(self) -> None:
-        """Ends the connection for good. Requests that wait for their replies get `ConnectionLost`."""
+        """Ends the connection for good. Requests that wait for their replies get `ConnectionLost`.
+
+        A broker that this program runs is given the timeout to answer what it was asked, and to end.
+        """
         self._is_closed = True
         with self._making:
+            if self._link is not None and self._child is not None:
+                self._link.finish(self.timeout)
             if self._link is not None:
                 self._link.end(ConnectionLost("this program closed the connection"))
+            if self._child is not None:
+                self._child.end(self.timeout)
 
     def __enter__(self) -> Connection:
         return self
@@ -305,7 +333,7 @@ class Connection:
         if self._next_try > now:
             return self._next_try - now
         try:
-            stream = _open(self._host, self._port, max(0.001, deadline - now))
+            stream = self._open(max(0.001, deadline - now))
         except OSError as fault:
             self._fault = fault
             return self._wait_longer()
@@ -313,6 +341,9 @@ class Connection:
         self._link = _Link(self.address, stream, self._handle)
         self._made += 1
         return 0.0
+
+    def _open(self, timeout: float) -> socket.socket:
+        return _connect(self._host, self._port, timeout) if self._child is None else self._child.start(timeout)
 
     def _wait_longer(self) -> float:
         self._pause = min(2.0, max(0.05, 2 * self._pause))
@@ -331,7 +362,7 @@ class Connection:
             log.exception("the handler of requests of code %s failed", request.code)
 
 
-def _open(host: str, port: int, timeout: float) -> socket.socket:
+def _connect(host: str, port: int, timeout: float) -> socket.socket:
     stream = socket.create_connection((host, port), timeout)
     try:
         if stream.getsockname() == stream.getpeername():

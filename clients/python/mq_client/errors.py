@@ -7,7 +7,7 @@
     |  |- ConnectionLost    the connection ended before the reply, or inside it
     |  |- ProtocolError     the peer sent bytes that are no frame: it is no broker, or damaged them
     |  `- RequestTimeout    nothing came in time
-    |- SendUnknown          a send of which nobody knows whether the broker stored it
+    |- SendUnknown          a send, or a decision on a half message, of which nobody knows whether the broker stored it
     `- BrokerError          the broker refused the request, with a code and a remark
        |- NotSupported      3: this broker doesn't serve such a request
        |- TopicNotFound     17: the broker doesn't know the topic
@@ -60,7 +60,8 @@ class SendUnknown(ClientError):
 
     Either its reply was lost, and `__cause__` says how, or the broker itself doesn't know: it replied with code 10
     since its disk failed while it wrote the message, or with 901 since it had no memory for the reply. A message that
-    is sent again may be stored twice; its consumers can see that by a key or a number of your own.
+    is sent again may be stored twice; its consumers can see that by a key or a number of your own. A decision on a half
+    message may be told again: it is taken once.
     """
 
 

@@ -15,6 +15,7 @@ from .connection import Connection
 from .errors import ClientError
 
 EVERY_SECONDS = 30.0
+EVERY_SECONDS_OF_A_PIPE = 1.0  # a broker that this program runs asks back and delivers when it is asked something
 LOOK_SECONDS = 1.0  # how long after a connection was made again its first heartbeat may come
 
 log = logging.getLogger("mq_client")
@@ -27,7 +28,8 @@ def new_client_id() -> str:
 
 
 class Heartbeats:
-    """Sends a client's heartbeats, by a thread: every half a minute, and whenever the connection was made again.
+    """Sends a client's heartbeats, by a thread: every half a minute (every second to a broker that this program runs),
+    and whenever the connection was made again.
 
     `subscriptions` has for each topic the tags that the consumer group wants, as `TagA || TagB`, or `*`.
     """
@@ -65,7 +67,8 @@ class Heartbeats:
         made, due = 0, 0.0
         while not self._closing.is_set():
             if time.monotonic() >= due or self._connection.times_made != made:
-                made, due = self._connection.times_made, time.monotonic() + EVERY_SECONDS
+                every = EVERY_SECONDS_OF_A_PIPE if self._connection.is_pipe else EVERY_SECONDS
+                made, due = self._connection.times_made, time.monotonic() + every
                 try:
                     self._beat()
                 except ClientError as fault:

@@ -27,7 +27,8 @@ class SendResult:
     """Where the broker stored a message. It is on the broker's disk, unless it was sent with `wait=False`.
 
     Of a delayed message `queue` is the one that it is for. `queue_offset` and `message_id` are those that it has while
-    it is held back: it gets others in its queue, and keeps its `unique_key`.
+    it is held back: it gets others in its queue, and keeps its `unique_key`. Of a half message they are those by which
+    a decision names it.
     """
 
     topic: str

@@ -1,8 +1,10 @@
 """Peers for the tests: a broker that answers as a test says, and ports that behave badly."""
 from __future__ import annotations
 
+import os
 import socket
 import struct
+import sys
 import threading
 import time
 import zlib
@@ -113,6 +115,15 @@ def unknown(request: Frame) -> Frame:
     return reply(request, code=3, remark=f"code {request.code}")
 
 
+def stored(request):
+    return reply(request, {"msgId": "7F00000100002A9F0000000000000064", "queueId": request.fields["queueId"],
+                           "queueOffset": "7"})
+
+
+def no_topic(request):
+    return reply(request, code=17, remark="no topic")
+
+
 class MemoryBroker(Broker):
     """Has one topic `T`, in memory: takes and gives its messages, and stores offsets of groups."""
 
@@ -192,3 +203,23 @@ def until(holds: Callable[[], bool], seconds: float = 5.0) -> bool:
             return False
         time.sleep(0.01)
     return True
+
+
+def piped() -> None:
+    """A broker on standard input and output: `python3 fake.py`. It asks a check-back before the reply to code 1, ends
+    with status 7 at code 2, and answers the rest with what it got."""
+    reader = FrameReader()
+    piece = os.read(0, 65536)
+    while piece:
+        for request in reader.feed(piece):
+            if request.code == 1:
+                fields = {"commitLogOffset": "178", "tranStateTableOffset": "1"}
+                os.write(1, Frame(39, 0, fields, record("T", b"half", properties="UNIQ_KEY\x01u\x02"), 2).encode())
+            if request.code == 2:
+                sys.exit(7)
+            os.write(1, reply(request, request.fields, request.body).encode())
+        piece = os.read(0, 65536)
+
+
+if __name__ == "__main__":
+    piped()

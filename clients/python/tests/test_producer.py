@@ -3,20 +3,10 @@ import struct
 import time
 import unittest
 
-from fake import Broker, MemoryBroker, Port, Speaker, record, reply, unknown, until
-from mq_client import (BrokerError, BrokerUnavailable, Connection, Decision, NotSupported, Outgoing, Producer,
-                       SendUnknown, TopicNotFound, TransactionProducer)
-from mq_client.frame import Frame
+from fake import Broker, MemoryBroker, Port, Speaker, no_topic, reply, stored, unknown
+from mq_client import (BrokerError, BrokerUnavailable, Connection, NotSupported, Outgoing, Producer, SendUnknown,
+                       TopicNotFound)
 from mq_client.message import read_properties
-
-
-def stored(request):
-    return reply(request, {"msgId": "7F00000100002A9F0000000000000064", "queueId": request.fields["queueId"],
-                           "queueOffset": "7"})
-
-
-def no_topic(request):
-    return reply(request, code=17, remark="no topic")
 
 
 class Sends(unittest.TestCase):
@@ -123,75 +113,6 @@ class Sends(unittest.TestCase):
             for call in (lambda: producer.send_batch("T", ["x"]), lambda: producer.send("T", "x", delay_level=3)):
                 self.assertRaises(NotSupported, call)
             self.assertEqual(len(broker.of(10)), 1)
-
-
-class Listener:
-    def __init__(self, decision):
-        self.decision, self.executed, self.checked = decision, [], []
-
-    def execute(self, message, argument):
-        self.executed.append((message, argument))
-        if isinstance(self.decision, Exception):
-            raise self.decision
-        return self.decision
-
-    def check(self, message):
-        self.checked.append(message)
-        return Decision.ROLLBACK
-
-
-class Transactions(unittest.TestCase):
-    def run_one(self, listener, ended=reply):
-        """The result, and the requests that ended transactions."""
-        with Broker({10: stored, 31: no_topic, 34: reply, 35: reply, 37: ended}) as broker:
-            with TransactionProducer(broker.address, "G", listener) as producer:
-                try:
-                    return producer.send_in_transaction("T", "hi", "argument"), broker
-                finally:
-                    self.broker = broker
-
-    def test_the_decision_is_told_with_the_place_of_the_half_message(self):
-        for decision in Decision:
-            listener = Listener(decision)
-            result, broker = self.run_one(listener)
-            self.assertEqual((result.decision, result.fault), (decision, None))
-            self.assertEqual(listener.executed, [(result.half, "argument")])
-            half, end = broker.of(10)[0].fields, broker.of(37)[0].fields
-            self.assertEqual((half["sysFlag"], read_properties(half["properties"])["TRAN_MSG"]), ("4", "true"))
-            wanted = {"producerGroup": "G", "tranStateTableOffset": "7", "commitLogOffset": "100",
-                      "commitOrRollback": str(int(decision)), "fromTransactionCheck": "false",
-                      "msgId": result.half.unique_key, "transactionId": result.half.unique_key}
-            self.assertEqual(end, wanted)
-
-    def test_a_listener_that_raises_leaves_it_undecided(self):
-        with self.assertRaisesRegex(RuntimeError, "as planned"):
-            self.run_one(Listener(RuntimeError("as planned")))
-        self.assertEqual([end.fields["commitOrRollback"] for end in self.broker.of(37)], ["0"])
-
-    def test_a_broker_that_cannot_be_told_is_named_in_the_result(self):
-        result, _ = self.run_one(Listener(Decision.COMMIT), lambda request: reply(request, code=1, remark="half"))
-        self.assertEqual((result.decision, result.fault.code, result.fault.remark), (Decision.COMMIT, 1, "half"))
-
-    def test_where_transactions_are_not_served_nothing_is_executed(self):
-        listener = Listener(Decision.COMMIT)
-        with Broker({31: no_topic, 34: reply, 35: reply}) as broker, \
-                TransactionProducer(broker.address, "G", listener) as producer:
-            with self.assertRaises(NotSupported):
-                producer.send_in_transaction("T", "hi")
-        self.assertEqual(listener.executed, [])
-
-    def test_a_check_back_is_answered_by_the_listener(self):
-        listener = Listener(Decision.COMMIT)
-        with Broker({34: reply, 35: reply, 37: reply}) as broker, TransactionProducer(broker.address, "G", listener):
-            self.assertTrue(until(lambda: len(broker.of(34)) > 0))
-            body = record("T", b"half", properties="UNIQ_KEY\x01u\x02")
-            broker.say(Frame(39, 0, {"commitLogOffset": "178", "tranStateTableOffset": "1", "msgId": "u"}, body, 2))
-            self.assertTrue(until(lambda: len(broker.of(37)) == 1))
-            end = broker.of(37)[0].fields
-        self.assertEqual([one.body for one in listener.checked], [b"half"])
-        wanted = {"producerGroup": "G", "tranStateTableOffset": "1", "commitLogOffset": "178", "commitOrRollback": "12",
-                  "fromTransactionCheck": "true", "msgId": "u", "transactionId": "u"}
-        self.assertEqual(end, wanted)
 
 
 if __name__ == "__main__":
