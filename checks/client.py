@@ -7,7 +7,6 @@ twice. Each check prints its name; the first that fails ends it.
 """
 import logging
 import os
-import random
 import re
 import shlex
 import socket
@@ -16,76 +15,16 @@ import sys
 import threading
 import time
 
-HERE = os.path.dirname(os.path.abspath(__file__))
-CLIENT = os.path.join(HERE, "..", "clients", "python")
+from clocked import Clock, is_clock_taken
+from killed_broker import CLIENT, HERE, WAIT, Broker, free_port, until  # it also has the client found
+from mq_client import (Admin, BrokerError, BrokerUnavailable, ClientError, Connection, Consumer, Decision, Form, HalfName,
+                       NotSupported, Producer, ProtocolError, SendUnknown, TopicNotFound, TransactionProducer)
+from wire import PROGRAM, check
+
 TOUR = os.path.join(HERE, "..", "examples", "tour.md")
 README = os.path.join(HERE, "..", "README.md")
-sys.path.insert(0, CLIENT)
-
-from mq_client import (Admin, BrokerError, BrokerUnavailable, ClientError, Connection, Consumer,  # noqa: E402
-                       Decision, Form, HalfName, NotSupported, Producer, ProtocolError, SendUnknown, TopicNotFound,
-                       TransactionProducer)
-from clocked import Clock, is_clock_taken  # noqa: E402
-from wire import PROGRAM, check  # noqa: E402
-
 SECONDS = float(sys.argv[sys.argv.index("--seconds") + 1]) if "--seconds" in sys.argv else 20.0
-WAIT = 20  # seconds until what has to come is missed
 logging.disable(logging.WARNING)  # that a consumer lost its broker is what is checked here
-
-
-def free_port():
-    """A port that the system gives nobody by itself, since it has to stay free while the broker is killed."""
-    while True:
-        port = random.randrange(20000, 32000)
-        with socket.socket() as door:
-            try:
-                door.bind(("127.0.0.1", port))
-                return port
-            except OSError:
-                continue
-
-
-class Broker:
-    """The program in a folder; it may be killed and started again."""
-
-    def __init__(self, folder, port=None):
-        self.folder, self.port = folder, port or free_port()
-        self.address = f"127.0.0.1:{self.port}"
-        self.start()
-
-    def start(self):
-        """Starts it, and returns once it listens."""
-        end = time.time() + WAIT
-        self.child = self.run()
-        while True:
-            try:
-                socket.create_connection(("127.0.0.1", self.port), 1).close()
-                return
-            except OSError:
-                assert time.time() < end, f"nobody listens on port {self.port}"
-                assert self.child.poll() is None, f"the program ended with status {self.child.returncode}"
-                time.sleep(0.02)
-
-    def run(self):
-        return subprocess.Popen([PROGRAM, "serve", "--host", self.address], cwd=self.folder, stdin=subprocess.DEVNULL,
-                                stderr=subprocess.DEVNULL)
-
-    def kill(self):
-        self.child.kill()
-        self.child.wait(WAIT)
-
-    def __enter__(self):
-        return self
-
-    def __exit__(self, *_):
-        self.kill()
-
-
-def until(holds, missed):
-    end = time.time() + WAIT
-    while not holds():
-        assert time.time() < end, missed() if callable(missed) else missed
-        time.sleep(0.02)
 
 
 @check("the client's own tests hold, without a broker")
