@@ -14,8 +14,8 @@ use Rattle.broker_model.specs.Answers.{answer_of, refused_answer, carried_out_an
 use Rattle.broker_model.specs.Step.{after, changed, request_changed, with_made, with_records}
 use Rattle.broker_events.specs.Replies.{IsReplyOf, IsToldAs}
 use Rattle.broker_events.specs.declared.said.Said.TheVariants as said
-use Rattle.broker_core.specs.declared.parts.Parts.{Parts}
-use Rattle.broker_core.specs.Represents.{Represents}
+use Rattle.core_log.specs.declared.parts.Parts.{Parts}
+use Rattle.core_log.specs.Represents.{Represents}
 use Rattle.broker_core.specs.Asked.{CarriesRequest}
 
 -- ---- replies

@@ -17,13 +17,13 @@ use Rattle.broker_model.specs.Step.{after, changed, with_records}
 use Rattle.broker_events.specs.declared.said.Said.{Said}
 use Rattle.broker_events.specs.declared.said.Said.TheVariants as said
 use Rattle.broker_events.specs.Steps.{Says, asked_of}
-use Rattle.broker_core.specs.declared.parts.Parts.{Parts}
-use Rattle.broker_core.specs.declared.room.Room.{Room}
-use Rattle.broker_core.specs.declared.room.Room.TheVariants.{Free, Past, Full}
+use Rattle.core_log.specs.declared.parts.Parts.{Parts}
+use Rattle.core_log.specs.declared.room.Room.{Room}
+use Rattle.core_log.specs.declared.room.Room.TheVariants.{Free, Past, Full}
 use Rattle.broker_core.specs.Checks.{check_answer, IsCheckedWith, Checks}
-use Rattle.broker_core.specs.Represents.{Represents}
-use Rattle.broker_core.specs.Rooms.{room_of, answer_in, state_in, IsOwnRefusal}
-use Rattle.broker_core.specs.Stores.{is_past}
+use Rattle.core_log.specs.Represents.{Represents}
+use Rattle.core_log.specs.Rooms.{room_of, answer_in, state_in, IsOwnRefusal}
+use Rattle.core_log.specs.Rooms.{is_past}
 use Rattle.broker_core.proofs.RoomSteps.{room_decides}
 
 -- ---- by the room

@@ -180,9 +180,6 @@ module _ (segment : ℕ) (log : Log) (t : HalfTable) (well : IsWellFormed (geome
 
 -- ---- how it is checked
 
-number_of : Entry → ℕ
-number_of r = r.queue_offset
-
 -- it is renewed
 pub record IsAskedAgain (s : State) (now : ℕ) (e : Entry) (asked : List Entry) : Type 0 where
   pub few : min (length asked) (2 ^ 32 - 1) + 1 ≤ 15

@@ -13,12 +13,12 @@ use Rattle.broker_model.specs.Events as model
 use Rattle.broker_model.specs.Appended.{drafts_of, delivery_drafts, made_by, is_past_end, is_full, is_refused, appended}
 use Rattle.broker_model.specs.Answers.{refused_answer, carried_out_answer, delivered_of, answer_of}
 use Rattle.broker_model.specs.Step.{changed, with_records, after}
-use Rattle.broker_core.specs.Stores.{is_past, is_over}
+use Rattle.core_log.specs.Rooms.{is_past, is_over}
 use Rattle.broker_events.specs.declared.said.Said.{Said}
 use Rattle.broker_events.specs.declared.said.Said.TheVariants as said
 use Rattle.broker_events.specs.Steps.{Says}
-use Rattle.broker_core.specs.declared.parts.Parts.{Parts}
-use Rattle.broker_core.specs.Represents.{Represents}
+use Rattle.core_log.specs.declared.parts.Parts.{Parts}
+use Rattle.core_log.specs.Represents.{Represents}
 use Rattle.broker_core.specs.Delivers.{delivery_answer, delivery_state, IsDelivered, Delivers}
 
 or_none : (b : Bool) → (b || false) ≡ b

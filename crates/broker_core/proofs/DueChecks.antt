@@ -9,9 +9,9 @@ use Rattle.half_view.specs.declared.check.Check.{Check}
 use Rattle.half_view.specs.OfLog.{check_of, due_origin as due_in_table}
 use Rattle.broker_model.specs.State.{State, Setup}
 use Rattle.broker_model.specs.Appended.{check_drafts, due_origin}
-use Rattle.broker_core.specs.declared.parts.Parts.{Parts}
+use Rattle.core_log.specs.declared.parts.Parts.{Parts}
 use Rattle.broker_core.specs.Checks.{IsOpenMember, IsRenewed, IsRenewedBy, IsGivenUp, IsDueCheck}
-use Rattle.broker_core.specs.Represents.{Represents}
+use Rattle.core_log.specs.Represents.{Represents}
 use Rattle.broker_core.proofs.CheckedOrigins.{IsDueIn, IsRenewalIn, IsAskedAgain, IsLeft, origin_in, due_in, due_same, origin_found}
 use Rattle.broker_core.proofs.CheckedOrigins.{origin_member, renewal_member, last_renewal, asked_again, left}
 

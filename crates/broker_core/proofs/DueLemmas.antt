@@ -6,8 +6,8 @@ use Rattle.record_codec.specs.Entry.{Entry}
 use Rattle.log_model.specs.Delays.{progress, next_delayed, due_here, due_among, due_delayed, levels}
 use Rattle.log_model.specs.Numbered.{Log}
 use Rattle.broker_model.specs.State.{State}
-use Rattle.broker_core.specs.declared.parts.Parts.{Parts}
-use Rattle.broker_core.specs.Represents.{Represents}
+use Rattle.core_log.specs.declared.parts.Parts.{Parts}
+use Rattle.core_log.specs.Represents.{Represents}
 use Rattle.broker_core.specs.Delivers.{IsTurnOf}
 
 -- each of these numbers is a level

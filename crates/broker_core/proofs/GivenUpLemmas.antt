@@ -9,10 +9,10 @@ use Rattle.log_model.specs.Transactions.{family}
 use Rattle.log_model.specs.declared.origin.OriginState.TheVariants.{Discarded}
 use Rattle.half_view.proofs.OriginLemmas.{found_passes}
 use Rattle.broker_model.specs.State.{State, Setup}
-use Rattle.broker_core.specs.declared.parts.Parts.{Parts}
+use Rattle.core_log.specs.declared.parts.Parts.{Parts}
 use Rattle.broker_core.specs.Checks.{IsGivenUp}
-use Rattle.broker_core.specs.Represents.{Represents}
-use Rattle.broker_core.specs.Settles.{IsSettling}
+use Rattle.core_log.specs.Represents.{Represents}
+use Rattle.core_log.specs.Settles.{IsSettling}
 
 pub settles : (core : Parts) (s : State) (now origin last : ℕ) (half : Entry) (copy op : Draft) → Represents core s → IsGivenUp s now origin last half
     → copy ≡ discard_draft core.setup.host half → op ≡ op_draft core.setup.host now origin → IsSettling s now origin Discarded half copy op

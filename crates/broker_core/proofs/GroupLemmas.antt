@@ -26,12 +26,12 @@ use Rattle.group_tables.specs.Offsets.{offset_of, offset_row, HasOffsets, IsOffs
 use Rattle.group_tables.specs.declared.groups.Groups.{Groups}
 use Rattle.group_tables.specs.declared.locks.Lock.{Lock}
 use Rattle.reply_fields.specs.Granted.{HasShortNames}
-use Rattle.broker_core.specs.declared.parts.Parts.{Parts}
-use Rattle.broker_core.specs.Carries.{Stays}
-use Rattle.broker_core.specs.Represents.{Represents}
+use Rattle.core_log.specs.declared.parts.Parts.{Parts}
+use Rattle.core_log.specs.Carries.{Stays}
+use Rattle.core_log.specs.Represents.{Represents}
 use Rattle.broker_core.proofs.ReadLemmas.{Does, asked_by}
-use Rattle.broker_core.proofs.SeenLemmas.{queue_parts}
-use Rattle.broker_core.proofs.StoreLemmas.{offset_low}
+use Rattle.core_log.proofs.SeenLemmas.{queue_parts}
+use Rattle.core_log.proofs.StoreLemmas.{offset_low}
 use Rattle.broker_core.proofs.StateLemmasReads.{turn_remains}
 
 -- ---- tables that look up the same

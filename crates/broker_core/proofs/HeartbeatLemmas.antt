@@ -12,11 +12,11 @@ use Rattle.broker_model.specs.Refusals.{refusal_of}
 use Rattle.broker_model.specs.Step.{after, changed, request_changed}
 use Rattle.client_tables.specs.Held.{HasClients}
 use Rattle.client_tables.specs.declared.clients.Clients.{Clients}
-use Rattle.broker_core.specs.declared.parts.Parts.{Parts}
-use Rattle.broker_core.specs.Represents.{Represents}
+use Rattle.core_log.specs.declared.parts.Parts.{Parts}
+use Rattle.core_log.specs.Represents.{Represents}
 use Rattle.broker_core.proofs.ReadLemmas.{Does, asked_by}
-use Rattle.broker_core.proofs.StateLemmasTurns.{left_state}
-use Rattle.broker_core.proofs.TurnLemmas.{after_leaving, answer_leaving}
+use Rattle.core_log.proofs.StateLemmasTurns.{left_state}
+use Rattle.core_log.proofs.TurnLemmas.{after_leaving, answer_leaving}
 
 -- the parts with other clients
 pub represents_clients : (old : Parts) (clients : Clients) (s : State) (table : ClientTable) → Represents old s → HasClients clients table

@@ -33,19 +33,19 @@ use Rattle.broker_model.specs.Sends.{waits}
 use Rattle.broker_model.specs.Step.{with_records}
 use Rattle.broker_events.specs.declared.said.Said.{Said}
 use Rattle.broker_events.specs.Steps.{Says}
-use Rattle.broker_core.specs.declared.parts.Parts.{Parts}
-use Rattle.broker_core.specs.declared.room.Room.{Room}
-use Rattle.broker_core.specs.declared.room.Room.TheVariants.{Free, Past, Full}
-use Rattle.broker_core.specs.Appends.{MayStand}
-use Rattle.broker_core.specs.Represents.{Represents}
-use Rattle.broker_core.specs.Rooms.{room_of, state_in, IsRefusal}
-use Rattle.broker_core.specs.Settles.{IsSettling}
+use Rattle.core_log.specs.declared.parts.Parts.{Parts}
+use Rattle.core_log.specs.declared.room.Room.{Room}
+use Rattle.core_log.specs.declared.room.Room.TheVariants.{Free, Past, Full}
+use Rattle.core_log.specs.Appends.{MayStand}
+use Rattle.core_log.specs.Represents.{Represents}
+use Rattle.core_log.specs.Rooms.{room_of, state_in, IsRefusal}
+use Rattle.core_log.specs.Settles.{IsSettling}
 use Rattle.broker_core.specs.Verdicts.{disagreement_of, is_first_verdict, settled_answer, awaited_in, IsSettled, IsRollingBack, IsNamedBy, IsJudged, AnswersVerdict, agreed_answer}
-use Rattle.broker_core.proofs.BothLemmas.{may_stand_by, written_by}
+use Rattle.core_log.proofs.BothLemmas.{may_stand_by, written_by}
 use Rattle.broker_core.proofs.ReadLemmas.{represents_read}
-use Rattle.broker_core.proofs.RoomsLemmas.{fits_one}
-use Rattle.broker_core.proofs.SettleLemmas.{a_half, copies, earlier, layout, may, op_may, op_is_its}
-use Rattle.broker_core.proofs.StoreLemmas.{offset_low, is_next, is_next_record}
+use Rattle.core_log.proofs.RoomsLemmas.{fits_one}
+use Rattle.core_log.proofs.SettleLemmas.{a_half, copies, earlier, layout, may, op_may, op_is_its}
+use Rattle.core_log.proofs.StoreLemmas.{offset_low, is_next, is_next_record}
 use Rattle.broker_core.proofs.VerdictLemmas.{as_refusal, first_drafted, judged_names, judged_some, refusal_is, nothing_drafted, settled_number, verdict_agrees, verdict_settles}
 
 -- ---- the op record alone

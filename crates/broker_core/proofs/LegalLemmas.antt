@@ -12,9 +12,9 @@ use Rattle.broker_model.specs.State.{State}
 use Rattle.broker_model.specs.Events.{Reply}
 use Rattle.broker_model.specs.Tables.{queues_in}
 use Rattle.broker_model.specs.Refusals.{plain_reply, or_else, is_closed_topic, is_by_tags, queue_count, queue_refusal, pull_refusal}
-use Rattle.broker_core.specs.declared.parts.Parts.{Parts}
-use Rattle.broker_core.specs.Represents.{Represents}
-use Rattle.broker_core.proofs.StoreLemmas.{found_named}
+use Rattle.core_log.specs.declared.parts.Parts.{Parts}
+use Rattle.core_log.specs.Represents.{Represents}
+use Rattle.core_log.proofs.StoreLemmas.{found_named}
 
 named_so : (topic own : List ℕ) → is_legal own ≡ true → bytes_eq topic own ≡ true → is_legal topic ≡ true
 named_so topic own legal same = subst (λ (t : List ℕ). is_legal t ≡ true) (sym ((bytes_eq-Decides topic own).0 same)) legal

@@ -21,7 +21,7 @@ use Rattle.log_model.specs.Drafts.{text_in, without_real, delivery_draft, delive
 use Rattle.record_copies.proofs.NumberLemmas.{number_is}
 use Rattle.delay_view.specs.OfLog.{IsCopyOf}
 use Rattle.level_records.proofs.DigitLemmas.{other_text}
-use Rattle.broker_core.specs.Appends.{IsMessage}
+use Rattle.core_log.specs.Appends.{IsMessage}
 
 -- ---- numbers as texts
 

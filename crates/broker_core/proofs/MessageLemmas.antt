@@ -21,8 +21,8 @@ use Rattle.log_model.proofs.Makes.{delivery_written}
 use Rattle.delay_view.specs.Levels.{Level}
 use Rattle.delay_view.proofs.GrowthLemmas.{get_within}
 use Rattle.broker_model.specs.State.{State}
-use Rattle.broker_core.specs.declared.parts.Parts.{Parts}
-use Rattle.broker_core.specs.Represents.{Represents}
+use Rattle.core_log.specs.declared.parts.Parts.{Parts}
+use Rattle.core_log.specs.Represents.{Represents}
 use Rattle.log_model.specs.Admissible.{half_topic}
 use Rattle.log_model.specs.Numbered.{queue_max}
 use Rattle.log_model.proofs.AdmissibleLemmas.{plain_names}
@@ -30,11 +30,11 @@ use Rattle.record_codec.specs.Props.{has_name}
 use Rattle.queue_view.specs.Tables.{Table, number_of, added_of}
 use Rattle.log_model.specs.Log.{place_after}
 use Rattle.delay_view.specs.OfLog.{IsCopyOf}
-use Rattle.broker_core.specs.Appends.{IsMessage, IsNextPlace, MayStand}
+use Rattle.core_log.specs.Appends.{IsMessage, IsNextPlace, MayStand}
 use Rattle.broker_core.specs.Delivers.{IsDue}
 use Rattle.broker_core.proofs.DueLemmas.{due_is_next}
 use Rattle.broker_core.proofs.MadeLemmas.{made_admissible, made_kind, made_message}
-use Rattle.broker_core.proofs.StoreLemmas.{queue_few, offset_low, is_next}
+use Rattle.core_log.proofs.StoreLemmas.{queue_few, offset_low, is_next}
 
 ahead : (b : Bool) (n low : ℕ) (o : Option Entry) (r : Entry) → nat_lt n low ≡ b → cond b None o ≡ Some r → (low ≤ n) × (o ≡ Some r)
 ahead true n low o r is at = absurd (let bad : None ≡ Some r = at in cc bad)

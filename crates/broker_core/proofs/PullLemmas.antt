@@ -1,6 +1,6 @@
 -- The reply to a pull: which records it has, that they are on the disk, and that they are few bytes.
-use Rattle.std.proofs.Common.{◌≡◌, ◌⊎◌, ⊎_elim, inl, inr, refl, ap, sym, ◌∙◌, subst, arith, ℕ, zero, suc, ◌+◌, ◌-◌, ◌^◌, ◌<◌, ◌≤◌, ◌==◌, ◌&&◌, ◌||◌, not, nat_lt, nat_le, leb, Bool, true, false, cond, List, [], ◌∷◌, ◌++◌, length, take, drop, map, filter, count_by, sum_by, slice_get, get_or, bit_and, ℤ, pos, negsuc, FitsSigned, Some, None, Result, IfOk, if◌then◌else◌}
-use Rattle.std.specs.Int.{w16, w32, cast_unsigned}
+use Rattle.std.proofs.Common.{◌≡◌, ◌⊎◌, ⊎_elim, inl, inr, refl, ap, sym, ◌∙◌, subst, arith, ℕ, zero, suc, ◌+◌, ◌-◌, ◌^◌, ◌<◌, ◌≤◌, ◌==◌, ◌&&◌, ◌||◌, not, nat_lt, nat_le, leb, Bool, true, false, cond, List, [], ◌∷◌, ◌++◌, length, take, drop, map, filter, count_by, sum_by, slice_get, get_or, bit_and, ℤ, pos, negsuc, Some, None, Result, IfOk, if◌then◌else◌}
+use Rattle.std.specs.Int.{w32, cast_unsigned}
 use Rattle.std.specs.Ordering.{int_eq}
 use Rattle.std.specs.Str.{bytes_eq}
 use Rattle.std.specs.declared.alloc.AllocError.{AllocError}
@@ -36,10 +36,10 @@ use Rattle.queue_view.proofs.Lists.{some_one}
 use Rattle.broker_model.specs.State.{State, seen}
 use Rattle.broker_model.specs.Answers.{pull_words, pull_of}
 use Rattle.broker_events.specs.Replies.{IsSliceOf, AreSlicesOf}
-use Rattle.broker_core.specs.declared.parts.Parts.{Parts}
+use Rattle.core_log.specs.declared.parts.Parts.{Parts}
 use Rattle.broker_core.specs.Reads.{IsSliceAt, AreSlicesAt}
-use Rattle.broker_core.specs.Represents.{Represents, IsCovered, stored_unit}
-use Rattle.broker_core.proofs.SeenLemmas.{found, unknown}
+use Rattle.core_log.specs.Represents.{Represents, IsCovered, stored_unit}
+use Rattle.core_log.proofs.SeenLemmas.{found, unknown}
 
 -- ---- each of a list
 
@@ -357,12 +357,6 @@ pub has_ranges : (core : Parts) (s : State) (p : PullSaid) (a : Answer) → Repr
 has_ranges core s p a are answers =
     each_get (λ (u : QueueUnit). HasRange core.stored.pieces.items u.offset u.size) a.units.items
     (units_told core.stored a.units.items (pull_of s p).taken answers.units (pull_told core s p are).each)
-
--- the code is a code of replies
-pub code_fits : (core : Parts) (s : State) (p : PullSaid) (a : Answer) → Represents core s → Answers (pulled_as unit_of (pull_of s p)) a → FitsSigned w16 a.code
-code_fits core s p a are answers =
-    let low = (pull_told core s p are).code in
-    subst (λ (z : ℤ). FitsSigned w16 z) (sym answers.code) (record { sfits = omega (arith, low) })
 
 -- the slices are those of the records
 pub pull_slices : (core : Parts) (s : State) (p : PullSaid) (a : Answer) (slices : List Slice) → Represents core s → Answers (pulled_as unit_of (pull_of s p)) a → AreSlicesAt core.stored slices a.units.items

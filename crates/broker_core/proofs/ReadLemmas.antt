@@ -1,5 +1,5 @@
 -- A request that reads: it is refused by a row, or told at a later time, and makes no record.
-use Rattle.std.proofs.Common.{◌≡◌, refl, ap, sym, ◌∙◌, subst, arith, ℕ, ◌+◌, ◌^◌, ◌<◌, ◌||◌, ◌&&◌, max, nat_lt, List, [], length, sum_by, is_some, Bool, false, Option, Some, None, Result, Ok, Err, IfOk, OnOk, OnErr, if◌then◌else◌}
+use Rattle.std.proofs.Common.{◌≡◌, refl, ap, sym, ◌∙◌, subst, arith, ℕ, ◌+◌, ◌^◌, ◌<◌, ◌||◌, ◌&&◌, max, nat_lt, List, [], length, sum_by, is_some, Bool, false, Option, Some, None, Result, Ok, Err, IfOk, OnOk, if◌then◌else◌}
 use Rattle.std.specs.List.{list_any}
 use Rattle.std.proofs.lemmas.Result.{IfOk-weaker}
 use Rattle.std.specs.declared.alloc.AllocError.{AllocError}
@@ -18,11 +18,11 @@ use Rattle.broker_model.specs.Answers.{answer_of, or_refused, refused_answer, ca
 use Rattle.broker_model.specs.Step.{after, changed, request_changed, with_records, stored, pull_offset}
 use Rattle.broker_events.specs.declared.said.Said.{Said}
 use Rattle.broker_events.specs.Steps.{Says}
-use Rattle.broker_core.specs.declared.parts.Parts.{Parts}
+use Rattle.core_log.specs.declared.parts.Parts.{Parts}
 use Rattle.broker_core.specs.declared.replies.Refused.{Refused}
-use Rattle.broker_core.specs.Carries.{Carries, Stays}
+use Rattle.core_log.specs.Carries.{Carries}
 use Rattle.broker_core.specs.Reads.{refusal_reply, refusal_replies}
-use Rattle.broker_core.specs.Represents.{Represents}
+use Rattle.core_log.specs.Represents.{Represents}
 use Rattle.broker_core.proofs.StateLemmasReads.{read_state}
 
 -- ---- the model
@@ -148,15 +148,6 @@ carries_reply old new a told (Err fault) reads low moved says = tt
 carries_reply old new a told (Ok x) reads low moved says =
     carries_done old old new a (λ s. model.Replies (told s)) (λ s. s) x (record { none = reads.none; answer = reads.answer; change = reads.change; time = λ s. refl; allowed = reads.allowed }) low moved
     (λ s are. (are, says s are))
-
--- where nothing was told nothing changed
-pub stays_same : (old new : Parts) (said : Result Said AllocError) → OnErr said (new ≡ old) → OnErr said (Stays old new)
-stays_same old new (Ok x) same = tt
-stays_same old new (Err fault) same = λ s are. subst (λ (p : Parts). Represents p s) (sym same) are
-
-pub stays_old : (old : Parts) (said : Result Said AllocError) → OnErr said (Stays old old)
-stays_old old (Ok x) = tt
-stays_old old (Err fault) = λ s are. are
 
 -- ---- the requests
 

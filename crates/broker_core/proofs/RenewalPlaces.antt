@@ -17,16 +17,16 @@ use Rattle.made_records.specs.Made.{CanStand, IsHalfOf}
 use Rattle.made_records.proofs.RenewalLemmas.{renewal_stands, renewal_kind}
 use Rattle.queue_view.specs.Tables.{Table, number_of, added_of}
 use Rattle.broker_model.specs.State.{State}
-use Rattle.broker_core.specs.declared.parts.Parts.{Parts}
-use Rattle.broker_core.specs.Appends.{IsNextPlace, MayStand}
+use Rattle.core_log.specs.declared.parts.Parts.{Parts}
+use Rattle.core_log.specs.Appends.{IsNextPlace, MayStand}
 use Rattle.broker_core.specs.Checks.{IsHalfDraft, IsRenewedBy}
-use Rattle.broker_core.specs.Represents.{Represents}
-use Rattle.broker_core.specs.Rooms.{room_of}
-use Rattle.broker_core.specs.declared.room.Room.TheVariants.{Free}
-use Rattle.broker_core.proofs.AppendLemmas.{alike_length}
+use Rattle.core_log.specs.Represents.{Represents}
+use Rattle.core_log.specs.Rooms.{room_of}
+use Rattle.core_log.specs.declared.room.Room.TheVariants.{Free}
+use Rattle.core_log.proofs.AppendLemmas.{alike_length}
 use Rattle.broker_core.proofs.CheckedOrigins.{IsHalfIn, IsOriginIn, origin_in, kept_in}
-use Rattle.broker_core.proofs.RoomsLemmas.{fits_one}
-use Rattle.broker_core.proofs.StoreLemmas.{is_next, offset_low}
+use Rattle.core_log.proofs.RoomsLemmas.{fits_one}
+use Rattle.core_log.proofs.StoreLemmas.{is_next, offset_low}
 
 -- a half message of the log has a lower number than the next one
 pub below_next : (core : Parts) (s : State) (e : Entry) → Represents core s → IsHalfIn s.log.records e → e.queue_offset < queue_max s.log half_topic 0

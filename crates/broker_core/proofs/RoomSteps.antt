@@ -12,9 +12,9 @@ use Rattle.broker_model.specs.Events as model
 use Rattle.broker_model.specs.Appended.{moment, drafts_of, made_by, is_past_end, is_full, is_refused_request, is_refused, appended}
 use Rattle.broker_model.specs.Answers.{end_of_log, event_refusal, or_refused, refused_answer, carried_out_answer, answer_of}
 use Rattle.broker_model.specs.Step.{changed, with_records, after}
-use Rattle.broker_core.specs.declared.room.Room.TheVariants.{Free, Past, Full}
-use Rattle.broker_core.specs.Stores.{is_past}
-use Rattle.broker_core.specs.Rooms.{room_of, answer_in, state_in}
+use Rattle.core_log.specs.declared.room.Room.TheVariants.{Free, Past, Full}
+use Rattle.core_log.specs.Rooms.{is_past}
+use Rattle.core_log.specs.Rooms.{room_of, answer_in, state_in}
 
 -- as many records as drafts
 length-next_records : (segment now : ℕ) (log : Log) (drafts : List Draft) → length (next_records segment now log drafts) ≡ length drafts

@@ -19,8 +19,8 @@ use Rattle.broker_events.specs.Served.{is_served}
 use Rattle.broker_events.specs.declared.said.Said.{Said}
 use Rattle.broker_events.specs.declared.said.Said.TheVariants as said
 use Rattle.broker_events.specs.Steps.{IsOfCheck, IsOfDelivery, IsOfRequest, Says}
-use Rattle.broker_core.specs.declared.parts.Parts.{Parts}
-use Rattle.broker_core.specs.Carries.{Carries, RepresentsSome}
+use Rattle.core_log.specs.declared.parts.Parts.{Parts}
+use Rattle.core_log.specs.Carries.{Carries, RepresentsSome}
 
 -- the model answers a request so
 abbrev IsRequestAnswer : events.Answer → Type 0

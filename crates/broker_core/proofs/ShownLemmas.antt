@@ -22,10 +22,10 @@ use Rattle.broker_model.specs.Step.{after, changed, request_changed, with_record
 use Rattle.broker_model.proofs.StepLemmas.{log_grows, with_appended-nil}
 use Rattle.broker_events.specs.declared.said.Said.{Said}
 use Rattle.broker_events.specs.Steps.{Says}
-use Rattle.broker_core.specs.declared.parts.Parts.{Parts}
-use Rattle.broker_core.specs.Represents.{Represents, AreOut}
-use Rattle.broker_core.specs.Carries.{Carries, Stays, RepresentsSome}
-use Rattle.broker_core.specs.Makes.{batch_of, shown_in, shown_of}
+use Rattle.core_log.specs.declared.parts.Parts.{Parts}
+use Rattle.core_log.specs.Represents.{Represents, AreOut}
+use Rattle.core_log.specs.Carries.{Carries, Stays, RepresentsSome}
+use Rattle.core_log.specs.Shows.{batch_of, shown_in, shown_of}
 
 -- ---- a log with more records
 

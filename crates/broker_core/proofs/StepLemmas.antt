@@ -17,10 +17,11 @@ use Rattle.broker_events.specs.declared.said.Said.{Said}
 use Rattle.broker_events.specs.declared.said.Said.TheVariants as said
 use Rattle.broker_events.specs.Shown.{Accepts, IsOut}
 use Rattle.broker_events.specs.Steps.{event_of, Says, IsTakenAs, said_in}
-use Rattle.broker_core.specs.declared.parts.Parts.{Parts}
-use Rattle.broker_core.specs.Represents.{Represents, AreOut}
-use Rattle.broker_core.specs.Carries.{Carries, Stays, RepresentsSome}
-use Rattle.broker_core.specs.Makes.{Makes, batch_of, shown_of}
+use Rattle.core_log.specs.declared.parts.Parts.{Parts}
+use Rattle.core_log.specs.Represents.{Represents, AreOut}
+use Rattle.core_log.specs.Carries.{Carries, Stays, RepresentsSome}
+use Rattle.broker_core.specs.Makes.{Makes}
+use Rattle.core_log.specs.Shows.{batch_of, shown_of}
 
 -- the step that a call makes which says what the model answers
 pub made : (s : State) (e : Event) (what : Said) (new : Parts) → IsPossible s (event_of e) → Says what (answer_of s (event_of e)) × Represents new (after s (event_of e)) → Makes s e (Some what) new
@@ -35,10 +36,6 @@ made s e what new possible does = record {
 -- no step, where memory ran out
 pub unmade : (s : State) (e : Event) (new : Parts) → steps.MayTakeMemory (event_of e) → Represents new s → Makes s e None new
 unmade s e new may represents = record { answer = None; says = tt; reached = s; step = (may, refl); represents = represents }
-
--- it represents a state afterwards
-pub some_state : (s : State) (e : Event) (what : Option Said) (new : Parts) → Makes s e what new → RepresentsSome new
-some_state s e what new makes = (makes.reached, makes.represents)
 
 -- a request
 pub request_made : {E : Type 0} (old new : Parts) (s : State) (link : ℕ) (host : List ℕ) (now : ℕ) (request : ARequest) (result : Result Said E)

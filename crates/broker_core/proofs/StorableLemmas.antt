@@ -21,10 +21,10 @@ use Rattle.log_model.specs.Made.{text_size}
 use Rattle.log_model.proofs.AdmissibleLemmas.{plain_admissible, plain_names}
 use Rattle.request_fields.specs.Requests.{SendSaid, IsFieldName}
 use Rattle.broker_model.specs.Sends.{flag_of, is_half_send, level_of, level_named, level_text, queue_named, plain_draft, half_draft, delayed_draft, with_real, with_group, waits, is_word}
-use Rattle.broker_core.specs.declared.store.Kind.{Kind}
-use Rattle.broker_core.specs.declared.store.Kind.TheVariants.{Plain, Delayed, Half}
+use Rattle.core_log.specs.declared.kind.Kind.{Kind}
+use Rattle.core_log.specs.declared.kind.Kind.TheVariants.{Plain, Delayed, Half}
 use Rattle.broker_core.specs.Kinds.{kind_in, kind_of, draft_by}
-use Rattle.broker_core.specs.Stores.{IsStorable}
+use Rattle.core_log.specs.Stands.{IsStorable}
 use Rattle.broker_core.proofs.MadeLemmas.{number_in_digits}
 use Rattle.broker_core.proofs.SendLemmas.{IsTaken}
 use Rattle.broker_core.proofs.PairLemmas.{named_has}

@@ -37,15 +37,15 @@ use Rattle.broker_model.specs.Sends.{waits}
 use Rattle.broker_model.specs.Step.{after, changed, request_changed}
 use Rattle.broker_events.specs.declared.said.Said.{Said}
 use Rattle.broker_events.specs.Steps.{Says}
-use Rattle.broker_core.specs.declared.parts.Parts.{Parts}
-use Rattle.broker_core.specs.declared.room.Room.{Room}
-use Rattle.broker_core.specs.declared.room.Room.TheVariants.{Free, Past, Full}
-use Rattle.broker_core.specs.Represents.{Represents}
-use Rattle.broker_core.specs.Rooms.{room_of, answer_in}
+use Rattle.core_log.specs.declared.parts.Parts.{Parts}
+use Rattle.core_log.specs.declared.room.Room.{Room}
+use Rattle.core_log.specs.declared.room.Room.TheVariants.{Free, Past, Full}
+use Rattle.core_log.specs.Represents.{Represents}
+use Rattle.core_log.specs.Rooms.{room_of, answer_in}
 use Rattle.broker_core.specs.Verdicts.{disagreement_of, is_first_verdict, settled_answer, IsSettled, IsNamedBy, IsJudged, verdict_event, agreed_answer}
 use Rattle.broker_core.proofs.ReadLemmas.{after_read, answer_read}
 use Rattle.broker_core.proofs.RoomSteps.{room_decides}
-use Rattle.broker_core.proofs.SettleLemmas.{found_at, found_alone, one_half}
+use Rattle.core_log.proofs.SettleLemmas.{found_at, found_alone, one_half}
 
 -- ---- the origin that is judged
 
@@ -63,10 +63,6 @@ same_origin log end (Some half) =
 pub judged_is_origin : (s : State) (end : EndSaid)
     → option_map (judged_of s.log.records) (records.judged_origin s.log.records end.group end.msg_id (half_at s.log.records end.queue_offset end.place)) ≡ option_map (judged_of s.log.records) (verdict_origin s end)
 judged_is_origin s end = ap (option_map (judged_of s.log.records)) (same_origin s.log.records end (named_half s end))
-
-pub judged_none : (log : List Entry) (o : Option Entry) → option_map (judged_of log) o ≡ None → o ≡ None
-judged_none log None is = refl
-judged_none log (Some r) is = cc is
 
 pub judged_some : (log : List Entry) (o : Option Entry) (judged : Judged) → option_map (judged_of log) o ≡ Some judged → (r : Entry) × (o ≡ Some r) × (judged ≡ judged_of log r)
 judged_some log None judged is = cc is

@@ -4,8 +4,8 @@ use Rattle.request_fields.specs.declared.request.Request.{Request}
 use Rattle.broker_model.specs.Events as model
 use Rattle.broker_events.specs.declared.said.Said.{Said}
 use Rattle.broker_events.specs.Steps.{Says}
-use Rattle.broker_core.specs.declared.parts.Parts.{Parts}
-use Rattle.broker_core.specs.Carries.{Carries}
+use Rattle.core_log.specs.declared.parts.Parts.{Parts}
+use Rattle.core_log.specs.Carries.{Carries}
 
 -- whatever the link, the request is answered by what was said
 abbrev pub CarriesRequest : Parts → List ℕ → ℕ → Request → Said → Parts → Type 0

@@ -17,11 +17,11 @@ use Rattle.broker_model.specs.Appended.{due_origin, check_drafts}
 use Rattle.broker_model.specs.Answers.{asks_of}
 use Rattle.broker_events.specs.declared.said.Said.{Said}
 use Rattle.broker_events.specs.Steps.{Says}
-use Rattle.broker_core.specs.declared.parts.Parts.{Parts}
-use Rattle.broker_core.specs.declared.room.Room.{Room}
-use Rattle.broker_core.specs.declared.room.Room.TheVariants.{Free, Past, Full}
-use Rattle.broker_core.specs.Represents.{Represents}
-use Rattle.broker_core.specs.Rooms.{room_of, state_in}
+use Rattle.core_log.specs.declared.parts.Parts.{Parts}
+use Rattle.core_log.specs.declared.room.Room.{Room}
+use Rattle.core_log.specs.declared.room.Room.TheVariants.{Free, Past, Full}
+use Rattle.core_log.specs.Represents.{Represents}
+use Rattle.core_log.specs.Rooms.{room_of, state_in}
 
 -- ---- half messages
 

@@ -10,9 +10,9 @@ use Rattle.broker_model.specs.Events as model
 use Rattle.broker_model.specs.Step.{with_records}
 use Rattle.broker_events.specs.declared.said.Said.{Said}
 use Rattle.broker_events.specs.Steps.{Says}
-use Rattle.broker_core.specs.declared.parts.Parts.{Parts}
-use Rattle.broker_core.specs.Represents.{Represents}
-use Rattle.broker_core.specs.Stores.{is_past, is_over}
+use Rattle.core_log.specs.declared.parts.Parts.{Parts}
+use Rattle.core_log.specs.Represents.{Represents}
+use Rattle.core_log.specs.Rooms.{is_past, is_over}
 
 -- at this time the message is the one that is due, of this level and with this number there, and the draft is its delivery
 pub record IsDue (s : State) (now level count : ℕ) (r : Entry) (d : Draft) : Type 0 where

@@ -3,8 +3,8 @@ use Rattle.std.specs.Prelude.{ℕ, ◌≤◌, List, Bool, true, false, Option, S
 use Rattle.record_codec.specs.declared.draft.Draft.{Draft}
 use Rattle.request_fields.specs.Requests.{SendSaid}
 use Rattle.broker_model.specs.Sends.{is_half_send, level_of, half_draft, delayed_draft}
-use Rattle.broker_core.specs.declared.store.Kind.{Kind}
-use Rattle.broker_core.specs.declared.store.Kind.TheVariants.{Plain, Delayed, Half}
+use Rattle.core_log.specs.declared.kind.Kind.{Kind}
+use Rattle.core_log.specs.declared.kind.Kind.TheVariants.{Plain, Delayed, Half}
 
 -- by its level, where it has one
 abbrev pub kind_by : Option ℕ → Kind

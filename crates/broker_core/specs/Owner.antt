@@ -3,7 +3,7 @@ use Rattle.std.specs.Prelude.{◌≡◌, Some}
 use Rattle.broker_events.specs.declared.event.Event.{Event}
 use Rattle.broker_events.specs.declared.event.Event.TheVariants.{Look}
 use Rattle.broker_events.specs.declared.said.Said.{Said}
-use Rattle.broker_core.specs.declared.parts.Parts.{Parts}
+use Rattle.core_log.specs.declared.parts.Parts.{Parts}
 use Rattle.broker_core.specs.Makes.{MakesStep}
 
 -- the event of a look for no record in particular

@@ -1,20 +1,15 @@
 -- A message that is stored, and the reply to its send.
-use Rattle.std.specs.Prelude.{◌≡◌, ℕ, ◌+◌, ◌^◌, ◌<◌, ◌≤◌, nat_lt, List, [], ◌∷◌, codes, Bool, true, false, Option, None, if◌then◌else◌}
+use Rattle.std.specs.Prelude.{◌≡◌, ℕ, ◌<◌, ◌≤◌, List, [], ◌∷◌, codes, true, false, Option, if◌then◌else◌}
 use Rattle.mq_bytes.specs.Decimal.{digits_of}
 use Rattle.mq_bytes.specs.Ids.{message_id_of}
 use Rattle.record_codec.specs.Entry.{Entry}
-use Rattle.record_codec.specs.Layout.{size, is_legal}
-use Rattle.record_codec.specs.Props.{has_name}
-use Rattle.record_codec.specs.Drafts.{draft_fault, entry_of}
+use Rattle.record_codec.specs.Layout.{is_legal}
 use Rattle.record_codec.specs.declared.draft.Draft.{Draft}
-use Rattle.record_codec.specs.declared.draft.Place.{Place}
-use Rattle.log_model.specs.Admissible.{is_system_topic, IsAdmissible, NamesEarlier}
+use Rattle.log_model.specs.Admissible.{is_system_topic}
 use Rattle.log_model.specs.Numbered.{next_record}
-use Rattle.delay_view.specs.OfLog.{IsMessageOf, IsOther}
-use Rattle.made_records.specs.Made.{IsHalfOf}
 use Rattle.client_tables.specs.declared.topics.Topics.{Topics}
 use Rattle.client_tables.specs.Counts.{queues_of}
-use Rattle.broker_model.specs.State.{State, pending_bytes}
+use Rattle.broker_model.specs.State.{State}
 use Rattle.broker_model.specs.Events as model
 use Rattle.broker_model.specs.Refusals.{plain_reply}
 use Rattle.broker_model.specs.Sends.{waits}
@@ -22,11 +17,9 @@ use Rattle.broker_model.specs.Answers.{append_answer, reply_with}
 use Rattle.broker_model.specs.Step.{with_made, with_records}
 use Rattle.broker_events.specs.declared.said.Said.{Said}
 use Rattle.broker_events.specs.Steps.{Says}
-use Rattle.broker_core.specs.declared.parts.Parts.{Parts}
-use Rattle.broker_core.specs.declared.store.Kind.{Kind}
-use Rattle.broker_core.specs.declared.store.Kind.TheVariants.{Plain, Delayed, Half}
-use Rattle.broker_core.specs.Appends.{IsMessage}
-use Rattle.broker_core.specs.Represents.{Represents}
+use Rattle.core_log.specs.declared.parts.Parts.{Parts}
+use Rattle.core_log.specs.Represents.{Represents}
+use Rattle.core_log.specs.Rooms.{is_past, is_over}
 
 -- the fields that tell where a record stands
 abbrev pub sent_fields : List ℕ → ℕ → ℕ → ℕ → List (List ℕ × List ℕ)
@@ -40,23 +33,6 @@ pub record IsTarget (topics : Topics) (topic : List ℕ) (known : Option ℕ) (m
   pub few : made ≤ 8
   pub legal : is_legal topic ≡ true
   pub plain : is_system_topic topic ≡ false
-
--- the record is kept like this: it is a message of a topic of clients, or a delayed one of this level, or a half message
-abbrev pub IsKeptAs : Kind → Entry → Type 0
-IsKeptAs Plain r = IsMessage r × IsOther r
-IsKeptAs (Delayed level) r = (1 ≤ level) × (level ≤ 18) × IsMessage r × IsMessageOf level r
-IsKeptAs Half r = IsHalfOf None r
-
--- A draft whose record may stand behind any log where there is room, and is kept like this: it can be written into a segment, and
--- a log may have its record wherever it stands.
-pub record IsStorable (segment : ℕ) (kind : Kind) (d : Draft) : Type 0 where
-  pub passes : draft_fault segment d ≡ None
-  pub born : d.born < 2 ^ 62
-  pub prepared : d.prepared < 2 ^ 62
-  pub unsealed : has_name (codes "SEAL") d.props ≡ false
-  pub admissible : (p : Place) → IsAdmissible segment (entry_of d p)
-  pub names : (p : Place) (halves : ℕ) → NamesEarlier halves (entry_of d p)
-  pub kept : (p : Place) → IsKeptAs kind (entry_of d p)
 
 -- the model's answer to the send of a message to this queue, whose record is stored
 abbrev pub stored_reply : State → Draft → ℕ → Entry → model.Answer
@@ -77,14 +53,6 @@ pub record IsStored (s : State) (d : Draft) (topic : List ℕ) (queue n time : �
   pub state : Represents new (stored_state s d topic n time)
 
 -- ---- a message that is stored where there is room
-
--- the record would end past all places
-abbrev pub is_past : Entry → Bool
-is_past r = nat_lt (2 ^ 62) (r.offset + size r)
-
--- with the record more bytes would be pending than the buffer takes
-abbrev pub is_over : State → Entry → Bool
-is_over s r = nat_lt 67108864 (pending_bytes s + size r)
 
 -- the model's answer to the send of a record: there is no place for it, or no room in the buffer, or it is stored
 abbrev pub sent_reply : State → Draft → ℕ → Entry → model.Answer

@@ -18,11 +18,11 @@ use Rattle.broker_model.specs.Answers.{answer_of, append_answer, done_reply, rep
 use Rattle.broker_model.specs.Step.{after}
 use Rattle.broker_events.specs.declared.said.Said.{Said}
 use Rattle.broker_events.specs.Steps.{Says}
-use Rattle.broker_core.specs.declared.parts.Parts.{Parts}
-use Rattle.broker_core.specs.declared.room.Room.{Room}
-use Rattle.broker_core.specs.declared.room.Room.TheVariants.{Free, Past, Full}
-use Rattle.broker_core.specs.Represents.{Represents}
-use Rattle.broker_core.specs.Rooms.{room_of, state_in}
+use Rattle.core_log.specs.declared.parts.Parts.{Parts}
+use Rattle.core_log.specs.declared.room.Room.{Room}
+use Rattle.core_log.specs.declared.room.Room.TheVariants.{Free, Past, Full}
+use Rattle.core_log.specs.Represents.{Represents}
+use Rattle.core_log.specs.Rooms.{room_of, state_in}
 
 -- the remark that refuses a verdict which disagrees with what the origin became; 0 is no verdict
 abbrev pub disagreement_of : ℕ → OriginState → Option (List ℕ)

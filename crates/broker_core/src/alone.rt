@@ -31,7 +31,8 @@ impl Alone {
 impl Calls for Alone {
     ghost use Rattle.std.specs.Prelude.{◌≡◌};
     ghost use Rattle.broker_events.specs.Shown.{moved};
-    ghost use Rattle.broker_core.specs.Makes.{MakesStep, shown_of};
+    ghost use Rattle.broker_core.specs.Makes.{MakesStep};
+    ghost use Rattle.core_log.specs.Shows.{shown_of};
 
     ghost makes = { λ x event said y. MakesStep x.core event said y.core };
 

@@ -10,16 +10,18 @@ ghost use Rattle.broker_model.specs.State.{State, Saved};
 ghost use Rattle.broker_model.specs.Run.{opened};
 ghost use Rattle.broker_events.specs.Shown.{Accepts, moved};
 ghost use Rattle.broker_events.specs.Steps.{IsAnswerTo, MayTakeMemory, said_in};
-ghost use Rattle.broker_core.specs.Counts.{AreCountsOf};
-ghost use Rattle.broker_core.specs.Represents.{Represents, setup_of};
-ghost use Rattle.broker_core.specs.Loads.{MayOpen, whole_log};
-ghost use Rattle.broker_core.specs.Makes.{Makes, shown_of};
+ghost use Rattle.core_log.specs.Counts.{AreCountsOf};
+ghost use Rattle.core_log.specs.Represents.{Represents, setup_of};
+ghost use Rattle.core_log.specs.Loads.{MayOpen, whole_log};
+ghost use Rattle.broker_core.specs.Makes.{Makes};
+ghost use Rattle.core_log.specs.Shows.{shown_of};
 
-use crate::counts::Counts;
-use crate::loaded::Loaded;
-use crate::parts::Parts;
+use crate::check_back::check;
+use crate::delivery::deliver;
+use crate::heartbeats::leave;
 use broker_events::{Event, Said, Setup};
 use client_tables::Topics;
+use core_log::{Counts, Loaded, Parts};
 use group_tables::Groups;
 use mq_outside::FrozenRanges;
 use queue_view::QueueView;
@@ -33,14 +35,14 @@ pub struct Core {
 }
 
 impl Model for Core {
-    ghost use Rattle.broker_core.specs.declared.parts.Parts.{Parts};
-    ghost use Rattle.broker_core.specs.contracts.parts.Parts.{the_row};
+    ghost use Rattle.core_log.specs.declared.parts.Parts.{Parts};
+    ghost use Rattle.core_log.specs.contracts.parts.Parts.{the_row};
 
     ghost Value = { Parts };
 
     ghost coded = { the_row.coded };
 
-    ghost use Rattle.broker_core.specs.Carries.{RepresentsSome};
+    ghost use Rattle.core_log.specs.Carries.{RepresentsSome};
 
     ghost view = { λ c. c.parts };
 
@@ -119,7 +121,7 @@ impl Core {
                 host,
                 now,
                 request,
-            } => self.parts.request(alloc, *link, host, *now, request),
+            } => crate::request::request(&mut self.parts, alloc, *link, host, *now, request),
             Event::Take => match self.parts.take(alloc) {
                 Ok(batch) => Ok(Said::Batch(batch)),
                 Err(fault) => Err(fault),
@@ -134,10 +136,10 @@ impl Core {
             }
             Event::Look { number, turn } => Ok(Said::Awaited(self.parts.look(*number, *turn))),
             Event::Dispatch { most } => Ok(Said::Moved(self.parts.dispatch(*most))),
-            Event::Deliver { now } => self.parts.deliver(alloc, *now),
-            Event::Check { now } => self.parts.check(alloc, *now),
+            Event::Deliver { now } => deliver(&mut self.parts, alloc, *now),
+            Event::Check { now } => check(&mut self.parts, alloc, *now),
             Event::Leave { link } => {
-                self.parts.leave(*link);
+                leave(&mut self.parts, *link);
                 Ok(Said::Done)
             }
         }

@@ -11,17 +11,16 @@ ghost use Rattle.broker_model.specs.Answers.{asked_link};
 ghost use Rattle.broker_model.specs.Events as model;
 ghost use Rattle.broker_model.specs.State.{State};
 ghost use Rattle.broker_events.specs.Steps.{Says, asked_of};
-ghost use Rattle.broker_core.specs.Carries.{Carries, Stays, RepresentsSome};
+ghost use Rattle.core_log.specs.Carries.{Carries, Stays, RepresentsSome};
 ghost use Rattle.broker_core.specs.Checks.{IsHalfDraft, IsOpenMember, IsRenewed, IsRenewedBy, IsGivenUp, IsCheckedBy};
 ghost use Rattle.broker_core.specs.Checks.{IsDueCheck, Checks};
-ghost use Rattle.broker_core.specs.Represents.{Represents};
-ghost use Rattle.broker_core.specs.Rooms.{room_of};
-ghost use Rattle.broker_core.specs.declared.room.Room.TheVariants.{Free};
-ghost use Rattle.broker_core.specs.Settles.{IsSettling};
+ghost use Rattle.core_log.specs.Represents.{Represents};
+ghost use Rattle.core_log.specs.Rooms.{room_of};
+ghost use Rattle.core_log.specs.declared.room.Room.TheVariants.{Free};
+ghost use Rattle.core_log.specs.Settles.{IsSettling};
 
-use crate::parts::Parts;
-use crate::send::size_of;
 use broker_events::{Checked, Said};
+use core_log::{Parts, size_of};
 use half_view::Check;
 use log_model::OriginState;
 use mq_bytes::{Rows, Text};
@@ -70,210 +69,208 @@ fn ask_to(
     Ok(Ask { link, group, view })
 }
 
-impl Parts {
-    // The half message of an open origin's family that has this queue offset.
-    fn half_of(&self, alloc: Global, origin: u64, half: u64) -> Result<Record, AllocError>
-        requires { (s : State) × (r : Entry) × Represents self.now s × IsOpenMember s.log.records origin half r }
-        ensures { (s : State) (r : Entry) → Represents self.entry.now s → IsOpenMember s.log.records origin half r
-            → IfOk result (λ copy. said_by copy ≡ r) }
-    {
-        match self.halves.whole(origin, half) {
-            Some(whole) => whole.copied(alloc),
-            None => unreachable!(),
-        }
+// The half message of an open origin's family that has this queue offset.
+fn half_of(parts: &Parts, alloc: Global, origin: u64, half: u64) -> Result<Record, AllocError>
+    requires { (s : State) × (r : Entry) × Represents parts.now s × IsOpenMember s.log.records origin half r }
+    ensures { (s : State) (r : Entry) → Represents parts.entry.now s → IsOpenMember s.log.records origin half r
+        → IfOk result (λ copy. said_by copy ≡ r) }
+{
+    match parts.halves.whole(origin, half) {
+        Some(whole) => whole.copied(alloc),
+        None => unreachable!(),
     }
+}
 
-    // The first client of the half message's producer group is asked for it, where there is one.
-    fn ask_for(
-        &self,
-        alloc: Global,
-        draft: &Draft,
-        place: &Place,
-        size: u32,
-    ) -> Result<Option<Ask>, AllocError>
-        requires { (segment : ℕ) × IsHalfDraft segment draft.now place.now }
-        ensures { (s : State) → Represents self.entry.now s
-            → IfOk result (λ ask. option_map asked_of ask ≡ asked_link s (entry_of draft.now place.now)) }
-    {
-        let group = draft.props.get("PGROUP").unwrap_or("");
-        match self.clients.producer(group) {
-            None => Ok(None),
-            Some(link) => Ok(Some(ask_to(alloc, link, draft, place, size)?)),
-        }
+// The first client of the half message's producer group is asked for it, where there is one.
+fn ask_for(
+    parts: &Parts,
+    alloc: Global,
+    draft: &Draft,
+    place: &Place,
+    size: u32,
+) -> Result<Option<Ask>, AllocError>
+    requires { (segment : ℕ) × IsHalfDraft segment draft.now place.now }
+    ensures { (s : State) → Represents parts.entry.now s
+        → IfOk result (λ ask. option_map asked_of ask ≡ asked_link s (entry_of draft.now place.now)) }
+{
+    let group = draft.props.get("PGROUP").unwrap_or("");
+    match parts.clients.producer(group) {
+        None => Ok(None),
+        Some(link) => Ok(Some(ask_to(alloc, link, draft, place, size)?)),
     }
+}
 
-    // ---- renewals
+// ---- renewals
 
-    // Appends a renewal of this origin, for which there is room. At `Err` nothing changes.
-    fn append_renewal(
-        &mut self,
-        alloc: Global,
-        now: u64,
-        origin: u64,
-        draft: &Draft,
-        size: u32,
-    ) -> Result<Said, AllocError>
-        requires some { (s : State) × (first : Entry) × Represents self.old s × IsRenewedBy s now origin first draft.now }
-        requires size { size ≡ draft_size draft.now }
-        requires room { (s : State) → Represents self.old s
-            → room_of s (next_records s.setup.segment now s.log (draft.now ∷ [])) ≡ Free }
-        ensures checked { IfOk result (λ said. (s : State) (first : Entry) → Represents self.old s
-            → IsRenewedBy s now origin first draft.now → IsCheckedBy s now origin (draft.now ∷ []) said self.new) }
-        ensures stays { OnErr result (Stays self.old self.new) }
-    {
-        let table = self.make_ready(alloc, draft.topic.as_str(), draft.queue)?;
-        let place = self.next_place(table, size, now);
-        let ask = self.ask_for(alloc, draft, &place, size)?;
-        let whole = Whole::of(alloc, draft, &place, size)?;
-        let kept = self.halves.make_ready(alloc, Some(origin), &draft.props)?;
-        let number = self.rows.end();
-        self.append_half(table, draft, &place, size, Some(origin), kept, whole)?;
-        Ok(Said::Checked(Some(Checked {
-            origin,
-            number,
-            ask,
-        })))
+// Appends a renewal of this origin, for which there is room. At `Err` nothing changes.
+fn append_renewal(
+    parts: &mut Parts,
+    alloc: Global,
+    now: u64,
+    origin: u64,
+    draft: &Draft,
+    size: u32,
+) -> Result<Said, AllocError>
+    requires some { (s : State) × (first : Entry) × Represents parts.old s × IsRenewedBy s now origin first draft.now }
+    requires size { size ≡ draft_size draft.now }
+    requires room { (s : State) → Represents parts.old s
+        → room_of s (next_records s.setup.segment now s.log (draft.now ∷ [])) ≡ Free }
+    ensures checked { IfOk result (λ said. (s : State) (first : Entry) → Represents parts.old s
+        → IsRenewedBy s now origin first draft.now → IsCheckedBy s now origin (draft.now ∷ []) said parts.new) }
+    ensures stays { OnErr result (Stays parts.old parts.new) }
+{
+    let table = parts.make_ready(alloc, draft.topic.as_str(), draft.queue)?;
+    let place = parts.next_place(table, size, now);
+    let ask = ask_for(parts, alloc, draft, &place, size)?;
+    let whole = Whole::of(alloc, draft, &place, size)?;
+    let kept = parts.halves.make_ready(alloc, Some(origin), &draft.props)?;
+    let number = parts.rows.end();
+    parts.append_half(table, draft, &place, size, Some(origin), kept, whole)?;
+    Ok(Said::Checked(Some(Checked {
+        origin,
+        number,
+        ask,
+    })))
+}
+
+// Appends a renewal of this origin, where there is room. At `Err` nothing changes.
+fn renew(
+    parts: &mut Parts,
+    alloc: Global,
+    now: u64,
+    origin: u64,
+    draft: &Draft,
+) -> Result<Said, AllocError>
+    requires some { (s : State) × (first : Entry) × Represents parts.old s × IsRenewedBy s now origin first draft.now }
+    ensures checked { IfOk result (λ said. (s : State) (first : Entry) → Represents parts.old s
+        → IsRenewedBy s now origin first draft.now → IsCheckedBy s now origin (draft.now ∷ []) said parts.new) }
+    ensures stays { OnErr result (Stays parts.old parts.new) }
+{
+    let size = size_of(draft, parts.setup.segment);
+    match parts.room(size).refuse_own() {
+        Some(said) => Ok(said),
+        None => append_renewal(parts, alloc, now, origin, draft, size),
     }
+}
 
-    // Appends a renewal of this origin, where there is room. At `Err` nothing changes.
-    fn renew(
-        &mut self,
-        alloc: Global,
-        now: u64,
-        origin: u64,
-        draft: &Draft,
-    ) -> Result<Said, AllocError>
-        requires some { (s : State) × (first : Entry) × Represents self.old s × IsRenewedBy s now origin first draft.now }
-        ensures checked { IfOk result (λ said. (s : State) (first : Entry) → Represents self.old s
-            → IsRenewedBy s now origin first draft.now → IsCheckedBy s now origin (draft.now ∷ []) said self.new) }
-        ensures stays { OnErr result (Stays self.old self.new) }
-    {
-        let size = size_of(draft, self.setup.segment);
-        match self.room(size).refuse_own() {
-            Some(said) => Ok(said),
-            None => self.append_renewal(alloc, now, origin, draft, size),
-        }
+// Asks for this origin for the n-th time. At `Err` nothing changes.
+fn renew_due(
+    parts: &mut Parts,
+    alloc: Global,
+    now: u64,
+    origin: u64,
+    n: u64,
+) -> Result<Said, AllocError>
+    requires some { (s : State) × (first : Entry) × Represents parts.old s × IsRenewed s now origin n first }
+    ensures checked { IfOk result (λ said. (s : State) (first : Entry) → Represents parts.old s → IsRenewed s now origin n first
+        → IsCheckedBy s now origin (renewal_draft_of s.setup.host n first ∷ []) said parts.new) }
+    ensures stays { OnErr result (Stays parts.old parts.new) }
+{
+    let first = half_of(parts, alloc, origin, origin)?;
+    let draft = renewal_draft(alloc, parts.setup.host, n, first)?;
+    renew(parts, alloc, now, origin, &draft)
+}
+
+// ---- origins that are given up
+
+// Gives this origin up by these two records, for which there is room. At `Err` nothing changes.
+fn append_given_up(
+    parts: &mut Parts,
+    alloc: Global,
+    now: u64,
+    origin: u64,
+    copy: &Draft,
+    op: &Draft,
+    sizes: (u32, u32),
+) -> Result<Said, AllocError>
+    requires some { (s : State) × (half : Entry) × Represents parts.old s × IsSettling s now origin Discarded half copy.now op.now }
+    requires sizes { (sizes.0 ≡ draft_size copy.now) × (sizes.1 ≡ draft_size op.now) }
+    requires room { (s : State) → Represents parts.old s
+        → room_of s (next_records s.setup.segment now s.log (copy.now ∷ op.now ∷ [])) ≡ Free }
+    ensures checked { IfOk result (λ said. (s : State) (half : Entry) → Represents parts.old s
+        → IsSettling s now origin Discarded half copy.now op.now
+        → IsCheckedBy s now origin (copy.now ∷ op.now ∷ []) said parts.new) }
+    ensures stays { OnErr result (Stays parts.old parts.new) }
+{
+    let number = parts.rows.end();
+    parts.append_both(alloc, now, origin, OriginState::Discarded, copy, op, sizes)?;
+    Ok(Said::Checked(Some(Checked {
+        origin,
+        number,
+        ask: None,
+    })))
+}
+
+// Gives this origin up by these two records, where there is room. At `Err` nothing changes.
+fn give_up(
+    parts: &mut Parts,
+    alloc: Global,
+    now: u64,
+    origin: u64,
+    copy: &Draft,
+    op: &Draft,
+) -> Result<Said, AllocError>
+    requires some { (s : State) × (half : Entry) × Represents parts.old s × IsSettling s now origin Discarded half copy.now op.now }
+    ensures checked { IfOk result (λ said. (s : State) (half : Entry) → Represents parts.old s
+        → IsSettling s now origin Discarded half copy.now op.now
+        → IsCheckedBy s now origin (copy.now ∷ op.now ∷ []) said parts.new) }
+    ensures stays { OnErr result (Stays parts.old parts.new) }
+{
+    let segment = parts.setup.segment;
+    let sizes = (size_of(copy, segment), size_of(op, segment));
+    match parts.room_for_two(sizes.0, sizes.1).refuse_own() {
+        Some(said) => Ok(said),
+        None => append_given_up(parts, alloc, now, origin, copy, op, sizes),
     }
+}
 
-    // Asks for this origin for the n-th time. At `Err` nothing changes.
-    fn renew_due(
-        &mut self,
-        alloc: Global,
-        now: u64,
-        origin: u64,
-        n: u64,
-    ) -> Result<Said, AllocError>
-        requires some { (s : State) × (first : Entry) × Represents self.old s × IsRenewed s now origin n first }
-        ensures checked { IfOk result (λ said. (s : State) (first : Entry) → Represents self.old s → IsRenewed s now origin n first
-            → IsCheckedBy s now origin (renewal_draft_of s.setup.host n first ∷ []) said self.new) }
-        ensures stays { OnErr result (Stays self.old self.new) }
-    {
-        let first = self.half_of(alloc, origin, origin)?;
-        let draft = renewal_draft(alloc, self.setup.host, n, first)?;
-        self.renew(alloc, now, origin, &draft)
+// Gives this origin up, whose last renewal has this queue offset. At `Err` nothing changes.
+fn give_up_due(
+    parts: &mut Parts,
+    alloc: Global,
+    now: u64,
+    origin: u64,
+    last: u64,
+) -> Result<Said, AllocError>
+    requires some { (s : State) × (half : Entry) × Represents parts.old s × IsGivenUp s now origin last half }
+    ensures checked { IfOk result (λ said. (s : State) (half : Entry) → Represents parts.old s → IsGivenUp s now origin last half
+        → IsCheckedBy s now origin (discard_draft_of s.setup.host half ∷ op_draft_of s.setup.host now origin ∷ []) said parts.new) }
+    ensures stays { OnErr result (Stays parts.old parts.new) }
+{
+    let half = half_of(parts, alloc, origin, last)?;
+    let host = parts.setup.host;
+    let copy = discard_draft(alloc, host, half)?;
+    let op = op_draft(alloc, host, now, origin)?;
+    give_up(parts, alloc, now, origin, &copy, &op)
+}
+
+// ---- checks
+
+// Checks an origin that is due. At `Err` nothing changes.
+fn check_due(parts: &mut Parts, alloc: Global, now: u64, due: Check) -> Result<Said, AllocError>
+    requires due { (s : State) × Represents parts.old s × IsDueCheck s now due }
+    ensures checked { IfOk result (λ said. (s : State) → Represents parts.old s → IsDueCheck s now due → Checks s now said parts.new) }
+    ensures stays { OnErr result (Stays parts.old parts.new) }
+{
+    match due.given_up {
+        None => renew_due(parts, alloc, now, due.origin, u64::from(due.checks) + 1),
+        Some(last) => give_up_due(parts, alloc, now, due.origin, last),
     }
+}
 
-    // ---- origins that are given up
-
-    // Gives this origin up by these two records, for which there is room. At `Err` nothing changes.
-    fn append_given_up(
-        &mut self,
-        alloc: Global,
-        now: u64,
-        origin: u64,
-        copy: &Draft,
-        op: &Draft,
-        sizes: (u32, u32),
-    ) -> Result<Said, AllocError>
-        requires some { (s : State) × (half : Entry) × Represents self.old s × IsSettling s now origin Discarded half copy.now op.now }
-        requires sizes { (sizes.0 ≡ draft_size copy.now) × (sizes.1 ≡ draft_size op.now) }
-        requires room { (s : State) → Represents self.old s
-            → room_of s (next_records s.setup.segment now s.log (copy.now ∷ op.now ∷ [])) ≡ Free }
-        ensures checked { IfOk result (λ said. (s : State) (half : Entry) → Represents self.old s
-            → IsSettling s now origin Discarded half copy.now op.now
-            → IsCheckedBy s now origin (copy.now ∷ op.now ∷ []) said self.new) }
-        ensures stays { OnErr result (Stays self.old self.new) }
-    {
-        let number = self.rows.end();
-        self.append_both(alloc, now, origin, OriginState::Discarded, copy, op, sizes)?;
-        Ok(Said::Checked(Some(Checked {
-            origin,
-            number,
-            ask: None,
-        })))
-    }
-
-    // Gives this origin up by these two records, where there is room. At `Err` nothing changes.
-    fn give_up(
-        &mut self,
-        alloc: Global,
-        now: u64,
-        origin: u64,
-        copy: &Draft,
-        op: &Draft,
-    ) -> Result<Said, AllocError>
-        requires some { (s : State) × (half : Entry) × Represents self.old s × IsSettling s now origin Discarded half copy.now op.now }
-        ensures checked { IfOk result (λ said. (s : State) (half : Entry) → Represents self.old s
-            → IsSettling s now origin Discarded half copy.now op.now
-            → IsCheckedBy s now origin (copy.now ∷ op.now ∷ []) said self.new) }
-        ensures stays { OnErr result (Stays self.old self.new) }
-    {
-        let segment = self.setup.segment;
-        let sizes = (size_of(copy, segment), size_of(op, segment));
-        match self.room_for_two(sizes.0, sizes.1).refuse_own() {
-            Some(said) => Ok(said),
-            None => self.append_given_up(alloc, now, origin, copy, op, sizes),
-        }
-    }
-
-    // Gives this origin up, whose last renewal has this queue offset. At `Err` nothing changes.
-    fn give_up_due(
-        &mut self,
-        alloc: Global,
-        now: u64,
-        origin: u64,
-        last: u64,
-    ) -> Result<Said, AllocError>
-        requires some { (s : State) × (half : Entry) × Represents self.old s × IsGivenUp s now origin last half }
-        ensures checked { IfOk result (λ said. (s : State) (half : Entry) → Represents self.old s → IsGivenUp s now origin last half
-            → IsCheckedBy s now origin (discard_draft_of s.setup.host half ∷ op_draft_of s.setup.host now origin ∷ []) said self.new) }
-        ensures stays { OnErr result (Stays self.old self.new) }
-    {
-        let half = self.half_of(alloc, origin, last)?;
-        let host = self.setup.host;
-        let copy = discard_draft(alloc, host, half)?;
-        let op = op_draft(alloc, host, now, origin)?;
-        self.give_up(alloc, now, origin, &copy, &op)
-    }
-
-    // ---- checks
-
-    // Checks an origin that is due. At `Err` nothing changes.
-    fn check_due(&mut self, alloc: Global, now: u64, due: Check) -> Result<Said, AllocError>
-        requires due { (s : State) × Represents self.old s × IsDueCheck s now due }
-        ensures checked { IfOk result (λ said. (s : State) → Represents self.old s → IsDueCheck s now due → Checks s now said self.new) }
-        ensures stays { OnErr result (Stays self.old self.new) }
-    {
-        match due.given_up {
-            None => self.renew_due(alloc, now, due.origin, u64::from(due.checks) + 1),
-            Some(last) => self.give_up_due(alloc, now, due.origin, last),
-        }
-    }
-
-    /// Checks the first origin that is due at this reading of the clock, if one is. At `Err` nothing changes.
-    pub(crate) fn check(&mut self, alloc: Global, now: u64) -> Result<Said, AllocError>
-        requires some { RepresentsSome self.old }
-        requires time { now < 2 ^ 62 }
-        ensures carries { IfOk result (λ said. Carries self.old (model.Check now) (Says said) self.new) }
-        ensures stays { OnErr result (Stays self.old self.new) }
-    {
-        let moment = now.max(self.now);
-        match self.halves.due(moment) {
-            Some(due) => self.check_due(alloc, moment, due),
-            None => {
-                self.now = moment;
-                Ok(Said::Checked(None))
-            }
+/// Checks the first origin that is due at this reading of the clock, if one is. At `Err` nothing changes.
+pub(crate) fn check(parts: &mut Parts, alloc: Global, now: u64) -> Result<Said, AllocError>
+    requires some { RepresentsSome parts.old }
+    requires time { now < 2 ^ 62 }
+    ensures carries { IfOk result (λ said. Carries parts.old (model.Check now) (Says said) parts.new) }
+    ensures stays { OnErr result (Stays parts.old parts.new) }
+{
+    let moment = now.max(parts.now);
+    match parts.halves.due(moment) {
+        Some(due) => check_due(parts, alloc, moment, due),
+        None => {
+            parts.now = moment;
+            Ok(Said::Checked(None))
         }
     }
 }

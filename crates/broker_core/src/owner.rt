@@ -3,13 +3,14 @@
 ghost use Rattle.std.specs.Prelude.{Some};
 ghost use Rattle.std.specs.Fn.{FnOnceReturnsAt};
 ghost use Rattle.broker_events.specs.declared.said.Said.{Said as ASaid};
-ghost use Rattle.broker_core.specs.declared.parts.Parts.{Parts};
+ghost use Rattle.core_log.specs.declared.parts.Parts.{Parts};
 ghost use Rattle.broker_core.specs.Makes.{MakesStep};
 ghost use Rattle.broker_core.specs.Owner.{plain_look};
 
 use crate::alone::Alone;
 use crate::broker::Core;
 use broker_events::{Calls, Event};
+use core_log::Parts;
 use std::alloc::Global;
 
 /// An object that makes steps of a core, and can read it.

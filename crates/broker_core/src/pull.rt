@@ -15,17 +15,19 @@ ghost use Rattle.request_fields.specs.declared.request.Request.TheVariants.{Pull
 ghost use Rattle.broker_model.specs.State.{State, seen};
 ghost use Rattle.broker_model.specs.Events as model;
 ghost use Rattle.broker_model.specs.Refusals.{is_closed_topic, is_by_tags as is_by_tags_of, pull_refusal};
-ghost use Rattle.broker_model.specs.Answers.{pulled_reply, pull_of, pull_words};
-ghost use Rattle.broker_model.specs.Clients.{heard_words};
+ghost use Rattle.broker_model.specs.Answers.{pulled_reply, pull_of, pull_words as pull_words_of};
+ghost use Rattle.broker_model.specs.Clients.{heard_words as heard_words_of};
 ghost use Rattle.broker_events.specs.Replies.{IsReplyOf};
 ghost use Rattle.broker_events.specs.Steps.{Says};
-ghost use Rattle.broker_core.specs.Carries.{Carries, Stays, RepresentsSome};
-ghost use Rattle.broker_core.specs.Represents.{Represents};
+ghost use Rattle.core_log.specs.Carries.{Carries, Stays, RepresentsSome};
+ghost use Rattle.core_log.specs.Represents.{Represents};
 ghost use Rattle.broker_core.specs.Reads.{refusal_replies, IsSliceAt, AreSlicesAt};
 
-use crate::parts::Parts;
+use crate::consumer_offsets::commit;
+use crate::offsets::{refuses_queue, told};
 use crate::replies::{Refused, pull_reply};
 use broker_events::Said;
+use core_log::Parts;
 use mq_outside::FrozenRanges;
 use queue_view::{NOT_YET, OUTSIDE, Pulled, Tags};
 use record_codec::Unit;
@@ -90,100 +92,106 @@ fn slices_of(alloc: Global, stored: &FrozenRanges, units: &[Unit]) -> Result<Vec
     Ok(slices)
 }
 
-impl Parts {
-    // Why a pull is refused, if it is.
-    fn refuses_pull(&self, asked: &PullFields) -> Option<Refused>
-        ensures { (s : State) → Represents self.entry.now s → pull_refusal s asked.now ≡ refusal_replies result }
-    {
-        let topic = asked.topic.as_str();
-        if is_closed(topic) {
-            return Some(Refused::Closed);
-        }
-        match self.refuses_queue(topic, asked.queue) {
-            Some(refused) => Some(refused),
-            None if is_by_tags(asked.expression.as_str()) => None,
-            None => Some(Refused::Expression),
-        }
+// Why a pull is refused, if it is.
+fn refuses_pull(parts: &Parts, asked: &PullFields) -> Option<Refused>
+    ensures { (s : State) → Represents parts.entry.now s → pull_refusal s asked.now ≡ refusal_replies result }
+{
+    let topic = asked.topic.as_str();
+    if is_closed(topic) {
+        return Some(Refused::Closed);
     }
-
-    // What the last heartbeat of its group said of the topic of a pull.
-    fn heard_words<'a>(&'a self, asked: &'a PullFields) -> &'a str
-        ensures { (s : State) → Represents self.entry.now s
-            → result.now ≡ heard_words s.clients asked.entry.now.group asked.entry.now.topic }
-    {
-        self.clients
-            .subscription(asked.group.as_str(), asked.topic.as_str())
+    match refuses_queue(parts, topic, asked.queue) {
+        Some(refused) => Some(refused),
+        None if is_by_tags(asked.expression.as_str()) => None,
+        None => Some(Refused::Expression),
     }
+}
 
-    // The words of a pull: its own where bit 4 of its flag says so, else what its group's last heartbeat said.
-    fn pull_words<'a>(&'a self, asked: &'a PullFields) -> &'a str
-        ensures { (s : State) → Represents self.entry.now s → result.now ≡ pull_words s asked.entry.now }
-    {
-        if has_subscription(asked) {
-            asked.subscription.as_str()
-        } else {
-            self.heard_words(asked)
-        }
+// What the last heartbeat of its group said of the topic of a pull.
+fn heard_words<'a>(parts: &'a Parts, asked: &'a PullFields) -> &'a str
+    ensures { (s : State) → Represents parts.entry.now s
+        → result.now ≡ heard_words_of s.clients asked.entry.now.group asked.entry.now.topic }
+{
+    parts
+        .clients
+        .subscription(asked.group.as_str(), asked.topic.as_str())
+}
+
+// The words of a pull: its own where bit 4 of its flag says so, else what its group's last heartbeat said.
+fn pull_words<'a>(parts: &'a Parts, asked: &'a PullFields) -> &'a str
+    ensures { (s : State) → Represents parts.entry.now s → result.now ≡ pull_words_of s asked.entry.now }
+{
+    if has_subscription(asked) {
+        asked.subscription.as_str()
+    } else {
+        heard_words(parts, asked)
     }
+}
 
-    // The tags of a pull.
-    fn tags_of(&self, alloc: Global, asked: &PullFields) -> Result<Tags, AllocError>
-        ensures { (s : State) → Represents self.entry.now s → IfOk result (λ tags. tags_take tags ≡ takes (pull_words s asked.now)) }
-    {
-        Tags::read(alloc, self.pull_words(asked))
+// The tags of a pull.
+fn tags_of(parts: &Parts, alloc: Global, asked: &PullFields) -> Result<Tags, AllocError>
+    ensures { (s : State) → Represents parts.entry.now s → IfOk result (λ tags. tags_take tags ≡ takes (pull_words_of s asked.now)) }
+{
+    Tags::read(alloc, pull_words(parts, asked))
+}
+
+// What a pull with these tags finds of a queue, as consumers see it.
+fn found(
+    parts: &Parts,
+    alloc: Global,
+    asked: &PullFields,
+    tags: &Tags,
+) -> Result<Pulled, AllocError>
+    ensures { (s : State) → Represents parts.entry.now s → IfOk result (λ a. Answers (pulled_of_queue this
+        (queue_min (seen s) asked.now.topic asked.now.queue) (map unit_of (records_of (seen s) asked.now.topic asked.now.queue))
+        asked.now.from (asked_number 32 asked.now.most) (tags_take tags.now)) a) }
+{
+    match parts.queues.find(asked.topic.as_str(), asked.queue) {
+        Some(table) => parts
+            .queues
+            .pull(alloc, table, asked.from, asked.most, tags),
+        None => Ok(Pulled {
+            code: empty_code(asked.from),
+            next: 0,
+            min: 0,
+            max: 0,
+            units: Vec::new(alloc),
+        }),
     }
+}
 
-    // What a pull with these tags finds of a queue, as consumers see it.
-    fn found(&self, alloc: Global, asked: &PullFields, tags: &Tags) -> Result<Pulled, AllocError>
-        ensures { (s : State) → Represents self.entry.now s → IfOk result (λ a. Answers (pulled_of_queue this
-            (queue_min (seen s) asked.now.topic asked.now.queue) (map unit_of (records_of (seen s) asked.now.topic asked.now.queue))
-            asked.now.from (asked_number 32 asked.now.most) (tags_take tags.now)) a) }
-    {
-        match self.queues.find(asked.topic.as_str(), asked.queue) {
-            Some(table) => self.queues.pull(alloc, table, asked.from, asked.most, tags),
-            None => Ok(Pulled {
-                code: empty_code(asked.from),
-                next: 0,
-                min: 0,
-                max: 0,
-                units: Vec::new(alloc),
-            }),
-        }
-    }
+// The reply to a pull that isn't refused.
+fn pulled(parts: &Parts, alloc: Global, asked: &PullFields) -> Result<Reply, AllocError>
+    requires { RepresentsSome parts.now }
+    ensures { (s : State) → Represents parts.entry.now s
+        → IfOk result (λ reply. IsReplyOf reply (pulled_reply (pull_of s asked.now))) }
+{
+    let tags = tags_of(parts, alloc, asked)?;
+    let found = found(parts, alloc, asked, &tags)?;
+    let slices = slices_of(alloc, &parts.stored, found.units.as_slice())?;
+    pull_reply(alloc, &found, slices)
+}
 
-    // The reply to a pull that isn't refused.
-    fn pulled(&self, alloc: Global, asked: &PullFields) -> Result<Reply, AllocError>
-        requires { RepresentsSome self.now }
-        ensures { (s : State) → Represents self.entry.now s
-            → IfOk result (λ reply. IsReplyOf reply (pulled_reply (pull_of s asked.now))) }
-    {
-        let tags = self.tags_of(alloc, asked)?;
-        let found = self.found(alloc, asked, &tags)?;
-        let slices = slices_of(alloc, &self.stored, found.units.as_slice())?;
-        pull_reply(alloc, &found, slices)
-    }
-
-    /// The records of a queue that are pulled, with the queue's bounds and the offset from which to pull next. At `Err` nothing
-    /// changes.
-    pub(crate) fn pull(
-        &mut self,
-        alloc: Global,
-        now: u64,
-        asked: &PullFields,
-    ) -> Result<Said, AllocError>
-        requires some { RepresentsSome self.old }
-        requires time { now < 2 ^ 62 }
-        ensures carries { (link : ℕ) (host : List ℕ) → IfOk result (λ said. Carries self.old
-            (model.Asks (record { link = link; host = host; now = now; request = Pull asked.now })) (Says said) self.new) }
-        ensures stays { OnErr result (Stays self.old self.new) }
-    {
-        match self.refuses_pull(asked) {
-            Some(refused) => refused.said(alloc),
-            None => {
-                let reply = self.pulled(alloc, asked)?;
-                self.commit(asked)?;
-                Ok(self.told(now, reply))
-            }
+/// The records of a queue that are pulled, with the queue's bounds and the offset from which to pull next. At `Err` nothing
+/// changes.
+pub(crate) fn pull(
+    parts: &mut Parts,
+    alloc: Global,
+    now: u64,
+    asked: &PullFields,
+) -> Result<Said, AllocError>
+    requires some { RepresentsSome parts.old }
+    requires time { now < 2 ^ 62 }
+    ensures carries { (link : ℕ) (host : List ℕ) → IfOk result (λ said. Carries parts.old
+        (model.Asks (record { link = link; host = host; now = now; request = Pull asked.now })) (Says said) parts.new) }
+    ensures stays { OnErr result (Stays parts.old parts.new) }
+{
+    match refuses_pull(parts, asked) {
+        Some(refused) => refused.said(alloc),
+        None => {
+            let reply = pulled(parts, alloc, asked)?;
+            commit(parts, asked)?;
+            Ok(told(parts, now, reply))
         }
     }
 }

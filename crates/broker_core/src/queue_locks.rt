@@ -6,12 +6,13 @@ ghost use Rattle.reply_fields.specs.Slices.{body_len};
 ghost use Rattle.reply_fields.specs.declared.slice.Slice.TheVariants.{Held};
 ghost use Rattle.reply_fields.specs.Granted.{HasShortNames, granted_text};
 ghost use Rattle.broker_events.specs.Replies.{IsLockReply};
-ghost use Rattle.broker_core.specs.Carries.{Stays, RepresentsSome};
+ghost use Rattle.core_log.specs.Carries.{Stays, RepresentsSome};
 ghost use Rattle.broker_core.specs.Asked.{CarriesAsked};
 
-use crate::parts::Parts;
+use crate::offsets::told;
 use broker_events::Said;
 use bytes::Bytes;
+use core_log::Parts;
 use mq_bytes::{Rows, Text};
 use remoting_frame::Fields;
 use reply_fields::{Reply, Slice, granted_body};
@@ -45,48 +46,48 @@ fn lock_reply(alloc: Global, granted: &[QueueName]) -> Result<Reply, AllocError>
     })
 }
 
-impl Parts {
-    /// A client gets those of the queues that no other client of its group has. At `Err` nothing changes.
-    pub(crate) fn lock_queues(
-        &mut self,
-        alloc: Global,
-        now: u64,
-        asked: &LockFields,
-    ) -> Result<Said, AllocError>
-        requires some { RepresentsSome self.old }
-        requires time { now < 2 ^ 62 }
-        ensures carries { CarriesAsked self.old now (Lock asked.now) result self.new }
-        ensures stays { OnErr result (Stays self.old self.new) }
-    {
-        let moment = now.max(self.now);
-        let group = asked.group.as_str();
-        let client = asked.client.as_str();
-        let granted = self
-            .groups
-            .granted(group, client, asked.queues.as_slice(), moment)?;
-        let reply = lock_reply(alloc, granted.as_slice())?;
-        self.groups.lock(group, client, granted.as_slice(), moment)?;
-        Ok(self.told(now, reply))
-    }
+/// A client gets those of the queues that no other client of its group has. At `Err` nothing changes.
+pub(crate) fn lock_queues(
+    parts: &mut Parts,
+    alloc: Global,
+    now: u64,
+    asked: &LockFields,
+) -> Result<Said, AllocError>
+    requires some { RepresentsSome parts.old }
+    requires time { now < 2 ^ 62 }
+    ensures carries { CarriesAsked parts.old now (Lock asked.now) result parts.new }
+    ensures stays { OnErr result (Stays parts.old parts.new) }
+{
+    let moment = now.max(parts.now);
+    let group = asked.group.as_str();
+    let client = asked.client.as_str();
+    let granted = parts
+        .groups
+        .granted(group, client, asked.queues.as_slice(), moment)?;
+    let reply = lock_reply(alloc, granted.as_slice())?;
+    parts
+        .groups
+        .lock(group, client, granted.as_slice(), moment)?;
+    Ok(told(parts, now, reply))
+}
 
-    /// Those of the queues that the client has are free then. At `Err` nothing changes.
-    pub(crate) fn unlock_queues(
-        &mut self,
-        alloc: Global,
-        now: u64,
-        asked: &LockFields,
-    ) -> Result<Said, AllocError>
-        requires some { RepresentsSome self.old }
-        requires time { now < 2 ^ 62 }
-        ensures carries { CarriesAsked self.old now (Unlock asked.now) result self.new }
-        ensures stays { OnErr result (Stays self.old self.new) }
-    {
-        let reply = Reply::plain(alloc, 0, "")?;
-        self.groups.unlock_batch(
-            asked.group.as_str(),
-            asked.client.as_str(),
-            asked.queues.as_slice(),
-        );
-        Ok(self.told(now, reply))
-    }
+/// Those of the queues that the client has are free then. At `Err` nothing changes.
+pub(crate) fn unlock_queues(
+    parts: &mut Parts,
+    alloc: Global,
+    now: u64,
+    asked: &LockFields,
+) -> Result<Said, AllocError>
+    requires some { RepresentsSome parts.old }
+    requires time { now < 2 ^ 62 }
+    ensures carries { CarriesAsked parts.old now (Unlock asked.now) result parts.new }
+    ensures stays { OnErr result (Stays parts.old parts.new) }
+{
+    let reply = Reply::plain(alloc, 0, "")?;
+    parts.groups.unlock_batch(
+        asked.group.as_str(),
+        asked.client.as_str(),
+        asked.queues.as_slice(),
+    );
+    Ok(told(parts, now, reply))
 }

@@ -2,7 +2,6 @@
 
 ghost use Rattle.std.specs.Prelude.{◌≡◌, ◌≤◌, true, IfOk, OnOk};
 ghost use Rattle.record_codec.specs.Layout.{is_legal};
-ghost use Rattle.record_codec.specs.LaxProps.{read_props};
 ghost use Rattle.request_fields.specs.Requests.{IsFieldName};
 ghost use Rattle.broker_model.specs.Sends.{is_half_send, level_of as level_of_send, waits as waits_of};
 ghost use Rattle.broker_model.specs.Sends.{kept_props as kept_props_of, plain_draft as plain_draft_of};
@@ -10,7 +9,7 @@ ghost use Rattle.broker_model.specs.Sends.{with_real, with_group, half_draft as 
 ghost use Rattle.broker_core.specs.Kinds.{HasLevel, draft_by, kind_of as kind_of_send};
 
 use crate::send_rows::queue_named;
-use crate::store::Kind;
+use core_log::Kind;
 use mq_bytes::{Rows, Text, read_decimal};
 use record_codec::{Draft, PREPARED, Props, TRANSACTION_BITS};
 use request_fields::SendFields;

@@ -11,7 +11,7 @@
 //! |   17 | `no topic`     | the topic isn't known, and the send names no default topic                |
 //! |    1 | `queue`        | the topic has no such queue, or would be made with fewer                  |
 
-ghost use Rattle.std.specs.Prelude.{◌≡◌, ◌<◌, ◌≤◌, ◌^◌, pos, IfOk};
+ghost use Rattle.std.specs.Prelude.{◌≡◌, ◌<◌, ◌≤◌, pos, IfOk};
 ghost use Rattle.reply_fields.specs.Parts.{plain as plain_of};
 ghost use Rattle.broker_model.specs.Sends.{queue_named as queue_named_of};
 ghost use Rattle.broker_model.specs.Refusals.{made_queues as made_queues_of};

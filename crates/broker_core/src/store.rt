@@ -11,30 +11,20 @@ ghost use Rattle.broker_model.specs.Step.{with_made, with_records};
 ghost use Rattle.broker_model.specs.Answers.{append_answer};
 ghost use Rattle.broker_events.specs.Replies.{IsReplyOf};
 ghost use Rattle.broker_events.specs.Steps.{Says};
-ghost use Rattle.broker_core.specs.Carries.{Stays, RepresentsSome};
-ghost use Rattle.broker_core.specs.Represents.{Represents};
-ghost use Rattle.broker_core.specs.Appends.{HasRoomFor, MayStand};
-ghost use Rattle.broker_core.specs.Stores.{IsKeptAs, IsStorable, IsStored, IsTarget, sent_fields as sent_fields_of};
+ghost use Rattle.core_log.specs.Carries.{Stays, RepresentsSome};
+ghost use Rattle.core_log.specs.Represents.{Represents};
+ghost use Rattle.core_log.specs.Appends.{HasRoomFor, MayStand};
+ghost use Rattle.core_log.specs.Stands.{IsKeptAs, IsStorable};
+ghost use Rattle.broker_core.specs.Stores.{IsStored, IsTarget, sent_fields as sent_fields_of};
 
-use crate::parts::Parts;
 use crate::send_draft::waits;
 use broker_events::Said;
+use core_log::{Kind, Parts};
 use mq_bytes::{Rows, Text, message_id};
 use record_codec::{Draft, Place};
 use remoting_frame::Fields;
 use reply_fields::Reply;
 use std::alloc::{AllocError, Global};
-
-/// How a message is kept until consumers may see it in its own topic.
-#[derive(Clone, Copy)]
-pub(crate) enum Kind {
-    /// It is in its own topic.
-    Plain,
-    /// It is delayed, by this level: 1 to 18.
-    Delayed(u8),
-    /// It is a half message, which waits for a verdict.
-    Half,
-}
 
 /// Where a message belongs, and how it is kept.
 #[derive(Clone, Copy)]
@@ -94,85 +84,83 @@ fn sent(alloc: Global, host: [u8; 8], place: Place, queue: u32) -> Result<Reply,
     })
 }
 
-impl Parts {
-    /// The answer to a request that appends so many records: at once, or once the last of them is on the disk.
-    pub(crate) fn answer(&self, waits: bool, reply: Reply, added: u64) -> Said
-        requires some { RepresentsSome self.now }
-        requires added { 1 ≤ added }
-        requires few { added ≤ 2 }
-        ensures { (s : State) (told : model.Reply) → Represents self.entry.now s → IsReplyOf reply told
-            → Says result (append_answer s waits told added) }
-    {
-        if self.setup.sync && waits {
-            Said::After {
-                reply,
-                number: self.rows.end() + (added - 1),
-                turn: self.pending.turns(),
-            }
-        } else {
-            Said::Reply(reply)
+/// The answer to a request that appends so many records: at once, or once the last of them is on the disk.
+pub(crate) fn answer(parts: &Parts, waits: bool, reply: Reply, added: u64) -> Said
+    requires some { RepresentsSome parts.now }
+    requires added { 1 ≤ added }
+    requires few { added ≤ 2 }
+    ensures { (s : State) (told : model.Reply) → Represents parts.entry.now s → IsReplyOf reply told
+        → Says result (append_answer s waits told added) }
+{
+    if parts.setup.sync && waits {
+        Said::After {
+            reply,
+            number: parts.rows.end() + (added - 1),
+            turn: parts.pending.turns(),
         }
+    } else {
+        Said::Reply(reply)
     }
+}
 
-    // Appends the record of this draft, and makes the target's topic where it isn't known.
-    fn append_in(
-        &mut self,
-        alloc: Global,
-        target: &Target<'_>,
-        table: u32,
-        draft: &Draft,
-        place: &Place,
-        size: u32,
-    ) -> Result<(), AllocError>
-        requires some { (s : State) × Represents self.old s × MayStand s draft.now place.now }
-        requires encodable { IsEncodable draft.now place.now }
-        requires kept { IsKeptAs target.now.kind (entry_of draft.now place.now) }
-        requires target { IsTarget self.old.topics target.now.topic.now target.now.known target.now.made }
-        requires table { number_of self.old.queues draft.now.topic draft.now.queue ≡ Some table }
-        requires room { HasRoomFor self.old table }
-        requires size { size ≡ draft_size draft.now }
-        requires short { length self.old.pending.bytes + size ≤ 67108864 }
-        ensures appended { OnOk result ((s : State) → Represents self.old s → MayStand s draft.now place.now
-            → Represents self.new (with_records (with_made s target.now.topic.now (unwrap_or target.now.known target.now.made))
-            place.now.store (entry_of draft.now place.now ∷ []))) }
-        ensures stays { OnErr result (Stays self.old self.new) }
-    {
-        if target.known.is_some() {
-            return self.append_message(alloc, table, draft, place, size, target.kind);
-        }
-        let name = String::from_str(alloc, target.topic)?;
-        self.topics.reserve()?;
-        self.append_message(alloc, table, draft, place, size, target.kind)?;
-        self.topics.make(name, target.made);
-        Ok(())
+// Appends the record of this draft, and makes the target's topic where it isn't known.
+fn append_in(
+    parts: &mut Parts,
+    alloc: Global,
+    target: &Target<'_>,
+    table: u32,
+    draft: &Draft,
+    place: &Place,
+    size: u32,
+) -> Result<(), AllocError>
+    requires some { (s : State) × Represents parts.old s × MayStand s draft.now place.now }
+    requires encodable { IsEncodable draft.now place.now }
+    requires kept { IsKeptAs target.now.kind (entry_of draft.now place.now) }
+    requires target { IsTarget parts.old.topics target.now.topic.now target.now.known target.now.made }
+    requires table { number_of parts.old.queues draft.now.topic draft.now.queue ≡ Some table }
+    requires room { HasRoomFor parts.old table }
+    requires size { size ≡ draft_size draft.now }
+    requires short { length parts.old.pending.bytes + size ≤ 67108864 }
+    ensures appended { OnOk result ((s : State) → Represents parts.old s → MayStand s draft.now place.now
+        → Represents parts.new (with_records (with_made s target.now.topic.now (unwrap_or target.now.known target.now.made))
+        place.now.store (entry_of draft.now place.now ∷ []))) }
+    ensures stays { OnErr result (Stays parts.old parts.new) }
+{
+    if target.known.is_some() {
+        return parts.append_message(alloc, table, draft, place, size, target.kind);
     }
+    let name = String::from_str(alloc, target.topic)?;
+    parts.topics.reserve()?;
+    parts.append_message(alloc, table, draft, place, size, target.kind)?;
+    parts.topics.make(name, target.made);
+    Ok(())
+}
 
-    /// Stores a message for which there is room. At `Err` nothing changes that counts.
-    pub(crate) fn store(
-        &mut self,
-        alloc: Global,
-        target: &Target<'_>,
-        draft: &Draft,
-        size: u32,
-        now: u64,
-    ) -> Result<Said, AllocError>
-        requires some { RepresentsSome self.old }
-        requires storable { IsStorable self.old.setup.segment target.now.kind draft.now }
-        requires target { IsTarget self.old.topics target.now.topic.now target.now.known target.now.made }
-        requires size { size ≡ draft_size draft.now }
-        requires low { place_after self.old.pending.segment self.old.pending.end size + size ≤ 2 ^ 62 }
-        requires short { length self.old.pending.bytes + size ≤ 67108864 }
-        requires now { now < 2 ^ 62 }
-        ensures stored { IfOk result (λ said. (s : State) → Represents self.old s
-            → IsStored s draft.now target.now.topic.now target.now.queue (unwrap_or target.now.known target.now.made) (max now s.now)
-            said self.new) }
-        ensures stays { OnErr result (Stays self.old self.new) }
-    {
-        let table = self.make_ready(alloc, draft.topic.as_str(), draft.queue)?;
-        let place = self.next_place(table, size, now.max(self.now));
-        let reply = sent(alloc, draft.store_host, place, target.queue)?;
-        let said = self.answer(waits(&draft.props), reply, 1);
-        self.append_in(alloc, target, table, draft, &place, size)?;
-        Ok(said)
-    }
+/// Stores a message for which there is room. At `Err` nothing changes that counts.
+pub(crate) fn store(
+    parts: &mut Parts,
+    alloc: Global,
+    target: &Target<'_>,
+    draft: &Draft,
+    size: u32,
+    now: u64,
+) -> Result<Said, AllocError>
+    requires some { RepresentsSome parts.old }
+    requires storable { IsStorable parts.old.setup.segment target.now.kind draft.now }
+    requires target { IsTarget parts.old.topics target.now.topic.now target.now.known target.now.made }
+    requires size { size ≡ draft_size draft.now }
+    requires low { place_after parts.old.pending.segment parts.old.pending.end size + size ≤ 2 ^ 62 }
+    requires short { length parts.old.pending.bytes + size ≤ 67108864 }
+    requires now { now < 2 ^ 62 }
+    ensures stored { IfOk result (λ said. (s : State) → Represents parts.old s
+        → IsStored s draft.now target.now.topic.now target.now.queue (unwrap_or target.now.known target.now.made) (max now s.now)
+        said parts.new) }
+    ensures stays { OnErr result (Stays parts.old parts.new) }
+{
+    let table = parts.make_ready(alloc, draft.topic.as_str(), draft.queue)?;
+    let place = parts.next_place(table, size, now.max(parts.now));
+    let reply = sent(alloc, draft.store_host, place, target.queue)?;
+    let said = answer(parts, waits(&draft.props), reply, 1);
+    append_in(parts, alloc, target, table, draft, &place, size)?;
+    Ok(said)
 }

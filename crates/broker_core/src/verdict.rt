@@ -21,18 +21,18 @@ ghost use Rattle.broker_model.specs.State.{State};
 ghost use Rattle.broker_model.specs.Step.{with_records};
 ghost use Rattle.broker_events.specs.Steps.{Says};
 ghost use Rattle.broker_core.specs.Asked.{CarriesAsked};
-ghost use Rattle.broker_core.specs.Carries.{Stays, RepresentsSome};
-ghost use Rattle.broker_core.specs.Represents.{Represents};
-ghost use Rattle.broker_core.specs.Rooms.{room_of};
-ghost use Rattle.broker_core.specs.declared.room.Room.TheVariants.{Free};
-ghost use Rattle.broker_core.specs.Settles.{IsSettling};
+ghost use Rattle.core_log.specs.Carries.{Stays, RepresentsSome};
+ghost use Rattle.core_log.specs.Represents.{Represents};
+ghost use Rattle.core_log.specs.Rooms.{room_of};
+ghost use Rattle.core_log.specs.declared.room.Room.TheVariants.{Free};
+ghost use Rattle.core_log.specs.Settles.{IsSettling};
 ghost use Rattle.broker_core.specs.Verdicts.{disagreement_of, is_first_verdict, IsSettled, IsRollingBack, IsNamedBy, IsJudged};
 ghost use Rattle.broker_core.specs.Verdicts.{AnswersVerdict, agreed_answer, awaited_in};
 
-use crate::parts::Parts;
-use crate::send::size_of;
 use crate::send_draft::waits;
+use crate::store::answer;
 use broker_events::Said;
+use core_log::{Parts, size_of};
 use half_records::Judged;
 use log_model::OriginState;
 use record_codec::{Draft, Record};
@@ -77,181 +77,187 @@ fn awaited(settled: Option<u64>, flushed: u64) -> Option<u64>
     }
 }
 
-impl Parts {
-    // The half message that a first verdict names.
-    fn named_half(&self, alloc: Global, end: &EndFields, origin: u64) -> Result<Record, AllocError>
-        requires named { (s : State) × (half : Entry) × Represents self.now s × IsNamedBy s end.now origin half }
-        ensures { (s : State) (half : Entry) → Represents self.entry.now s → IsNamedBy s end.now origin half
-            → IfOk result (λ copy. said_by copy ≡ half) }
-    {
-        match self.halves.whole(origin, end.queue_offset) {
-            Some(whole) => whole.copied(alloc),
-            None => unreachable!(),
-        }
+// The half message that a first verdict names.
+fn named_half(
+    parts: &Parts,
+    alloc: Global,
+    end: &EndFields,
+    origin: u64,
+) -> Result<Record, AllocError>
+    requires named { (s : State) × (half : Entry) × Represents parts.now s × IsNamedBy s end.now origin half }
+    ensures { (s : State) (half : Entry) → Represents parts.entry.now s → IsNamedBy s end.now origin half
+        → IfOk result (λ copy. said_by copy ≡ half) }
+{
+    match parts.halves.whole(origin, end.queue_offset) {
+        Some(whole) => whole.copied(alloc),
+        None => unreachable!(),
     }
+}
 
-    // Commits a half message: appends its copy and the op record, where there is room. At `Err` nothing changes that counts.
-    fn commit_half(
-        &mut self,
-        alloc: Global,
-        now: u64,
-        origin: u64,
-        awaited: bool,
-        copy: &Draft,
-        op: &Draft,
-    ) -> Result<Said, AllocError>
-        requires some { (s : State) × (half : Entry) × Represents self.old s × IsSettling s now origin Committed half copy.now op.now }
-        ensures settled { IfOk result (λ said. (s : State) (half : Entry) → Represents self.old s
-            → IsSettling s now origin Committed half copy.now op.now → IsSettled s now awaited (copy.now ∷ op.now ∷ []) said self.new) }
-        ensures stays { OnErr result (Stays self.old self.new) }
-    {
-        let sizes = (
-            size_of(copy, self.setup.segment),
-            size_of(op, self.setup.segment),
-        );
-        if let Some(said) = self.room_for_two(sizes.0, sizes.1).refuse(alloc)? {
-            return Ok(said);
-        }
-        let reply = Reply::plain(alloc, 0, "")?;
-        let said = self.answer(awaited, reply, 2);
-        self.append_both(alloc, now, origin, OriginState::Committed, copy, op, sizes)?;
-        Ok(said)
+// Commits a half message: appends its copy and the op record, where there is room. At `Err` nothing changes that counts.
+fn commit_half(
+    parts: &mut Parts,
+    alloc: Global,
+    now: u64,
+    origin: u64,
+    awaited: bool,
+    copy: &Draft,
+    op: &Draft,
+) -> Result<Said, AllocError>
+    requires some { (s : State) × (half : Entry) × Represents parts.old s × IsSettling s now origin Committed half copy.now op.now }
+    ensures settled { IfOk result (λ said. (s : State) (half : Entry) → Represents parts.old s
+        → IsSettling s now origin Committed half copy.now op.now → IsSettled s now awaited (copy.now ∷ op.now ∷ []) said parts.new) }
+    ensures stays { OnErr result (Stays parts.old parts.new) }
+{
+    let sizes = (
+        size_of(copy, parts.setup.segment),
+        size_of(op, parts.setup.segment),
+    );
+    if let Some(said) = parts.room_for_two(sizes.0, sizes.1).refuse(alloc)? {
+        return Ok(said);
     }
+    let reply = Reply::plain(alloc, 0, "")?;
+    let said = answer(parts, awaited, reply, 2);
+    parts.append_both(alloc, now, origin, OriginState::Committed, copy, op, sizes)?;
+    Ok(said)
+}
 
-    // Appends the op record of this origin, for which there is room. At `Err` nothing changes that counts.
-    fn append_alone(
-        &mut self,
-        alloc: Global,
-        now: u64,
-        origin: u64,
-        op: &Draft,
-        size: u32,
-    ) -> Result<(), AllocError>
-        requires some { (s : State) × Represents self.old s × IsRollingBack s now origin op.now }
-        requires size { size ≡ draft_size op.now }
-        requires room { (s : State) → Represents self.old s → room_of s (next_records s.setup.segment now s.log (op.now ∷ [])) ≡ Free }
-        ensures appended { OnOk result ((s : State) → Represents self.old s → IsRollingBack s now origin op.now
-            → Represents self.new (with_records s now (next_records s.setup.segment now s.log (op.now ∷ [])))) }
-        ensures stays { OnErr result (Stays self.old self.new) }
-    {
-        let table = self.make_ready(alloc, op.topic.as_str(), op.queue)?;
-        let place = self.next_place(table, size, now);
-        self.append_op(alloc, table, op, &place, size, origin)
-    }
+// Appends the op record of this origin, for which there is room. At `Err` nothing changes that counts.
+fn append_alone(
+    parts: &mut Parts,
+    alloc: Global,
+    now: u64,
+    origin: u64,
+    op: &Draft,
+    size: u32,
+) -> Result<(), AllocError>
+    requires some { (s : State) × Represents parts.old s × IsRollingBack s now origin op.now }
+    requires size { size ≡ draft_size op.now }
+    requires room { (s : State) → Represents parts.old s → room_of s (next_records s.setup.segment now s.log (op.now ∷ [])) ≡ Free }
+    ensures appended { OnOk result ((s : State) → Represents parts.old s → IsRollingBack s now origin op.now
+        → Represents parts.new (with_records s now (next_records s.setup.segment now s.log (op.now ∷ [])))) }
+    ensures stays { OnErr result (Stays parts.old parts.new) }
+{
+    let table = parts.make_ready(alloc, op.topic.as_str(), op.queue)?;
+    let place = parts.next_place(table, size, now);
+    parts.append_op(alloc, table, op, &place, size, origin)
+}
 
-    // Rolls an origin back: appends its op record, where there is room. At `Err` nothing changes that counts.
-    fn roll_back(
-        &mut self,
-        alloc: Global,
-        now: u64,
-        origin: u64,
-        awaited: bool,
-        op: &Draft,
-    ) -> Result<Said, AllocError>
-        requires some { (s : State) × Represents self.old s × IsRollingBack s now origin op.now }
-        ensures settled { IfOk result (λ said. (s : State) → Represents self.old s → IsRollingBack s now origin op.now
-            → IsSettled s now awaited (op.now ∷ []) said self.new) }
-        ensures stays { OnErr result (Stays self.old self.new) }
-    {
-        let size = size_of(op, self.setup.segment);
-        if let Some(said) = self.room(size).refuse(alloc)? {
-            return Ok(said);
-        }
-        let reply = Reply::plain(alloc, 0, "")?;
-        let said = self.answer(awaited, reply, 1);
-        self.append_alone(alloc, now, origin, op, size)?;
-        Ok(said)
+// Rolls an origin back: appends its op record, where there is room. At `Err` nothing changes that counts.
+fn roll_back(
+    parts: &mut Parts,
+    alloc: Global,
+    now: u64,
+    origin: u64,
+    awaited: bool,
+    op: &Draft,
+) -> Result<Said, AllocError>
+    requires some { (s : State) × Represents parts.old s × IsRollingBack s now origin op.now }
+    ensures settled { IfOk result (λ said. (s : State) → Represents parts.old s → IsRollingBack s now origin op.now
+        → IsSettled s now awaited (op.now ∷ []) said parts.new) }
+    ensures stays { OnErr result (Stays parts.old parts.new) }
+{
+    let size = size_of(op, parts.setup.segment);
+    if let Some(said) = parts.room(size).refuse(alloc)? {
+        return Ok(said);
     }
+    let reply = Reply::plain(alloc, 0, "")?;
+    let said = answer(parts, awaited, reply, 1);
+    append_alone(parts, alloc, now, origin, op, size)?;
+    Ok(said)
+}
 
-    // The first verdict on an open origin. At `Err` nothing changes that counts.
-    fn settle(
-        &mut self,
-        alloc: Global,
-        now: u64,
-        end: &EndFields,
-        origin: u64,
-    ) -> Result<Said, AllocError>
-        requires some { (s : State) × Represents self.old s × IsJudged s now end.now origin Open }
-        requires verdict { (end.now.verdict ≡ 8) ⊎ (end.now.verdict ≡ 12) }
-        ensures answered { IfOk result (λ said. (s : State) → Represents self.old s → IsJudged s now end.now origin Open
-            → AnswersVerdict s now end.now said self.new) }
-        ensures stays { OnErr result (Stays self.old self.new) }
-    {
-        let host = self.setup.host;
-        let half = self.named_half(alloc, end, origin)?;
-        let awaited = waits(&half.draft.props);
-        let op = op_draft(alloc, host, now, origin)?;
-        if end.verdict == COMMIT {
-            let copy = commit_draft(alloc, host, half)?;
-            return self.commit_half(alloc, now, origin, awaited, &copy, &op);
-        }
-        self.roll_back(alloc, now, origin, awaited, &op)
+// The first verdict on an open origin. At `Err` nothing changes that counts.
+fn settle(
+    parts: &mut Parts,
+    alloc: Global,
+    now: u64,
+    end: &EndFields,
+    origin: u64,
+) -> Result<Said, AllocError>
+    requires some { (s : State) × Represents parts.old s × IsJudged s now end.now origin Open }
+    requires verdict { (end.now.verdict ≡ 8) ⊎ (end.now.verdict ≡ 12) }
+    ensures answered { IfOk result (λ said. (s : State) → Represents parts.old s → IsJudged s now end.now origin Open
+        → AnswersVerdict s now end.now said parts.new) }
+    ensures stays { OnErr result (Stays parts.old parts.new) }
+{
+    let host = parts.setup.host;
+    let half = named_half(parts, alloc, end, origin)?;
+    let awaited = waits(&half.draft.props);
+    let op = op_draft(alloc, host, now, origin)?;
+    if end.verdict == COMMIT {
+        let copy = commit_draft(alloc, host, half)?;
+        return commit_half(parts, alloc, now, origin, awaited, &copy, &op);
     }
+    roll_back(parts, alloc, now, origin, awaited, &op)
+}
 
-    // The answer to a verdict that agrees with what the origin became, or to none.
-    fn repeated(&self, alloc: Global, verdict: u8, origin: u64) -> Result<Said, AllocError>
-        ensures { (s : State) (first : Entry) → Represents self.entry.now s → find (is_origin origin) s.log.records ≡ Some first
-            → IfOk result (λ said. Says said (agreed_answer s verdict (Some first))) }
-    {
-        let reply = Reply::plain(alloc, 0, "")?;
-        if verdict == 0 || !self.setup.sync {
-            return Ok(Said::Reply(reply));
-        }
-        match awaited(self.halves.settled_by(origin), self.pending.flushed_count()) {
-            Some(number) => Ok(Said::After {
-                reply,
-                number,
-                turn: self.pending.turns(),
-            }),
-            None => Ok(Said::Reply(reply)),
-        }
+// The answer to a verdict that agrees with what the origin became, or to none.
+fn repeated(parts: &Parts, alloc: Global, verdict: u8, origin: u64) -> Result<Said, AllocError>
+    ensures { (s : State) (first : Entry) → Represents parts.entry.now s → find (is_origin origin) s.log.records ≡ Some first
+        → IfOk result (λ said. Says said (agreed_answer s verdict (Some first))) }
+{
+    let reply = Reply::plain(alloc, 0, "")?;
+    if verdict == 0 || !parts.setup.sync {
+        return Ok(Said::Reply(reply));
     }
+    match awaited(
+        parts.halves.settled_by(origin),
+        parts.pending.flushed_count(),
+    ) {
+        Some(number) => Ok(Said::After {
+            reply,
+            number,
+            turn: parts.pending.turns(),
+        }),
+        None => Ok(Said::Reply(reply)),
+    }
+}
 
-    // Answers a verdict that isn't refused. At `Err` nothing changes that counts.
-    fn judge(
-        &mut self,
-        alloc: Global,
-        now: u64,
-        end: &EndFields,
-        judged: &Judged,
-    ) -> Result<Said, AllocError>
-        requires some { (s : State) × Represents self.old s × IsJudged s now end.now judged.now.origin judged.now.state }
-        ensures answered { IfOk result (λ said. (s : State) → Represents self.old s
-            → IsJudged s now end.now judged.now.origin judged.now.state → AnswersVerdict s now end.now said self.new) }
-        ensures stays { OnErr result (Stays self.old self.new) }
-    {
-        if is_first(end.verdict, judged.state) {
-            return self.settle(alloc, now, end, judged.origin);
-        }
-        let said = self.repeated(alloc, end.verdict, judged.origin)?;
-        self.now = now;
-        Ok(said)
+// Answers a verdict that isn't refused. At `Err` nothing changes that counts.
+fn judge(
+    parts: &mut Parts,
+    alloc: Global,
+    now: u64,
+    end: &EndFields,
+    judged: &Judged,
+) -> Result<Said, AllocError>
+    requires some { (s : State) × Represents parts.old s × IsJudged s now end.now judged.now.origin judged.now.state }
+    ensures answered { IfOk result (λ said. (s : State) → Represents parts.old s
+        → IsJudged s now end.now judged.now.origin judged.now.state → AnswersVerdict s now end.now said parts.new) }
+    ensures stays { OnErr result (Stays parts.old parts.new) }
+{
+    if is_first(end.verdict, judged.state) {
+        return settle(parts, alloc, now, end, judged.origin);
     }
+    let said = repeated(parts, alloc, end.verdict, judged.origin)?;
+    parts.now = now;
+    Ok(said)
+}
 
-    /// Answers a verdict on a half message. At `Err` nothing changes that counts.
-    pub(crate) fn end_transaction(
-        &mut self,
-        alloc: Global,
-        now: u64,
-        end: &EndFields,
-    ) -> Result<Said, AllocError>
-        requires some { RepresentsSome self.old }
-        requires time { now < 2 ^ 62 }
-        ensures carries { CarriesAsked self.old now (EndTransaction end.now) result self.new }
-        ensures stays { OnErr result (Stays self.old self.new) }
-    {
-        let judged = self.halves.judged(
-            end.queue_offset,
-            end.place,
-            end.group.as_str(),
-            end.msg_id.as_str(),
-        );
-        let Some(judged) = judged else {
-            return Ok(Said::Reply(Reply::plain(alloc, 1, "half")?));
-        };
-        if let Some(remark) = disagreement(end.verdict, judged.state) {
-            return Ok(Said::Reply(Reply::plain(alloc, 1, remark)?));
-        }
-        self.judge(alloc, self.now.max(now), end, &judged)
+/// Answers a verdict on a half message. At `Err` nothing changes that counts.
+pub(crate) fn end_transaction(
+    parts: &mut Parts,
+    alloc: Global,
+    now: u64,
+    end: &EndFields,
+) -> Result<Said, AllocError>
+    requires some { RepresentsSome parts.old }
+    requires time { now < 2 ^ 62 }
+    ensures carries { CarriesAsked parts.old now (EndTransaction end.now) result parts.new }
+    ensures stays { OnErr result (Stays parts.old parts.new) }
+{
+    let judged = parts.halves.judged(
+        end.queue_offset,
+        end.place,
+        end.group.as_str(),
+        end.msg_id.as_str(),
+    );
+    let Some(judged) = judged else {
+        return Ok(Said::Reply(Reply::plain(alloc, 1, "half")?));
+    };
+    if let Some(remark) = disagreement(end.verdict, judged.state) {
+        return Ok(Said::Reply(Reply::plain(alloc, 1, remark)?));
     }
+    judge(parts, alloc, parts.now.max(now), end, &judged)
 }

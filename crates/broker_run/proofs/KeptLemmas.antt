@@ -9,8 +9,8 @@ use Rattle.mq_outside.specs.declared.faults.DiskFault.TheVariants as keeper
 use Rattle.std.proofs.lemmas.List.Elements.{All-nil, All-cons, All-head, All-tail}
 use Rattle.broker_model.specs.Lawful.{IsTopic}
 use Rattle.broker_model.specs.State.{State}
-use Rattle.broker_core.specs.declared.parts.Parts.{Parts}
-use Rattle.broker_core.specs.Represents.{Represents, IsNamed}
+use Rattle.core_log.specs.declared.parts.Parts.{Parts}
+use Rattle.core_log.specs.Represents.{Represents, IsNamed}
 use Rattle.broker_model.specs.Tables.{OffsetRow, TopicRow}
 use Rattle.config_store.specs.Configs.{OFFSETS, TOPICS, HasConfig, HasOffsets, HasTopics, PutsConfig, Replaces}
 use Rattle.config_store.specs.Faults.{IsBadText, OnBadText, CountsConfigFault}

@@ -24,8 +24,8 @@ use Rattle.broker_events.specs.declared.event.Event.{Event}
 use Rattle.broker_events.specs.declared.said.Said.{Said}
 use Rattle.broker_events.specs.Steps.{event_of}
 use Rattle.broker_core.specs.declared.alone.Alone.{Alone}
-use Rattle.broker_core.specs.declared.parts.Parts.{Parts}
-use Rattle.broker_core.specs.Represents.{Represents}
+use Rattle.core_log.specs.declared.parts.Parts.{Parts}
+use Rattle.core_log.specs.Represents.{Represents}
 use Rattle.log_opening.specs.Opens.{OpensWith, OpensKeptWith, OpensOursWith, OpensLogWith}
 use Rattle.log_opening.specs.declared.opening.Opened.{Opened}
 use Rattle.worker_turns.specs.Acts.{Act, HasUnwritten, Acts, Acted, DiskView, Place, place_of, growing_at, turns_of, steps_of, change_of}

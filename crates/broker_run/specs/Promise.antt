@@ -31,8 +31,8 @@ use Rattle.broker_events.specs.declared.said.Said.{Said}
 use Rattle.broker_events.specs.declared.event.Setup.{Setup}
 use Rattle.broker_events.specs.Steps.{event_of, SaysIn}
 use Rattle.broker_core.specs.declared.alone.Alone.{Alone}
-use Rattle.broker_core.specs.Loads.{whole_log}
-use Rattle.broker_core.specs.Represents.{setup_of}
+use Rattle.core_log.specs.Loads.{whole_log}
+use Rattle.core_log.specs.Represents.{setup_of}
 use Rattle.config_store.specs.Configs.{OFFSETS, TOPICS, HasConfig, KeepsConfig, PutsConfig}
 use Rattle.config_store.specs.Faults.{IsBadText}
 use Rattle.config_store.specs.Texts.{IsKeptTopic, offsets_text_of, topics_text_of}

@@ -15,9 +15,9 @@ use Rattle.segment_files.proofs.Ready.{ready_as}
 use Rattle.broker_model.specs.State.{State, Saved}
 use Rattle.broker_model.specs.Run.{opened}
 use Rattle.broker_events.specs.declared.event.Setup.{Setup}
-use Rattle.broker_core.specs.declared.parts.Parts.{Parts}
-use Rattle.broker_core.specs.Loads.{whole_log}
-use Rattle.broker_core.specs.Represents.{setup_of}
+use Rattle.core_log.specs.declared.parts.Parts.{Parts}
+use Rattle.core_log.specs.Loads.{whole_log}
+use Rattle.core_log.specs.Represents.{setup_of}
 use Rattle.flush_story.specs.Story as stories
 use Rattle.flush_story.specs.Keeping.{flushed_in, geometry_of, IsOpenFor}
 use Rattle.flush_story.proofs.Keeps.{keeps_stores}

@@ -16,9 +16,9 @@ use Rattle.broker_model.specs.Tables.{OffsetRow, TopicRow}
 use Rattle.broker_events.specs.declared.event.Event.{Event}
 use Rattle.broker_events.specs.declared.event.Setup.{Setup}
 use Rattle.broker_events.specs.declared.said.Said.{Said}
-use Rattle.broker_core.specs.Loads.{whole_log}
-use Rattle.broker_core.specs.Represents.{Represents, setup_of}
-use Rattle.broker_core.specs.declared.parts.Parts.{Parts}
+use Rattle.core_log.specs.Loads.{whole_log}
+use Rattle.core_log.specs.Represents.{Represents, setup_of}
+use Rattle.core_log.specs.declared.parts.Parts.{Parts}
 use Rattle.flush_story.specs.Keeping.{flushed_in}
 use Rattle.config_store.specs.Configs.{OFFSETS, TOPICS, HasConfig}
 use Rattle.config_store.specs.Texts.{offsets_text_of, topics_text_of}

@@ -11,7 +11,7 @@ ghost use Rattle.log_model.specs.Store.{StoresLog};
 ghost use Rattle.log_model.specs.Stored.{Stored, StaysOutside};
 ghost use Rattle.segment_files.specs.Turn.{IsInside, IsReady, growing};
 ghost use Rattle.segment_files.specs.declared.last_file.LastFile.{LastFile};
-ghost use Rattle.broker_core.specs.Makes.{shown_of};
+ghost use Rattle.core_log.specs.Shows.{shown_of};
 ghost use Rattle.store_open.specs.Openings.{FORMAT, IsForeign, IsOpened, PutsOnly, own_format, store_told};
 ghost use Rattle.store_open.specs.Words.{texts_of};
 ghost use Rattle.store_open.specs.ServeWords.{IsServeCommand, IsFirstWrongOfServe};

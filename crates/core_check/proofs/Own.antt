@@ -12,10 +12,10 @@ use Rattle.pending_log.proofs.ExtentLemmas.{alike_long}
 use Rattle.queue_view.proofs.Lists.{drop_next}
 use Rattle.queue_view.specs.Tables.{Table, unit_in, number_of}
 use Rattle.broker_model.specs.State.{State}
-use Rattle.broker_core.specs.declared.parts.Parts.{Parts}
-use Rattle.broker_core.specs.Represents.{Represents, stored_unit}
-use Rattle.broker_core.proofs.SeenLemmas.{none_of, number_at, queue_parts}
-use Rattle.broker_core.proofs.TableLemmas.{there_is}
+use Rattle.core_log.specs.declared.parts.Parts.{Parts}
+use Rattle.core_log.specs.Represents.{Represents, stored_unit}
+use Rattle.core_log.proofs.SeenLemmas.{none_of, number_at, queue_parts}
+use Rattle.core_log.proofs.TableLemmas.{there_is}
 use Rattle.core_check.specs.Queues.{AreQueuesOf}
 
 -- ---- all of it is seen

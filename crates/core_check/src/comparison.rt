@@ -6,7 +6,7 @@ ghost use Rattle.log_model.specs.Queues.{IsStored};
 ghost use Rattle.log_replay.specs.Told.{log_of};
 ghost use Rattle.core_check.specs.Queues.{AreQueuesOf};
 ghost use Rattle.broker_model.specs.State.{State};
-ghost use Rattle.broker_core.specs.Represents.{Represents};
+ghost use Rattle.core_log.specs.Represents.{Represents};
 
 use crate::queues::are_queues_of;
 use broker_core::Core;

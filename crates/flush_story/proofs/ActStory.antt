@@ -12,9 +12,9 @@ use Rattle.broker_events.specs.declared.event.Event.TheVariants.{Request, Take, 
 use Rattle.broker_events.specs.declared.said.Said.{Said}
 use Rattle.broker_events.specs.declared.said.Said.TheVariants as said
 use Rattle.broker_core.specs.Makes.{Makes}
-use Rattle.broker_core.specs.Represents.{Represents}
+use Rattle.core_log.specs.Represents.{Represents}
 use Rattle.broker_core.specs.declared.alone.Alone.{Alone}
-use Rattle.broker_core.specs.declared.parts.Parts.{Parts}
+use Rattle.core_log.specs.declared.parts.Parts.{Parts}
 use Rattle.worker_turns.specs.Turns.{TakesFrom}
 use Rattle.worker_turns.specs.Acts.{Act, Made, Wrote, Missed, Acts, Acted, DiskView, Place, growing_at, steps_of, turns_of, IsBetween, IsUnwritten, HasUnwritten, Happens, HasMade, HasWritten, HasMissed, change_of}
 use Rattle.worker_turns.specs.Turning.{AreAllTurns}

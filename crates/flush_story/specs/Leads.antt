@@ -2,7 +2,7 @@
 use Rattle.std.specs.Prelude.{List}
 use Rattle.broker_model.specs.State.{State}
 use Rattle.broker_core.specs.Makes.{MakesStep}
-use Rattle.broker_core.specs.Represents.{Represents}
+use Rattle.core_log.specs.Represents.{Represents}
 use Rattle.broker_core.specs.declared.alone.Alone.{Alone}
 use Rattle.worker_turns.specs.Turns.{Steps}
 use Rattle.worker_turns.specs.Acts.{Act, Acts, HasUnwritten, DiskView, Place, growing_at, steps_of, turns_of, change_of}

@@ -3,7 +3,7 @@
 ghost use Rattle.std.specs.Prelude.{List};
 ghost use Rattle.segment_files.specs.declared.last_file.LastFile.{LastFile};
 ghost use Rattle.broker_model.specs.State.{State};
-ghost use Rattle.broker_core.specs.Represents.{Represents};
+ghost use Rattle.core_log.specs.Represents.{Represents};
 ghost use Rattle.broker_core.specs.declared.alone.Alone.{Alone};
 ghost use Rattle.worker_turns.specs.Acts.{Act, Acts, place_of, view_of, change_of};
 ghost use Rattle.flush_story.specs.Leads.{LeadsTo, alone};

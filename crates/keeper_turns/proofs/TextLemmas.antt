@@ -5,9 +5,9 @@ use Rattle.broker_model.specs.State.{State}
 use Rattle.broker_model.specs.Tables.{OffsetRow, TopicRow, offset_in, queues_in}
 use Rattle.client_tables.specs.Counts.{queues_of}
 use Rattle.group_tables.specs.Offsets.{offset_of, IsStored, IsOffset}
-use Rattle.broker_core.specs.declared.parts.Parts.{Parts}
-use Rattle.broker_core.specs.Represents.{Represents}
-use Rattle.broker_core.proofs.StoreLemmas.{found_topic, found_named}
+use Rattle.core_log.specs.declared.parts.Parts.{Parts}
+use Rattle.core_log.specs.Represents.{Represents}
+use Rattle.core_log.proofs.StoreLemmas.{found_topic, found_named}
 use Rattle.config_store.specs.Texts.{IsKeptTopic, offsets_text_of, topics_text_of}
 use Rattle.config_store.proofs.OffsetLaws.{found_ok}
 use Rattle.config_store.proofs.TextLaws.{offsets_one_text, topics_one_text}

@@ -2,8 +2,8 @@
 use Rattle.std.specs.Prelude.{◌≡◌, ℕ, List, Result, OnOk}
 use Rattle.mq_outside.specs.Disk.{DiskState}
 use Rattle.broker_model.specs.State.{State}
-use Rattle.broker_core.specs.declared.parts.Parts.{Parts}
-use Rattle.broker_core.specs.Represents.{Represents}
+use Rattle.core_log.specs.declared.parts.Parts.{Parts}
+use Rattle.core_log.specs.Represents.{Represents}
 use Rattle.config_store.specs.Texts.{offsets_text_of, topics_text_of}
 use Rattle.config_store.specs.Configs.{KeepsConfig, PutsConfig}
 use Rattle.keeper_turns.specs.Puts.{PutsBy, KeepsBy}

@@ -3,8 +3,8 @@
 ghost use Rattle.std.specs.Prelude.{IfOk, IfSome, OnOk};
 ghost use Rattle.mq_outside.specs.Counts.{CountsDiskFault};
 ghost use Rattle.broker_model.specs.State.{State};
-ghost use Rattle.broker_core.specs.declared.parts.Parts.{Parts};
-ghost use Rattle.broker_core.specs.Represents.{Represents};
+ghost use Rattle.core_log.specs.declared.parts.Parts.{Parts};
+ghost use Rattle.core_log.specs.Represents.{Represents};
 ghost use Rattle.config_store.specs.Configs.{KeepsConfig, PutsConfig};
 ghost use Rattle.config_store.specs.Texts.{offsets_text_of, topics_text_of};
 ghost use Rattle.keeper_turns.specs.Turns.{HasKept, HasKeptOf, IsOffsetsOf, IsTopicsOf};

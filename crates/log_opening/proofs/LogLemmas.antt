@@ -22,8 +22,8 @@ use Rattle.log_model.proofs.Places.{empty_well_formed, first_whole, placed_log, 
 use Rattle.log_model.proofs.Recovery.{Reads, reads_first, comes_stands, well_formed_push}
 use Rattle.log_recovery.specs.Recovered.{HasKept}
 use Rattle.pending_log.proofs.LogLemmas.{ends_with, places_rise}
-use Rattle.broker_core.specs.Loads.{whole_log}
-use Rattle.broker_core.specs.Represents.{AreCovered}
+use Rattle.core_log.specs.Loads.{whole_log}
+use Rattle.core_log.specs.Represents.{AreCovered}
 use Rattle.log_opening.specs.Freezes.{HasUpTo, ArePieces}
 
 -- ---- in the log

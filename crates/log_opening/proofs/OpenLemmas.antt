@@ -27,8 +27,8 @@ use Rattle.segment_files.specs.declared.last_file.LastFile.{LastFile}
 use Rattle.segment_files.proofs.Ready.{stored_ready}
 use Rattle.broker_events.specs.declared.event.Setup.{Setup}
 use Rattle.broker_model.specs.Tables.{OffsetRow, TopicRow}
-use Rattle.broker_core.specs.Loads.{IsLoadedFrom, IsLoadedWith, MayOpen, whole_log}
-use Rattle.broker_core.specs.declared.loaded.Loaded.{Loaded}
+use Rattle.core_log.specs.Loads.{IsLoadedFrom, IsLoadedWith, MayOpen, whole_log}
+use Rattle.core_log.specs.declared.loaded.Loaded.{Loaded}
 use Rattle.log_opening.specs.declared.loading.LoadedLog.{LoadedLog}
 use Rattle.log_opening.specs.Freezes.{HasUpTo, ArePieces}
 use Rattle.log_opening.specs.Opens.{saved_as, IsKeptLog, IsOurLog, CanOpen}

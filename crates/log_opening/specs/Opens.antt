@@ -16,9 +16,9 @@ use Rattle.broker_model.specs.State.{Saved}
 use Rattle.broker_model.specs.Tables.{OffsetRow, TopicRow}
 use Rattle.broker_model.specs.Run.{opened}
 use Rattle.broker_events.specs.declared.event.Setup.{Setup}
-use Rattle.broker_core.specs.Loads.{IsLoadedFrom, IsLoadedWith, whole_log}
-use Rattle.broker_core.specs.Makes.{shown_of}
-use Rattle.broker_core.specs.Represents.{Represents, AreCovered, setup_of}
+use Rattle.core_log.specs.Loads.{IsLoadedFrom, IsLoadedWith, whole_log}
+use Rattle.core_log.specs.Shows.{shown_of}
+use Rattle.core_log.specs.Represents.{Represents, AreCovered, setup_of}
 use Rattle.log_opening.specs.declared.loading.LoadedLog.{LoadedLog}
 use Rattle.log_opening.specs.declared.opening.Opened.{Opened}
 

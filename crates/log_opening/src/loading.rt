@@ -10,12 +10,12 @@ ghost use Rattle.log_model.specs.Stored.{StaysOutside};
 ghost use Rattle.log_recovery.specs.Recovered.{Handed, StaysFlushed, OnDamage, CountsRecoverFault};
 ghost use Rattle.broker_model.specs.Tables.{TopicRow};
 ghost use Rattle.group_tables.specs.Offsets.{IsOffset};
-ghost use Rattle.broker_core.specs.Loads.{IsLoadedFrom, IsLoadedWith};
+ghost use Rattle.core_log.specs.Loads.{IsLoadedFrom, IsLoadedWith};
 ghost use Rattle.config_store.specs.Texts.{IsKeptTopic};
 ghost use Rattle.log_opening.specs.Opens.{IsKeptLog, IsOurLog};
 
-use broker_core::Loaded;
 use client_tables::TopicQueues;
+use core_log::Loaded;
 use group_tables::GroupOffset;
 use log_model::Base;
 use log_recovery::{RecoverFault, Visit, recover};
@@ -32,7 +32,7 @@ struct Loading<'a> {
 }
 
 impl<'a> Visit for Loading<'a> {
-    ghost use Rattle.broker_core.specs.Loads.{IsLoadedFrom};
+    ghost use Rattle.core_log.specs.Loads.{IsLoadedFrom};
 
     ghost stands = { λ base loading records. IsLoadedFrom loading.topics.now records loading.loaded };
 

@@ -3,7 +3,7 @@ use Rattle.std.specs.Prelude.{◌≡◌, ◌≢◌, ℕ, List, [], ◌∷◌, co
 use Rattle.mq_outside.specs.Disk.{Moves}
 use Rattle.mq_outside.specs.Files.{Same}
 use Rattle.log_model.specs.Stored.{StaysOutside}
-use Rattle.broker_core.specs.declared.parts.Parts.{Parts}
+use Rattle.core_log.specs.declared.parts.Parts.{Parts}
 use Rattle.config_store.specs.Configs.{OFFSETS, TOPICS}
 use Rattle.store_open.specs.Openings.{FORMAT, IsForeign, IsOpened, PutsOnly, own_format, store_told}
 use Rattle.store_open.specs.Statuses.{FitsTable}

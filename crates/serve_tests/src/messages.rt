@@ -3,10 +3,11 @@
 ghost use Rattle.std.specs.Prelude.{◌≡◌, None, IfSome, IsTrue};
 ghost use Rattle.broker_events.specs.Shown.{Shown, Accepts};
 ghost use Rattle.broker_events.specs.Steps.{IsKeyed};
-ghost use Rattle.broker_core.specs.Makes.{shown_of};
+ghost use Rattle.core_log.specs.Shows.{shown_of};
 
-use broker_core::{Alone, Core, Loaded, no_pieces};
+use broker_core::{Alone, Core};
 use broker_events::{Calls, Event, Said, Setup, is_served};
+use core_log::{Loaded, no_pieces};
 use mq_bytes::Rows;
 use remoting_frame::{Form, Frame, Header};
 use request_fields::Request;

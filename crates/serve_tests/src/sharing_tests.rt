@@ -2,7 +2,7 @@
 
 ghost use Rattle.std.specs.Prelude.{◌≡◌, ◌+◌, ◌<◌, ◌≤◌, None, length};
 ghost use Rattle.std.specs.Thread.{IsSync};
-ghost use Rattle.broker_core.specs.Makes.{shown_of};
+ghost use Rattle.core_log.specs.Shows.{shown_of};
 ghost use Rattle.story_lock.specs.Passes.{IsPassOf, HasSeat, numbers_of};
 
 use crate::messages::{empty, message, pending, send};

@@ -2,7 +2,7 @@
 
 ghost use Rattle.std.specs.Prelude.{◌≡◌, None, [], ◌∷◌, IfSome};
 ghost use Rattle.std.specs.Thread.{IsSend, IsSync};
-ghost use Rattle.broker_core.specs.Makes.{shown_of};
+ghost use Rattle.core_log.specs.Shows.{shown_of};
 ghost use Rattle.story_lock.specs.Passes.{IsPassOf, HasKey, numbers_of, seen_by, start_of};
 ghost use Rattle.spine.specs.Seen.{shown_by};
 

@@ -6,8 +6,8 @@ use Rattle.mq_outside.specs.declared.faults.DiskFault.{DiskFault}
 use Rattle.broker_model.specs.State.{State}
 use Rattle.broker_events.specs.declared.event.Event.{Event}
 use Rattle.broker_events.specs.declared.said.Said.{Said}
-use Rattle.broker_core.specs.declared.parts.Parts.{Parts}
-use Rattle.broker_core.specs.Represents.{Represents}
+use Rattle.core_log.specs.declared.parts.Parts.{Parts}
+use Rattle.core_log.specs.Represents.{Represents}
 use Rattle.broker_core.specs.Owner.{plain_look}
 use Rattle.config_store.specs.Texts.{offsets_text_of, topics_text_of}
 use Rattle.keeper_turns.specs.Turns.{HasKeptOf, IsOffsetsOf, IsTopicsOf}

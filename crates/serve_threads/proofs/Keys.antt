@@ -4,7 +4,7 @@ use Rattle.std.specs.Prelude.{IsSome}
 use Rattle.broker_events.specs.Shown.{Shown}
 use Rattle.broker_events.specs.declared.event.Event.{Event}
 use Rattle.broker_events.specs.declared.said.Said.{Said}
-use Rattle.broker_core.specs.Makes.{shown_of}
+use Rattle.core_log.specs.Shows.{shown_of}
 use Rattle.story_lock.specs.declared.chronicle.Chronicle.{Ghosts}
 use Rattle.story_lock.specs.declared.story.Pass.{Pass}
 use Rattle.story_lock.specs.declared.story.Story.{Story}

@@ -6,7 +6,7 @@ use Rattle.broker_events.specs.Makes.{Makes}
 use Rattle.broker_events.specs.declared.event.Event.{Event}
 use Rattle.broker_events.specs.declared.said.Said.{Said}
 use Rattle.broker_core.specs.Owner.{plain_look}
-use Rattle.broker_core.specs.declared.parts.Parts.{Parts}
+use Rattle.core_log.specs.declared.parts.Parts.{Parts}
 use Rattle.session.specs.Owing.{Steps}
 use Rattle.session.specs.Serving.{Made, Leads}
 use Rattle.event_loops.specs.Tales.{Act, steps_of, made_for, loop_of, IsTale, IsAnsweredInOrder, LinkView, loop_numbers, LeadsBy, GoesOn}

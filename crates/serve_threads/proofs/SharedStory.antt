@@ -12,8 +12,8 @@ use Rattle.broker_events.specs.declared.event.Event.{Event}
 use Rattle.broker_events.specs.declared.event.Event.TheVariants.{Request, Take, Flushed, FlushFailed, Look, Dispatch, Deliver, Check, Leave}
 use Rattle.broker_events.specs.declared.said.Said.{Said}
 use Rattle.broker_events.specs.declared.said.Said.TheVariants as said
-use Rattle.broker_core.specs.Represents.{Represents}
-use Rattle.broker_core.specs.declared.parts.Parts.{Parts}
+use Rattle.core_log.specs.Represents.{Represents}
+use Rattle.core_log.specs.declared.parts.Parts.{Parts}
 use Rattle.session.specs.Serving.{Made}
 use Rattle.worker_turns.specs.Acts as acts
 use Rattle.worker_turns.specs.Acts.{Act, Change, Turn, DiskView, Place, growing_at, steps_of, HasWritten, HasMissed, change_of}

@@ -9,8 +9,8 @@ use Rattle.broker_events.specs.declared.said.Said.{Said}
 use Rattle.segment_files.specs.declared.last_file.LastFile.{LastFile}
 use Rattle.broker_model.specs.State.{State}
 use Rattle.broker_core.specs.Owner.{plain_look}
-use Rattle.broker_core.specs.Represents.{Represents}
-use Rattle.broker_core.specs.declared.parts.Parts.{Parts}
+use Rattle.core_log.specs.Represents.{Represents}
+use Rattle.core_log.specs.declared.parts.Parts.{Parts}
 use Rattle.flush_story.specs.Story as stories
 use Rattle.flush_story.specs.Story.{Happening, Story, span_of}
 use Rattle.flush_story.specs.Keeping.{IsOpenFor, Keeps}

@@ -1,7 +1,7 @@
 //! What holds of the history that a flusher, two loops and a keeper make. No call is made: the clause speaks of the definitions.
 
-ghost use Rattle.broker_core.specs.Represents.{Represents};
-ghost use Rattle.broker_core.specs.declared.parts.Parts.{Parts};
+ghost use Rattle.core_log.specs.Represents.{Represents};
+ghost use Rattle.core_log.specs.declared.parts.Parts.{Parts};
 ghost use Rattle.broker_model.specs.State.{State};
 ghost use Rattle.worker_turns.specs.Acts.{Act, Change, Place, steps_of, view_of};
 ghost use Rattle.session.specs.Serving.{Made};

@@ -4,7 +4,7 @@ ghost use Rattle.std.specs.Prelude.{◌≡◌, ◌≤◌, ℕ, [], ◌∷◌, So
 ghost use Rattle.log_model.specs.Stored.{StaysOutside};
 ghost use Rattle.segment_files.specs.Turn.{IsInside};
 ghost use Rattle.segment_files.specs.declared.last_file.LastFile.{LastFile};
-ghost use Rattle.broker_core.specs.Makes.{shown_of};
+ghost use Rattle.core_log.specs.Shows.{shown_of};
 ghost use Rattle.story_lock.specs.Passes.{IsPassOf, HasSeat, HasKey, start_of, seats_of as seats_in, seen_by, mine_of, numbers_of};
 ghost use Rattle.spine.specs.Seen.{shown_by};
 ghost use Rattle.worker_turns.specs.Acts.{Place, change_of, place_of, view_of};

@@ -5,7 +5,7 @@ use Rattle.broker_events.specs.declared.event.Event.TheVariants.{Request, Take, 
 use Rattle.broker_events.specs.declared.said.Said.{Said}
 use Rattle.broker_events.specs.Steps.{IsKeyed}
 use Rattle.broker_events.specs.Shown.{Shown, Accepts}
-use Rattle.broker_core.specs.Makes.{shown_of}
+use Rattle.core_log.specs.Shows.{shown_of}
 use Rattle.story_lock.specs.declared.chronicle.Chronicle.{Ghosts}
 use Rattle.story_lock.specs.declared.story.Story.{Story}
 use Rattle.story_lock.specs.declared.story.Pass.{Pass}

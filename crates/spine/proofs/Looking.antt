@@ -2,7 +2,7 @@
 use Rattle.std.proofs.Common.{Option, Some, None, IfSome}
 use Rattle.broker_events.specs.declared.event.Event.{Event}
 use Rattle.broker_events.specs.declared.said.Said.{Said}
-use Rattle.broker_core.specs.declared.parts.Parts.{Parts}
+use Rattle.core_log.specs.declared.parts.Parts.{Parts}
 use Rattle.broker_core.specs.Owner.{plain_look}
 use Rattle.story_lock.specs.declared.chronicle.Chronicle.{Ghosts}
 use Rattle.story_lock.specs.declared.story.Pass.{Pass}

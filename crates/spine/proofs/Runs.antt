@@ -4,8 +4,9 @@ use Rattle.broker_model.specs.State.{State}
 use Rattle.broker_events.specs.declared.event.Event.{Event}
 use Rattle.broker_events.specs.declared.said.Said.{Said}
 use Rattle.broker_events.specs.Shown.{Shown, moved}
-use Rattle.broker_core.specs.declared.parts.Parts.{Parts}
-use Rattle.broker_core.specs.Makes.{MakesStep, shown_of}
+use Rattle.core_log.specs.declared.parts.Parts.{Parts}
+use Rattle.broker_core.specs.Makes.{MakesStep}
+use Rattle.core_log.specs.Shows.{shown_of}
 use Rattle.spine.specs.Stands.{StepsAlong, Along, Stands}
 use Rattle.spine.specs.Seen.{shown_append}
 

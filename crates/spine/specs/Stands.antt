@@ -7,9 +7,9 @@ use Rattle.broker_events.specs.declared.event.Event.{Event}
 use Rattle.broker_events.specs.declared.said.Said.{Said}
 use Rattle.broker_events.specs.Steps.{event_of, SaysIn}
 use Rattle.broker_events.specs.Shown.{Shown, moved}
-use Rattle.broker_core.specs.declared.parts.Parts.{Parts}
-use Rattle.broker_core.specs.Represents.{Represents}
-use Rattle.broker_core.specs.Makes.{shown_of}
+use Rattle.core_log.specs.declared.parts.Parts.{Parts}
+use Rattle.core_log.specs.Represents.{Represents}
+use Rattle.core_log.specs.Shows.{shown_of}
 use Rattle.story_lock.specs.declared.chronicle.Chronicle.{Ghosts}
 use Rattle.story_lock.specs.declared.story.Story.{Story}
 use Rattle.story_lock.specs.declared.story.Pass.{Pass}

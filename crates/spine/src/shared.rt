@@ -3,7 +3,8 @@
 ghost use Rattle.std.specs.Prelude.{◌≡◌, Option};
 ghost use Rattle.std.specs.Fn.{FnOnceReturnsAt};
 ghost use Rattle.broker_events.specs.Shown.{Accepts};
-ghost use Rattle.broker_core.specs.Makes.{MakesStep, shown_of};
+ghost use Rattle.broker_core.specs.Makes.{MakesStep};
+ghost use Rattle.core_log.specs.Shows.{shown_of};
 ghost use Rattle.spine.specs.Entries.{Fits};
 
 use broker_core::Core;

@@ -1,5 +1,5 @@
-use Rattle.broker_core.specs.declared.parts.Parts.{Parts}
-use Rattle.broker_core.specs.Represents.{Represents}
+use Rattle.core_log.specs.declared.parts.Parts.{Parts}
+use Rattle.core_log.specs.Represents.{Represents}
 use Rattle.std.proofs.Common.{sym, subst}
 use Rattle.broker_run.proofs.CauseLemmas.{counts_status}
 use Rattle.broker_run.proofs.KeptLemmas.{can_keep, ends_kept, told_after, counts_end}

@@ -3,7 +3,7 @@ use Rattle.std.proofs.lemmas.List.{append_assoc}
 use Rattle.std.proofs.lemmas.List.Elements.{All-pop}
 use Rattle.broker_model.specs.Tables.{OffsetRow}
 use Rattle.group_tables.specs.Offsets.{offset_row, IsOffset}
-use Rattle.broker_core.specs.Loads.{IsLoadedWith}
+use Rattle.core_log.specs.Loads.{IsLoadedWith}
 use Rattle.log_opening.proofs.OpenLemmas.{no_rows}
 use Rattle.log_opening.proofs.loading.add_offsets.Goals as goal
 

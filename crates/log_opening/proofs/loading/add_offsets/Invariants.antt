@@ -2,7 +2,7 @@ use Rattle.std.proofs.Common.{◌≡◌, ◌++◌, List, All, length}
 use Rattle.record_codec.specs.Entry.{Entry}
 use Rattle.broker_model.specs.Tables.{OffsetRow, TopicRow}
 use Rattle.group_tables.specs.Offsets.{IsOffset}
-use Rattle.broker_core.specs.Loads.{IsLoadedFrom, IsLoadedWith}
+use Rattle.core_log.specs.Loads.{IsLoadedFrom, IsLoadedWith}
 use Rattle.log_opening.proofs.loading.add_offsets.Given as goal
 
 abbrev pub invariant-loop-row : goal.invariant-loop-row

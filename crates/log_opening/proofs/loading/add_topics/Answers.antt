@@ -1,7 +1,7 @@
 use Rattle.std.proofs.Common.{◌≡◌, ◌∙◌, ◌++◌, ◌∷◌, [], ap, sym, subst, List, take}
 use Rattle.std.proofs.lemmas.List.{take_more}
 use Rattle.broker_model.specs.Tables.{TopicRow}
-use Rattle.broker_core.specs.Loads.{IsLoadedFrom, topic_row}
+use Rattle.core_log.specs.Loads.{IsLoadedFrom, topic_row}
 use Rattle.log_opening.proofs.loading.add_topics.Goals as goal
 
 pub loop-row-preserved : goal.loop-row-preserved

@@ -1,5 +1,5 @@
 use Rattle.std.proofs.Common.{[], take}
-use Rattle.broker_core.specs.Loads.{IsLoadedFrom}
+use Rattle.core_log.specs.Loads.{IsLoadedFrom}
 use Rattle.log_opening.proofs.loading.add_topics.Given as goal
 
 abbrev pub invariant-loop-row : goal.invariant-loop-row

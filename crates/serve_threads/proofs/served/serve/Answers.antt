@@ -1,6 +1,6 @@
 use Rattle.std.proofs.Common.{sym, subst}
 use Rattle.log_model.specs.Stored.{StaysOutside}
-use Rattle.broker_core.specs.declared.parts.Parts.{Parts}
+use Rattle.core_log.specs.declared.parts.Parts.{Parts}
 use Rattle.worker_turns.specs.Acts.{change_of, place_of, view_of}
 use Rattle.segment_files.specs.declared.last_file.LastFile.{LastFile}
 use Rattle.serve_threads.specs.Kept.{keep_over}

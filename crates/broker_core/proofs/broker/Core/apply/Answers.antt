@@ -6,9 +6,10 @@ use Rattle.broker_events.specs.declared.event.Event.TheVariants.{Take, Flushed, 
 use Rattle.broker_events.specs.declared.said.Said.TheVariants as said
 use Rattle.broker_events.specs.Shown.{Accepts, moved}
 use Rattle.broker_events.specs.Steps.{IsAnswerTo, said_in}
-use Rattle.broker_core.specs.declared.parts.Parts.{Parts}
-use Rattle.broker_core.specs.Represents.{Represents}
-use Rattle.broker_core.specs.Makes.{Makes, shown_of}
+use Rattle.core_log.specs.declared.parts.Parts.{Parts}
+use Rattle.core_log.specs.Represents.{Represents}
+use Rattle.broker_core.specs.Makes.{Makes}
+use Rattle.core_log.specs.Shows.{shown_of}
 use Rattle.broker_core.proofs.SaidLemmas.{request_says, delivery_says, check_says}
 use Rattle.broker_core.proofs.ShownLemmas.{request_shown, delivery_shown, check_shown}
 use Rattle.broker_core.proofs.StepLemmas.{made, unmade, request_made, delivery_made, check_made, take_made, take_state, flush_possible, failure_possible}
@@ -18,7 +19,7 @@ use Rattle.broker_core.proofs.broker.Core.apply.Goals.{in-Ok, in-Err}
 pub invariant_of-self : goal.invariant_of-self
 invariant_of-self c =
     let i = c.in-Request in
-    let makes = request_made c.self.inside.parts c.request.new.self c.self.invariant.0 i.link i.host i.now i.request c.request.result c.request.ensures.carries c.request.ensures.stays c.self.invariant.1 in
+    let makes = request_made c.self.inside.parts c.request.new.parts c.self.invariant.0 i.link i.host i.now i.request c.request.result c.request.ensures.carries c.request.ensures.stays c.self.invariant.1 in
     (makes.reached, makes.represents)
 
 pub invariant_of-self-in-Take : goal.invariant_of-self-in-Take
@@ -29,12 +30,12 @@ invariant_of-self-in-Dispatch c = (_, (c.dispatch.ensures.carries c.self.invaria
 
 pub invariant_of-self-in-Deliver : goal.invariant_of-self-in-Deliver
 invariant_of-self-in-Deliver c =
-    let makes = delivery_made c.self.inside.parts c.deliver.new.self c.self.invariant.0 c.in-Deliver.now c.deliver.result c.deliver.ensures.carries c.deliver.ensures.stays c.self.invariant.1 in
+    let makes = delivery_made c.self.inside.parts c.deliver.new.parts c.self.invariant.0 c.in-Deliver.now c.deliver.result c.deliver.ensures.carries c.deliver.ensures.stays c.self.invariant.1 in
     (makes.reached, makes.represents)
 
 pub invariant_of-self-in-Check : goal.invariant_of-self-in-Check
 invariant_of-self-in-Check c =
-    let makes = check_made c.self.inside.parts c.check.new.self c.self.invariant.0 c.in-Check.now c.check.result c.check.ensures.carries c.check.ensures.stays c.self.invariant.1 in
+    let makes = check_made c.self.inside.parts c.check.new.parts c.self.invariant.0 c.in-Check.now c.check.result c.check.ensures.carries c.check.ensures.stays c.self.invariant.1 in
     (makes.reached, makes.represents)
 
 pub invariant_of-self-in-Leave : goal.invariant_of-self-in-Leave
@@ -44,8 +45,8 @@ pub returns-in-Request-clause-step : goal.returns-in-Request-clause-step
 returns-in-Request-clause-step c s are =
     let i = c.in-Request in
     let before = subst (λ (p : Parts). Represents p s) (sym c.self.view_is) are in
-    subst (λ (e : Event). Makes s e (said_in c.request.result) c.request.new.self) (sym i.is)
-    (request_made c.self.inside.parts c.request.new.self s i.link i.host i.now i.request c.request.result c.request.ensures.carries c.request.ensures.stays before)
+    subst (λ (e : Event). Makes s e (said_in c.request.result) c.request.new.parts) (sym i.is)
+    (request_made c.self.inside.parts c.request.new.parts s i.link i.host i.now i.request c.request.result c.request.ensures.carries c.request.ensures.stays before)
 
 pub returns-after-take-clause-step : goal.returns-after-take-clause-step
 returns-after-take-clause-step c s are =
@@ -92,14 +93,14 @@ pub returns-in-Leave-clause-step : goal.returns-in-Leave-clause-step
 returns-in-Leave-clause-step c s are =
     let i = c.in-Leave in
     let before = subst (λ (p : Parts). Represents p s) (sym c.self.view_is) are in
-    subst (λ (e : Event). Makes s e (Some said.Done) c.leave.new.self) (sym i.is)
-    (made s (Leave i.link) said.Done c.leave.new.self tt (c.leave.ensures.carries s before))
+    subst (λ (e : Event). Makes s e (Some said.Done) c.leave.new.parts) (sym i.is)
+    (made s (Leave i.link) said.Done c.leave.new.parts tt (c.leave.ensures.carries s before))
 
 pub returns-in-Request-clause-shown : goal.returns-in-Request-clause-shown
 returns-in-Request-clause-shown c =
     let i = c.in-Request in
-    subst (λ (e : Event). shown_of c.request.new.self ≡ moved (shown_of c.args.self.now) e (said_in c.request.result)) (sym i.is)
-    (request_shown c.self.inside.parts c.request.new.self i.link i.host i.now i.request c.request.result c.request.ensures.carries c.request.ensures.stays c.self.invariant
+    subst (λ (e : Event). shown_of c.request.new.parts ≡ moved (shown_of c.args.self.now) e (said_in c.request.result)) (sym i.is)
+    (request_shown c.self.inside.parts c.request.new.parts i.link i.host i.now i.request c.request.result c.request.ensures.carries c.request.ensures.stays c.self.invariant
     ∙ ap (λ (p : Parts). shown_of p) c.self.view_is)
 
 pub returns-in-Request-clause-answer : goal.returns-in-Request-clause-answer
@@ -107,7 +108,7 @@ returns-in-Request-clause-answer c =
     let i = c.in-Request in
     let accepted = subst (λ (e : Event). Accepts (shown_of c.args.self.now) e) i.is c.requires.accepted in
     subst (λ (e : Event). IfOk c.request.result (IsAnswerTo e)) (sym i.is)
-    (request_says c.self.inside.parts c.request.new.self i.link i.host i.now i.request c.request.result accepted.1 c.request.ensures.carries c.self.invariant)
+    (request_says c.self.inside.parts c.request.new.parts i.link i.host i.now i.request c.request.result accepted.1 c.request.ensures.carries c.self.invariant)
 
 pub returns-after-take-clause-answer : goal.returns-after-take-clause-answer
 returns-after-take-clause-answer c =
@@ -136,38 +137,38 @@ pub returns-in-Deliver-clause-step : goal.returns-in-Deliver-clause-step
 returns-in-Deliver-clause-step c s are =
     let i = c.in-Deliver in
     let before = subst (λ (p : Parts). Represents p s) (sym c.self.view_is) are in
-    subst (λ (e : Event). Makes s e (said_in c.deliver.result) c.deliver.new.self) (sym i.is)
-    (delivery_made c.self.inside.parts c.deliver.new.self s i.now c.deliver.result c.deliver.ensures.carries c.deliver.ensures.stays before)
+    subst (λ (e : Event). Makes s e (said_in c.deliver.result) c.deliver.new.parts) (sym i.is)
+    (delivery_made c.self.inside.parts c.deliver.new.parts s i.now c.deliver.result c.deliver.ensures.carries c.deliver.ensures.stays before)
 
 pub returns-in-Deliver-clause-shown : goal.returns-in-Deliver-clause-shown
 returns-in-Deliver-clause-shown c =
     let i = c.in-Deliver in
-    subst (λ (e : Event). shown_of c.deliver.new.self ≡ moved (shown_of c.args.self.now) e (said_in c.deliver.result)) (sym i.is)
-    (delivery_shown c.self.inside.parts c.deliver.new.self i.now c.deliver.result c.deliver.ensures.carries c.deliver.ensures.stays c.self.invariant
+    subst (λ (e : Event). shown_of c.deliver.new.parts ≡ moved (shown_of c.args.self.now) e (said_in c.deliver.result)) (sym i.is)
+    (delivery_shown c.self.inside.parts c.deliver.new.parts i.now c.deliver.result c.deliver.ensures.carries c.deliver.ensures.stays c.self.invariant
     ∙ ap (λ (p : Parts). shown_of p) c.self.view_is)
 
 pub returns-in-Deliver-clause-answer : goal.returns-in-Deliver-clause-answer
 returns-in-Deliver-clause-answer c =
     let i = c.in-Deliver in
     subst (λ (e : Event). IfOk c.deliver.result (IsAnswerTo e)) (sym i.is)
-    (delivery_says c.self.inside.parts c.deliver.new.self i.now c.deliver.result c.deliver.ensures.carries c.self.invariant)
+    (delivery_says c.self.inside.parts c.deliver.new.parts i.now c.deliver.result c.deliver.ensures.carries c.self.invariant)
 
 pub returns-in-Check-clause-step : goal.returns-in-Check-clause-step
 returns-in-Check-clause-step c s are =
     let i = c.in-Check in
     let before = subst (λ (p : Parts). Represents p s) (sym c.self.view_is) are in
-    subst (λ (e : Event). Makes s e (said_in c.check.result) c.check.new.self) (sym i.is)
-    (check_made c.self.inside.parts c.check.new.self s i.now c.check.result c.check.ensures.carries c.check.ensures.stays before)
+    subst (λ (e : Event). Makes s e (said_in c.check.result) c.check.new.parts) (sym i.is)
+    (check_made c.self.inside.parts c.check.new.parts s i.now c.check.result c.check.ensures.carries c.check.ensures.stays before)
 
 pub returns-in-Check-clause-shown : goal.returns-in-Check-clause-shown
 returns-in-Check-clause-shown c =
     let i = c.in-Check in
-    subst (λ (e : Event). shown_of c.check.new.self ≡ moved (shown_of c.args.self.now) e (said_in c.check.result)) (sym i.is)
-    (check_shown c.self.inside.parts c.check.new.self i.now c.check.result c.check.ensures.carries c.check.ensures.stays c.self.invariant
+    subst (λ (e : Event). shown_of c.check.new.parts ≡ moved (shown_of c.args.self.now) e (said_in c.check.result)) (sym i.is)
+    (check_shown c.self.inside.parts c.check.new.parts i.now c.check.result c.check.ensures.carries c.check.ensures.stays c.self.invariant
     ∙ ap (λ (p : Parts). shown_of p) c.self.view_is)
 
 pub returns-in-Check-clause-answer : goal.returns-in-Check-clause-answer
 returns-in-Check-clause-answer c =
     let i = c.in-Check in
     subst (λ (e : Event). IfOk c.check.result (IsAnswerTo e)) (sym i.is)
-    (check_says c.self.inside.parts c.check.new.self i.now c.check.result c.check.ensures.carries c.self.invariant)
+    (check_says c.self.inside.parts c.check.new.parts i.now c.check.result c.check.ensures.carries c.self.invariant)

@@ -1,6 +1,6 @@
 use Rattle.std.proofs.Common.{◌∙◌, sym, subst}
-use Rattle.broker_core.specs.declared.parts.Parts.{Parts}
-use Rattle.broker_core.specs.Represents.{Represents}
+use Rattle.core_log.specs.declared.parts.Parts.{Parts}
+use Rattle.core_log.specs.Represents.{Represents}
 use Rattle.broker_core.proofs.CheckedOrigins.{due_same}
 use Rattle.broker_core.proofs.broker.Core.next_check.Goals as goal
 

@@ -3,7 +3,8 @@ use Rattle.broker_events.specs.declared.event.Event.{Event}
 use Rattle.broker_events.specs.declared.event.Event.TheVariants.{Request, Take, Flushed, FlushFailed, Look, Dispatch, Deliver, Check, Leave}
 use Rattle.broker_events.specs.Steps.{IsKeyed}
 use Rattle.broker_events.specs.Shown.{Accepts}
-use Rattle.broker_core.specs.Makes.{MakesStep, shown_of}
+use Rattle.broker_core.specs.Makes.{MakesStep}
+use Rattle.core_log.specs.Shows.{shown_of}
 use Rattle.story_lock.specs.Counts.{times}
 use Rattle.story_lock.specs.Passes.{IsPassOf, HasSeat, HasKey, Finds, history_of}
 use Rattle.spine.specs.declared.shared.Shared.{Shared}

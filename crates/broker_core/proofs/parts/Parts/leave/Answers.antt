@@ -1,5 +1,0 @@
-use Rattle.broker_core.proofs.HeartbeatLemmas.{leaves}
-use Rattle.broker_core.proofs.parts.Parts.leave.Goals as goal
-
-pub returns-clause-carries : goal.returns-clause-carries
-returns-clause-carries c s are = leaves c.args.self.now c.leave.new.self s c.args.link are c.leave.ensures

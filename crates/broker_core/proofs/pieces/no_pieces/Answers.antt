@@ -1,5 +1,0 @@
-use Rattle.broker_core.proofs.PieceLemmas.{none_covered}
-use Rattle.broker_core.proofs.pieces.no_pieces.Goals as goal
-
-pub returns-clause-covered : goal.returns-clause-covered
-returns-clause-covered c records = none_covered c.new.result records c.new.ensures.end

@@ -1,0 +1,11 @@
+pub mod Appends
+pub mod Carries
+pub mod Counts
+pub mod Loads
+pub mod Pieces
+pub mod Represents
+pub mod Rooms
+pub mod Sees
+pub mod Settles
+pub mod Shows
+pub mod Stands
