@@ -9,13 +9,15 @@ use Rattle.broker_events.specs.Makes.{Makes}
 use Rattle.broker_events.proofs.Makes.{makes_append}
 use Rattle.broker_events.specs.declared.event.Event.TheVariants.{Leave}
 use Rattle.broker_events.specs.declared.said.Said.{Said}
+use Rattle.reply_fields.specs.Parts.{AskParts}
 use Rattle.session.specs.Owing.{Steps}
 use Rattle.session.specs.Serving.{Made, Leads}
-use Rattle.link_service.specs.Transcripts.{Seen, WentOn, WentOnUnread, IsFresh}
+use Rattle.link_service.specs.Transcripts.{Seen, WentOnWith, WentOn, WentOnUnread, IsFresh, if_asked}
 use Rattle.link_service.proofs.Went.{went_on, went_read, unread_same}
 use Rattle.event_loops.specs.declared.links.Numbered.{Numbered}
 use Rattle.event_loops.specs.declared.links.Links.{Links}
-use Rattle.event_loops.specs.Tales.{Act, act, steps_of, made_for, IsServed, IsTale, loop_of, LinkView, seen_in, LoopNumbers, loop_numbers, HasNumber, IsTold, Keeps, Acts, LeadsBy, GoesOn, IsSeenAs}
+use Rattle.event_loops.specs.Takings.{TakesNone, LeadsTaking}
+use Rattle.event_loops.specs.Tales.{Act, act, steps_of, asks_of, acts_for, made_for, asks_for, DidNothing, IsServed, IsTale, loop_of, LinkView, seen_in, LoopNumbers, loop_numbers, HasNumber, IsTold, Keeps, Acts, AreSome, LeadsWith, LeadsBy, GoesOn, IsSeenAs}
 
 -- ---- steps by links
 
@@ -23,26 +25,91 @@ pub steps_append : (xs ys : List Act) → steps_of (xs ++ ys) ≡ steps_of xs ++
 steps_append [] ys = refl
 steps_append (x ∷ xs) ys = ap (λ (l : Made). x.made ++ l) (steps_append xs ys) ∙ sym (append_assoc x.made (steps_of xs) (steps_of ys))
 
+pub asks_append : (xs ys : List Act) → asks_of (xs ++ ys) ≡ asks_of xs ++ asks_of ys
+asks_append [] ys = refl
+asks_append (x ∷ xs) ys = ap (λ (l : List AskParts). x.asks ++ l) (asks_append xs ys) ∙ sym (append_assoc x.asks (asks_of xs) (asks_of ys))
+
+acts_append : (link : ℕ) (xs ys : List Act) → acts_for link (xs ++ ys) ≡ acts_for link xs ++ acts_for link ys
+acts_append link xs ys = filter-append (λ (one : Act). one.link == link) xs ys
+
 pub made_append : (link : ℕ) (xs ys : List Act) → made_for link (xs ++ ys) ≡ made_for link xs ++ made_for link ys
-made_append link xs ys =
-    ap steps_of (filter-append (λ (one : Act). one.link == link) xs ys)
-    ∙ steps_append (filter (λ (one : Act). one.link == link) xs) (filter (λ (one : Act). one.link == link) ys)
+made_append link xs ys = ap steps_of (acts_append link xs ys) ∙ steps_append (acts_for link xs) (acts_for link ys)
 
 -- one act is of this link, or of another
-pub made_one : (link number : ℕ) (made : Made)
-    → ((number ≡ link) × (made_for link (act number made ∷ []) ≡ made)) ⊎ ((number ≢ link) × (made_for link (act number made ∷ []) ≡ []))
-made_one link number made =
-    ⊎_elim (λ (is : (number == link) ≡ true).
-    inl ((Decides-eqb number link).0 is, ap (λ (b : Bool). steps_of (cond b (act number made ∷ []) [])) is ∙ append-nil made))
-    (λ (other : (number == link) ≡ false).
-    inr (λ same. let yes = (Decides-eqb number link).1 same in cc, ap (λ (b : Bool). steps_of (cond b (act number made ∷ []) [])) other))
-    (cases_Bool (number == link))
+acts_one : (link : ℕ) (one : Act) → ((one.link ≡ link) × (acts_for link (one ∷ []) ≡ one ∷ [])) ⊎ ((one.link ≢ link) × (acts_for link (one ∷ []) ≡ []))
+acts_one link one =
+    ⊎_elim (λ (is : (one.link == link) ≡ true). inl ((Decides-eqb one.link link).0 is, ap (λ (b : Bool). cond b (one ∷ []) []) is))
+    (λ (other : (one.link == link) ≡ false).
+    inr (λ same. let yes = (Decides-eqb one.link link).1 same in cc, ap (λ (b : Bool). cond b (one ∷ []) []) other))
+    (cases_Bool (one.link == link))
 
-made_own : (number : ℕ) (made : Made) → made_for number (act number made ∷ []) ≡ made
-made_own number made = ⊎_elim (λ h. h.1) (λ h. absurd (h.0 refl)) (made_one number number made)
+pub made_one : (link : ℕ) (one : Act)
+    → ((one.link ≡ link) × (made_for link (one ∷ []) ≡ one.made)) ⊎ ((one.link ≢ link) × (made_for link (one ∷ []) ≡ []))
+made_one link one =
+    ⊎_elim (λ own. inl (own.0, ap steps_of own.1 ∙ append-nil one.made)) (λ other. inr (other.0, ap steps_of other.1)) (acts_one link one)
 
-made_other : (link number : ℕ) (made : Made) → link ≢ number → made_for link (act number made ∷ []) ≡ []
-made_other link number made other = ⊎_elim (λ h. absurd (other (sym h.0))) (λ h. h.1) (made_one link number made)
+-- ---- what was done for a link: its steps, and its check-backs
+
+abbrev Did : Type 0
+Did = Made × List AskParts
+
+-- nothing
+abbrev idle : Did
+idle = ([], [])
+
+-- the one and then the other
+abbrev joined : Did → Did → Did
+joined d e = (d.0 ++ e.0, d.1 ++ e.1)
+
+abbrev did_for : ℕ → List Act → Did
+did_for link acts = (made_for link acts, asks_for link acts)
+
+pair_same : {A B : Type 0} (a b : A) (c d : B) → a ≡ b → c ≡ d → ◌≡◌ {A = A × B} (a, c) (b, d)
+pair_same a b c d first second = rw (first, second) refl
+
+joined_idle : (d : Did) → joined d idle ≡ d
+joined_idle d = pair_same (d.0 ++ []) d.0 (d.1 ++ []) d.1 (append-nil d.0) (append-nil d.1)
+
+did_append : (link : ℕ) (xs ys : List Act) → did_for link (xs ++ ys) ≡ joined (did_for link xs) (did_for link ys)
+did_append link xs ys =
+    pair_same (made_for link (xs ++ ys)) (made_for link xs ++ made_for link ys) (asks_for link (xs ++ ys)) (asks_for link xs ++ asks_for link ys)
+    (made_append link xs ys) (ap asks_of (acts_append link xs ys) ∙ asks_append (acts_for link xs) (acts_for link ys))
+
+-- what these acts did
+abbrev did_by : List Act → Did
+did_by acts = (steps_of acts, asks_of acts)
+
+did_as : (link : ℕ) (acts all : List Act) → acts_for link acts ≡ all → did_for link acts ≡ did_by all
+did_as link acts all is = ap did_by is
+
+did_own : (one : Act) → did_for one.link (one ∷ []) ≡ (one.made, one.asks)
+did_own one =
+    ⊎_elim (λ own. did_as one.link (one ∷ []) (one ∷ []) own.1 ∙ pair_same (one.made ++ []) one.made (one.asks ++ []) one.asks (append-nil one.made) (append-nil one.asks))
+    (λ other. absurd (other.0 refl)) (acts_one one.link one)
+
+did_other : (link : ℕ) (one : Act) → link ≢ one.link → did_for link (one ∷ []) ≡ idle
+did_other link one other = ⊎_elim (λ own. absurd (other (sym own.0))) (λ not. did_as link (one ∷ []) [] not.1) (acts_one link one)
+
+-- where none came, none was written
+pub none_taken : {A C : Type 0} (makes : Steps C) (x y : C) (old new : A) (P : List Act → Type 0) → LeadsTaking makes TakesNone x y old new P → LeadsBy makes x y P
+none_taken makes x y old new P h = subst (λ (l : List AskParts). LeadsWith makes x y l P) h.took h.went
+
+-- ---- some of a list
+
+pub some_none : {A : Type 0} (all : List A) → AreSome [] all
+some_none [] = refl
+some_none (x ∷ all) = inl (some_none all)
+
+pub some_append : {A : Type 0} (xs all ys more : List A) → AreSome xs all → AreSome ys more → AreSome (xs ++ ys) (all ++ more)
+some_append xs [] ys more h k = subst (λ (l : List _). AreSome (l ++ ys) more) (sym h) k
+some_append xs (a ∷ all) ys more (inl h) k = inl (some_append xs all ys more h k)
+some_append xs (a ∷ all) ys more (inr h) k =
+    inr (h.0 ++ ys, ap (λ (l : List _). l ++ ys) h.1, some_append h.0 all ys more h.2 k)
+
+-- the check-back of one act
+some_one : (did : Bool) (ask : AskParts) → AreSome (if_asked did ask ++ []) (ask ∷ [])
+some_one true ask = inr ([], refl, refl)
+some_one false ask = inl refl
 
 -- ---- one slot is written
 
@@ -87,43 +154,49 @@ apart_at links apart i j n m got had same = apart i j n.number (n, got, refl) (m
 module _ {L : Type 0} (view : LinkView L) (gives : Giving) where
   -- ---- one link
 
-  served_on : (number : ℕ) (made more : Made) (mid new : Seen) → IsServed view.tells gives number made mid → WentOn view.tells gives mid more new
-      → IsServed view.tells gives number (made ++ more) new
-  served_on number made more mid new is went =
-      record { host = is.host; first = is.first; fresh = is.fresh; went = went_on view.tells gives is.first mid new made more is.went went }
+  abbrev Served : ℕ → Did → Seen → Type 0
+  Served number did now = IsServed view.tells gives number did.0 did.1 now
 
-  served_first : (number : ℕ) (host : List ℕ) (new : Seen) → IsFresh view.tells number host new → IsServed view.tells gives number [] new
+  abbrev Tale : ℕ → Did → Type 0
+  Tale number did = IsTale view.tells gives number did.0 did.1
+
+  served_on : (number : ℕ) (did more : Did) (mid new : Seen) → Served number did mid → WentOnWith view.tells gives mid more.0 more.1 new
+      → Served number (joined did more) new
+  served_on number did more mid new is went =
+      record { host = is.host; first = is.first; fresh = is.fresh; went = went_on view.tells gives is.first mid new did.0 more.0 did.1 more.1 is.went went }
+
+  served_first : (number : ℕ) (host : List ℕ) (new : Seen) → IsFresh view.tells number host new → Served number idle new
   served_first number host new fresh =
       record { host = host; first = new; fresh = fresh; went = went_read view.tells gives new [] new (unread_same view.tells new) }
 
-  tale_of : (number : ℕ) (made : Made) (now : Seen) → IsServed view.tells gives number made now → IsTale view.tells gives number made
-  tale_of number made now is =
-      record { passes = made; end = []; both = sym (append-nil made); leaves = tt; now = now; served = is }
+  tale_of : (number : ℕ) (did : Did) (now : Seen) → Served number did now → Tale number did
+  tale_of number did now is =
+      record { passes = did.0; end = []; both = sym (append-nil did.0); leaves = tt; now = now; served = is }
 
   -- ---- the acts of one link, at its slot
 
   module _ (loop : LoopNumbers) (before : List Act) (links : List (Option (Numbered L))) (told : IsTold view gives loop before links)
       (i : ℕ) where
-    told_after : (old : Numbered L) (new : Option (Numbered L)) (acts : List Act) (grown : Made) → slice_get links i ≡ Some (Some old)
-        → made_for old.number acts ≡ grown → ((k : ℕ) → k ≢ old.number → made_for k acts ≡ [])
-        → ((n : Numbered L) → new ≡ Some n → (n.number ≡ old.number) × IsServed view.tells gives old.number (made_for old.number before ++ grown) (seen_in view n))
-        → IsTale view.tells gives old.number (made_for old.number before ++ grown) → IsTold view gives loop (before ++ acts) (set links i new)
+    told_after : (old : Numbered L) (new : Option (Numbered L)) (acts : List Act) (grown : Did) → slice_get links i ≡ Some (Some old)
+        → did_for old.number acts ≡ grown → ((k : ℕ) → k ≢ old.number → did_for k acts ≡ idle)
+        → ((n : Numbered L) → new ≡ Some n → (n.number ≡ old.number) × Served old.number (joined (did_for old.number before) grown) (seen_in view n))
+        → Tale old.number (joined (did_for old.number before) grown) → IsTold view gives loop (before ++ acts) (set links i new)
     told_after old new acts grown at own others is tale =
         let within = told.within i old at in
         let apart = apart_at links told.apart in
-        let grows : made_for old.number (before ++ acts) ≡ made_for old.number before ++ grown =
-        made_append old.number before acts ∙ ap (λ (l : Made). made_for old.number before ++ l) own in
-        let still : (k : ℕ) → k ≢ old.number → made_for k (before ++ acts) ≡ made_for k before =
-        (λ k other. made_append k before acts ∙ ap (λ (l : Made). made_for k before ++ l) (others k other) ∙ append-nil (made_for k before)) in
+        let grows : did_for old.number (before ++ acts) ≡ joined (did_for old.number before) grown =
+        did_append old.number before acts ∙ ap (λ (d : Did). joined (did_for old.number before) d) own in
+        let still : (k : ℕ) → k ≢ old.number → did_for k (before ++ acts) ≡ did_for k before =
+        (λ k other. did_append k before acts ∙ ap (λ (d : Did). joined (did_for k before) d) (others k other) ∙ joined_idle (did_for k before)) in
         let there : (j : ℕ) (n : Numbered L) → slice_get (set links i new) j ≡ Some (Some n) → ((j ≡ i) × (new ≡ Some n)) ⊎ ((j ≢ i) × (slice_get links j ≡ Some (Some n))) =
         (λ j n got. ⊎_elim (λ h. inl (h.0, same_in new (Some n) (slice_get (set links i new) j) h.1 got)) (λ h. inr (h.0, sym h.1 ∙ got))
         (got_set links i j (Some old) new at)) in
         record {
           present = λ j n got. ⊎_elim
               (λ h. let so = is n h.1 in
-              subst (λ (k : ℕ). IsServed view.tells gives k (made_for k (before ++ acts)) (seen_in view n)) (sym so.0)
-              (subst (λ (m : Made). IsServed view.tells gives old.number m (seen_in view n)) (sym grows) so.1))
-              (λ h. subst (λ (m : Made). IsServed view.tells gives n.number m (seen_in view n)) (sym (still n.number (λ same. h.0 (apart j i n old h.1 at same))))
+              subst (λ (k : ℕ). Served k (did_for k (before ++ acts)) (seen_in view n)) (sym so.0)
+              (subst (λ (d : Did). Served old.number d (seen_in view n)) (sym grows) so.1))
+              (λ h. subst (λ (d : Did). Served n.number d (seen_in view n)) (sym (still n.number (λ same. h.0 (apart j i n old h.1 at same))))
               (told.present j n h.1)) (there j n got);
           apart = apart_by (set links i new) (λ j k n m got had same. ⊎_elim
               (λ h. ⊎_elim (λ g. h.0 ∙ sym g.0)
@@ -133,13 +206,13 @@ module _ {L : Type 0} (view : LinkView L) (gives : Giving) where
           within = λ j n got. ⊎_elim
               (λ h. subst (λ (k : ℕ). (k ≤ loop.newest) × (loop_of loop.loops k ≡ loop.number)) (sym (is n h.1).0) within)
               (λ h. told.within j n h.1) (there j n got);
-          later = λ link above. still link (λ same. omega (arith, within.0, same)) ∙ told.later link above;
+          later = λ link above. subst (λ (d : Did). (d.0 ≡ []) × (d.1 ≡ [])) (sym (still link (λ same. omega (arith, within.0, same, above)))) (told.later link above);
           each = λ link. ⊎_elim
               (λ (same : (link == old.number) ≡ true). let equal : link ≡ old.number = (Decides-eqb link old.number).0 same in
-              subst (λ (k : ℕ). (made_for k (before ++ acts) ≡ []) ⊎ ((loop_of loop.loops k ≡ loop.number) × IsTale view.tells gives k (made_for k (before ++ acts)))) (sym equal)
-              (inr (within.1, subst (λ (m : Made). IsTale view.tells gives old.number m) (sym grows) tale)))
+              subst (λ (k : ℕ). DidNothing k (before ++ acts) ⊎ ((loop_of loop.loops k ≡ loop.number) × Tale k (did_for k (before ++ acts)))) (sym equal)
+              (inr (within.1, subst (λ (d : Did). Tale old.number d) (sym grows) tale)))
               (λ (other : (link == old.number) ≡ false).
-              subst (λ (m : Made). (m ≡ []) ⊎ ((loop_of loop.loops link ≡ loop.number) × IsTale view.tells gives link m))
+              subst (λ (d : Did). ((d.0 ≡ []) × (d.1 ≡ [])) ⊎ ((loop_of loop.loops link ≡ loop.number) × Tale link d))
               (sym (still link (λ equal. let yes = (Decides-eqb link old.number).1 equal in cc))) (told.each link))
               (cases_Bool (link == old.number));
         }
@@ -157,24 +230,25 @@ module _ {L : Type 0} (view : LinkView L) (gives : Giving) where
         subst (λ (x : Option (Numbered L)). IsTold view gives loop (before ++ acts) (set links i x)) (sym did.1) (told_same acts at did.0)
     told_acts (Some old) (Some new) acts at did =
         let was = told.present i old at in
-        let all : List Act = act old.number did.0 ∷ [] in
-        let on = served_on old.number (made_for old.number before) did.0 (seen_in view old) (seen_in view new) was did.2 in
-        subst (λ (a : List Act). IsTold view gives loop (before ++ a) (set links i (Some new))) (sym did.3)
-        (told_after old (Some new) all did.0 at (made_own old.number did.0) (λ k other. made_other k old.number did.0 other)
+        let one : Act = record { link = old.number; made = did.0; asks = did.1 } in
+        let on = served_on old.number (did_for old.number before) (did.0, did.1) (seen_in view old) (seen_in view new) was did.3 in
+        subst (λ (a : List Act). IsTold view gives loop (before ++ a) (set links i (Some new))) (sym did.4)
+        (told_after old (Some new) (one ∷ []) (did.0, did.1) at (did_own one) (λ k other. did_other k one other)
         (λ n is. let equal : new ≡ n = cc in
-        subst (λ (m : Numbered L). (m.number ≡ old.number) × IsServed view.tells gives old.number (made_for old.number before ++ did.0) (seen_in view m)) equal (did.1, on))
-        (tale_of old.number (made_for old.number before ++ did.0) (seen_in view new) on))
+        subst (λ (m : Numbered L). (m.number ≡ old.number) × Served old.number (joined (did_for old.number before) (did.0, did.1)) (seen_in view m)) equal (did.2, on))
+        (tale_of old.number (joined (did_for old.number before) (did.0, did.1)) (seen_in view new) on))
     told_acts (Some old) None acts at did =
         let was = told.present i old at in
         let leave : Made = (Leave old.number, did.2) ∷ [] in
-        let both : List Act = act old.number did.0 ∷ act old.number leave ∷ [] in
-        let on = served_on old.number (made_for old.number before) did.0 (seen_in view old) did.1 was did.3 in
+        let pass : Act = act old.number did.0 in
+        let last : Act = act old.number leave in
+        let on = served_on old.number (did_for old.number before) (did.0, []) (seen_in view old) did.1 was did.3 in
         subst (λ (a : List Act). IsTold view gives loop (before ++ a) (set links i None)) (sym did.4)
-        (told_after old None both (did.0 ++ leave) at
-        (made_append old.number (act old.number did.0 ∷ []) (act old.number leave ∷ []) ∙ ap (λ (l : Made). l ++ made_for old.number (act old.number leave ∷ [])) (made_own old.number did.0)
-        ∙ ap (λ (l : Made). did.0 ++ l) (made_own old.number leave))
-        (λ k other. made_append k (act old.number did.0 ∷ []) (act old.number leave ∷ []) ∙ ap (λ (l : Made). l ++ made_for k (act old.number leave ∷ [])) (made_other k old.number did.0 other)
-        ∙ made_other k old.number leave other)
+        (told_after old None (pass ∷ last ∷ []) (did.0 ++ leave, []) at
+        (did_append old.number (pass ∷ []) (last ∷ []) ∙ ap (λ (d : Did). joined d (did_for old.number (last ∷ []))) (did_own pass)
+        ∙ ap (λ (d : Did). joined (did.0, []) d) (did_own last))
+        (λ k other. did_append k (pass ∷ []) (last ∷ []) ∙ ap (λ (d : Did). joined d (did_for k (last ∷ []))) (did_other k pass other)
+        ∙ ap (λ (d : Did). joined idle d) (did_other k last other))
         (λ n is. absurd (cc))
         (record {
           passes = made_for old.number before ++ did.0;
@@ -193,27 +267,30 @@ module _ {L : Type 0} (view : LinkView L) (gives : Giving) where
     told_seen (Some old) None at seen = absurd seen
     told_seen (Some old) (Some new) at seen =
         let was = told.present i old at in
-        let on : IsServed view.tells gives old.number (made_for old.number before ++ []) (seen_in view new) =
-        subst (λ (m : Made). IsServed view.tells gives old.number m (seen_in view new)) (sym (append-nil (made_for old.number before)))
-        (subst (λ (x : Seen). IsServed view.tells gives old.number (made_for old.number before) x) (sym seen.1) was) in
-        told_after old (Some new) [] [] at refl (λ k other. refl)
+        let all : Did = joined (did_for old.number before) idle in
+        let on : Served old.number all (seen_in view new) =
+        subst (λ (d : Did). Served old.number d (seen_in view new)) (sym (joined_idle (did_for old.number before)))
+        (subst (λ (x : Seen). Served old.number (did_for old.number before) x) (sym seen.1) was) in
+        told_after old (Some new) [] idle at refl (λ k other. refl)
         (λ n is. let equal : new ≡ n = cc in
-        subst (λ (m : Numbered L). (m.number ≡ old.number) × IsServed view.tells gives old.number (made_for old.number before ++ []) (seen_in view m)) equal (seen.0, on))
-        (tale_of old.number (made_for old.number before ++ []) (seen_in view new) on)
+        subst (λ (m : Numbered L). (m.number ≡ old.number) × Served old.number all (seen_in view m)) equal (seen.0, on))
+        (tale_of old.number all (seen_in view new) on)
 
     -- a new link is put into a free slot
     told_put : (new : Numbered L) (host : List ℕ) → slice_get links i ≡ Some None → loop.newest < new.number → loop_of loop.loops new.number ≡ loop.number
         → IsFresh view.tells new.number host (seen_in view new) → IsTold view gives (record loop { newest = new.number }) (before ++ []) (set links i (Some new))
     told_put new host at above falls fresh =
-        let none : made_for new.number before ≡ [] = told.later new.number above in
+        let nothing = told.later new.number above in
+        let none : did_for new.number before ≡ idle =
+        pair_same (made_for new.number before) [] (asks_for new.number before) [] nothing.0 nothing.1 in
         let there : (j : ℕ) (n : Numbered L) → slice_get (set links i (Some new)) j ≡ Some (Some n) → ((j ≡ i) × (new ≡ n)) ⊎ ((j ≢ i) × (slice_get links j ≡ Some (Some n))) =
         (λ j n got. ⊎_elim (λ h. inl (h.0, same_in new n (Some new) refl (same_in (Some new) (Some n) (slice_get (set links i (Some new)) j) h.1 got))) (λ h. inr (h.0, sym h.1 ∙ got))
         (got_set links i j None (Some new) at)) in
         subst (λ (b : List Act). IsTold view gives (record loop { newest = new.number }) b (set links i (Some new))) (sym (append-nil before))
         (record {
           present = λ j n got. ⊎_elim
-              (λ h. subst (λ (m : Numbered L). IsServed view.tells gives m.number (made_for m.number before) (seen_in view m)) h.1
-              (subst (λ (m : Made). IsServed view.tells gives new.number m (seen_in view new)) (sym none) (served_first new.number host (seen_in view new) fresh)))
+              (λ h. subst (λ (m : Numbered L). Served m.number (did_for m.number before) (seen_in view m)) h.1
+              (subst (λ (d : Did). Served new.number d (seen_in view new)) (sym none) (served_first new.number host (seen_in view new) fresh)))
               (λ h. told.present j n h.1) (there j n got);
           apart = apart_by (set links i (Some new)) (λ j k n m got had same. ⊎_elim
               (λ h. ⊎_elim (λ g. h.0 ∙ sym g.0)
@@ -249,8 +326,8 @@ module _ {L : Type 0} (view : LinkView L) (gives : Giving) where
         present = λ i at got. let empty : None ≡ Some (Some at) = got in cc;
         apart = apart_by [] (λ i j at other got had same. let empty : None ≡ Some (Some at) = got in cc);
         within = λ i at got. let empty : None ≡ Some (Some at) = got in cc;
-        later = λ link above. refl;
-        each = λ link. inl refl;
+        later = λ link above. (refl, refl);
+        each = λ link. inl (refl, refl);
       })
 
   -- ---- a loop
@@ -331,14 +408,25 @@ module _ {L : Type 0} (view : LinkView L) (gives : Giving) where
   -- ---- slots one after another
 
   module _ {C : Type 0} (makes : Steps C) where
-    -- a pass of a link
+    -- a pass of a link, in which a check-back may be written
+    one_went : (x y : C) (o n : Numbered L) (asks all : List AskParts) → AreSome (asks ++ []) all → n.number ≡ o.number
+        → Leads makes x y (λ made. WentOnWith view.tells gives (seen_in view o) made asks (seen_in view n))
+        → LeadsWith makes x y all (λ acts. Acts view gives (Some o) acts (Some n))
+    one_went x y o n asks all some same went = record {
+      acts = record { link = o.number; made = went.made; asks = asks } ∷ [];
+      leads = subst (λ (l : Made). Makes makes x l y) (sym (append-nil went.made)) went.leads;
+      wrote = some;
+      so = (went.made, asks, same, went.so, refl);
+    }
+
+    pub one_asked : (x y : C) (o n : Numbered L) (ask : AskParts) (did : Bool) → n.number ≡ o.number
+        → Leads makes x y (λ made. WentOnWith view.tells gives (seen_in view o) made (if_asked did ask) (seen_in view n))
+        → LeadsWith makes x y (ask ∷ []) (λ acts. Acts view gives (Some o) acts (Some n))
+    one_asked x y o n ask did same went = one_went x y o n (if_asked did ask) (ask ∷ []) (some_one did ask) same went
+
     pub one_replied : (x y : C) (o n : Numbered L) → n.number ≡ o.number → Leads makes x y (λ made. WentOn view.tells gives (seen_in view o) made (seen_in view n))
         → LeadsBy makes x y (λ acts. Acts view gives (Some o) acts (Some n))
-    one_replied x y o n same went = record {
-      acts = act o.number went.made ∷ [];
-      leads = subst (λ (l : Made). Makes makes x l y) (sym (append-nil went.made)) went.leads;
-      so = (went.made, same, went.so, refl);
-    }
+    one_replied x y o n same went = one_went x y o n [] [] refl same went
 
     pub one_heard : (x y : C) (o n : Numbered L) → n.number ≡ o.number → Leads makes x y (λ made. WentOnUnread view.tells (seen_in view o) made (seen_in view n))
         → LeadsBy makes x y (λ acts. Acts view gives (Some o) acts (Some n))
@@ -351,8 +439,23 @@ module _ {L : Type 0} (view : LinkView L) (gives : Giving) where
     one_left x y z o after said went leave = record {
       acts = act o.number went.made ∷ act o.number ((Leave o.number, said) ∷ []) ∷ [];
       leads = makes_append makes x went.made y ((Leave o.number, said) ∷ []) z went.leads (z, leave, refl);
+      wrote = refl;
       so = (went.made, after, said, went.so, refl);
     }
+
+    -- there is no link
+    pub none_asked : (x : C) (o : Option (Numbered L)) (asks : List AskParts) → o ≡ None → LeadsWith makes x x asks (λ acts. Acts view gives o acts o)
+    none_asked x o asks none = subst (λ (w : Option (Numbered L)). LeadsWith makes x x asks (λ acts. Acts view gives w acts w)) (sym none)
+        (record { acts = []; leads = refl; wrote = some_none asks; so = (refl, refl) })
+
+    acts_lead : (x y z : C) (first rest : List Act) → Makes makes x (steps_of first) y → Makes makes y (steps_of rest) z → Makes makes x (steps_of (first ++ rest)) z
+    acts_lead x y z first rest h k =
+        subst (λ (l : Made). Makes makes x l z) (sym (steps_append first rest)) (makes_append makes x (steps_of first) y (steps_of rest) z h k)
+
+    acts_write : (first rest : List Act) (asks more : List AskParts) → AreSome (asks_of first) asks → AreSome (asks_of rest) more
+        → AreSome (asks_of (first ++ rest)) (asks ++ more)
+    acts_write first rest asks more h k =
+        subst (λ (l : List AskParts). AreSome l (asks ++ more)) (sym (asks_append first rest)) (some_append (asks_of first) asks (asks_of rest) more h k)
 
     -- acts of one slot, and of others before it
     pub keeps_slot : (x y z : C) (first mid : List (Option (Numbered L))) (i : ℕ) (old new : Option (Numbered L)) → slice_get mid i ≡ Some old
@@ -360,7 +463,8 @@ module _ {L : Type 0} (view : LinkView L) (gives : Giving) where
         → LeadsBy makes x z (λ acts. Keeps view gives first acts (set mid i new))
     keeps_slot x y z first mid i old new at h k = record {
       acts = h.acts ++ k.acts;
-      leads = subst (λ (l : Made). Makes makes x l z) (sym (steps_append h.acts k.acts)) (makes_append makes x (steps_of h.acts) y (steps_of k.acts) z h.leads k.leads);
+      leads = acts_lead x y z h.acts k.acts h.leads k.leads;
+      wrote = acts_write h.acts k.acts [] [] h.wrote k.wrote;
       so = λ loop before told.
           subst (λ (b : List Act). IsTold view gives loop b (set mid i new)) (append_assoc before h.acts k.acts)
           (told_acts loop (before ++ h.acts) mid (h.so loop before told) i old new k.acts at k.so);
@@ -370,6 +474,7 @@ module _ {L : Type 0} (view : LinkView L) (gives : Giving) where
     keeps_first x links = record {
       acts = [];
       leads = refl;
+      wrote = refl;
       so = λ loop before told. subst (λ (b : List Act). IsTold view gives loop b links) (sym (append-nil before)) told;
     }
 
@@ -379,25 +484,82 @@ module _ {L : Type 0} (view : LinkView L) (gives : Giving) where
     goes_by x y old new same h = record {
       acts = h.acts;
       leads = h.leads;
+      wrote = h.wrote;
       so = record {
         same = (same.0, same.1);
         keeps = λ before told. let after = h.so (loop_numbers old) before told in rw (same.0, same.1, same.2) after;
       };
     }
 
-    pub goes_leading : (x y z : C) (old mid new : Links L) → LeadsBy makes x y (λ acts. GoesOn view gives old acts mid)
-        → LeadsBy makes y z (λ acts. GoesOn view gives mid acts new) → LeadsBy makes x z (λ acts. GoesOn view gives old acts new)
-    goes_leading x y z old mid new h k = record {
+    -- a loop goes on by what one of its slots does
+    pub goes_at : (x y : C) (old new : Links L) (i : ℕ) (o n : Option (Numbered L)) (asks : List AskParts)
+        → (new.loops ≡ old.loops) × (new.number ≡ old.number) × (new.newest ≡ old.newest) × (new.slots.items ≡ set old.slots.items i n)
+        → slice_get old.slots.items i ≡ Some o → LeadsWith makes x y asks (λ acts. Acts view gives o acts n) → LeadsWith makes x y asks (λ acts. GoesOn view gives old acts new)
+    goes_at x y old new i o n asks same at h = record {
+      acts = h.acts;
+      leads = h.leads;
+      wrote = h.wrote;
+      so = record {
+        same = (same.0, same.1);
+        keeps = λ before told. let after = told_acts (loop_numbers old) before old.slots.items told i o n h.acts at h.so in
+            rw (same.0, same.1, same.2, same.3) after;
+      };
+    }
+
+    pub goes_leading : (x y z : C) (old mid new : Links L) (asks more : List AskParts) → LeadsWith makes x y asks (λ acts. GoesOn view gives old acts mid)
+        → LeadsWith makes y z more (λ acts. GoesOn view gives mid acts new) → LeadsWith makes x z (asks ++ more) (λ acts. GoesOn view gives old acts new)
+    goes_leading x y z old mid new asks more h k = record {
       acts = h.acts ++ k.acts;
-      leads = subst (λ (l : Made). Makes makes x l z) (sym (steps_append h.acts k.acts)) (makes_append makes x (steps_of h.acts) y (steps_of k.acts) z h.leads k.leads);
+      leads = acts_lead x y z h.acts k.acts h.leads k.leads;
+      wrote = acts_write h.acts k.acts asks more h.wrote k.wrote;
       so = goes_on old mid new h.acts k.acts h.so k.so;
     }
 
-    pub goes_quietly : (x : C) (old new : Links L) → GoesOn view gives old [] new → LeadsBy makes x x (λ acts. GoesOn view gives old acts new)
-    goes_quietly x old new went = record { acts = []; leads = refl; so = went }
+    -- nothing is written, whatever was taken
+    pub goes_quietly : (x : C) (old new : Links L) (asks : List AskParts) → GoesOn view gives old [] new → LeadsWith makes x x asks (λ acts. GoesOn view gives old acts new)
+    goes_quietly x old new asks went = record { acts = []; leads = refl; wrote = some_none asks; so = went }
 
-    -- no step was made at first
-    pub goes_serving : (x y : C) (old mid from new : Links L) → GoesOn view gives old [] mid → from ≡ mid
-        → LeadsBy makes x y (λ acts. GoesOn view gives from acts new) → LeadsBy makes x y (λ acts. GoesOn view gives old acts new)
-    goes_serving x y old mid from new h same k =
-        goes_leading x x y old from new (goes_quietly x old from (goes_kept old mid from h same)) k
+    -- ---- check-backs that were taken
+
+    module _ {A : Type 0} (takes : A → List AskParts → A → Type 0) where
+      abbrev pub Taking : C → Links L → A → C → Links L → A → Type 0
+      Taking x old before y new after = LeadsTaking makes takes x y before after (λ acts. GoesOn view gives old acts new)
+
+      -- none was taken
+      pub taking_none : ((end : A) → takes end [] end) → (x y : C) (old new : Links L) (end : A) → LeadsBy makes x y (λ acts. GoesOn view gives old acts new)
+          → Taking x old end y new end
+      taking_none none x y old new end went = record { taken = []; took = none end; went = went }
+
+      -- no step was made either
+      pub taking_nothing : ((end : A) → takes end [] end) → (x : C) (old new : Links L) (end : A) → GoesOn view gives old [] new → Taking x old end x new end
+      taking_nothing none x old new end went = taking_none none x x old new end (goes_quietly x old new [] went)
+
+      module _ (more : (old : A) (first : List AskParts) (mid : A) (rest : List AskParts) (new : A) → takes old first mid → takes mid rest new → takes old (first ++ rest) new) where
+        pub taking_on : (x y z : C) (old mid new : Links L) (before at after : A) → Taking x old before y mid at → Taking y mid at z new after
+            → Taking x old before z new after
+        taking_on x y z old mid new before at after h k = record {
+          taken = h.taken ++ k.taken;
+          took = more before h.taken at k.taken after h.took k.took;
+          went = goes_leading x y z old mid new h.taken k.taken h.went k.went;
+        }
+
+        -- one more was taken, and was written to its link or dropped
+        pub taking_one : (x y z : C) (old mid new : Links L) (before at after : A) (ask : AskParts) → Taking x old before y mid at → takes at (ask ∷ []) after
+            → LeadsWith makes y z (ask ∷ []) (λ acts. GoesOn view gives mid acts new) → Taking x old before z new after
+        taking_one x y z old mid new before at after ask h took went =
+            taking_on x y z old mid new before at after h (record { taken = ask ∷ []; took = took; went = went })
+
+        -- and then none was there
+        pub taking_until : (x y : C) (old new : Links L) (before at after : A) → Taking x old before y new at → takes at [] after → Taking x old before y new after
+        taking_until x y old new before at after h took = record {
+          taken = h.taken;
+          took = subst (λ (l : List AskParts). takes before l after) (append-nil h.taken) (more before h.taken at [] after h.took took);
+          went = h.went;
+        }
+
+        -- no step was made at first, check-backs were taken, and then none
+        pub taking_serving : ((end : A) → takes end [] end) → (x y z : C) (old mid from given new : Links L) (before after : A) → GoesOn view gives old [] mid
+            → from ≡ mid → Taking x from before y given after → LeadsBy makes y z (λ acts. GoesOn view gives given acts new) → Taking x old before z new after
+        taking_serving none x y z old mid from given new before after h same took served =
+            taking_on x x z old from new before before after (taking_nothing none x old from before (goes_kept old mid from h same))
+            (taking_on x y z from given new before after after took (taking_none none y z given new after served))

@@ -1,2 +1,3 @@
 pub mod Causes
+pub mod Takings
 pub mod Tales

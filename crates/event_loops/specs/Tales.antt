@@ -1,67 +1,86 @@
--- What a loop does for its links: the steps of each, between those of the others.
+-- What a loop does for its links: the steps and check-backs of each, between those of the others.
 use Rattle.std.specs.Prelude.{◌≡◌, ◌⊎◌, ◌≤◌, ◌<◌, ◌==◌, ◌++◌, ◌%◌, ℕ, List, [], ◌∷◌, filter, max, slice_get, Option, Some, None}
 use Rattle.mq_outside.specs.Readings.{Giving}
+use Rattle.reply_fields.specs.Parts.{AskParts}
 use Rattle.broker_events.specs.Makes.{Makes}
 use Rattle.broker_events.specs.declared.event.Event.TheVariants.{Leave}
 use Rattle.broker_events.specs.declared.said.Said.{Said}
 use Rattle.session.specs.Owing.{Steps}
 use Rattle.session.specs.Serving.{Made}
-use Rattle.link_service.specs.Transcripts.{Seen, WentOn, IsFresh, IsTranscript, seen_of}
+use Rattle.link_service.specs.Transcripts.{Seen, WentOnWith, WentOn, IsFresh, IsTranscript, seen_of}
 use Rattle.event_loops.specs.declared.links.Numbered.{Numbered}
 use Rattle.event_loops.specs.declared.links.Links.{Links}
 
 -- ---- steps by links
 
--- steps that were made for one link
+-- steps that were made for one link, and the check-backs that were written to it meanwhile
 pub record Act : Type 0 where
   pub link : ℕ
   pub made : Made
+  pub asks : List AskParts
 
 -- these steps, for this link
 abbrev pub act : ℕ → Made → Act
-act link made = record { link = link; made = made }
+act link made = record { link = link; made = made; asks = [] }
 
 -- the steps of all acts, in order
 abbrev pub steps_of : List Act → Made
 steps_of [] = []
 steps_of (one ∷ acts) = one.made ++ steps_of acts
 
+-- the check-backs of all acts, in order
+abbrev pub asks_of : List Act → List AskParts
+asks_of [] = []
+asks_of (one ∷ acts) = one.asks ++ asks_of acts
+
+-- the acts for this link, in order
+abbrev pub acts_for : ℕ → List Act → List Act
+acts_for link = filter (λ one. one.link == link)
+
 -- the steps that were made for this link, in order
 abbrev pub made_for : ℕ → List Act → Made
-made_for link acts = steps_of (filter (λ one. one.link == link) acts)
+made_for link acts = steps_of (acts_for link acts)
+
+-- the check-backs that were written to this link, in order
+abbrev pub asks_for : ℕ → List Act → List AskParts
+asks_for link acts = asks_of (acts_for link acts)
+
+-- nothing was done for this link
+abbrev pub DidNothing : ℕ → List Act → Type 0
+DidNothing link acts = (made_for link acts ≡ []) × (asks_for link acts ≡ [])
 
 -- ---- the tale of one link
 
--- the link with this number went on from its beginning to how it is seen now, and made these steps
-pub record IsServed (tells : Type 0) (gives : Giving) (number : ℕ) (made : Made) (now : Seen) : Type 0 where
+-- the link with this number went on from its beginning to how it is seen now, made these steps, and was sent these check-backs
+pub record IsServed (tells : Type 0) (gives : Giving) (number : ℕ) (made : Made) (asks : List AskParts) (now : Seen) : Type 0 where
   pub host : List ℕ
   pub first : Seen
   pub fresh : IsFresh tells number host first
-  pub went : WentOn tells gives first made now
+  pub went : WentOnWith tells gives first made asks now
 
 -- nothing, or one step, which tells that the link has ended
 abbrev pub MayLeave : ℕ → Made → Type 0
 MayLeave number [] = Unit {0}
 MayLeave number (step ∷ steps) = (step.0 ≡ Leave number) × (steps ≡ [])
 
--- What was made for a link: its passes from its beginning on, and behind them at most its `Leave`.
-pub record IsTale (tells : Type 0) (gives : Giving) (number : ℕ) (made : Made) : Type 0 where
+-- What was done for a link: its passes from its beginning on, with their check-backs, and behind them at most its `Leave`.
+pub record IsTale (tells : Type 0) (gives : Giving) (number : ℕ) (made : Made) (asks : List AskParts) : Type 0 where
   pub passes : Made
   pub end : Made
   pub both : made ≡ passes ++ end
   pub leaves : MayLeave number end
   pub now : Seen
-  pub served : IsServed tells gives number passes now
+  pub served : IsServed tells gives number passes asks now
 
--- The same, and so each reply is its request's: the passes are a transcript of the link.
-pub record IsAnsweredInOrder (tells : Type 0) (gives : Giving) (number : ℕ) (made : Made) : Type 0 where
+-- The same, and so each reply is its request's: the passes are a transcript of the link, with these check-backs.
+pub record IsAnsweredInOrder (tells : Type 0) (gives : Giving) (number : ℕ) (made : Made) (asks : List AskParts) : Type 0 where
   pub passes : Made
   pub end : Made
   pub both : made ≡ passes ++ end
   pub leaves : MayLeave number end
   pub now : Seen
   pub host : List ℕ
-  pub transcript : IsTranscript tells gives number host passes now
+  pub transcript : IsTranscript tells gives number host passes asks now
 
 -- ---- the links of a loop
 
@@ -95,38 +114,58 @@ loop_numbers links = record { loops = links.loops; number = links.number; newest
 abbrev pub HasNumber : {L : Type 0} → List (Option (Numbered L)) → ℕ → ℕ → Type 0
 HasNumber {L} links i link = (at : Numbered L) × (slice_get links i ≡ Some (Some at)) × (at.number ≡ link)
 
--- What a loop has done for its links by these acts: for each link that it has now, and for each that it ever had, the steps that were
--- made for it are its tale. There are none for a number that isn't one of its links'.
+-- What a loop has done for its links by these acts: for each link that it has now, and for each that it ever had, what was done for it
+-- is its tale. Nothing was done for a number that isn't one of its links'.
 pub record IsTold {L : Type 0} (view : LinkView L) (gives : Giving) (loop : LoopNumbers) (acts : List Act)
     (links : List (Option (Numbered L))) : Type 0 where
   pub present : (i : ℕ) (at : Numbered L) → slice_get links i ≡ Some (Some at)
-      → IsServed view.tells gives at.number (made_for at.number acts) (seen_in view at)
+      → IsServed view.tells gives at.number (made_for at.number acts) (asks_for at.number acts) (seen_in view at)
   pub apart : (i j link : ℕ) → HasNumber links i link → HasNumber links j link → i ≡ j
   pub within : (i : ℕ) (at : Numbered L) → slice_get links i ≡ Some (Some at)
       → (at.number ≤ loop.newest) × (loop_of loop.loops at.number ≡ loop.number)
-  pub later : (link : ℕ) → loop.newest < link → made_for link acts ≡ []
-  pub each : (link : ℕ) → (made_for link acts ≡ [])
-      ⊎ ((loop_of loop.loops link ≡ loop.number) × IsTale view.tells gives link (made_for link acts))
+  pub later : (link : ℕ) → loop.newest < link → DidNothing link acts
+  pub each : (link : ℕ) → DidNothing link acts
+      ⊎ ((loop_of loop.loops link ≡ loop.number) × IsTale view.tells gives link (made_for link acts) (asks_for link acts))
 
 -- what holds of a loop's acts and links still holds after these
 abbrev pub Keeps : {L : Type 0} → LinkView L → Giving → List (Option (Numbered L)) → List Act → List (Option (Numbered L)) → Type 0
 Keeps view gives old acts new = (loop : LoopNumbers) (before : List Act) → IsTold view gives loop before old
     → IsTold view gives loop (before ++ acts) new
 
--- what these acts did for one link, or where there is none: a pass, and maybe its end
+-- in this slot is the link with this number
+abbrev pub IsLink : {L : Type 0} → Option (Numbered L) → ℕ → Type 0
+IsLink None link = ⊥
+IsLink (Some at) link = link ≡ at.linked.session.talk.link
+
+-- it is in this one of the slots
+abbrev pub IsSlotOf : {L : Type 0} → List (Option (Numbered L)) → ℕ → ℕ → Type 0
+IsSlotOf {L} slots i link = (at : Option (Numbered L)) × (slice_get slots i ≡ Some at) × IsLink at link
+
+-- what these acts did for one link, or where there is none: a pass, maybe with check-backs, or a pass and its end
 abbrev pub Acts : {L : Type 0} → LinkView L → Giving → Option (Numbered L) → List Act → Option (Numbered L) → Type 0
 Acts view gives None acts new = (acts ≡ []) × (new ≡ None)
 Acts view gives (Some old) acts None = (made : Made) × (after : Seen) × (said : Option Said)
     × WentOn view.tells gives (seen_in view old) made after
     × (acts ≡ act old.number made ∷ act old.number ((Leave old.number, said) ∷ []) ∷ [])
-Acts view gives (Some old) acts (Some new) = (made : Made) × (new.number ≡ old.number)
-    × WentOn view.tells gives (seen_in view old) made (seen_in view new) × (acts ≡ act old.number made ∷ [])
+Acts view gives (Some old) acts (Some new) = (made : Made) × (asks : List AskParts) × (new.number ≡ old.number)
+    × WentOnWith view.tells gives (seen_in view old) made asks (seen_in view new)
+    × (acts ≡ record { link = old.number; made = made; asks = asks } ∷ [])
 
--- some acts lead from x to y, and of them this is so
-pub record LeadsBy {C : Type 0} (makes : Steps C) (x y : C) (P : List Act → Type 0) : Type 0 where
+-- the first are some of the others, in their order and each once
+abbrev pub AreSome : {A : Type 0} → List A → List A → Type 0
+AreSome some [] = some ≡ []
+AreSome {A} some (x ∷ all) = AreSome some all ⊎ ((rest : List A) × (some ≡ x ∷ rest) × AreSome rest all)
+
+-- some acts lead from x to y, and of them this is so; what they wrote are some of these check-backs
+pub record LeadsWith {C : Type 0} (makes : Steps C) (x y : C) (asks : List AskParts) (P : List Act → Type 0) : Type 0 where
   pub acts : List Act
   pub leads : Makes makes x (steps_of acts) y
+  pub wrote : AreSome (asks_of acts) asks
   pub so : P acts
+
+-- the same where they wrote none
+abbrev pub LeadsBy : {C : Type 0} → Steps C → C → C → (List Act → Type 0) → Type 0
+LeadsBy makes x y P = LeadsWith makes x y [] P
 
 -- ---- a loop
 

@@ -1,9 +1,12 @@
-//! A loop: it waits until one of its links may have something to say, serves what came on all of them, and sends what is due.
+//! A loop: it waits until one of its links may have something to say or a check-back for one has come, serves what came on all of
+//! them, and sends what is due.
 
 ghost use Rattle.std.specs.Prelude.{◌≡◌, ◌<◌, ◌^◌, [], IfOk, vec_len};
 ghost use Rattle.event_loops.specs.Causes.{CountsEnd, CountsLoop, Grow, loop_faults};
+ghost use Rattle.event_loops.specs.Takings.{LeadsTaking};
 ghost use Rattle.event_loops.specs.Tales.{GoesOn, LeadsBy, link_view};
 
+use crate::asks::{Picked, Takes};
 use crate::links::Links;
 use crate::outside::{DOOR, Outside};
 use crate::shared::{NewLink, Port, Shared};
@@ -18,6 +21,9 @@ const READ_SIZE: usize = 1 << 16;
 
 /// So many links are let in by one pass.
 const ACCEPTS_MAX: usize = 64;
+
+/// So many check-backs are taken by one pass.
+const ASKS_MAX: usize = 1024;
 
 /// Why a loop ends.
 #[derive(Debug, Clone, Copy, PartialEq, Eq)]
@@ -257,6 +263,27 @@ impl<P: Ready + Drop> EventLoop<P> {
         shared.failed()
     }
 
+    // Takes the check-backs that have arrived, as many as one pass takes, and writes each to the link that it names. Answers
+    // whether there may be more.
+    fn take_asks<W: Wait, A: Takes, C: Calls, R: Reader>(
+        &mut self,
+        around: &Around<'_, W, P>,
+        asks: &mut A,
+        calls: &mut C,
+        reader: &mut R,
+    ) -> bool
+        ensures { LeadsTaking C.makes A.takes calls.old calls.new asks.old asks.new
+            (λ acts. GoesOn (link_view P.Link.tells P.Link.given P.Link.taken) R.gives self.old.links acts self.new.links) }
+    {
+        for _ in 0..ASKS_MAX {
+            let Picked::Ask(next) = asks.take() else {
+                return false;
+            };
+            self.links.ask(around.alloc, calls, reader, &next);
+        }
+        true
+    }
+
     // Serves what came on each link, rings for the flusher where a request was given to the broker, and sends what is due.
     fn serve<W: Wait, C: Calls, R: Reader>(
         &mut self,
@@ -359,16 +386,18 @@ impl<P: Ready + Drop> EventLoop<P> {
         Ok(self.take_in::<W, K, R>(around, outside))
     }
 
-    // One pass: what was reported, what came, and what is due. Answers how long the next one may wait for reports.
-    fn pass<W: Wait, K: Clock + Drop, C: Calls, R: Reader>(
+    // One pass: what was reported, the check-backs that have arrived, what came, and what is due. Answers how long the next one
+    // may wait for reports.
+    fn pass<W: Wait, K: Clock + Drop, A: Takes, C: Calls, R: Reader>(
         &mut self,
         around: &Around<'_, W, P>,
         outside: &mut Outside<P, K>,
+        asks: &mut A,
         calls: &mut C,
         reader: &mut R,
         timeout: Option<u64>,
     ) -> Result<Option<u64>, LoopEnd>
-        ensures went { LeadsBy C.makes calls.old calls.new
+        ensures went { LeadsTaking C.makes A.takes calls.old calls.new asks.old asks.new
             (λ acts. GoesOn (link_view P.Link.tells P.Link.given P.Link.taken) R.gives self.old.links acts self.new.links) }
         ensures cause { CountsLoop result (loop_faults P.faults P.Door.faults K.faults outside.old)
             (loop_faults P.faults P.Door.faults K.faults outside.new) }
@@ -376,20 +405,23 @@ impl<P: Ready + Drop> EventLoop<P> {
         let more_came = self.gather::<W, K, R>(around, outside, timeout)?;
         let now = outside.now()?;
         let failed = self.note_turns(around.shared);
+        let more_asks = self.take_asks(around, asks, calls, reader);
         self.serve(around, calls, reader, now, failed);
-        Ok(self.timeout(around, more_came))
+        Ok(self.timeout(around, more_came || more_asks))
     }
 
-    /// Serves links until the door is done and all of them have ended, or a fault ends it.
-    pub fn run<W: Wait, K: Clock + Drop, C: Calls, R: Reader>(
+    /// Serves links until the door is done and all of them have ended, or a fault ends it. Meanwhile it writes the check-backs that
+    /// come. Whoever sends one wakes the loop.
+    pub fn run<W: Wait, K: Clock + Drop, A: Takes, C: Calls, R: Reader>(
         &mut self,
         around: &Around<'_, W, P>,
         outside: &mut Outside<P, K>,
+        asks: &mut A,
         calls: &mut C,
         reader: &mut R,
     ) -> LoopEnd
-        // Each step is one of a link's pass, or its end.
-        ensures went { LeadsBy C.makes calls.old calls.new
+        // Each step is one of a link's pass, or its end. What was written to links are some of the check-backs that were taken.
+        ensures went { LeadsTaking C.makes A.takes calls.old calls.new asks.old asks.new
             (λ acts. GoesOn (link_view P.Link.tells P.Link.given P.Link.taken) R.gives self.old.links acts self.new.links) }
         // It ends by a fault only where the count of what it blames rose.
         ensures cause { CountsEnd result (loop_faults P.faults P.Door.faults K.faults outside.old)
@@ -400,7 +432,7 @@ impl<P: Ready + Drop> EventLoop<P> {
             if around.shared.is_ending() || self.is_done(around, outside) {
                 return LoopEnd::Done;
             }
-            match self.pass(around, outside, calls, reader, timeout) {
+            match self.pass(around, outside, asks, calls, reader, timeout) {
                 Ok(next) => timeout = next,
                 Err(end) => return end,
             }

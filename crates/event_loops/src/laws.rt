@@ -1,6 +1,7 @@
 //! What holds of every loop. The functions do nothing: each stands for its law.
 
 ghost use Rattle.std.specs.Prelude.{◌≡◌, ℕ, List, []};
+ghost use Rattle.reply_fields.specs.Parts.{AskParts};
 ghost use Rattle.session.specs.Serving.{Made};
 ghost use Rattle.event_loops.specs.Tales.{Act, GoesOn, IsToldOf, IsTale, IsAnsweredInOrder, link_view};
 ghost use Rattle.event_loops.specs.declared.links.Links.{Links as TheLinks};
@@ -16,9 +17,11 @@ pub fn a_loop_is_told_from_its_beginning_on<L: Link, R: Reader>()
         → IsToldOf (link_view L.tells L.given L.taken) R.gives acts new }
 {}
 
-/// What a loop made for a link, from its beginning on, is a transcript of the link, and behind it at most its `Leave`.
+/// What a loop did for a link, from its beginning on, is a transcript of the link, with the check-backs that it wrote, and behind it
+/// at most its `Leave`.
 pub fn each_link_of_a_loop_is_answered_in_order<L: Link, R: Reader>()
-    ensures { (number : ℕ) (made : Made) → IsTale L.tells R.gives number made → IsAnsweredInOrder L.tells R.gives number made }
+    ensures { (number : ℕ) (made : Made) (asks : List AskParts) → IsTale L.tells R.gives number made asks
+        → IsAnsweredInOrder L.tells R.gives number made asks }
 {
     a_link_is_answered_in_order::<L, R>();
 }

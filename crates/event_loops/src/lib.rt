@@ -2,6 +2,7 @@
 //! is due.
 #![tactic(auto)]
 
+mod asks;
 mod entrance;
 mod event_loop;
 mod laws;
@@ -9,6 +10,7 @@ mod links;
 mod outside;
 mod shared;
 
+pub use asks::{NoAsks, Picked, Takes};
 pub use entrance::{Bounds, Entrance};
 pub use event_loop::{Around, EventLoop, LoopEnd};
 pub use laws::{a_loop_is_told_from_its_beginning_on, each_link_of_a_loop_is_answered_in_order};

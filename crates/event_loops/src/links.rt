@@ -1,15 +1,16 @@
 //! The links of a loop: each is read and served, and then what is due on each is sent.
 
-ghost use Rattle.std.specs.Prelude.{◌≡◌, ◌<◌, ◌^◌, [], true, false, slice_get, Option, Some, None, IfSome};
+ghost use Rattle.std.specs.Prelude.{◌≡◌, ◌<◌, ◌^◌, ◌∷◌, [], true, false, slice_get, Option, Some, None, IfSome};
 ghost use Rattle.broker_events.specs.declared.event.Event.TheVariants.{Leave};
 ghost use Rattle.broker_events.specs.declared.said.Said.{Said};
-ghost use Rattle.event_loops.specs.Tales.{Acts, Keeps, LeadsBy, GoesOn, IsSeenAs, link_view, loop_of as loop_of_link};
+ghost use Rattle.event_loops.specs.Tales.{Acts, Keeps, LeadsWith, LeadsBy, GoesOn, IsSeenAs, IsLink, IsSlotOf, link_view, loop_of as loop_of_link};
 
 use crate::shared::Shared;
 use broker_events::{Calls, Event as BrokerEvent};
 use link_service::Linked;
 use mq_outside::Reader;
 use mq_peers::{Event, Link};
+use reply_fields::Ask;
 use std::alloc::Global;
 
 /// So many links a loop has at most.
@@ -197,6 +198,62 @@ fn reply_each<L: Link + Drop, C: Calls, R: Reader>(
     any
 }
 
+// Whether this is the slot of the link with this number.
+fn is_link<L: Link + Drop>(slot: &Option<Numbered<L>>, link: u32) -> bool
+    ensures { result ≡ true → IsLink slot.now link }
+{
+    match slot {
+        Some(numbered) => numbered.linked.number() == link,
+        None => false,
+    }
+}
+
+// The slot of the link with this number, if it is here.
+fn slot_of<L: Link + Drop>(slots: &[Option<Numbered<L>>], link: u32) -> Option<usize>
+    ensures { IfSome result (λ at. IsSlotOf slots.now at link) }
+{
+    for i in 0..slots.len() {
+        let slot = &slots[i];
+        if is_link(slot, link) {
+            return Some(i);
+        }
+    }
+    None
+}
+
+// Writes a check-back for this link.
+fn ask_one<L: Link + Drop, C: Calls, R: Reader>(
+    alloc: Global,
+    calls: &mut C,
+    numbered: &mut Numbered<L>,
+    reader: &mut R,
+    ask: &Ask,
+)
+    requires { ask.now.link ≡ numbered.old.linked.session.talk.link }
+    ensures { LeadsWith C.makes calls.old calls.new (ask.now ∷ [])
+        (λ acts. Acts (link_view L.tells L.given L.taken) R.gives (Some numbered.old) acts (Some numbered.new)) }
+{
+    let _ = numbered.linked.ask(alloc, calls, reader, ask);
+}
+
+// The same of its slot.
+fn ask_slot<L: Link + Drop, C: Calls, R: Reader>(
+    alloc: Global,
+    calls: &mut C,
+    slot: &mut Option<Numbered<L>>,
+    reader: &mut R,
+    ask: &Ask,
+)
+    requires { IsLink slot.old ask.now.link }
+    ensures { LeadsWith C.makes calls.old calls.new (ask.now ∷ [])
+        (λ acts. Acts (link_view L.tells L.given L.taken) R.gives slot.old acts slot.new) }
+{
+    match slot {
+        Some(numbered) => ask_one(alloc, calls, numbered, reader, ask),
+        None => {}
+    }
+}
+
 // The first free slot.
 fn free_in<L: Link + Drop>(slots: &[Option<Numbered<L>>]) -> Option<usize>
     ensures { IfSome result (λ at. slice_get slots.now at ≡ Some None) }
@@ -314,6 +371,25 @@ impl<L: Link + Drop> Links<L> {
             (λ acts. GoesOn (link_view L.tells L.given L.taken) R.gives self.old acts self.new) }
     {
         reply_each(alloc, shared, calls, self.slots.as_mut_slice(), reader)
+    }
+
+    /// Writes a check-back to the link that it names, behind the replies that are due. It is dropped where the link is not here
+    /// any more, or takes none.
+    pub(crate) fn ask<C: Calls, R: Reader>(
+        &mut self,
+        alloc: Global,
+        calls: &mut C,
+        reader: &mut R,
+        ask: &Ask,
+    )
+        ensures { LeadsWith C.makes calls.old calls.new (ask.now ∷ [])
+            (λ acts. GoesOn (link_view L.tells L.given L.taken) R.gives self.old acts self.new) }
+    {
+        let Some(at) = slot_of(self.slots.as_slice(), ask.link) else {
+            return;
+        };
+        let slot = &mut self.slots[at];
+        ask_slot(alloc, calls, slot, reader, ask);
     }
 
     /// What its links wait for.

@@ -1,10 +1,11 @@
 -- Each step of a link's passes is a request of the link, or a look.
 use Rattle.std.proofs.Common.{◌≡◌, ◌⊎◌, ⊎_elim, inl, inr, ℕ, List, [], ◌∷◌, ◌++◌, Bool, true, false, Option, Some, None, Result, Ok, Err, refl, sym, ap, ◌∙◌, subst}
 use Rattle.mq_outside.specs.Readings.{Giving}
-use Rattle.reply_fields.specs.Parts.{ReplyParts}
+use Rattle.reply_fields.specs.Parts.{ReplyParts, AskParts}
+use Rattle.session.specs.Asking.{AreFor}
 use Rattle.session.specs.Serving.{Made, IsAsked, IsAnswered, Rests, ServesNext}
 use Rattle.session.specs.Settling.{IsDueAfter, IsNotYet, Waits, LooksFor, Settles, IsSettled, IsBroken, Stops}
-use Rattle.session.specs.Sessions.{Call, fed, served, gave_up, settled, sent, made_in, made_of}
+use Rattle.session.specs.Sessions.{Call, fed, served, gave_up, settled, sent, asked, made_in, made_of, asks_in, asks_of}
 use Rattle.session.specs.declared.heard.Heard.{Heard}
 use Rattle.session.specs.declared.owed.Applied.{Applied}
 use Rattle.session.specs.declared.owed.Awaits.{Awaits}
@@ -15,7 +16,7 @@ use Rattle.session.specs.declared.serving.Step.{Step}
 use Rattle.session.specs.declared.serving.Step.TheVariants as steps
 use Rattle.session.specs.declared.session.Session.{Session}
 use Rattle.session.specs.declared.talk.Talk.{Talk}
-use Rattle.link_service.specs.Transcripts.{Seen, IsOfLink, AreOfLink, IsCallOf, AreCallsOf, WentOn}
+use Rattle.link_service.specs.Transcripts.{Seen, IsOfLink, AreOfLink, IsCallOf, AreCallsOf, WentOnWith}
 
 of_append : (link : ℕ) (xs ys : Made) → AreOfLink link xs → AreOfLink link ys → AreOfLink link (xs ++ ys)
 of_append link [] ys are more = more
@@ -34,7 +35,7 @@ asked_of talk now heard applied made is = subst (λ (m : Made). AreOfLink talk.l
 
 answered_of : (talk : Talk) (now : ℕ) (heard : Heard) (owed : Owed) (made : Made) → IsAnswered talk now heard owed made → AreOfLink talk.link made
 answered_of talk now heard owed made is =
-    ⊎_elim (λ refused. of_none talk.link made refused.none) (λ asked. asked_of talk now heard _ made asked) is.comes
+    ⊎_elim (λ refused. of_none talk.link made refused.none) (λ one. asked_of talk now heard _ made one) is.comes
 
 serves_of : (now : ℕ) (old : Session) (made : Made) (result : Result Step Halt) (new : Session) → ServesNext now old made result new → AreOfLink old.talk.link made
 serves_of now old made (Ok steps.Request) new is = answered_of old.talk now is.heard is.owed made is.answered
@@ -94,6 +95,8 @@ call_of gives old (settled made) false new is = (settled_of old.talk.link gives 
 call_of gives old (settled made) true new is = (broken_of old.talk.link gives old made new is.0, ap (λ (t : Talk). t.link) is.2)
 call_of gives old (sent count bytes) false new is = (tt, ap (λ (t : Talk). t.link) is.3)
 call_of gives old (sent count bytes) true new is = absurd is
+call_of gives old (asked ask) false new is = (tt, ap (λ (t : Talk). t.link) is.talk)
+call_of gives old (asked ask) true new is = absurd is
 
 calls_of : (gives : Giving) (broken : Bool) (old : Session) (calls : List Call) (breaks : Bool) (new : Session) → AreCallsOf gives broken old calls breaks new
     → AreOfLink old.talk.link (made_of calls)
@@ -103,6 +106,7 @@ calls_of gives broken old (call ∷ calls) breaks new are =
     of_append old.talk.link (made_in call) (made_of calls) first.0
     (subst (λ (link : ℕ). AreOfLink link (made_of calls)) first.1 (calls_of gives are.2 are.1 calls breaks new are.4))
 
-pub went_of_link : (tells : Type 0) (gives : Giving) (old : Seen) (made : Made) (new : Seen) → WentOn tells gives old made new → AreOfLink old.session.talk.link made
-went_of_link tells gives old made new went =
+pub went_of_link : (tells : Type 0) (gives : Giving) (old : Seen) (made : Made) (asks : List AskParts) (new : Seen) → WentOnWith tells gives old made asks new
+    → AreOfLink old.session.talk.link made
+went_of_link tells gives old made asks new went =
     subst (λ (m : Made). AreOfLink old.session.talk.link m) (sym went.steps) (calls_of gives old.broken old.session went.calls new.broken new.session went.are)

@@ -1,12 +1,14 @@
 -- What a link did from its beginning on is a transcript.
 use Rattle.std.proofs.Common.{◌≡◌, ℕ, List, [], ◌∷◌, ◌++◌, Bool, true, false, refl, sym, ap, ◌∙◌, subst, append-nil}
 use Rattle.mq_outside.specs.Readings.{Giving}
+use Rattle.reply_fields.specs.Parts.{AskParts}
+use Rattle.session.specs.Asking.{AreFor}
 use Rattle.session.specs.Serving.{Made}
-use Rattle.session.specs.Sessions.{Call, fed, served, gave_up, settled, sent, AreCalls, IsNew, RepliesInOrder, sent_in, stream_of, sent_of, made_of}
+use Rattle.session.specs.Sessions.{Call, fed, served, gave_up, settled, sent, asked, AreCalls, IsNew, RepliesInOrder, sent_in, asks_in, stream_of, sent_of, made_of, asks_of}
 use Rattle.session.specs.declared.session.Session.{Session}
-use Rattle.link_service.specs.Transcripts.{Seen, FindsNoMemory, IsCallOf, AreCallsOf, AreOfLink, WentOn, IsFresh, Ends, IsTranscript}
+use Rattle.link_service.specs.Transcripts.{Seen, FindsNoMemory, IsCallOf, AreCallsOf, AreOfLink, WentOnWith, IsFresh, Ends, IsTranscript}
 use Rattle.link_service.proofs.OfLink.{went_of_link}
-use Rattle.link_service.proofs.Went.{sent_append}
+use Rattle.link_service.proofs.Went.{sent_append, asks_append}
 
 -- calls of which memory sufficed, and at the end maybe one for which it didn't
 record Splits (gives : Giving) (old : Session) (calls : List Call) (breaks : Bool) (new : Session) : Type 0 where
@@ -56,25 +58,44 @@ sends_nothing gives old (served now made result) new is = refl
 sends_nothing gives old (gave_up count) new is = refl
 sends_nothing gives old (settled made) new is = refl
 sends_nothing gives old (sent count bytes) new is = absurd is
+sends_nothing gives old (asked ask) new is = absurd is
 
 ends_sending : (gives : Giving) (last : Session) (end : List Call) (broken : Bool) (new : Session) → Ends gives last end broken new → sent_of end ≡ []
 ends_sending gives last [] broken new ends = refl
 ends_sending gives last (call ∷ more) broken new ends =
     ap (λ (l : List ℕ). l ++ sent_of more) (sends_nothing gives last call new ends.2) ∙ ap (λ (l : List Call). sent_of l) ends.0
 
-pub transcribed : (tells : Type 0) (gives : Giving) (number : ℕ) (host : List ℕ) (first : Seen) (made : Made) (now : Seen)
+-- nor does it write a check-back
+asks_nothing : (gives : Giving) (old : Session) (call : Call) (new : Session) → FindsNoMemory gives old call new → asks_in call ≡ []
+asks_nothing gives old (fed piece) new is = refl
+asks_nothing gives old (served now made result) new is = refl
+asks_nothing gives old (gave_up count) new is = refl
+asks_nothing gives old (settled made) new is = refl
+asks_nothing gives old (sent count bytes) new is = refl
+asks_nothing gives old (asked ask) new is = absurd is
+
+ends_asking : (gives : Giving) (last : Session) (end : List Call) (broken : Bool) (new : Session) → Ends gives last end broken new → asks_of end ≡ []
+ends_asking gives last [] broken new ends = refl
+ends_asking gives last (call ∷ more) broken new ends =
+    ap (λ (l : List AskParts). l ++ asks_of more) (asks_nothing gives last call new ends.2) ∙ ap (λ (l : List Call). asks_of l) ends.0
+
+pub transcribed : (tells : Type 0) (gives : Giving) (number : ℕ) (host : List ℕ) (first : Seen) (made : Made) (asks : List AskParts) (now : Seen)
     → ((old : Session) (calls : List Call) (new : Session) → IsNew old → AreCalls gives old calls new → RepliesInOrder gives old calls new)
-    → IsFresh tells number host first → WentOn tells gives first made now → IsTranscript tells gives number host made now
-transcribed tells gives number host first made now law fresh went =
+    → IsFresh tells number host first → WentOnWith tells gives first made asks now → IsTranscript tells gives number host made asks now
+transcribed tells gives number host first made asks now law fresh went =
     let are : AreCallsOf gives false first.session went.calls now.broken now.session =
     subst (λ (b : Bool). AreCallsOf gives b first.session went.calls now.broken now.session) fresh.whole went.are in
     let split = split_calls gives first.session went.calls now.broken now.session are in
+    let replies = law first.session split.front split.last fresh.session split.are in
+    let wrote : asks ≡ asks_of split.front = went.asked ∙ ap (λ (l : List Call). asks_of l) split.both ∙ asks_append split.front split.end
+    ∙ ap (λ (l : List AskParts). asks_of split.front ++ l) (ends_asking gives split.last split.end now.broken now.session split.ends)
+    ∙ append-nil (asks_of split.front) in
     record {
       first = first;
       fresh = fresh;
       calls = split.front;
       last = split.last;
-      replies = law first.session split.front split.last fresh.session split.are;
+      replies = replies;
       end = split.end;
       ends = split.ends;
       steps = went.steps ∙ ap (λ (l : List Call). made_of l) split.both;
@@ -82,5 +103,8 @@ transcribed tells gives number host first made now law fresh went =
       taken = λ told. went.taken told ∙ ap (λ (l : List ℕ). l ++ sent_of went.calls) (fresh.taken told) ∙ ap (λ (l : List Call). sent_of l) split.both
           ∙ sent_append split.front split.end ∙ ap (λ (l : List ℕ). sent_of split.front ++ l) (ends_sending gives split.last split.end now.broken now.session split.ends)
           ∙ append-nil (sent_of split.front);
-      of_link = subst (λ (link : ℕ). AreOfLink link made) fresh.link.0 (went_of_link tells gives first made now went);
+      of_link = subst (λ (link : ℕ). AreOfLink link made) fresh.link.0 (went_of_link tells gives first made asks now went);
+      asked = wrote;
+      for_link = subst (λ (l : List AskParts). AreFor number l) (sym wrote)
+          (subst (λ (link : ℕ). AreFor link (asks_of split.front)) fresh.link.0 replies.for_link);
     }

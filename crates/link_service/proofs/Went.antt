@@ -2,15 +2,18 @@
 use Rattle.std.proofs.Common.{◌≡◌, ℕ, List, [], ◌∷◌, ◌++◌, take, drop, Bool, true, false, Result, Ok, Err, refl, sym, ap, ◌∙◌, subst, append_assoc, append-nil}
 use Rattle.mq_outside.specs.Readings.{Giving}
 use Rattle.broker_events.proofs.Makes.{makes_append}
+use Rattle.reply_fields.specs.Parts.{AskParts}
+use Rattle.session.specs.Asking.{Asks, AsksOrNot}
 use Rattle.session.specs.Owing.{Steps}
-use Rattle.session.specs.Serving.{Made, Leads, ServesNext, KeepsLink, KeepsOut}
+use Rattle.session.specs.Serving.{Made, Leads, ServesNext, KeepsLink, KeepsOut, KeepsRest}
 use Rattle.session.specs.Settling.{IsSettled, IsBroken, unsent_of}
-use Rattle.session.specs.Sessions.{Call, fed, served, gave_up, settled, sent, HadMemory, IsCall, stream_in, sent_in, made_in, stream_of, sent_of, made_of}
+use Rattle.session.specs.Sessions.{Call, fed, served, gave_up, settled, sent, asked, HadMemory, IsCall, stream_in, sent_in, made_in, asks_in, stream_of, sent_of, made_of, asks_of}
 use Rattle.session.specs.declared.session.Session.{Session}
+use Rattle.session.specs.declared.talk.Talk.{Talk}
 use Rattle.session.specs.declared.serving.Step.{Step}
 use Rattle.session.specs.declared.serving.Halt.{Halt}
 use Rattle.session.specs.declared.serving.Halt.TheVariants as halts
-use Rattle.link_service.specs.Transcripts.{Seen, FindsNoMemory, IsCallOf, AreCallsOf, WentOn, WentOnUnread, NoneSettled, gives_nothing}
+use Rattle.link_service.specs.Transcripts.{Seen, FindsNoMemory, IsCallOf, AreCallsOf, WentOnWith, WentOn, WentOnUnread, NoneSettled, gives_nothing, if_asked}
 
 -- ---- what calls come to
 
@@ -26,6 +29,10 @@ pub sent_append : (xs ys : List Call) → sent_of (xs ++ ys) ≡ sent_of xs ++ s
 sent_append [] ys = refl
 sent_append (x ∷ xs) ys = ap (λ (l : List ℕ). sent_in x ++ l) (sent_append xs ys) ∙ sym (append_assoc (sent_in x) (sent_of xs) (sent_of ys))
 
+pub asks_append : (xs ys : List Call) → asks_of (xs ++ ys) ≡ asks_of xs ++ asks_of ys
+asks_append [] ys = refl
+asks_append (x ∷ xs) ys = ap (λ (l : List AskParts). asks_in x ++ l) (asks_append xs ys) ∙ sym (append_assoc (asks_in x) (asks_of xs) (asks_of ys))
+
 none_append : (xs ys : List Call) → NoneSettled xs → NoneSettled ys → NoneSettled (xs ++ ys)
 none_append [] ys none more = more
 none_append (fed piece ∷ xs) ys none more = none_append xs ys none more
@@ -33,6 +40,7 @@ none_append (served now made result ∷ xs) ys none more = none_append xs ys non
 none_append (gave_up count ∷ xs) ys none more = none_append xs ys none more
 none_append (settled made ∷ xs) ys none more = absurd none
 none_append (sent count bytes ∷ xs) ys none more = none_append xs ys none more
+none_append (asked ask ∷ xs) ys none more = none_append xs ys none more
 
 -- ---- one after another
 
@@ -55,12 +63,13 @@ then_more : (old mid new xs ys all : List ℕ) → mid ≡ old ++ xs → new ≡
 then_more old mid new xs ys all first rest both =
     rest ∙ ap (λ (l : List ℕ). l ++ ys) first ∙ append_assoc old xs ys ∙ ap (λ (l : List ℕ). old ++ l) (sym both)
 
-pub went_on : (tells : Type 0) (gives : Giving) (old mid new : Seen) (first rest : Made) → WentOn tells gives old first mid → WentOn tells gives mid rest new
-    → WentOn tells gives old (first ++ rest) new
-went_on tells gives old mid new first rest h k = record {
+pub went_on : (tells : Type 0) (gives : Giving) (old mid new : Seen) (first rest : Made) (asks more : List AskParts) → WentOnWith tells gives old first asks mid
+    → WentOnWith tells gives mid rest more new → WentOnWith tells gives old (first ++ rest) (asks ++ more) new
+went_on tells gives old mid new first rest asks more h k = record {
   calls = h.calls ++ k.calls;
   are = are_on gives old.broken mid.broken new.broken old.session mid.session new.session h.calls k.calls h.are k.are;
   steps = ap (λ (l : Made). l ++ rest) h.steps ∙ ap (λ (l : Made). made_of h.calls ++ l) k.steps ∙ sym (made_append h.calls k.calls);
+  asked = ap (λ (l : List AskParts). l ++ more) h.asked ∙ ap (λ (l : List AskParts). asks_of h.calls ++ l) k.asked ∙ sym (asks_append h.calls k.calls);
   given = λ told. then_more old.given mid.given new.given (stream_of h.calls) (stream_of k.calls) (stream_of (h.calls ++ k.calls)) (h.given told) (k.given told)
       (stream_append h.calls k.calls);
   taken = λ told. then_more old.taken mid.taken new.taken (sent_of h.calls) (sent_of k.calls) (sent_of (h.calls ++ k.calls)) (h.taken told) (k.taken told)
@@ -71,7 +80,7 @@ pub unread_on : (tells : Type 0) (old mid new : Seen) (first rest : Made) → We
     → WentOnUnread tells old (first ++ rest) new
 unfolding went_on
 unread_on tells old mid new first rest h k = record {
-  went = went_on tells gives_nothing old mid new first rest h.went k.went;
+  went = went_on tells gives_nothing old mid new first rest [] [] h.went k.went;
   none = none_append h.went.calls k.went.calls h.none k.none;
 }
 
@@ -87,6 +96,8 @@ call_read gives old new (gave_up count) true none h = h
 call_read gives old new (settled made) breaks none h = absurd none
 call_read gives old new (sent count bytes) false none h = h
 call_read gives old new (sent count bytes) true none h = absurd h
+call_read gives old new (asked ask) false none h = h
+call_read gives old new (asked ask) true none h = absurd h
 
 none_first : (call : Call) (calls : List Call) → NoneSettled (call ∷ calls) → NoneSettled (call ∷ []) × NoneSettled calls
 none_first (fed piece) calls none = (tt, none)
@@ -94,6 +105,7 @@ none_first (served now made result) calls none = (tt, none)
 none_first (gave_up count) calls none = (tt, none)
 none_first (settled made) calls none = absurd none
 none_first (sent count bytes) calls none = (tt, none)
+none_first (asked ask) calls none = (tt, none)
 
 are_read : (gives : Giving) (calls : List Call) (broken breaks : Bool) (old new : Session) → NoneSettled calls → AreCallsOf gives_nothing broken old calls breaks new
     → AreCallsOf gives broken old calls breaks new
@@ -107,6 +119,7 @@ went_read tells gives old made new h = record {
   calls = h.went.calls;
   are = are_read gives h.went.calls old.broken new.broken old.session new.session h.none h.went.are;
   steps = h.went.steps;
+  asked = h.went.asked;
   given = h.went.given;
   taken = h.went.taken;
 }
@@ -117,7 +130,7 @@ went_read tells gives old made new h = record {
 pub unread_none : (tells : Type 0) (old new : Seen) → new.session ≡ old.session → (old.broken ≡ true → new.broken ≡ true) → (tells → new.given ≡ old.given ++ [])
     → (tells → new.taken ≡ old.taken) → WentOnUnread tells old [] new
 unread_none tells old new same stays given taken = record {
-  went = record { calls = []; are = (same, stays); steps = refl; given = given; taken = λ told. taken told ∙ sym (append-nil old.taken) };
+  went = record { calls = []; are = (same, stays); steps = refl; asked = refl; given = given; taken = λ told. taken told ∙ sym (append-nil old.taken) };
   none = tt;
 }
 
@@ -130,44 +143,74 @@ pub unread_same : (tells : Type 0) (link : Seen) → WentOnUnread tells link [] 
 unread_same tells link = unread_none tells link link refl (λ was. was) (λ told. sym (append-nil link.given)) (λ told. refl)
 
 -- one call was made
-pub went_by : (tells : Type 0) (gives : Giving) (old new : Seen) (call : Call) (made : Made) → old.broken ≡ false → IsCallOf gives old.session call new.broken new.session
-    → made ≡ made_in call → (tells → new.given ≡ old.given ++ stream_in call) → (tells → new.taken ≡ old.taken ++ sent_in call) → WentOn tells gives old made new
-went_by tells gives old new call made whole is steps given taken = record {
+pub went_by : (tells : Type 0) (gives : Giving) (old new : Seen) (call : Call) (made : Made) (asks : List AskParts) → asks ≡ asks_in call → old.broken ≡ false
+    → IsCallOf gives old.session call new.broken new.session → made ≡ made_in call → (tells → new.given ≡ old.given ++ stream_in call)
+    → (tells → new.taken ≡ old.taken ++ sent_in call) → WentOnWith tells gives old made asks new
+went_by tells gives old new call made asks wrote whole is steps given taken = record {
   calls = call ∷ [];
   are = (whole, new.session, new.broken, is, (refl, λ (was : new.broken ≡ true). was));
   steps = steps ∙ sym (append-nil (made_in call));
+  asked = wrote ∙ sym (append-nil (asks_in call));
   given = λ told. given told ∙ ap (λ (l : List ℕ). old.given ++ l) (sym (append-nil (stream_in call)));
   taken = λ told. taken told ∙ ap (λ (l : List ℕ). old.taken ++ l) (sym (append-nil (sent_in call)));
 }
 
-pub unread_by : (tells : Type 0) (old new : Seen) (call : Call) (made : Made) → old.broken ≡ false → IsCallOf gives_nothing old.session call new.broken new.session
-    → NoneSettled (call ∷ []) → made ≡ made_in call → (tells → new.given ≡ old.given ++ stream_in call) → (tells → new.taken ≡ old.taken ++ sent_in call)
-    → WentOnUnread tells old made new
+pub unread_by : (tells : Type 0) (old new : Seen) (call : Call) (made : Made) → [] ≡ asks_in call → old.broken ≡ false
+    → IsCallOf gives_nothing old.session call new.broken new.session → NoneSettled (call ∷ []) → made ≡ made_in call
+    → (tells → new.given ≡ old.given ++ stream_in call) → (tells → new.taken ≡ old.taken ++ sent_in call) → WentOnUnread tells old made new
 unfolding went_by
-unread_by tells old new call made whole is none steps given taken =
-    record { went = went_by tells gives_nothing old new call made whole is steps given taken; none = none }
+unread_by tells old new call made no_ask whole is none steps given taken =
+    record { went = went_by tells gives_nothing old new call made [] no_ask whole is steps given taken; none = none }
 
 -- one call was made, and the link is whole
 pub unread_whole : (tells : Type 0) (old new : Seen) (call : Call) (made : Made) → old.broken ≡ false → new.broken ≡ false → IsCall gives_nothing old.session call new.session
-    → NoneSettled (call ∷ []) → made ≡ made_in call → (tells → new.given ≡ old.given ++ stream_in call) → (tells → new.taken ≡ old.taken ++ sent_in call)
-    → WentOnUnread tells old made new
-unread_whole tells old new call made was whole is =
-    unread_by tells old new call made was (subst (λ (b : Bool). IsCallOf gives_nothing old.session call b new.session) (sym whole) is)
+    → NoneSettled (call ∷ []) → [] ≡ asks_in call → made ≡ made_in call → (tells → new.given ≡ old.given ++ stream_in call)
+    → (tells → new.taken ≡ old.taken ++ sent_in call) → WentOnUnread tells old made new
+unread_whole tells old new call made was whole is none no_ask =
+    unread_by tells old new call made no_ask was (subst (λ (b : Bool). IsCallOf gives_nothing old.session call b new.session) (sym whole) is) none
 
 -- one call was made, and found no memory
 pub unread_breaks : (tells : Type 0) (old new : Seen) (call : Call) (made : Made) → old.broken ≡ false → new.broken ≡ true → FindsNoMemory gives_nothing old.session call new.session
-    → NoneSettled (call ∷ []) → made ≡ made_in call → (tells → new.given ≡ old.given ++ stream_in call) → (tells → new.taken ≡ old.taken ++ sent_in call)
-    → WentOnUnread tells old made new
-unread_breaks tells old new call made was broken is =
-    unread_by tells old new call made was (subst (λ (b : Bool). IsCallOf gives_nothing old.session call b new.session) (sym broken) is)
+    → NoneSettled (call ∷ []) → [] ≡ asks_in call → made ≡ made_in call → (tells → new.given ≡ old.given ++ stream_in call)
+    → (tells → new.taken ≡ old.taken ++ sent_in call) → WentOnUnread tells old made new
+unread_breaks tells old new call made was broken is none no_ask =
+    unread_by tells old new call made no_ask was (subst (λ (b : Bool). IsCallOf gives_nothing old.session call b new.session) (sym broken) is) none
 
 -- bytes of the session were sent
 pub unread_sent : (tells : Type 0) (old new : Seen) (count : ℕ) (piece : List ℕ) → old.broken ≡ false → new.broken ≡ false → piece ≡ unsent_of old.session
     → unsent_of new.session ≡ drop count (unsent_of old.session) → new.session.held ≡ old.session.held → new.session.talk ≡ old.session.talk
-    → new.session.owed.items ≡ old.session.owed.items → (tells → new.given ≡ old.given) → (tells → new.taken ≡ old.taken ++ take count piece) → WentOnUnread tells old [] new
-unread_sent tells old new count piece was whole is rest held talk owed given taken =
-    unread_whole tells old new (sent count (take count piece)) [] was whole (ap (λ (l : List ℕ). take count l) is, rest, held, talk, owed) tt refl
+    → new.session.owed.items ≡ old.session.owed.items → new.session.asked ≡ old.session.asked → (tells → new.given ≡ old.given)
+    → (tells → new.taken ≡ old.taken ++ take count piece) → WentOnUnread tells old [] new
+unread_sent tells old new count piece was whole is rest held talk owed counted given taken =
+    unread_whole tells old new (sent count (take count piece)) [] was whole (ap (λ (l : List ℕ). take count l) is, rest, held, talk, owed, counted) tt refl refl
     (same_bytes tells old.given new.given given) taken
+
+-- a check-back was written, and nothing else was done
+went_asked : (tells : Type 0) (gives : Giving) (old new : Seen) (ask : AskParts) → old.broken ≡ false → new.broken ≡ false → Asks old.session ask new.session
+    → (tells → new.given ≡ old.given) → (tells → new.taken ≡ old.taken) → WentOnWith tells gives old [] (ask ∷ []) new
+went_asked tells gives old new ask was whole is given taken =
+    went_by tells gives old new (asked ask) [] (ask ∷ []) refl was (subst (λ (b : Bool). IsCallOf gives old.session (asked ask) b new.session) (sym whole) is) refl
+    (same_bytes tells old.given new.given given) (same_bytes tells old.taken new.taken taken)
+
+-- it was left out: it is as if nothing was fed
+went_unasked : (tells : Type 0) (gives : Giving) (old new : Seen) → old.broken ≡ false → new.broken ≡ false → new.session.talk ≡ old.session.talk
+    → KeepsRest old.session new.session → (tells → new.given ≡ old.given) → (tells → new.taken ≡ old.taken) → WentOn tells gives old [] new
+went_unasked tells gives old new was whole talk keeps given taken =
+    let held = old.session.talk.cutter in
+    let cut : new.session.talk.cutter ≡ record { at = held.at; bytes = held.bytes ++ [] } =
+    ap (λ (t : Talk). t.cutter) talk ∙ ap (λ (l : List ℕ). record { at = held.at; bytes = l }) (sym (append-nil held.bytes)) in
+    went_by tells gives old new (fed []) [] [] refl was (subst (λ (b : Bool). IsCallOf gives old.session (fed []) b new.session) (sym whole) (cut, keeps)) refl
+    (same_bytes tells old.given new.given given) (same_bytes tells old.taken new.taken taken)
+
+pub went_asking : (tells : Type 0) (gives : Giving) (old new : Seen) (ask : AskParts) (did : Bool) → old.broken ≡ false → new.broken ≡ false
+    → AsksOrNot old.session ask did new.session → (tells → new.given ≡ old.given) → (tells → new.taken ≡ old.taken)
+    → WentOnWith tells gives old [] (if_asked did ask) new
+went_asking tells gives old new ask true was whole is given taken = went_asked tells gives old new ask was whole is given taken
+went_asking tells gives old new ask false was whole is given taken = went_unasked tells gives old new was whole is.0 is.1 given taken
+
+-- a link that can't answer is not asked
+pub went_silent : (tells : Type 0) (gives : Giving) (link : Seen) (ask : AskParts) → WentOnWith tells gives link [] (if_asked false ask) link
+went_silent tells gives link ask = went_read tells gives link [] link (unread_same tells link)
 
 -- ---- steps of the broker
 
@@ -194,7 +237,7 @@ module _ {C : Type 0} (makes : Steps C) (tells : Type 0) where
   serves_so now old new x y result had was whole given taken h link out = record {
     made = h.made;
     leads = h.leads;
-    so = unread_whole tells old new (served now h.made result) h.made was whole (had, h.so, link, out) tt refl (same_bytes tells old.given new.given (λ told. given))
+    so = unread_whole tells old new (served now h.made result) h.made was whole (had, h.so, link, out) tt refl refl (same_bytes tells old.given new.given (λ told. given))
         (same_bytes tells old.taken new.taken (λ told. taken));
   }
 
@@ -215,7 +258,7 @@ module _ {C : Type 0} (makes : Steps C) (tells : Type 0) where
   serves_memory now old new x y result is was broken given taken h link out = record {
     made = h.made;
     leads = h.leads;
-    so = unread_breaks tells old new (served now h.made result) h.made was broken (is, h.so, link, out) tt refl (same_bytes tells old.given new.given (λ told. given))
+    so = unread_breaks tells old new (served now h.made result) h.made was broken (is, h.so, link, out) tt refl refl (same_bytes tells old.given new.given (λ told. given))
         (same_bytes tells old.taken new.taken (λ told. taken));
   }
 
@@ -228,21 +271,33 @@ module _ {C : Type 0} (makes : Steps C) (tells : Type 0) where
     goes_on x y z old mid new h k = record {
       made = h.made ++ k.made;
       leads = makes_append makes x h.made y k.made z h.leads k.leads;
-      so = went_on tells gives old mid new h.made k.made h.so k.so;
+      so = went_on tells gives old mid new h.made k.made [] [] h.so k.so;
     }
 
     pub goes_quietly : (x : C) (old new : Seen) → WentOnUnread tells old [] new → Goes x old x new
     goes_quietly x old new went = record { made = []; leads = refl; so = went_read tells gives old [] new went }
 
+    -- and then a check-back was written, or left out
+    pub goes_asking : (x y : C) (old mid new : Seen) (asks : List AskParts) → Goes x old y mid → WentOnWith tells gives mid [] asks new
+        → Leads makes x y (λ made. WentOnWith tells gives old made asks new)
+    goes_asking x y old mid new asks h k = record {
+      made = h.made;
+      leads = h.leads;
+      so = subst (λ (m : Made). WentOnWith tells gives old m asks new) (append-nil h.made) (went_on tells gives old mid new h.made [] [] asks h.so k);
+    }
+
+    pub goes_silent : (x : C) (link : Seen) (ask : AskParts) → Leads makes x x (λ made. WentOnWith tells gives link made (if_asked false ask) link)
+    goes_silent x link ask = record { made = []; leads = refl; so = went_read tells gives link [] link (unread_same tells link) }
+
     -- replies were settled
     pub settles_whole : (x y : C) (old new : Seen) → old.broken ≡ false → new.broken ≡ false → new.given ≡ old.given → new.taken ≡ old.taken
         → Leads makes x y (λ made. IsSettled gives old.session made new.session) → new.session.held ≡ old.session.held → new.session.talk ≡ old.session.talk
-        → new.session.sent ≡ old.session.sent → Goes x old y new
-    settles_whole x y old new was whole given taken h held talk sends = record {
+        → new.session.sent ≡ old.session.sent → new.session.asked ≡ old.session.asked → Goes x old y new
+    settles_whole x y old new was whole given taken h held talk sends counted = record {
       made = h.made;
       leads = h.leads;
-      so = went_by tells gives old new (settled h.made) h.made was
-          (subst (λ (b : Bool). IsCallOf gives old.session (settled h.made) b new.session) (sym whole) (h.so, held, talk, sends)) refl
+      so = went_by tells gives old new (settled h.made) h.made [] refl was
+          (subst (λ (b : Bool). IsCallOf gives old.session (settled h.made) b new.session) (sym whole) (h.so, held, talk, sends, counted)) refl
           (same_bytes tells old.given new.given (λ told. given)) (same_bytes tells old.taken new.taken (λ told. taken));
     }
 
@@ -253,7 +308,7 @@ module _ {C : Type 0} (makes : Steps C) (tells : Type 0) where
     settles_broken x y old new was broken given taken h held talk sends = record {
       made = h.made;
       leads = h.leads;
-      so = went_by tells gives old new (settled h.made) h.made was
+      so = went_by tells gives old new (settled h.made) h.made [] refl was
           (subst (λ (b : Bool). IsCallOf gives old.session (settled h.made) b new.session) (sym broken) (h.so, held, talk, sends)) refl
           (same_bytes tells old.given new.given (λ told. given)) (same_bytes tells old.taken new.taken (λ told. taken));
     }

@@ -3,11 +3,13 @@
 use Rattle.std.specs.Prelude.{◌≡◌, ◌⊎◌, ◌++◌, ℕ, List, [], ◌∷◌, Bool, true, false, None, Err}
 use Rattle.mq_outside.specs.Readings.{Giving}
 use Rattle.request_fields.specs.declared.request.Request.{Request}
+use Rattle.reply_fields.specs.Parts.{AskParts}
 use Rattle.broker_events.specs.declared.event.Event.{Event}
 use Rattle.broker_events.specs.declared.event.Event.TheVariants as events
+use Rattle.session.specs.Asking.{AreFor}
 use Rattle.session.specs.Serving.{Made, KeepsLink, KeepsOut, KeepsRest, ServesNext, GivesUp}
 use Rattle.session.specs.Settling.{IsBroken}
-use Rattle.session.specs.Sessions.{Call, fed, served, gave_up, settled, sent, IsCall, IsNew, RepliesInOrder, stream_of, sent_of, made_of}
+use Rattle.session.specs.Sessions.{Call, fed, served, gave_up, settled, sent, asked, IsCall, IsNew, RepliesInOrder, stream_of, sent_of, made_of, asks_of}
 use Rattle.session.specs.declared.session.Session.{Session}
 use Rattle.session.specs.declared.serving.Halt.{Halt}
 use Rattle.session.specs.declared.serving.Halt.TheVariants as halts
@@ -39,6 +41,7 @@ FindsNoMemory gives old (gave_up count) new =
 FindsNoMemory gives old (settled made) new =
     IsBroken gives old made new × (new.held ≡ old.held) × (new.talk ≡ old.talk) × (new.sent ≡ old.sent)
 FindsNoMemory gives old (sent count bytes) new = ⊥
+FindsNoMemory gives old (asked ask) new = ⊥
 
 -- what a call of a link's session leaves, by whether the link is broken then
 abbrev pub IsCallOf : Giving → Session → Call → Bool → Session → Type 0
@@ -52,14 +55,24 @@ AreCallsOf gives broken old [] breaks new = (new ≡ old) × (broken ≡ true �
 AreCallsOf gives broken old (call ∷ calls) breaks new = (broken ≡ false) × (after : Session) × (breaks_at : Bool)
     × IsCallOf gives old call breaks_at after × AreCallsOf gives breaks_at after calls breaks new
 
--- The link went on by calls of its session, which made these steps. What they fed is what it gave, and what they sent is what it took,
--- where it tells so.
-pub record WentOn (tells : Type 0) (gives : Giving) (old : Seen) (made : Made) (new : Seen) : Type 0 where
+-- The link went on by calls of its session, which made these steps and wrote these check-backs. What they fed is what it gave, and what
+-- they sent is what it took, where it tells so.
+pub record WentOnWith (tells : Type 0) (gives : Giving) (old : Seen) (made : Made) (asks : List AskParts) (new : Seen) : Type 0 where
   pub calls : List Call
   pub are : AreCallsOf gives old.broken old.session calls new.broken new.session
   pub steps : made ≡ made_of calls
+  pub asked : asks ≡ asks_of calls
   pub given : tells → new.given ≡ old.given ++ stream_of calls
   pub taken : tells → new.taken ≡ old.taken ++ sent_of calls
+
+-- the same without a check-back
+abbrev pub WentOn : Type 0 → Giving → Seen → Made → Seen → Type 0
+WentOn tells gives old made new = WentOnWith tells gives old made [] new
+
+-- the check-back, where it was written
+abbrev pub if_asked : Bool → AskParts → List AskParts
+if_asked true ask = ask ∷ []
+if_asked false ask = []
 
 -- none of these calls settled replies
 abbrev pub NoneSettled : List Call → Type 0
@@ -69,6 +82,7 @@ NoneSettled (served now made result ∷ calls) = NoneSettled calls
 NoneSettled (gave_up count ∷ calls) = NoneSettled calls
 NoneSettled (settled made ∷ calls) = ⊥
 NoneSettled (sent count bytes ∷ calls) = NoneSettled calls
+NoneSettled (asked ask ∷ calls) = NoneSettled calls
 
 -- a reader that gives nothing
 abbrev pub gives_nothing : Giving
@@ -107,8 +121,10 @@ Ends gives last [] broken new = new ≡ last
 Ends gives last (call ∷ more) broken new = (more ≡ []) × (broken ≡ true) × FindsNoMemory gives last call new
 
 -- What passes did for a link from its beginning on: calls of its session, and at the end maybe one that found no memory. What it was sent
--- are the replies to the first requests of what it gave, in order; and each step is a request of the link, or a look.
-pub record IsTranscript (tells : Type 0) (gives : Giving) (number : ℕ) (host : List ℕ) (made : Made) (now : Seen) : Type 0 where
+-- are the replies to the first requests of what it gave, in order, and between them, whole, these check-backs, each for this link; and
+-- each step is a request of the link, or a look.
+pub record IsTranscript (tells : Type 0) (gives : Giving) (number : ℕ) (host : List ℕ) (made : Made) (asks : List AskParts) (now : Seen)
+    : Type 0 where
   pub first : Seen
   pub fresh : IsFresh tells number host first
   pub calls : List Call
@@ -120,3 +136,5 @@ pub record IsTranscript (tells : Type 0) (gives : Giving) (number : ℕ) (host :
   pub given : tells → now.given ≡ stream_of (calls ++ end)
   pub taken : tells → now.taken ≡ sent_of calls
   pub of_link : AreOfLink number made
+  pub asked : asks ≡ asks_of calls
+  pub for_link : AreFor number asks

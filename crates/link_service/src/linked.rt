@@ -5,11 +5,12 @@
 
 ghost use Rattle.std.specs.Prelude.{◌≡◌, ◌<◌, ◌^◌, [], false, true, IfOk};
 ghost use Rattle.session.specs.Serving.{Leads};
-ghost use Rattle.link_service.specs.Transcripts.{WentOn, WentOnUnread, IsFresh, seen_of};
+ghost use Rattle.link_service.specs.Transcripts.{WentOn, WentOnWith, WentOnUnread, IsFresh, if_asked, seen_of};
 
 use broker_events::Calls;
 use mq_outside::Reader;
 use mq_peers::{Incoming, Link};
+use reply_fields::Ask;
 use session::{Halt, Session, Step};
 use std::alloc::Global;
 
@@ -220,6 +221,7 @@ impl<L: Link + Drop> Linked<L> {
         requires whole { self.old.broken ≡ false }
         ensures went { Leads C.makes calls.old calls.new
             (λ made. WentOn L.tells R.gives (seen_of L.given L.taken self.old) made (seen_of L.given L.taken self.new)) }
+        ensures talk { self.new.session.talk ≡ self.old.session.talk }
     {
         match self.session.settle(alloc, calls, reader) {
             Ok(()) => {}
@@ -279,6 +281,47 @@ impl<L: Link + Drop> Linked<L> {
             }
         }
         self.owes = true;
+    }
+
+    // Whether its peer may answer a check-back.
+    fn can_answer(&self) -> bool
+        ensures { result ≡ true → self.now.broken ≡ false }
+    {
+        !self.broken && !self.garbled && !self.deaf
+    }
+
+    // Puts a check-back behind what is to be sent. Answers whether it did.
+    fn put_ask<R: Reader>(&mut self, alloc: Global, ask: &Ask) -> bool
+        requires { ask.now.link ≡ self.old.session.talk.link }
+        ensures { WentOnWith L.tells R.gives (seen_of L.given L.taken self.old) [] (if_asked result ask.now)
+            (seen_of L.given L.taken self.new) }
+    {
+        if !self.can_answer() {
+            return false;
+        }
+        self.session.ask(alloc, ask)
+    }
+
+    /// Writes the replies that are due, and behind them a check-back for this link, before all later replies. It is sent by the
+    /// next `reply`. Answers whether it was written: it is left out where the link says nothing more, where so much is to be sent
+    /// that no further reply is written either, or where there is no memory for it.
+    pub fn ask<C: Calls, R: Reader>(
+        &mut self,
+        alloc: Global,
+        calls: &mut C,
+        reader: &mut R,
+        ask: &Ask,
+    ) -> bool
+        requires { ask.now.link ≡ self.old.session.talk.link }
+        ensures { Leads C.makes calls.old calls.new
+            (λ made. WentOnWith L.tells R.gives (seen_of L.given L.taken self.old) made (if_asked result ask.now)
+            (seen_of L.given L.taken self.new)) }
+    {
+        if !self.can_answer() {
+            return false;
+        }
+        self.settle(alloc, calls, reader);
+        self.put_ask::<R>(alloc, ask)
     }
 
     /// Whether a flush turn may bring it on.

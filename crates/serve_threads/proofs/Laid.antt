@@ -9,7 +9,8 @@ use Rattle.broker_events.specs.declared.event.Event.{Event}
 use Rattle.broker_events.specs.declared.said.Said.{Said}
 use Rattle.session.specs.Serving.{Made}
 use Rattle.link_service.specs.Transcripts.{IsOfLink, AreOfLink}
-use Rattle.event_loops.specs.Tales.{Act, act, steps_of, made_for, MayLeave, IsAnsweredInOrder}
+use Rattle.reply_fields.specs.Parts.{AskParts}
+use Rattle.event_loops.specs.Tales.{Act, steps_of, made_for, asks_for, MayLeave, IsAnsweredInOrder}
 use Rattle.event_loops.proofs.Told.{made_append, made_one}
 use Rattle.story_lock.specs.Counts.{times}
 use Rattle.story_lock.specs.Owned.{HasAt, AscendsFrom}
@@ -49,25 +50,25 @@ leave_between link [] leaves = tt
 leave_between link (step ∷ steps) leaves =
     (subst (λ (e : Event). IsBetween e) (sym leaves.0) tt, subst (λ (m : Made). AreBetween m) (sym leaves.1) tt)
 
-tale_between : (tells : Type 0) (gives : Giving) (link : ℕ) (made : Made) → IsAnsweredInOrder tells gives link made → AreBetween made
-tale_between tells gives link made is =
+tale_between : (tells : Type 0) (gives : Giving) (link : ℕ) (made : Made) (asks : List AskParts) → IsAnsweredInOrder tells gives link made asks → AreBetween made
+tale_between tells gives link made asks is =
     subst (λ (m : Made). AreBetween m) (sym is.both)
     (between_append is.passes is.end (passes_between link is.passes is.transcript.of_link) (leave_between link is.end is.leaves))
 
 acts_between : (acts : List Act) → ((link : ℕ) → AreBetween (made_for link acts)) → AreBetween (steps_of acts)
 acts_between [] each = tt
 acts_between (one ∷ acts) each =
-    let split : (link : ℕ) → AreBetween (made_for link (act one.link one.made ∷ []) ++ made_for link acts) =
+    let split : (link : ℕ) → AreBetween (made_for link (one ∷ []) ++ made_for link acts) =
     (λ link. subst (λ (m : Made). AreBetween m) (made_append link (one ∷ []) acts) (each link)) in
     between_append one.made (steps_of acts)
-    (⊎_elim (λ own. subst (λ (m : Made). AreBetween m) own.1 (between_front (made_for one.link (act one.link one.made ∷ [])) (made_for one.link acts) (split one.link)))
-    (λ other. absurd (other.0 refl)) (made_one one.link one.link one.made))
-    (acts_between acts (λ link. between_back (made_for link (act one.link one.made ∷ [])) (made_for link acts) (split link)))
+    (⊎_elim (λ own. subst (λ (m : Made). AreBetween m) own.1 (between_front (made_for one.link (one ∷ [])) (made_for one.link acts) (split one.link)))
+    (λ other. absurd (other.0 refl)) (made_one one.link one))
+    (acts_between acts (λ link. between_back (made_for link (one ∷ [])) (made_for link acts) (split link)))
 
 loop_between : (tells : Type 0) (gives : Giving) (number : ℕ) (made : Made) → AreAnswered tells gives number made → AreBetween made
 loop_between tells gives number made is =
     subst (λ (m : Made). AreBetween m) (sym is.all)
-    (acts_between is.acts (λ link. ⊎_elim (λ none. subst (λ (m : Made). AreBetween m) (sym none) tt) (λ some. tale_between tells gives link (made_for link is.acts) some.1) (is.each link)))
+    (acts_between is.acts (λ link. ⊎_elim (λ none. subst (λ (m : Made). AreBetween m) (sym none.0) tt) (λ some. tale_between tells gives link (made_for link is.acts) (asks_for link is.acts) some.1) (is.each link)))
 
 -- the keeper's looks flush nothing
 looks_between : (made : Made) → AreLooks made → AreBetween made

@@ -9,7 +9,8 @@ use Rattle.broker_core.specs.Owner.{plain_look}
 use Rattle.core_log.specs.declared.parts.Parts.{Parts}
 use Rattle.session.specs.Owing.{Steps}
 use Rattle.session.specs.Serving.{Made, Leads}
-use Rattle.event_loops.specs.Tales.{Act, steps_of, made_for, loop_of, IsTale, IsAnsweredInOrder, LinkView, loop_numbers, LeadsBy, GoesOn}
+use Rattle.reply_fields.specs.Parts.{AskParts}
+use Rattle.event_loops.specs.Tales.{Act, steps_of, made_for, asks_for, loop_of, IsTale, IsAnsweredInOrder, LinkView, loop_numbers, LeadsBy, GoesOn}
 use Rattle.event_loops.specs.declared.links.Links.{Links}
 use Rattle.event_loops.proofs.Told.{told_none}
 use Rattle.story_lock.specs.declared.chronicle.Chronicle.{Ghosts}
@@ -38,7 +39,7 @@ use Rattle.serve_threads.proofs.SharedStory.{leads_on}
 
 -- what a loop did from its beginning on is what it made for each of its links
 pub answered : {L C : Type 0} (view : LinkView L) (gives : Giving) (makes : Steps C) (number : ℕ) (x y : C) (old new : Links L)
-    → ((link : ℕ) (made : Made) → IsTale view.tells gives link made → IsAnsweredInOrder view.tells gives link made)
+    → ((link : ℕ) (made : Made) (asks : List AskParts) → IsTale view.tells gives link made asks → IsAnsweredInOrder view.tells gives link made asks)
     → (old.loops ≡ 2) × (old.number ≡ number) × (old.slots.items ≡ []) → LeadsBy makes x y (λ acts. GoesOn view gives old acts new)
     → Leads makes x y (AreAnswered view.tells gives number)
 answered {L} view gives makes number x y old new law begins went =
@@ -50,8 +51,9 @@ answered {L} view gives makes number x y old new law begins went =
       so = record {
         acts = went.acts;
         all = refl;
+        none_asked = went.wrote;
         each = λ link. ⊎_elim (λ no. inl no)
-            (λ some. inr (subst (λ (n : ℕ). loop_of n link ≡ number) loops (some.0 ∙ is), law link (made_for link went.acts) some.1)) (told.each link);
+            (λ some. inr (subst (λ (n : ℕ). loop_of n link ≡ number) loops (some.0 ∙ is), law link (made_for link went.acts) (asks_for link went.acts) some.1)) (told.each link);
       };
     }
 

@@ -15,7 +15,7 @@ use Rattle.flush_story.specs.Story as stories
 use Rattle.flush_story.specs.Story.{Happening, Story, span_of}
 use Rattle.flush_story.specs.Keeping.{IsOpenFor, Keeps}
 use Rattle.session.specs.Serving.{Made}
-use Rattle.event_loops.specs.Tales.{Act, steps_of, made_for, loop_of, IsAnsweredInOrder}
+use Rattle.event_loops.specs.Tales.{Act, steps_of, asks_of, made_for, asks_for, DidNothing, loop_of, IsAnsweredInOrder}
 use Rattle.event_loops.specs.declared.event_loop.EventLoop.{EventLoop}
 use Rattle.spine.specs.declared.shared.Shared.{Shared}
 use Rattle.worker_turns.specs.Turns.{Steps}
@@ -79,11 +79,13 @@ Write view turns old new = Acts of_anybody view turns (change_of tt old tt new)
 -- ---- the links
 
 -- What one of the two loops made: for each of its links its passes, in which each reply is its request's, and behind them at most its
--- `Leave`, and nothing else.
+-- `Leave`, and nothing else. No check-back was written.
 pub record AreAnswered (tells : Type 0) (gives : Giving) (number : ℕ) (steps : Made) : Type 0 where
   pub acts : List Act
   pub all : steps ≡ steps_of acts
-  pub each : (link : ℕ) → (made_for link acts ≡ []) ⊎ ((loop_of 2 link ≡ number) × IsAnsweredInOrder tells gives link (made_for link acts))
+  pub none_asked : asks_of acts ≡ []
+  pub each : (link : ℕ) → DidNothing link acts
+      ⊎ ((loop_of 2 link ≡ number) × IsAnsweredInOrder tells gives link (made_for link acts) (asks_for link acts))
 
 -- ---- the keeper
 

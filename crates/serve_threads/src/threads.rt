@@ -15,7 +15,9 @@ use crate::flusher::keep_flushing;
 use crate::keeper::keep_up;
 use broker_core::Owner;
 use broker_events::Calls;
-use event_loops::{Around, EventLoop, LoopEnd, Outside, each_link_of_a_loop_is_answered_in_order};
+use event_loops::{
+    Around, EventLoop, LoopEnd, NoAsks, Outside, each_link_of_a_loop_is_answered_in_order,
+};
 use group_flush::Flusher;
 use mq_outside::{Clock, Disk, Keep, Reader};
 use mq_peers::Ready;
@@ -59,7 +61,7 @@ impl<P: Ready + Drop, K: Clock + Drop, C: Calls + Drop, R: Reader + Drop> Worker
             mut reader,
             end: _,
         } = self;
-        let end = event_loop.run(around, &mut outside, &mut calls, &mut reader);
+        let end = event_loop.run(around, &mut outside, &mut NoAsks, &mut calls, &mut reader);
         each_link_of_a_loop_is_answered_in_order::<P::Link, R>();
         tell_end(around, end);
         Worker {

@@ -5,10 +5,13 @@ use Rattle.std.proofs.lemmas.List.{take-append-drop, drop-append-le, map-append}
 use Rattle.mq_outside.specs.Readings.{Giving}
 use Rattle.remoting_frame.specs.Held.{Held}
 use Rattle.broker_events.specs.declared.event.Event.TheVariants as events
+use Rattle.reply_fields.specs.Parts.{AskParts}
+use Rattle.reply_fields.specs.Asks.{ask_bytes}
+use Rattle.session.specs.Asking.{Asks, AreFor, opaque_of, count_after}
 use Rattle.session.specs.Talks.{HasHeard}
 use Rattle.session.specs.Serving.{Made, KeepsLink, KeepsOut, KeepsRest, IsRefused, IsAsked, Rests, Answers, FindsNoRoom, ServesNext, GivesUp, caller_of, no_room}
 use Rattle.session.specs.Settling.{IsSettled, unsent_of}
-use Rattle.session.specs.Sessions.{Call, fed, served, gave_up, settled, sent, HadMemory, IsCall, AreCalls, stream_in, sent_in, made_in, stream_of, sent_of, made_of, applied_in, found_in, Answer, IsAnswer, steps_of, HasServed, IsNew, RepliesInOrder}
+use Rattle.session.specs.Sessions.{Call, fed, served, gave_up, settled, sent, asked, HadMemory, IsCall, AreCalls, stream_in, sent_in, made_in, asks_in, stream_of, sent_of, made_of, asks_of, applied_in, found_in, Answer, IsAnswer, steps_of, checked, replies_to, owed_among, asks_among, ArePieces, HasServed, IsNew, RepliesInOrder}
 use Rattle.session.specs.declared.heard.Heard.{Heard}
 use Rattle.session.specs.declared.owed.Owed.{Owed}
 use Rattle.session.specs.declared.owed.Applied.{Applied}
@@ -21,7 +24,7 @@ use Rattle.session.specs.declared.serving.Halt.{Halt}
 use Rattle.session.specs.declared.serving.Halt.TheVariants as halts
 use Rattle.session.proofs.TalkLaws.{one_answer}
 use Rattle.session.proofs.ServingSteps.{asked_on}
-use Rattle.session.proofs.SessionParts.{moves_on, stays, hears_on, hears_fed, takes_one, had_room, had_none, one_applied, none_applied, applies_on, finds_on, settles_applies, settles_finds, stops_applies, stops_finds, answers_on, steps_append, puts_replies, replies_on}
+use Rattle.session.proofs.SessionParts.{moves_on, stays, hears_on, hears_fed, takes_one, had_room, had_none, one_applied, none_applied, applies_on, finds_on, settles_applies, settles_finds, stops_applies, stops_finds, answers_on, steps_append, puts_replies, owed_among_replies, asks_among_replies, owed_among_append, asks_among_append, for_append, count_append, pieces_on}
 
 -- ---- what is seen of the bytes
 
@@ -41,7 +44,7 @@ hears_at : (at : ℕ) (bytes : List ℕ) (heard : List Heard) (new : Held) → H
 hears_at at bytes heard new h = subst (λ (l : List ℕ). HasHeard at l heard new) (sym (append-nil bytes)) h
 
 did_feed : (gives : Giving) (old new : Session) (piece : List ℕ) → new.talk.cutter ≡ record { at = old.talk.cutter.at; bytes = old.talk.cutter.bytes ++ piece }
-    → KeepsRest old new → HasServed gives old piece [] [] new
+    → KeepsRest old new → HasServed gives old piece [] [] [] new
 did_feed gives old new piece cut keeps = record {
   link = keeps.link;
   heard = [];
@@ -50,18 +53,21 @@ did_feed gives old new piece cut keeps = record {
   are = tt;
   each = stays (option_to_list old.held) (option_to_list new.held) (ap (λ (w : Option Heard). option_to_list w) keeps.held);
   applied = refl;
-  settled = [];
+  pieces = [];
+  asked = refl;
+  for_link = tt;
+  count = keeps.out.2;
   left = stays old.owed.items new.owed.items keeps.owed;
   looks = [];
   found = refl;
   bytes = [];
-  replies = (refl, refl);
+  are_pieces = (refl, refl);
   went = stays (unsent_of old) (unsent_of new) (unsent_same old new keeps.out.0 keeps.out.1);
 }
 
 -- no request was served
 did_rest : (gives : Giving) (old new : Session) (made : Made) → HasHeard old.talk.cutter.at old.talk.cutter.bytes [] new.talk.cutter → Rests old made new
-    → KeepsLink old new → KeepsOut old new → HasServed gives old [] made [] new
+    → KeepsLink old new → KeepsOut old new → HasServed gives old [] made [] [] new
 did_rest gives old new made hears rests link out = record {
   link = link;
   heard = [];
@@ -70,12 +76,15 @@ did_rest gives old new made hears rests link out = record {
   are = tt;
   each = stays (option_to_list old.held) (option_to_list new.held) (ap (λ (w : Option Heard). option_to_list w) (rests.held.1 ∙ sym rests.held.0));
   applied = ap applied_in rests.none;
-  settled = [];
+  pieces = [];
+  asked = refl;
+  for_link = tt;
+  count = out.2;
   left = stays old.owed.items new.owed.items rests.owed;
   looks = [];
   found = ap found_in rests.none;
   bytes = [];
-  replies = (refl, refl);
+  are_pieces = (refl, refl);
   went = stays (unsent_of old) (unsent_of new) (unsent_same old new out.0 out.1);
 }
 
@@ -91,7 +100,7 @@ answer_finds talk now heard applied made (inl h) = ap found_in h.none
 answer_finds talk now heard applied made (inr h) = ap found_in h.one
 
 -- a request was answered
-did_answer : (gives : Giving) (now : ℕ) (old new : Session) (made : Made) → Answers now old made new → KeepsLink old new → KeepsOut old new → HasServed gives old [] made [] new
+did_answer : (gives : Giving) (now : ℕ) (old new : Session) (made : Made) → Answers now old made new → KeepsLink old new → KeepsOut old new → HasServed gives old [] made [] [] new
 did_answer gives now old new made h link out =
     let next = takes_one old.held h.heard old.talk.cutter new.talk.cutter h.next in
     record {
@@ -102,17 +111,20 @@ did_answer gives now old new made h link out =
       are = (inl (now, h.answered), tt);
       each = next.one ∙ ap (λ (w : Option Heard). h.heard ∷ option_to_list w) (sym h.held);
       applied = answer_applies old.talk now h.heard h.owed made h.answered.comes ∙ sym (append-nil made);
-      settled = [];
+      pieces = [];
+      asked = refl;
+      for_link = tt;
+      count = out.2;
       left = sym h.behind;
       looks = [];
       found = answer_finds old.talk now h.heard (Owes h.owed.reply h.owed.awaits) made h.answered.comes;
       bytes = [];
-      replies = (refl, refl);
+      are_pieces = (refl, refl);
       went = stays (unsent_of old) (unsent_of new) (unsent_same old new out.0 out.1);
     }
 
 -- a request found no room
-did_hold : (gives : Giving) (now : ℕ) (old new : Session) (made : Made) → FindsNoRoom now old made new → KeepsLink old new → KeepsOut old new → HasServed gives old [] made [] new
+did_hold : (gives : Giving) (now : ℕ) (old new : Session) (made : Made) → FindsNoRoom now old made new → KeepsLink old new → KeepsOut old new → HasServed gives old [] made [] [] new
 did_hold gives now old new made h link out =
     let next = takes_one old.held h.heard old.talk.cutter new.talk.cutter h.next in
     record {
@@ -124,17 +136,20 @@ did_hold gives now old new made h link out =
       each = next.one ∙ ap (λ (w : Option Heard). option_to_list w) (sym h.held);
       applied = ap applied_in h.asked.one
           ∙ none_applied (events.Request old.talk.link old.talk.host now h.asked.request, h.asked.what) _ (had_none h.asked.what h.pending h.asked.told);
-      settled = [];
+      pieces = [];
+      asked = refl;
+      for_link = tt;
+      count = out.2;
       left = stays old.owed.items new.owed.items h.same;
       looks = [];
       found = ap found_in h.asked.one;
       bytes = [];
-      replies = (refl, refl);
+      are_pieces = (refl, refl);
       went = stays (unsent_of old) (unsent_of new) (unsent_same old new out.0 out.1);
     }
 
 did_serve : (gives : Giving) (now : ℕ) (old new : Session) (made : Made) (result : Result Step Halt) → HadMemory result → ServesNext now old made result new → KeepsLink old new
-    → KeepsOut old new → HasServed gives old [] made [] new
+    → KeepsOut old new → HasServed gives old [] made [] [] new
 did_serve gives now old new made (Ok steps.Request) had h link out = did_answer gives now old new made h link out
 did_serve gives now old new made (Ok steps.Nothing) had h link out =
     did_rest gives old new made (one_answer old.talk.cutter new.talk.cutter (Ok None) h.1) h.0 link out
@@ -152,7 +167,7 @@ keeps_link : (old new : Session) → new.talk ≡ old.talk → KeepsLink old new
 keeps_link old new same = (ap (λ (t : Talk). t.link) same, ap (λ (t : Talk). t.host) same)
 
 did_give_up : (gives : Giving) (count : ℕ) (old new : Session) (held : Option Heard) → old.held ≡ held → GivesUp held count old (Ok tt) new → new.held ≡ None
-    → new.talk ≡ old.talk → KeepsOut old new → HasServed gives old [] [] [] new
+    → new.talk ≡ old.talk → KeepsOut old new → HasServed gives old [] [] [] [] new
 did_give_up gives count old new None is h none same out = record {
   link = keeps_link old new same;
   heard = [];
@@ -161,12 +176,15 @@ did_give_up gives count old new None is h none same out = record {
   are = tt;
   each = stays (option_to_list old.held) (option_to_list new.held) (ap (λ (w : Option Heard). option_to_list w) (none ∙ sym is));
   applied = refl;
-  settled = [];
+  pieces = [];
+  asked = refl;
+  for_link = tt;
+  count = out.2;
   left = stays old.owed.items new.owed.items h.1;
   looks = [];
   found = refl;
   bytes = [];
-  replies = (refl, refl);
+  are_pieces = (refl, refl);
   went = stays (unsent_of old) (unsent_of new) (unsent_same old new out.0 out.1);
 }
 did_give_up gives count old new (Some heard) is h none same out = record {
@@ -177,19 +195,22 @@ did_give_up gives count old new (Some heard) is h none same out = record {
   are = (inr (count, refl, refl), tt);
   each = ap (λ (w : Option Heard). option_to_list w ++ []) is ∙ ap (λ (w : Option Heard). heard ∷ option_to_list w) (sym none);
   applied = refl;
-  settled = [];
+  pieces = [];
+  asked = refl;
+  for_link = tt;
+  count = out.2;
   left = sym h;
   looks = [];
   found = refl;
   bytes = [];
-  replies = (refl, refl);
+  are_pieces = (refl, refl);
   went = stays (unsent_of old) (unsent_of new) (unsent_same old new out.0 out.1);
 }
 
 did_settle : (gives : Giving) (old new : Session) (made : Made) → IsSettled gives old made new → new.held ≡ old.held → new.talk ≡ old.talk → new.sent ≡ old.sent
-    → HasServed gives old [] made [] new
-did_settle gives old new made h held same kept =
-    let puts = puts_replies gives h.settled old.out.items h.first new.out.items h.puts in
+    → new.asked ≡ old.asked → HasServed gives old [] made [] [] new
+did_settle gives old new made h held same kept still =
+    let puts = puts_replies gives old.asked h.settled old.out.items h.first new.out.items h.puts in
     record {
       link = keeps_link old new same;
       heard = [];
@@ -199,19 +220,22 @@ did_settle gives old new made h held same kept =
       each = stays (option_to_list old.held) (option_to_list new.held) (ap (λ (w : Option Heard). option_to_list w) held);
       applied = ap applied_in h.both ∙ applies_on h.first h.last [] [] (settles_applies gives h.settled old.out.items h.first new.out.items h.puts)
           (stops_applies new.owed.items h.last _ h.stops);
-      settled = h.settled;
-      left = append-nil old.owed.items ∙ h.left;
+      pieces = replies_to h.settled;
+      left = append-nil old.owed.items ∙ h.left ∙ ap (λ (l : List Owed). l ++ new.owed.items) (sym (owed_among_replies h.settled));
+      asked = asks_among_replies h.settled;
+      for_link = tt;
+      count = still;
       looks = h.first;
       found = ap found_in h.both ∙ finds_on h.first h.last h.first [] (settles_finds gives h.settled old.out.items h.first new.out.items h.puts)
           (stops_finds new.owed.items h.last _ h.stops) ∙ append-nil h.first;
       bytes = puts.bytes;
-      replies = puts.replies;
+      are_pieces = puts.pieces;
       went = unsent_more old new puts.bytes puts.behind kept;
     }
 
 did_send : (gives : Giving) (count : ℕ) (bytes : List ℕ) (old new : Session) → bytes ≡ take count (unsent_of old) → unsent_of new ≡ drop count (unsent_of old) → new.held ≡ old.held
-    → new.talk ≡ old.talk → new.owed.items ≡ old.owed.items → HasServed gives old [] [] bytes new
-did_send gives count bytes old new is rest held same owed = record {
+    → new.talk ≡ old.talk → new.owed.items ≡ old.owed.items → new.asked ≡ old.asked → HasServed gives old [] [] [] bytes new
+did_send gives count bytes old new is rest held same owed still = record {
   link = keeps_link old new same;
   heard = [];
   hears = hears_none old new same;
@@ -219,22 +243,51 @@ did_send gives count bytes old new is rest held same owed = record {
   are = tt;
   each = stays (option_to_list old.held) (option_to_list new.held) (ap (λ (w : Option Heard). option_to_list w) held);
   applied = refl;
-  settled = [];
+  pieces = [];
+  asked = refl;
+  for_link = tt;
+  count = still;
   left = stays old.owed.items new.owed.items owed;
   looks = [];
   found = refl;
   bytes = [];
-  replies = (refl, refl);
+  are_pieces = (refl, refl);
   went = append-nil (unsent_of old) ∙ sym (ap (λ (l : List ℕ). l ++ unsent_of new) is ∙ ap (λ (l : List ℕ). take count (unsent_of old) ++ l) rest
       ∙ take-append-drop count (unsent_of old));
 }
 
-one_call : (gives : Giving) (old new : Session) (call : Call) → IsCall gives old call new → HasServed gives old (stream_in call) (made_in call) (sent_in call) new
+-- the frame of a check-back was put behind what is to be sent
+did_ask : (gives : Giving) (old new : Session) (ask : AskParts) → Asks old ask new → HasServed gives old [] [] (ask ∷ []) [] new
+did_ask gives old new ask h =
+    let frame = ask_bytes (opaque_of old.asked) ask.view in
+    record {
+      link = keeps_link old new h.talk;
+      heard = [];
+      hears = hears_none old new h.talk;
+      answers = [];
+      are = tt;
+      each = stays (option_to_list old.held) (option_to_list new.held) (ap (λ (w : Option Heard). option_to_list w) h.held);
+      applied = refl;
+      pieces = checked ask ∷ [];
+      asked = refl;
+      for_link = (h.link, tt);
+      count = h.counted;
+      left = stays old.owed.items new.owed.items h.owed;
+      looks = [];
+      found = refl;
+      bytes = frame;
+      are_pieces = ([], sym (append-nil frame), (refl, refl));
+      went = unsent_more old new frame h.put h.sent;
+    }
+
+one_call : (gives : Giving) (old new : Session) (call : Call) → IsCall gives old call new
+    → HasServed gives old (stream_in call) (made_in call) (asks_in call) (sent_in call) new
 one_call gives old new (fed piece) h = did_feed gives old new piece h.0 h.1
 one_call gives old new (served now made result) h = did_serve gives now old new made result h.0 h.1 h.2 h.3
 one_call gives old new (gave_up count) h = did_give_up gives count old new old.held refl h.0 h.1 h.2 h.3
-one_call gives old new (settled made) h = did_settle gives old new made h.0 h.1 h.2 h.3
-one_call gives old new (sent count bytes) h = did_send gives count bytes old new h.0 h.1 h.2 h.3 h.4
+one_call gives old new (settled made) h = did_settle gives old new made h.0 h.1 h.2 h.3 h.4
+one_call gives old new (sent count bytes) h = did_send gives count bytes old new h.0 h.1 h.2 h.3 h.4 h.5
+one_call gives old new (asked ask) h = did_ask gives old new ask h
 
 -- ---- one after another
 
@@ -255,9 +308,10 @@ answer_on talk other link host answer (inl h) = inl (
 )
 answer_on talk other link host answer (inr h) = inr h
 
-served_on : (gives : Giving) (old mid new : Session) (stream more : List ℕ) (made rest : Made) (gone others : List ℕ) → HasServed gives old stream made gone mid
-    → HasServed gives mid more rest others new → HasServed gives old (stream ++ more) (made ++ rest) (gone ++ others) new
-served_on gives old mid new stream more made rest gone others h k = record {
+served_on : (gives : Giving) (old mid new : Session) (stream more : List ℕ) (made rest : Made) (asks wrote : List AskParts) (gone others : List ℕ)
+    → HasServed gives old stream made asks gone mid → HasServed gives mid more rest wrote others new
+    → HasServed gives old (stream ++ more) (made ++ rest) (asks ++ wrote) (gone ++ others) new
+served_on gives old mid new stream more made rest asks wrote gone others h k = record {
   link = (k.link.0 ∙ h.link.0, k.link.1 ∙ h.link.1);
   heard = h.heard ++ k.heard;
   hears = subst (λ (l : List ℕ). HasHeard old.talk.cutter.at l (h.heard ++ k.heard) new.talk.cutter) (append_assoc old.talk.cutter.bytes stream more)
@@ -268,17 +322,23 @@ served_on gives old mid new stream more made rest gone others h k = record {
       (map (λ answer. answer.heard) k.answers) h.each k.each
       ∙ ap (λ (l : List Heard). l ++ option_to_list new.held) (sym (map-append (λ (answer : Answer). answer.heard) h.answers k.answers));
   applied = applies_on made rest (steps_of h.answers) (steps_of k.answers) h.applied k.applied ∙ sym (steps_append h.answers k.answers);
-  settled = h.settled ++ k.settled;
+  pieces = h.pieces ++ k.pieces;
+  asked = asks_among_append h.pieces k.pieces ∙ ap (λ (l : List AskParts). l ++ asks_among k.pieces) h.asked ∙ ap (λ (l : List AskParts). asks ++ l) k.asked;
+  for_link = for_append old.talk.link asks wrote h.for_link (subst (λ (n : ℕ). AreFor n wrote) h.link.0 k.for_link);
+  count = k.count ∙ ap (λ (n : ℕ). count_after n wrote) h.count ∙ sym (count_append old.asked asks wrote);
   left = ap (λ (l : List Owed). old.owed.items ++ l) (map-append (λ (answer : Answer). answer.owed) h.answers k.answers)
-      ∙ moves_on old.owed.items mid.owed.items new.owed.items (map (λ answer. answer.owed) h.answers) (map (λ answer. answer.owed) k.answers) h.settled k.settled h.left k.left;
+      ∙ moves_on old.owed.items mid.owed.items new.owed.items (map (λ answer. answer.owed) h.answers) (map (λ answer. answer.owed) k.answers)
+      (owed_among h.pieces) (owed_among k.pieces) h.left k.left
+      ∙ ap (λ (l : List Owed). l ++ new.owed.items) (sym (owed_among_append h.pieces k.pieces));
   looks = h.looks ++ k.looks;
   found = finds_on made rest h.looks k.looks h.found k.found;
   bytes = h.bytes ++ k.bytes;
-  replies = replies_on gives h.settled k.settled h.looks k.looks h.bytes k.bytes h.replies k.replies;
+  are_pieces = pieces_on gives old.asked mid.asked h.pieces k.pieces h.looks k.looks h.bytes k.bytes
+      (h.count ∙ ap (λ (l : List AskParts). count_after old.asked l) (sym h.asked)) h.are_pieces k.are_pieces;
   went = moves_on (unsent_of old) (unsent_of mid) (unsent_of new) h.bytes k.bytes gone others h.went k.went;
 }
 
-did_none : (gives : Giving) (old : Session) → HasServed gives old [] [] [] old
+did_none : (gives : Giving) (old : Session) → HasServed gives old [] [] [] [] old
 did_none gives old = record {
   link = (refl, refl);
   heard = [];
@@ -287,20 +347,23 @@ did_none gives old = record {
   are = tt;
   each = append-nil (option_to_list old.held);
   applied = refl;
-  settled = [];
+  pieces = [];
+  asked = refl;
+  for_link = tt;
+  count = refl;
   left = append-nil old.owed.items;
   looks = [];
   found = refl;
   bytes = [];
-  replies = (refl, refl);
+  are_pieces = (refl, refl);
   went = append-nil (unsent_of old);
 }
 
 pub calls_serve : (gives : Giving) (calls : List Call) (old new : Session) → AreCalls gives old calls new
-    → HasServed gives old (stream_of calls) (made_of calls) (sent_of calls) new
-calls_serve gives [] old new h = subst (λ (s : Session). HasServed gives old [] [] [] s) h (did_none gives old)
+    → HasServed gives old (stream_of calls) (made_of calls) (asks_of calls) (sent_of calls) new
+calls_serve gives [] old new h = subst (λ (s : Session). HasServed gives old [] [] [] [] s) h (did_none gives old)
 calls_serve gives (call ∷ calls) old new h =
-    served_on gives old h.0 new (stream_in call) (stream_of calls) (made_in call) (made_of calls) (sent_in call) (sent_of calls)
+    served_on gives old h.0 new (stream_in call) (stream_of calls) (made_in call) (made_of calls) (asks_in call) (asks_of calls) (sent_in call) (sent_of calls)
     (one_call gives old h.0 call h.1) (calls_serve gives calls h.0 new h.2)
 
 -- ---- from the beginning
@@ -325,7 +388,9 @@ replies_in_order gives old calls new is h =
       are = all.are;
       hears = hears_from old.talk.cutter new.talk.cutter (stream_of calls) all.heard (map (λ answer. answer.heard) all.answers ++ option_to_list new.held) is.held heard all.hears;
       applied = all.applied;
-      settled = all.settled;
+      pieces = all.pieces;
       left = ap (λ (l : List Owed). l ++ map (λ answer. answer.owed) all.answers) (sym is.none.1) ∙ all.left;
-      replies = rw (← bytes, all.found) all.replies;
+      asked = all.asked;
+      for_link = all.for_link;
+      replies = rw (← bytes, all.found) (subst (λ (n : ℕ). ArePieces gives n all.pieces all.looks all.bytes) is.asked all.are_pieces);
     }

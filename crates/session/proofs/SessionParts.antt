@@ -7,19 +7,21 @@ use Rattle.mq_outside.specs.Readings.{Giving}
 use Rattle.remoting_frame.specs.Held.{Held}
 use Rattle.remoting_frame.specs.declared.frame.Frame.{Frame}
 use Rattle.remoting_frame.proofs.StreamLaws.{begins_more}
-use Rattle.reply_fields.specs.Parts.{ReplyParts}
+use Rattle.reply_fields.specs.Parts.{ReplyParts, AskParts}
+use Rattle.reply_fields.specs.Asks.{ask_bytes}
 use Rattle.reply_fields.specs.Replies.{reply_bytes}
 use Rattle.broker_events.specs.declared.event.Event.{Event}
 use Rattle.broker_events.specs.declared.said.Said.{Said}
 use Rattle.broker_events.specs.declared.said.Said.TheVariants as said
 use Rattle.broker_events.specs.declared.said.Awaited.{Awaited}
 use Rattle.broker_events.specs.declared.said.Awaited.TheVariants.{Flushed, Failed, NotYet}
+use Rattle.session.specs.Asking.{AreFor, opaque_of, next_count, count_after}
 use Rattle.session.specs.Hearing.{is_response}
 use Rattle.session.specs.Talks.{HasHeard, AreHeard, requests_of}
 use Rattle.session.specs.Owing.{applied_of, unwritten, IsWritten}
 use Rattle.session.specs.Serving.{Made, IsNext}
 use Rattle.session.specs.Settling.{look_for, IsDueAt, IsDueAfter, IsNotYet, Waits, Settles}
-use Rattle.session.specs.Sessions.{applies, applied_in, has_room, finds, found_in, Answer, IsAnswer, AreAnswers, steps_of, AreReplies}
+use Rattle.session.specs.Sessions.{applies, applied_in, has_room, finds, found_in, Answer, IsAnswer, AreAnswers, steps_of, AreReplies, Piece, replied, checked, replies_to, owed_among, asks_among, ArePieces}
 use Rattle.session.specs.declared.heard.Heard.{Heard}
 use Rattle.session.specs.declared.caller.Caller.{Caller}
 use Rattle.session.specs.declared.owed.Awaits.{Awaits}
@@ -189,29 +191,57 @@ puts_by false gives caller reply count old new (inl h) =
 puts_by false gives caller reply count old new (inr h) =
     (reply_bytes caller.form caller.opaque (unwritten h.0 count) h.1.body, h.1.behind, inr (h.0, record { body = h.1.body; given = h.1.given; behind = refl }))
 
--- the bytes of all that is settled
-pub record PutsReplies (gives : Giving) (settled : List Owed) (made : Made) (old new : List ℕ) : Type 0 where
+-- the bytes of all that is settled, where so many check-backs were written
+pub record PutsReplies (gives : Giving) (count : ℕ) (settled : List Owed) (made : Made) (old new : List ℕ) : Type 0 where
   pub bytes : List ℕ
   pub behind : new ≡ old ++ bytes
-  pub replies : AreReplies gives settled made bytes
+  pub pieces : ArePieces gives count (replies_to settled) made bytes
 
-pub puts_replies : (gives : Giving) (settled : List Owed) (old : List ℕ) (made : Made) (new : List ℕ) → Settles gives settled old made new
-    → PutsReplies gives settled made old new
-puts_replies gives [] old made new h = record { bytes = []; behind = h.1 ∙ sym (append-nil old); replies = (h.0, refl) }
-puts_replies gives (owed ∷ more) old made new h =
+pub puts_replies : (gives : Giving) (count : ℕ) (settled : List Owed) (old : List ℕ) (made : Made) (new : List ℕ) → Settles gives settled old made new
+    → PutsReplies gives count settled made old new
+puts_replies gives count [] old made new h = record { bytes = []; behind = h.1 ∙ sym (append-nil old); pieces = (h.0, refl) }
+puts_replies gives count (owed ∷ more) old made new h =
     let one = puts_by owed.caller.one_way gives owed.caller h.4.due h.4.count old h.0 h.4.put in
-    let rest = puts_replies gives more h.0 h.2 new h.5 in
+    let rest = puts_replies gives count more h.0 h.2 new h.5 in
     record {
       bytes = one.0 ++ rest.bytes;
       behind = rest.behind ∙ ap (λ l. l ++ rest.bytes) one.1 ∙ append_assoc old one.0 rest.bytes;
-      replies = (h.1, h.2, one.0, rest.bytes, h.3, refl, record { due = h.4.due; is = h.4.is; count = h.4.count; put = one.2 }, rest.replies);
+      pieces = (h.1, h.2, one.0, rest.bytes, h.3, refl, record { due = h.4.due; is = h.4.is; count = h.4.count; put = one.2 }, rest.pieces);
     }
 
--- the replies of some, and then of others
-pub replies_on : (gives : Giving) (first more : List Owed) (made looks : Made) (bytes rest : List ℕ) → AreReplies gives first made bytes
-    → AreReplies gives more looks rest → AreReplies gives (first ++ more) (made ++ looks) (bytes ++ rest)
-replies_on gives [] more made looks bytes rest h k = rw (h.0, h.1) k
-replies_on gives (owed ∷ first) more made looks bytes rest h k = (
+-- ---- pieces
+
+pub owed_among_replies : (settled : List Owed) → owed_among (replies_to settled) ≡ settled
+owed_among_replies [] = refl
+owed_among_replies (owed ∷ settled) = ap (λ (l : List Owed). owed ∷ l) (owed_among_replies settled)
+
+pub asks_among_replies : (settled : List Owed) → asks_among (replies_to settled) ≡ []
+asks_among_replies [] = refl
+asks_among_replies (owed ∷ settled) = asks_among_replies settled
+
+pub owed_among_append : (first more : List Piece) → owed_among (first ++ more) ≡ owed_among first ++ owed_among more
+owed_among_append [] more = refl
+owed_among_append (replied owed ∷ first) more = ap (λ (l : List Owed). owed ∷ l) (owed_among_append first more)
+owed_among_append (checked ask ∷ first) more = owed_among_append first more
+
+pub asks_among_append : (first more : List Piece) → asks_among (first ++ more) ≡ asks_among first ++ asks_among more
+asks_among_append [] more = refl
+asks_among_append (replied owed ∷ first) more = asks_among_append first more
+asks_among_append (checked ask ∷ first) more = ap (λ (l : List AskParts). ask ∷ l) (asks_among_append first more)
+
+pub for_append : (link : ℕ) (first more : List AskParts) → AreFor link first → AreFor link more → AreFor link (first ++ more)
+for_append link [] more h k = k
+for_append link (ask ∷ first) more h k = (h.0, for_append link first more h.1 k)
+
+pub count_append : (count : ℕ) (first more : List AskParts) → count_after count (first ++ more) ≡ count_after (count_after count first) more
+count_append count [] more = refl
+count_append count (ask ∷ first) more = count_append (next_count count) first more
+
+-- some pieces, and then others, of which the first check-back is counted behind the last one of those
+pub pieces_on : (gives : Giving) (count later : ℕ) (first more : List Piece) (made looks : Made) (bytes rest : List ℕ) → later ≡ count_after count (asks_among first)
+    → ArePieces gives count first made bytes → ArePieces gives later more looks rest → ArePieces gives count (first ++ more) (made ++ looks) (bytes ++ rest)
+pieces_on gives count later [] more made looks bytes rest is h k = rw (h.0, h.1) (subst (λ (n : ℕ). ArePieces gives n more looks rest) is k)
+pieces_on gives count later (replied owed ∷ first) more made looks bytes rest is h k = (
   h.0,
   h.1 ++ looks,
   h.2,
@@ -219,5 +249,18 @@ replies_on gives (owed ∷ first) more made looks bytes rest h k = (
   ap (λ l. l ++ looks) h.4 ∙ append_assoc h.0 h.1 looks,
   ap (λ l. l ++ rest) h.5 ∙ append_assoc h.2 h.3 rest,
   h.6,
-  replies_on gives first more h.1 looks h.3 rest h.7 k,
+  pieces_on gives count later first more h.1 looks h.3 rest is h.7 k,
 )
+pieces_on gives count later (checked ask ∷ first) more made looks bytes rest is h k = (
+  h.0 ++ rest,
+  ap (λ l. l ++ rest) h.1 ∙ append_assoc (ask_bytes (opaque_of count) ask.view) h.0 rest,
+  pieces_on gives (next_count count) later first more made looks h.0 rest is h.2 k,
+)
+
+-- where no check-back is among the pieces they are the replies alone
+pub replies_alone : (gives : Giving) (count : ℕ) (pieces : List Piece) (made : Made) (bytes : List ℕ) → asks_among pieces ≡ [] → ArePieces gives count pieces made bytes
+    → AreReplies gives (owed_among pieces) made bytes
+replies_alone gives count [] made bytes none h = h
+replies_alone gives count (replied owed ∷ pieces) made bytes none h =
+    (h.0, h.1, h.2, h.3, h.4, h.5, h.6, replies_alone gives count pieces h.1 h.3 none h.7)
+replies_alone gives count (checked ask ∷ pieces) made bytes none h = cc

@@ -1,3 +1,4 @@
+pub mod Asking
 pub mod Hearing
 pub mod Owing
 pub mod Serving

@@ -35,9 +35,9 @@ use Rattle.session.specs.declared.serving.Halt.TheVariants as halts
 abbrev pub KeepsLink : Session → Session → Type 0
 KeepsLink old new = (new.talk.link ≡ old.talk.link) × (new.talk.host ≡ old.talk.host)
 
--- the bytes of replies stay, and how many of them are sent
+-- the bytes that are written stay, how many of them are sent, and how many check-backs were written
 abbrev pub KeepsOut : Session → Session → Type 0
-KeepsOut old new = (new.out.items ≡ old.out.items) × (new.sent ≡ old.sent)
+KeepsOut old new = (new.out.items ≡ old.out.items) × (new.sent ≡ old.sent) × (new.asked ≡ old.asked)
 
 -- all but the stream stays
 pub record KeepsRest (old new : Session) : Type 0 where

@@ -1,13 +1,15 @@
--- Calls of a session: what they fed, which requests they heard, and the bytes of replies that left.
+-- Calls of a session: what they fed, which requests they heard, and the bytes of replies and check-backs that left.
 use Rattle.std.specs.Prelude.{◌≡◌, ◌⊎◌, ◌++◌, ℕ, List, [], ◌∷◌, Bool, true, false, take, drop, filter, map, option_to_list}
 use Rattle.std.specs.Prelude.{Option, Some, None, Result, Ok, Err}
 use Rattle.mq_outside.specs.Readings.{Giving}
-use Rattle.reply_fields.specs.Parts.{ReplyParts}
+use Rattle.reply_fields.specs.Parts.{ReplyParts, AskParts}
+use Rattle.reply_fields.specs.Asks.{ask_bytes}
 use Rattle.broker_events.specs.declared.event.Event.{Event}
 use Rattle.broker_events.specs.declared.event.Event.TheVariants as events
 use Rattle.broker_events.specs.declared.said.Said.{Said}
 use Rattle.broker_events.specs.declared.said.Said.TheVariants as said
 use Rattle.broker_events.specs.declared.said.Awaited.TheVariants.{Flushed, Failed, NotYet}
+use Rattle.session.specs.Asking.{Asks, AreFor, opaque_of, next_count, count_after}
 use Rattle.session.specs.Talks.{HasHeard}
 use Rattle.session.specs.Serving.{Made, KeepsRest, KeepsLink, KeepsOut, ServesNext, GivesUp, IsAnswered, caller_of, no_room}
 use Rattle.session.specs.Settling.{IsDueAfter, IsPut, IsSettled, unsent_of}
@@ -20,13 +22,14 @@ use Rattle.session.specs.declared.serving.Halt.{Halt}
 use Rattle.session.specs.declared.serving.Halt.TheVariants as halts
 
 -- A piece was fed; the next request was served, by these steps; the request that found no room was given up; replies were settled,
--- by these steps; or these bytes, so many of the unsent ones, were sent.
+-- by these steps; these bytes, so many of the unsent ones, were sent; or a check-back was written.
 pub data Call : Type 0 where
   fed : List ℕ → Call
   served : ℕ → Made → Result Step Halt → Call
   gave_up : ℕ → Call
   settled : Made → Call
   sent : ℕ → List ℕ → Call
+  asked : AskParts → Call
 
 -- memory did not want
 abbrev pub HadMemory : Result Step Halt → Type 0
@@ -43,9 +46,10 @@ IsCall gives old (served now made result) new =
 IsCall gives old (gave_up count) new =
     GivesUp old.held count old (Ok tt) new × (new.held ≡ None) × (new.talk ≡ old.talk) × KeepsOut old new
 IsCall gives old (settled made) new =
-    IsSettled gives old made new × (new.held ≡ old.held) × (new.talk ≡ old.talk) × (new.sent ≡ old.sent)
+    IsSettled gives old made new × (new.held ≡ old.held) × (new.talk ≡ old.talk) × (new.sent ≡ old.sent) × (new.asked ≡ old.asked)
 IsCall gives old (sent count bytes) new = (bytes ≡ take count (unsent_of old)) × (unsent_of new ≡ drop count (unsent_of old))
-    × (new.held ≡ old.held) × (new.talk ≡ old.talk) × (new.owed.items ≡ old.owed.items)
+    × (new.held ≡ old.held) × (new.talk ≡ old.talk) × (new.owed.items ≡ old.owed.items) × (new.asked ≡ old.asked)
+IsCall gives old (asked ask) new = Asks old ask new
 
 -- these calls, in this order, lead from the old session to the new one
 abbrev pub AreCalls : Giving → Session → List Call → Session → Type 0
@@ -61,6 +65,7 @@ stream_in (served now made result) = []
 stream_in (gave_up count) = []
 stream_in (settled made) = []
 stream_in (sent count bytes) = []
+stream_in (asked ask) = []
 
 -- the bytes that were sent
 abbrev pub sent_in : Call → List ℕ
@@ -69,6 +74,7 @@ sent_in (served now made result) = []
 sent_in (gave_up count) = []
 sent_in (settled made) = []
 sent_in (sent count bytes) = bytes
+sent_in (asked ask) = []
 
 -- the steps that were made
 abbrev pub made_in : Call → Made
@@ -77,6 +83,16 @@ made_in (served now made result) = made
 made_in (gave_up count) = []
 made_in (settled made) = made
 made_in (sent count bytes) = []
+made_in (asked ask) = []
+
+-- the check-backs that were written
+abbrev pub asks_in : Call → List AskParts
+asks_in (fed piece) = []
+asks_in (served now made result) = []
+asks_in (gave_up count) = []
+asks_in (settled made) = []
+asks_in (sent count bytes) = []
+asks_in (asked ask) = ask ∷ []
 
 -- the pieces that were fed, joined
 abbrev pub stream_of : List Call → List ℕ
@@ -92,6 +108,11 @@ sent_of (call ∷ calls) = sent_in call ++ sent_of calls
 abbrev pub made_of : List Call → Made
 made_of [] = []
 made_of (call ∷ calls) = made_in call ++ made_of calls
+
+-- all check-backs that were written, in order
+abbrev pub asks_of : List Call → List AskParts
+asks_of [] = []
+asks_of (call ∷ calls) = asks_in call ++ asks_of calls
 
 -- it was not said that there is no room
 abbrev pub has_room : Option Said → Bool
@@ -190,10 +211,43 @@ AreReplies gives [] made bytes = (made ≡ []) × (bytes ≡ [])
 AreReplies gives (owed ∷ more) made bytes = (looks : Made) × (others : Made) × (first : List ℕ) × (rest : List ℕ)
     × (made ≡ looks ++ others) × (bytes ≡ first ++ rest) × IsReplyTo gives owed looks first × AreReplies gives more others rest
 
--- What calls have done that fed this stream, made these steps and sent these bytes. The requests of the stream are `heard`; with one
--- that was held before they are those that were answered and one that is held now. What was owed before and the answers are what left
--- and what is owed now; and what was to be sent before and the replies of those that left are what was sent and what is to be sent now.
-pub record HasServed (gives : Giving) (old : Session) (stream : List ℕ) (made : Made) (sent : List ℕ) (new : Session) : Type 0 where
+-- what leaves, whole: the reply to what was owed, or a check-back
+pub data Piece : Type 0 where
+  replied : Owed → Piece
+  checked : AskParts → Piece
+
+-- the replies to what was owed
+abbrev pub replies_to : List Owed → List Piece
+replies_to [] = []
+replies_to (owed ∷ more) = replied owed ∷ replies_to more
+
+-- what was owed for the replies among these, in order
+abbrev pub owed_among : List Piece → List Owed
+owed_among [] = []
+owed_among (replied owed ∷ pieces) = owed ∷ owed_among pieces
+owed_among (checked ask ∷ pieces) = owed_among pieces
+
+-- the check-backs among these, in order
+abbrev pub asks_among : List Piece → List AskParts
+asks_among [] = []
+asks_among (replied owed ∷ pieces) = asks_among pieces
+asks_among (checked ask ∷ pieces) = ask ∷ asks_among pieces
+
+-- The bytes are those of these pieces, one after another: each reply after its looks, and each check-back with the opaque of its
+-- place among those that were written, of which there were so many before.
+abbrev pub ArePieces : Giving → ℕ → List Piece → Made → List ℕ → Type 0
+ArePieces gives count [] made bytes = (made ≡ []) × (bytes ≡ [])
+ArePieces gives count (replied owed ∷ more) made bytes = (looks : Made) × (others : Made) × (first : List ℕ) × (rest : List ℕ)
+    × (made ≡ looks ++ others) × (bytes ≡ first ++ rest) × IsReplyTo gives owed looks first × ArePieces gives count more others rest
+ArePieces gives count (checked ask ∷ more) made bytes = (rest : List ℕ)
+    × (bytes ≡ ask_bytes (opaque_of count) ask.view ++ rest) × ArePieces gives (next_count count) more made rest
+
+-- What calls have done that fed this stream, made these steps, wrote these check-backs and sent these bytes. The requests of the stream
+-- are `heard`; with one that was held before they are those that were answered and one that is held now. What was owed before and the
+-- answers are what left and what is owed now; and what was to be sent before, the replies of those that left and the check-backs are
+-- what was sent and what is to be sent now.
+pub record HasServed (gives : Giving) (old : Session) (stream : List ℕ) (made : Made) (asks : List AskParts) (sent : List ℕ)
+    (new : Session) : Type 0 where
   pub link : KeepsLink old new
   pub heard : List Heard
   pub hears : HasHeard old.talk.cutter.at (old.talk.cutter.bytes ++ stream) heard new.talk.cutter
@@ -201,27 +255,34 @@ pub record HasServed (gives : Giving) (old : Session) (stream : List ℕ) (made 
   pub are : AreAnswers old.talk answers
   pub each : option_to_list old.held ++ heard ≡ map (λ answer. answer.heard) answers ++ option_to_list new.held
   pub applied : applied_in made ≡ steps_of answers
-  pub settled : List Owed
-  pub left : old.owed.items ++ map (λ answer. answer.owed) answers ≡ settled ++ new.owed.items
+  pub pieces : List Piece
+  pub left : old.owed.items ++ map (λ answer. answer.owed) answers ≡ owed_among pieces ++ new.owed.items
+  pub asked : asks_among pieces ≡ asks
+  pub for_link : AreFor old.talk.link asks
+  pub count : new.asked ≡ count_after old.asked asks
   pub looks : Made
   pub found : found_in made ≡ looks
   pub bytes : List ℕ
-  pub replies : AreReplies gives settled looks bytes
+  pub are_pieces : ArePieces gives old.asked pieces looks bytes
   pub went : unsent_of old ++ bytes ≡ sent ++ unsent_of new
 
 -- nothing was heard yet, and nothing is owed
 pub record IsNew (session : Session) : Type 0 where
   pub held : session.talk.cutter ≡ record { at = 0; bytes = [] }
   pub none : (session.held ≡ None) × (session.owed.items ≡ []) × (session.out.items ≡ []) × (session.sent ≡ 0)
+  pub asked : session.asked ≡ 0
 
 -- What calls of a new session have done: the requests of the stream are those that were answered, and one that is held; the steps at
 -- which a request was applied are those of the answers; and what was sent, and is to be sent, are the replies of the first requests,
--- in order, one each, and none for those that wait for none. The looks that found something are those of these replies.
+-- in order, one each, and none for those that wait for none, and between them, whole, the check-backs that were written, in order, each
+-- for this link. The looks that found something are those of these replies.
 pub record RepliesInOrder (gives : Giving) (old : Session) (calls : List Call) (new : Session) : Type 0 where
   pub answers : List Answer
   pub are : AreAnswers old.talk answers
   pub hears : HasHeard 0 (stream_of calls) (map (λ answer. answer.heard) answers ++ option_to_list new.held) new.talk.cutter
   pub applied : applied_in (made_of calls) ≡ steps_of answers
-  pub settled : List Owed
-  pub left : map (λ answer. answer.owed) answers ≡ settled ++ new.owed.items
-  pub replies : AreReplies gives settled (found_in (made_of calls)) (sent_of calls ++ unsent_of new)
+  pub pieces : List Piece
+  pub left : map (λ answer. answer.owed) answers ≡ owed_among pieces ++ new.owed.items
+  pub asked : asks_among pieces ≡ asks_of calls
+  pub for_link : AreFor old.talk.link (asks_of calls)
+  pub replies : ArePieces gives 0 pieces (found_in (made_of calls)) (sent_of calls ++ unsent_of new)

@@ -70,6 +70,7 @@ impl Session {
         ensures link { (result.talk.link ≡ link) × (result.talk.host ≡ host) }
         ensures held { result.talk.cutter ≡ record { at = 0; bytes = [] } }
         ensures none { (result.held ≡ None) × (result.owed.items ≡ []) × (result.out.items ≡ []) × (result.sent ≡ 0) }
+        ensures asked { result.asked ≡ 0 }
     {
         Session {
             talk: Talk::new(alloc, link, host),
@@ -77,6 +78,7 @@ impl Session {
             owed: VecDeque::new(alloc),
             out: Vec::new(alloc),
             sent: 0,
+            asked: 0,
         }
     }
 

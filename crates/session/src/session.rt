@@ -8,7 +8,8 @@ use crate::talk::Talk;
 use std::collections::VecDeque;
 
 /// A link. It is seen as its stream (`talk`), the request that found no room (`held`), what is owed for the requests before
-/// it, oldest first, and the bytes of the replies before these, of which the first `sent` are sent.
+/// it, oldest first, and the bytes of the replies before these with the check-backs between them, of which the first `sent`
+/// are sent.
 #[derive(Drop)]
 pub struct Session {
     pub(crate) talk: Talk,
@@ -16,5 +17,7 @@ pub struct Session {
     pub(crate) owed: VecDeque<Owed>,
     pub(crate) out: Vec<u8>,
     pub(crate) sent: usize,
+    // How many check-backs were written, up to overflow.
+    pub(crate) asked: u32,
     ghost within: { sent ≤ length out.items },
 }

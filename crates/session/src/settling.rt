@@ -95,6 +95,7 @@ impl Session {
         ensures held { self.new.held ≡ self.old.held }
         ensures talk { self.new.talk ≡ self.old.talk }
         ensures sent { self.new.sent ≡ self.old.sent }
+        ensures asked { self.new.asked ≡ self.old.asked }
     {
         'owed: while !self.owed.is_empty() {
             if self.out.len() - self.sent >= UNSENT_MAX {
@@ -122,6 +123,7 @@ impl Session {
         ensures held { self.new.held ≡ self.old.held }
         ensures talk { self.new.talk ≡ self.old.talk }
         ensures sent { self.new.sent ≡ self.old.sent }
+        ensures asked { self.new.asked ≡ self.old.asked }
     {
         if caller.one_way {
             drop(reply);
@@ -153,7 +155,7 @@ impl Session {
             || self.out.len() - self.sent >= UNSENT_MAX
     }
 
-    /// The bytes of replies that are to be sent.
+    /// The bytes that are to be sent.
     pub fn unsent(&self) -> &[u8]
         ensures { result.now ≡ unsent_of self.now }
     {
@@ -166,6 +168,7 @@ impl Session {
         ensures held { self.new.held ≡ self.old.held }
         ensures talk { self.new.talk ≡ self.old.talk }
         ensures owed { self.new.owed.items ≡ self.old.owed.items }
+        ensures asked { self.new.asked ≡ self.old.asked }
     {
         if count >= self.out.len() - self.sent {
             self.out.clear();

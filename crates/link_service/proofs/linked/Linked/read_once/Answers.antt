@@ -5,13 +5,13 @@ use Rattle.link_service.proofs.linked.Linked.read_once.Goals as goal
 
 pub returns-in-Ok : goal.returns-in-Ok
 returns-in-Ok g c = record {
-  went = unread_whole _ _ _ (fed _) _ c.requires.whole c.requires.whole (c.in-Ok.ensures.ok, c.in-Ok.ensures.rest) tt refl
+  went = unread_whole _ _ _ (fed _) _ c.requires.whole c.requires.whole (c.in-Ok.ensures.ok, c.in-Ok.ensures.rest) tt refl refl
       (rw c.in-Ok-Bytes.field-0-is at c.in-Ok-Bytes.ensures.given) (same_bytes _ _ _ c.in-Ok-Bytes.ensures.taken);
 }
 
 pub returns-in-Err-feed : goal.returns-in-Err-feed
 returns-in-Err-feed g c = record {
-  went = unread_breaks _ _ _ (fed _) _ c.requires.whole refl (c.in-Err-feed.ensures.err, c.in-Err-feed.ensures.rest) tt refl c.in-Ok-Bytes.ensures.given
+  went = unread_breaks _ _ _ (fed _) _ c.requires.whole refl (c.in-Err-feed.ensures.err, c.in-Err-feed.ensures.rest) tt refl refl c.in-Ok-Bytes.ensures.given
       (same_bytes _ _ _ c.in-Ok-Bytes.ensures.taken);
 }
 

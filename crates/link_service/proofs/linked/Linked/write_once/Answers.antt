@@ -4,7 +4,7 @@ use Rattle.link_service.proofs.linked.Linked.write_once.Goals as goal
 
 pub returns-in-Ok-Some : goal.returns-in-Ok-Some
 returns-in-Ok-Some g c = record {
-  went = unread_sent _ _ _ _ _ c.requires.whole c.requires.whole c.unsent.ensures c.sent.ensures.unsent c.sent.ensures.held c.sent.ensures.talk c.sent.ensures.owed
+  went = unread_sent _ _ _ _ _ c.requires.whole c.requires.whole c.unsent.ensures c.sent.ensures.unsent c.sent.ensures.held c.sent.ensures.talk c.sent.ensures.owed c.sent.ensures.asked
       c.in-Ok-Some.ensures.given (rw c.in-Ok-Some.field-0-is at c.in-Ok-Some.ensures.taken);
 }
 

@@ -3,7 +3,7 @@ use Rattle.session.proofs.SettlingSteps.{breaks, settled_none, settled_more, set
 use Rattle.session.proofs.session.Session.settle.Goals as goal
 
 pub owed-init : goal.owed-init
-owed-init g c = record { so = settled_none g.C.Calls.makes g.R.Reader.gives c.args.calls.now c.args.self.now; held = refl; talk = refl; sent = refl }
+owed-init g c = record { so = settled_none g.C.Calls.makes g.R.Reader.gives c.args.calls.now c.args.self.now; held = refl; talk = refl; sent = refl; asked = refl }
 
 pub returns-in_err-caller-clause-settles : goal.returns-in_err-caller-clause-settles
 returns-in_err-caller-clause-settles g c =
@@ -26,6 +26,7 @@ owed-preserved g c =
       held = c.put.ensures.held ∙ c.next_due.ensures.held ∙ c.owed.invariant.held;
       talk = c.put.ensures.talk ∙ c.next_due.ensures.talk ∙ c.owed.invariant.talk;
       sent = c.put.ensures.sent ∙ c.next_due.ensures.out.1 ∙ c.owed.invariant.sent;
+      asked = c.put.ensures.asked ∙ c.next_due.ensures.out.2 ∙ c.owed.invariant.asked;
     }
 
 pub returns-in_err-put-clause-settles : goal.returns-in_err-put-clause-settles

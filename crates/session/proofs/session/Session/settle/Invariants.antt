@@ -8,6 +8,7 @@ invariant-owed g l = record {
   held : l.self.held ≡ l.fn.self.held;
   talk : l.self.talk ≡ l.fn.self.talk;
   sent : l.self.sent ≡ l.fn.self.sent;
+  asked : l.self.asked ≡ l.fn.self.asked;
 }
 
 abbrev pub decreases-owed : goal.decreases-owed

@@ -1,0 +1,6 @@
+use Rattle.std.proofs.Common.{◌∙◌}
+use Rattle.session.proofs.SessionParts.{replies_alone}
+use Rattle.session.proofs.laws.without_check_backs_the_replies_leave_alone.Goals as goal
+
+pub returns : goal.returns
+returns g c = λ old calls new none is. replies_alone g.R.Reader.gives 0 is.pieces _ _ (is.asked ∙ none) is.replies
