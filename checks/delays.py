@@ -254,7 +254,7 @@ def _(folder):
     assert [r["code"] for r in told] == [0, 1, 17], told
 
 
-@check("serve keeps delayed messages, and the next run of pipe delivers what is due")
+@check("serve delivers nothing before its time, and the next run of pipe delivers what is due")
 def _(folder):
     clock = Clock(folder)
     with Serve(folder, clock) as serve:

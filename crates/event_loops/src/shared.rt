@@ -8,6 +8,7 @@ use std::collections::VecDeque;
 use std::sync::atomic::{AtomicU64, Ordering};
 use std::sync::{Mutex, Wait};
 use std::thread::Parker;
+use std::time::Duration;
 
 /// A link that was let in, with its number. It has given and taken nothing yet.
 #[derive(Drop)]
@@ -111,9 +112,12 @@ impl Shared {
         self.bell.unpark();
     }
 
-    /// Sleeps until something is pending.
-    pub fn sleep<R: Wait>(&self, rt: &R) {
-        self.bell.park(rt);
+    /// Sleeps until something is pending, or so many milliseconds have passed.
+    pub fn sleep<R: Wait>(&self, rt: &R, most: Option<u64>) {
+        match most {
+            Some(millis) => self.bell.park_timeout(rt, Duration::from_millis(millis)),
+            None => self.bell.park(rt),
+        }
     }
 
     /// How many flush turns have ended, up to overflow.

@@ -25,7 +25,7 @@ const DEVICE: u8 = 10;
 // The store's devices.
 type FolderStore = Store<FolderDisk<HostRuntime>, FolderKeep<HostRuntime>>;
 
-// The readiness of both loops, their clocks, and the door.
+// The readiness of both loops, the clocks, and the door.
 type TcpWorld = World<TcpReady<HostRuntime>, MachineClock<HostRuntime>>;
 
 // An address and its port, as the arguments write them.
@@ -61,6 +61,7 @@ fn world_at(rt: HostRuntime, alloc: Global, listen: &[u8; 8]) -> Option<TcpWorld
     Some(World {
         ready: (one, two),
         clocks: (MachineClock::new(rt), MachineClock::new(rt)),
+        timer: MachineClock::new(rt),
         door: TcpDoor::at(rt, Ipv4Addr::new(a, b, c, d)),
     })
 }

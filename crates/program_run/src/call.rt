@@ -144,7 +144,7 @@ where
         }) }
     ensures others { (AsksLinks (texts_of words.now) → ⊥) → (result.ended.core ≡ None)
         × (result.ended.world.ready ≡ world.ready) × (result.ended.world.door ≡ world.door)
-        × (result.ended.world.clocks.1 ≡ world.clocks.1) }
+        × (result.ended.world.clocks.1 ≡ world.clocks.1) × (result.ended.world.timer ≡ world.timer) }
 
     // What `run_serve` promises, of the disk, the keep and the world. The streams stay.
     ensures serve { AsksLinks (texts_of words.now) → Serves (texts_of words.now) result.ended.status

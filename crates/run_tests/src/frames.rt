@@ -13,6 +13,12 @@ const HASTY: &[u8] =
 \"producerGroup\":\"P\",\"properties\":\"WAIT\\u0001false\\u0002\",\"queueId\":\"0\",\"sysFlag\":\"0\",\"topic\":\"T\"},\
 \"flag\":0,\"language\":\"JAVA\",\"opaque\":7,\"serializeTypeCurrentRPC\":\"JSON\",\"version\":395}";
 
+// The same, which is to be delivered a second later.
+const DELAYED: &[u8] =
+    b"{\"code\":10,\"extFields\":{\"bornTimestamp\":\"1000\",\"defaultTopic\":\"TBW102\",\"defaultTopicQueueNums\":\"4\",\"flag\":\"0\",\
+\"producerGroup\":\"P\",\"properties\":\"DELAY\\u00011\\u0002\",\"queueId\":\"0\",\"sysFlag\":\"0\",\"topic\":\"T\"},\
+\"flag\":0,\"language\":\"JAVA\",\"opaque\":7,\"serializeTypeCurrentRPC\":\"JSON\",\"version\":395}";
+
 const PULL: &[u8] =
     b"{\"code\":11,\"opaque\":8,\"extFields\":{\"consumerGroup\":\"C\",\"topic\":\"T\",\"queueId\":\"0\",\"queueOffset\":\"0\",\
 \"maxMsgNums\":\"32\",\"sysFlag\":\"0\"}}";
@@ -35,6 +41,11 @@ pub(crate) fn put_send(out: &mut Vec<u8>, body: u32) -> Result<(), AllocError> {
 /// Appends a send with a body of two bytes that doesn't wait for the disk.
 pub(crate) fn put_hasty_send(out: &mut Vec<u8>) -> Result<(), AllocError> {
     put_frame(out, HASTY, 2)
+}
+
+/// Appends a send with a body of two bytes whose message is to be delivered a second later.
+pub(crate) fn put_delayed_send(out: &mut Vec<u8>) -> Result<(), AllocError> {
+    put_frame(out, DELAYED, 2)
 }
 
 /// Appends a pull from the first message on.

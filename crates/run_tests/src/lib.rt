@@ -2,6 +2,8 @@
 #![tactic(auto)]
 
 #[cfg(test)]
+mod delay_runs;
+#[cfg(test)]
 mod devices;
 #[cfg(test)]
 mod frames;

@@ -1,6 +1,6 @@
 //! One call of `serve` over links in memory.
 
-ghost use Rattle.std.specs.Prelude.{◌≡◌, [], IfOk};
+ghost use Rattle.std.specs.Prelude.{◌≡◌, ◌<◌, ◌^◌, [], IfOk};
 ghost use Rattle.mq_outside.specs.MemSource.{HasNoEmptyPiece};
 
 use crate::frames::put_send;
@@ -15,6 +15,9 @@ use std::thread::Threads;
 
 /// The log's first file.
 const LOG: &str = "commitlog/00000000000000000000";
+
+/// What the clocks of the loops say, in milliseconds.
+pub(crate) const NOW: u64 = 2_000;
 
 /// Room for a reply.
 pub(crate) const ROOM: u64 = 4096;
@@ -95,12 +98,14 @@ pub(crate) fn left_of<L: Link + Send + Drop, D: Disk + Drop>(
     }
 }
 
-// A clock at which it is always the same time.
-fn clock(alloc: Global) -> Result<MemClock, AllocError> {
-    MemClock::new(alloc, vec![in alloc; 2000]?, Vec::new(alloc))
+// A clock at which it is always this time.
+fn clock(alloc: Global, now: u64) -> Result<MemClock, AllocError>
+    requires { now < 2 ^ 62 }
+{
+    MemClock::new(alloc, vec![in alloc; now]?, Vec::new(alloc))
 }
 
-/// Serves the links of this door over this disk and an empty keep.
+/// Serves the links of this door over this disk and an empty keep. For the loops it is always `NOW`, and for the flusher `timer`.
 pub(crate) fn serve_over<
     W: Wait + Threads + Sync,
     L: Link + Send + Sync + Drop,
@@ -111,16 +116,19 @@ pub(crate) fn serve_over<
     words: &[&str],
     door: MemDoor<L>,
     disk: D,
+    timer: u64,
 ) -> Result<Ended<MemReady<L>, MemClock, D, MemKeep>, AllocError>
 where
     D::Reader: Send,
+    requires { timer < 2 ^ 62 }
 {
     let world = World {
         ready: (
             MemReady::new(alloc, u64::MAX),
             MemReady::new(alloc, u64::MAX),
         ),
-        clocks: (clock(alloc)?, clock(alloc)?),
+        clocks: (clock(alloc, NOW)?, clock(alloc, NOW)?),
+        timer: clock(alloc, timer)?,
         door,
     };
     let keep = MemKeep::new(alloc, Vec::new(alloc), Vec::new(alloc))?;
@@ -134,6 +142,6 @@ pub(crate) fn serve<W: Wait + Threads + Sync>(
     words: &[&str],
     door: MemDoor<MemLink>,
 ) -> Result<Left, AllocError> {
-    let ended = serve_over(rt, alloc, words, door, disk(alloc)?)?;
+    let ended = serve_over(rt, alloc, words, door, disk(alloc)?, NOW)?;
     Ok(left_of(&ended, &ended.store.disk))
 }

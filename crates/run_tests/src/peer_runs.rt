@@ -4,7 +4,7 @@
 use crate::frames::{put_hasty_send, put_pull, put_send};
 use crate::held_disk::HeldDisk;
 use crate::journal::{Journal, Note};
-use crate::links::{Left, disk, left_of, serve_over};
+use crate::links::{Left, NOW, disk, left_of, serve_over};
 use crate::peer::{Peer, Script};
 use crate::replies::Reply;
 use mq_peers::{Calls, MemDoor};
@@ -29,8 +29,8 @@ const BESIDE: [Note; 3] = [
     Note::Took(2, NOTHING),
 ];
 
-// What is left of a run that served so many sends, with a log of so many bytes.
-fn served(records: u64, log: usize) -> Left {
+/// What is left of a run that served so many sends, with a log of so many bytes.
+pub(crate) fn served(records: u64, log: usize) -> Left {
     Left {
         code: 0,
         device: "",
@@ -54,7 +54,7 @@ fn hasty_send(alloc: Global) -> Result<Vec<u8>, AllocError> {
     Ok(bytes)
 }
 
-fn pull(alloc: Global) -> Result<Vec<u8>, AllocError> {
+pub(crate) fn pull(alloc: Global) -> Result<Vec<u8>, AllocError> {
     let mut bytes = Vec::new(alloc);
     put_pull(&mut bytes)?;
     Ok(bytes)
@@ -93,8 +93,8 @@ fn sender(alloc: Global, count: u32, gone: Option<Note>) -> Result<Script, Alloc
     })
 }
 
-// A door at which these peers stand in order, and of whose calls these fail.
-fn door<'a, W: Wait + Clock>(
+/// A door at which these peers stand in order, and of whose calls these fail.
+pub(crate) fn door<'a, W: Wait + Clock>(
     alloc: Global,
     journal: &'a Journal<'a, W>,
     fails: Calls,
@@ -117,7 +117,7 @@ fn serve<'a, W: Wait + Threads + Clock + Sync>(
     until: Option<Note>,
 ) -> Result<Left, AllocError> {
     let disk = HeldDisk::new(disk(alloc)?, journal, until);
-    let ended = serve_over(rt, alloc, words, door, disk)?;
+    let ended = serve_over(rt, alloc, words, door, disk, NOW)?;
     Ok(left_of(&ended, &ended.store.disk.disk))
 }
 

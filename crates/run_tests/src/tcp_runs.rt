@@ -69,6 +69,7 @@ fn world(rt: HostRuntime) -> Result<World<TcpReady<HostRuntime>, MemClock>, Fail
     Ok(World {
         ready: (ready, other),
         clocks,
+        timer: clock(rt.alloc())?,
         door: TcpDoor::at(rt, Ipv4Addr::LOCALHOST),
     })
 }

@@ -1,9 +1,10 @@
 -- The flusher's turns, one after another.
-use Rattle.std.proofs.Common.{◌≡◌, ◌≢◌, ℕ, List, [], ◌∷◌, ◌++◌, Option, Some, None, inl, inr, refl, sym, ap, ◌∙◌, subst, append_assoc}
+use Rattle.std.proofs.Common.{◌≡◌, ◌≢◌, ⊎_elim, ℕ, List, [], ◌∷◌, ◌++◌, Option, Some, None, inl, inr, refl, sym, ap, ◌∙◌, subst, append_assoc}
 use Rattle.log_model.specs.declared.batch.Batch.{Batch}
 use Rattle.log_model.specs.declared.batch.Receipt.{Receipt}
 use Rattle.broker_events.specs.Makes.{Makes}
 use Rattle.broker_events.proofs.Makes.{makes_append}
+use Rattle.broker_events.specs.declared.event.Event.{Event}
 use Rattle.broker_events.specs.declared.event.Event.TheVariants as events
 use Rattle.broker_events.specs.declared.said.Said.{Said}
 use Rattle.broker_events.specs.declared.said.Said.TheVariants as said
@@ -12,9 +13,11 @@ use Rattle.worker_turns.specs.Turns.{Steps, TakesFrom, Writes, HasEnded, WroteNo
 use Rattle.worker_turns.specs.declared.flush.FlushEnd.{FlushEnd}
 use Rattle.worker_turns.specs.declared.flush.FlushEnd.TheVariants.{Idle, Done, Failed, Misplaced, Memory}
 use Rattle.worker_turns.specs.Acts as acts
-use Rattle.worker_turns.specs.Acts.{Act, DiskView, Place, TakesBatch, Acts, Acted, Happens, steps_in, steps_of, change_of, synced_at}
+use Rattle.worker_turns.specs.Acts.{Act, DiskView, Place, IsBetween, TakesBatch, Acts, Acted, Happens, steps_in, steps_of, change_of, synced_at}
 use Rattle.worker_turns.specs.Turning.{IsTurn, IsDispatch, most_seen}
-use Rattle.worker_turns.proofs.ActLemmas.{acted_then, acted_as, acted_none, one_step, takes_none, turn_acted}
+use Rattle.worker_turns.specs.Due.{acts_of_steps}
+use Rattle.worker_turns.proofs.ActLemmas.{IsOther, still, acted_then, acted_as, acted_none, one_step, takes_none, turn_acted}
+use Rattle.serve_threads.specs.Deliveries.{IsOfDeliveries, AreOfDeliveries, MakesDeliveries}
 use Rattle.serve_threads.specs.Served.{IsOfFlusher, AreOfFlusher, AreFlushing, of_anybody, Write}
 
 -- ---- events of the flusher
@@ -29,7 +32,10 @@ fails : (count : ℕ) → IsOfFlusher (events.FlushFailed count)
 fails count = inr (inr (inl (count, refl)))
 
 shows : (most : ℕ) → IsOfFlusher (events.Dispatch most)
-shows most = inr (inr (inr (most, refl)))
+shows most = inr (inr (inr (inl (most, refl))))
+
+delivers : (event : Event) → IsOfDeliveries event → IsOfFlusher event
+delivers event is = inr (inr (inr (inr is)))
 
 flusher_append : (xs ys : Made) → AreOfFlusher xs → AreOfFlusher ys → AreOfFlusher (xs ++ ys)
 flusher_append [] ys are more = more
@@ -41,6 +47,17 @@ steps_append (x ∷ xs) ys = ap (λ (l : Made). steps_in x ++ l) (steps_append x
 
 flushing_append : (xs ys : List Act) → AreFlushing xs → AreFlushing ys → AreFlushing (xs ++ ys)
 flushing_append xs ys are more = subst AreOfFlusher (sym (steps_append xs ys)) (flusher_append (steps_of xs) (steps_of ys) are more)
+
+deliveries_flushing : (steps : Made) → AreOfDeliveries steps → AreFlushing (acts_of_steps steps)
+deliveries_flushing [] are = tt
+deliveries_flushing (step ∷ steps) are = (delivers step.0 are.0, deliveries_flushing steps are.1)
+
+-- a delivery and a look have to do with no batch
+delivers_between : (event : Event) → IsOfDeliveries event → IsBetween event
+delivers_between event is = ⊎_elim (λ it. subst (λ (e : Event). IsBetween e) (sym it.1) tt) (λ it. subst (λ (e : Event). IsBetween e) (sym it) tt) is
+
+delivers_other : (event : Event) → IsOfDeliveries event → IsOther event
+delivers_other event is = ⊎_elim (λ it. subst (λ (e : Event). IsOther e) (sym it.1) tt) (λ it. subst (λ (e : Event). IsOther e) (sym it) tt) is
 
 -- ---- turns
 
@@ -95,6 +112,28 @@ module _ {C D : Type 0} (makes : Steps C) (view : DiskView D) where
     kind = (shows most_seen, tt);
     happened = one_step makes view (events.Dispatch most_seen) (Some (said.Moved made.0)) x y p p tt
         (takes_none (events.Dispatch most_seen) (Some (said.Moved made.0)) tt) made.1 refl;
+  }
+
+  -- deliveries and looks, by which the disk stays as it is
+  deliveries_acts : (p : Place D) (steps : Made) (x y : C) → AreOfDeliveries steps → Makes makes x steps y → Acts makes view (acts_of_steps steps) (change_of x p y p)
+  deliveries_acts p [] x y are made = subst (λ (w : C). Acts makes view [] (change_of x p w p)) made (still makes view x p)
+  deliveries_acts p (step ∷ steps) x y are made = (
+    made.0,
+    p,
+    record {
+      made = made.1;
+      between = delivers_between step.0 are.0;
+      apart = λ takes from. takes_none step.0 step.1 (delivers_other step.0 are.0) takes;
+      still = refl;
+    },
+    deliveries_acts p steps made.0 y are.1 made.2,
+  )
+
+  pub deliveries_turns : (x y : C) (p : Place D) → MakesDeliveries makes x y → Acted makes view AreFlushing (change_of x p y p)
+  deliveries_turns x y p it = record {
+    acts = acts_of_steps it.steps;
+    kind = deliveries_flushing it.steps it.are;
+    happened = deliveries_acts p it.steps x y it.are it.made;
   }
 
   -- ---- acts, by their steps and by what they did to the disk

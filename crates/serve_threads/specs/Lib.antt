@@ -1,3 +1,4 @@
 pub mod Causes
+pub mod Deliveries
 pub mod Kept
 pub mod Served

@@ -31,6 +31,7 @@ use Rattle.spine.specs.Passes.{Splits, Joins}
 use Rattle.spine.specs.Stands.{Stands}
 use Rattle.keeper_turns.specs.Puts.{KeepsBy}
 use Rattle.keeper_turns.specs.Turns.{IsOffsetsOf, IsTopicsOf}
+use Rattle.serve_threads.specs.Deliveries.{IsOfDeliveries}
 use Rattle.serve_threads.specs.Kept.{KeepOver, PutsAlong}
 
 -- how a run sees its links, what its readers give, and its disk
@@ -54,10 +55,11 @@ AreLoops first second = IsLoop 0 first × IsLoop 1 second
 
 -- ---- the flusher
 
--- the event is one of the flusher's: it takes a batch, tells how a flush turn ended, or lets consumers see what is flushed
+-- the event is one of the flusher's: it takes a batch, tells how a flush turn ended, lets consumers see what is flushed, delivers a
+-- delayed message, or looks when the next one is due
 abbrev pub IsOfFlusher : Event → Type 0
 IsOfFlusher event = (event ≡ Take) ⊎ ((receipt : Receipt) × (event ≡ Flushed receipt)) ⊎ ((count : ℕ) × (event ≡ FlushFailed count))
-    ⊎ ((most : ℕ) × (event ≡ Dispatch most))
+    ⊎ ((most : ℕ) × (event ≡ Dispatch most)) ⊎ IsOfDeliveries event
 
 -- all of these are the flusher's
 abbrev pub AreOfFlusher : Made → Type 0

@@ -1,4 +1,4 @@
-//! The flusher: one write and one sync for all that is pending, as often as something is.
+//! The flusher: one write and one sync for all that is pending, as often as something is. Between, it delivers delayed messages.
 
 ghost use Rattle.std.specs.Prelude.{◌≡◌, ◌≤◌, None};
 ghost use Rattle.log_model.specs.Stored.{StaysOutside};
@@ -8,10 +8,12 @@ ghost use Rattle.worker_turns.specs.Turning.{IsDispatch};
 ghost use Rattle.serve_threads.specs.Served.{AreFlushing};
 ghost use Rattle.serve_threads.specs.Causes.{BlamesDisk};
 
+use crate::timetable::Timetable;
+use broker_core::Owner;
 use broker_events::Calls;
-use event_loops::{Port, Shared};
+use event_loops::{Around, Port, Shared};
 use group_flush::Flusher;
-use mq_outside::Disk;
+use mq_outside::{Clock, Disk};
 use mq_peers::Ready;
 use std::alloc::Global;
 use std::sync::Wait;
@@ -77,13 +79,11 @@ fn flush_all<W: Wait, C: Calls, D: Disk, P: Ready>(
     unreachable!()
 }
 
-/// Flushes whenever it is rung for, until the loops have ended, and then what is left. What was pending when a turn failed is
-/// tried again at the next ring. Answers how the last turn ended.
-pub(crate) fn keep_flushing<W: Wait, C: Calls, D: Disk, P: Ready>(
-    rt: &W,
-    alloc: Global,
-    shared: &Shared,
-    ports: &[Port<P>],
+/// Flushes whenever it is rung for and delivers delayed messages in their time, until the loops have ended, and then flushes what is
+/// left. What was pending when a turn failed is tried again in the next round. Answers how the last turn ended.
+pub(crate) fn keep_flushing<W: Wait, C: Owner, D: Disk, P: Ready, K: Clock>(
+    around: &Around<'_, W, P>,
+    timetable: &mut Timetable<K>,
     calls: &mut C,
     flusher: &mut Flusher,
     disk: &mut D,
@@ -100,14 +100,23 @@ pub(crate) fn keep_flushing<W: Wait, C: Calls, D: Disk, P: Ready>(
         calls.new (place_of flusher.new.file disk.new)) }
     ensures cause { BlamesDisk result (D.faults disk.old) (D.faults disk.new) }
 {
-    for _ in rt.forever() {
+    for _ in around.rt.forever() {
         // Looked at before the turns, so that these flush what the loops appended to their end.
-        let over = shared.is_over();
-        let end = flush_all(rt, alloc, shared, ports, calls, flusher, disk);
+        let over = around.shared.is_over();
+        let end = flush_all(
+            around.rt,
+            around.alloc,
+            around.shared,
+            around.ports,
+            calls,
+            flusher,
+            disk,
+        );
         if over {
             return end;
         }
-        shared.sleep(rt);
+        let rest = timetable.deliver(around.alloc, calls, end, around.shared.turns());
+        around.shared.sleep(around.rt, rest);
     }
     unreachable!()
 }

@@ -1,5 +1,5 @@
 //! The broker over many links, from the core that is opened to the core that is left: two loops serve the links, one
-//! flusher writes what they append. And whose the entries of their history are, and which log the disk stores after it.
+//! flusher writes what they append and delivers delayed messages. And whose the entries of their history are, and which log the disk stores after it.
 #![tactic(auto)]
 
 mod flusher;
@@ -9,6 +9,7 @@ mod loops;
 mod served;
 mod starting;
 mod threads;
+mod timetable;
 mod world;
 
 pub use laws::a_shared_history_is_a_story;

@@ -202,6 +202,7 @@ fn gather<
         calls,
         flusher: _,
         disk,
+        clock,
         last,
     } = flushing;
     let Keeping {
@@ -213,7 +214,7 @@ fn gather<
     let turns = calls.leave();
     let looks = keeper.leave();
     Left {
-        world: World::join(near, far),
+        world: World::join(near, far, clock),
         end: first_fault(first_end, second_end),
         last,
         readers: (first_reader, second_reader),
@@ -236,7 +237,7 @@ fn run_seated<
     spine: &Spine,
     pass: Pass,
     loops: (EventLoop<P>, EventLoop<P>),
-    outsides: (Outside<P, K>, Outside<P, K>),
+    outsides: (Outside<P, K>, Outside<P, K>, K),
     devices: Devices<D, R, E>,
 ) -> Left<P, K, D, R, E>
 where
@@ -266,7 +267,7 @@ where
         keep,
     } = devices;
     let (first_loop, second_loop) = loops;
-    let (near, far) = outsides;
+    let (near, far, clock) = outsides;
     let Seats {
         flusher: key,
         first,
@@ -291,6 +292,7 @@ where
         calls: key,
         flusher,
         disk,
+        clock,
         last: FlushEnd::Idle,
     };
     let keeping = Keeping {

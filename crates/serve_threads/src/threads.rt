@@ -13,6 +13,7 @@ ghost use Rattle.serve_threads.specs.Causes.{BlamesDisk};
 
 use crate::flusher::keep_flushing;
 use crate::keeper::keep_up;
+use crate::timetable::Timetable;
 use broker_core::Owner;
 use broker_events::Calls;
 use event_loops::{
@@ -76,16 +77,17 @@ impl<P: Ready + Drop, K: Clock + Drop, C: Calls + Drop, R: Reader + Drop> Worker
 
 /// What the flusher works with, and how its last turn ended.
 #[derive(Drop)]
-pub(crate) struct Flushing<C: Calls + Drop, D: Disk + Drop> {
+pub(crate) struct Flushing<C: Owner + Drop, D: Disk + Drop, K: Clock + Drop> {
     pub(crate) calls: C,
     pub(crate) flusher: Flusher,
     pub(crate) disk: D,
+    pub(crate) clock: K,
     pub(crate) last: FlushEnd,
 }
 
-impl<C: Calls + Drop, D: Disk + Drop> Flushing<C, D> {
-    // Flushes until the loops have ended, and then what is left.
-    fn run<W: Wait, P: Ready + Drop>(self, around: &Around<'_, W, P>) -> Flushing<C, D>
+impl<C: Owner + Drop, D: Disk + Drop, K: Clock + Drop> Flushing<C, D, K> {
+    // Flushes and delivers until the loops have ended, and flushes then what is left.
+    fn run<W: Wait, P: Ready + Drop>(self, around: &Around<'_, W, P>) -> Flushing<C, D, K>
         requires key { C.has_key self.calls }
         requires none_out { (C.shown self.calls).out ≡ None }
         requires inside { D.tells → IsInside self.flusher.file.base self.flusher.file.offset (D.state self.disk) }
@@ -99,21 +101,16 @@ impl<C: Calls + Drop, D: Disk + Drop> Flushing<C, D> {
             mut calls,
             mut flusher,
             mut disk,
+            clock,
             last: _,
         } = self;
-        let last = keep_flushing(
-            around.rt,
-            around.alloc,
-            around.shared,
-            around.ports,
-            &mut calls,
-            &mut flusher,
-            &mut disk,
-        );
+        let mut timetable = Timetable::new(clock);
+        let last = keep_flushing(around, &mut timetable, &mut calls, &mut flusher, &mut disk);
         Flushing {
             calls,
             flusher,
             disk,
+            clock: timetable.into_clock(),
             last,
         }
     }
@@ -251,7 +248,7 @@ pub(crate) struct Ran<
     R: Reader + Drop,
     E: Keep + Drop,
 > {
-    pub(crate) flushing: Flushing<C, D>,
+    pub(crate) flushing: Flushing<C, D, K>,
     pub(crate) keeping: Keeping<C, E>,
     pub(crate) first: Worker<P, K, C, R>,
     pub(crate) second: Worker<P, K, C, R>,
@@ -270,7 +267,7 @@ pub(crate) fn run_all<
     around: &Around<'_, W, P>,
     first: Worker<P, K, C, R>,
     second: Worker<P, K, C, R>,
-    flushing: Flushing<C, D>,
+    flushing: Flushing<C, D, K>,
     keeping: Keeping<C, E>,
 ) -> Ran<P, D, K, C, R, E>
 where
@@ -296,7 +293,7 @@ where
 {
     let (flushing, (keeping, (first, second))) = join(
         around.rt,
-        move || -> Flushing<C, D>
+        move || -> Flushing<C, D, K>
             requires { C.has_key flushing.calls × ((C.shown flushing.calls).out ≡ None)
                 × (D.tells → IsInside flushing.flusher.file.base flushing.flusher.file.offset (D.state flushing.disk)) }
             ensures outside { D.tells → StaysOutside (D.state flushing.disk) (D.state result.disk) }

@@ -8,17 +8,19 @@ use event_loops::{Bounds, Entrance, Outside};
 use mq_outside::Clock;
 use mq_peers::Ready;
 
-/// What is around the loops: for each what tells which of its links are ready, and a clock; and the door.
+/// What is around the threads: for each loop what tells which of its links are ready, and a clock; the flusher's clock; and the door.
 #[derive(Drop)]
 pub struct World<P: Ready + Drop, K: Clock + Drop> {
     pub ready: (P, P),
     pub clocks: (K, K),
+    /// By this one delayed messages are delivered.
+    pub timer: K,
     pub door: P::Door,
 }
 
 impl<P: Ready + Drop, K: Clock + Drop> World<P, K> {
-    // What is outside each of the loops. The first one has the door, within these bounds.
-    pub(crate) fn part(self, bounds: Bounds) -> (Outside<P, K>, Outside<P, K>)
+    // What is outside each of the loops, and the flusher's clock. The first loop has the door, within these bounds.
+    pub(crate) fn part(self, bounds: Bounds) -> (Outside<P, K>, Outside<P, K>, K)
         ensures counts { both_faults (loop_faults P.faults P.Door.faults K.faults result.0)
             (loop_faults P.faults P.Door.faults K.faults result.1) ≡ world_faults P.faults P.Door.faults K.faults self }
         ensures door { HasDoor (door_faults P.Door.faults result.0.entrance) × (door_faults P.Door.faults result.1.entrance ≡ None) }
@@ -26,6 +28,7 @@ impl<P: Ready + Drop, K: Clock + Drop> World<P, K> {
         let World {
             ready: (first, second),
             clocks: (clock, other),
+            timer,
             door,
         } = self;
         let entrance = Entrance {
@@ -43,11 +46,11 @@ impl<P: Ready + Drop, K: Clock + Drop> World<P, K> {
             clock: other,
             entrance: None,
         };
-        (near, far)
+        (near, far, timer)
     }
 
     // The world again.
-    pub(crate) fn join(first: Outside<P, K>, second: Outside<P, K>) -> World<P, K>
+    pub(crate) fn join(first: Outside<P, K>, second: Outside<P, K>, timer: K) -> World<P, K>
         requires door { HasDoor (door_faults P.Door.faults first.entrance) }
         ensures counts { world_faults P.faults P.Door.faults K.faults result ≡ both_faults
             (loop_faults P.faults P.Door.faults K.faults first) (loop_faults P.faults P.Door.faults K.faults second) }
@@ -72,6 +75,7 @@ impl<P: Ready + Drop, K: Clock + Drop> World<P, K> {
             ) => World {
                 ready: (ready, other),
                 clocks: (clock, other_clock),
+                timer,
                 door,
             },
             None => unreachable!(),

@@ -11,7 +11,7 @@ pub returns-in-Err-clause-cause : goal.returns-in-Err-clause-cause
 returns-in-Err-clause-cause g c =
     let counts = world_faults g.P.Ready.faults g.P.Door.Door.faults g.K.Clock.faults in
     let was = c.args.world in
-    shut_blames c.named.result (counts was) (counts (record { ready = was.ready; clocks = was.clocks; door = c.open.new.self }))
+    shut_blames c.named.result (counts was) (counts (record { ready = was.ready; clocks = was.clocks; timer = was.timer; door = c.open.new.self }))
     c.named.ensures.code c.named.ensures.name c.in-Err.ensures.cause
 
 pub returns-in-Err-new-clause-tells : goal.returns-in-Err-new-clause-tells
@@ -21,5 +21,5 @@ pub returns-in-Err-new-clause-cause : goal.returns-in-Err-new-clause-cause
 returns-in-Err-new-clause-cause g c =
     let counts = world_faults g.P.Ready.faults g.P.Door.Door.faults g.K.Clock.faults in
     let was = c.args.world in
-    making_blames c.status_of_making.result c.in-Err-new.end (counts was) (counts (record { ready = was.ready; clocks = was.clocks; door = c.open.new.self }))
+    making_blames c.status_of_making.result c.in-Err-new.end (counts was) (counts (record { ready = was.ready; clocks = was.clocks; timer = was.timer; door = c.open.new.self }))
     (counts c.in-Err-new.world) c.status_of_making.ensures.tells refl c.in-Err-new.ensures.cause

@@ -1,6 +1,6 @@
 use Rattle.std.proofs.Common.{arith}
 use Rattle.log_model.proofs.OutsideLemmas.{outside_start, outside_then}
-use Rattle.serve_threads.proofs.Turns.{no_turns, turns_then}
+use Rattle.serve_threads.proofs.Turns.{no_turns, turns_then, deliveries_turns}
 use Rattle.serve_threads.proofs.Counting.{disk_blamed}
 use Rattle.serve_threads.proofs.flusher.keep_flushing.Goals as goal
 
@@ -23,16 +23,18 @@ pub returns-then-over-clause-acted : goal.returns-then-over-clause-acted
 returns-then-over-clause-acted g c = turns_then g.C.Calls.makes _ _ _ _ _ _ _ c.loop.invariant.acted c.flush_all-end.ensures.acted
 
 pub loop-preserved : goal.loop-preserved
-loop-preserved g c = record {
-  next = tt;
-  finite = tt;
-  key = c.flush_all-end.ensures.key;
-  none_out = c.flush_all-end.ensures.none_out;
-  inside = c.flush_all-end.ensures.inside;
-  outside = λ tells. outside_then (c.loop.invariant.outside tells) (c.flush_all-end.ensures.outside tells);
-  acted = turns_then g.C.Calls.makes _ _ _ _ _ _ _ c.loop.invariant.acted c.flush_all-end.ensures.acted;
-  grow = omega (arith, c.loop.invariant.grow, c.flush_all-end.ensures.grow);
-}
+loop-preserved g c =
+    let free = c.deliver-rest.ensures.free (record { key_is = c.flush_all-end.ensures.key; none_out = c.flush_all-end.ensures.none_out }) in record {
+      next = tt;
+      finite = tt;
+      key = free.key_is;
+      none_out = free.none_out;
+      inside = c.flush_all-end.ensures.inside;
+      outside = λ tells. outside_then (c.loop.invariant.outside tells) (c.flush_all-end.ensures.outside tells);
+      acted = turns_then g.C.Calls.makes _ _ _ _ _ _ _ (turns_then g.C.Calls.makes _ _ _ _ _ _ _ c.loop.invariant.acted c.flush_all-end.ensures.acted)
+          (deliveries_turns g.C.Calls.makes _ _ _ _ c.deliver-rest.ensures.made);
+      grow = omega (arith, c.loop.invariant.grow, c.flush_all-end.ensures.grow);
+    }
 
 pub returns-then-over-clause-cause : goal.returns-then-over-clause-cause
 returns-then-over-clause-cause g c = disk_blamed c.flush_all-end.result _ _ _ c.loop.invariant.grow c.flush_all-end.ensures.cause
