@@ -4,8 +4,8 @@ use mq_outside::{Disk, MemDisk, MemKeep, Room};
 use std::alloc::{AllocError, Global};
 use std::test::Fail;
 use store_open::{
-    AskedSizes, Command, ServeCommand, Sizes, Status, Unfit, open_format, read_serve_words,
-    read_words, unfit_at,
+    AskedSizes, Command, ServeCommand, Sizes, Status, Tool, ToolCommand, Unfit, open_format,
+    read_serve_words, read_tool_words, read_words, unfit_at,
 };
 
 const LOG: &str = "commitlog/00000000000000000000";
@@ -38,6 +38,25 @@ const SERVE_DEFAULTS: ServeCommand = ServeCommand {
     links: 1024,
     connections: None,
 };
+
+#[test]
+fn a_tool_has_the_folder_alone(rt: HostRuntime) {
+    for (tool, name) in [(Tool::Dump, "dump"), (Tool::Verify, "verify")] {
+        let read = read_tool_words(tool, &[name]);
+        assert!(rt; read == Ok(ToolCommand { store: "store" }), "{name}");
+        let read = read_tool_words(tool, &[name, "--store", "a"]);
+        assert!(rt; read == Ok(ToolCommand { store: "a" }), "{name}");
+        assert!(rt; read_tool_words(tool, &["pipe"]) == Err(0), "{name}");
+        assert!(rt;
+            read_tool_words(tool, &[name, "--flush", "sync"]) == Err(1),
+            "{name}"
+        );
+        assert!(rt;
+            read_tool_words(tool, &[name, "--store"]) == Err(2),
+            "{name}"
+        );
+    }
+}
 
 #[test]
 fn each_option_of_pipe_is_read(rt: HostRuntime) -> Result<(), Fail> {

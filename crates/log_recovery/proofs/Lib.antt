@@ -12,3 +12,4 @@ pub mod ScanLemmas
 pub mod CountLemmas
 pub mod TailLemmas
 pub mod NextLemmas
+pub mod VisitLemmas

@@ -10,7 +10,7 @@ use Rattle.mq_outside.proofs.Moments.{at_end}
 use Rattle.record_codec.specs.Entry.{Entry}
 use Rattle.log_model.specs.Bases.{Geometry, first_segment}
 use Rattle.log_model.specs.Log.{IsSegmentSize, IsWellFormed, end_of}
-use Rattle.log_model.specs.Segments.{Shape, used, shape_of, segment_file, last_bytes, layouts, IsLogFile, NoOther, next_segment}
+use Rattle.log_model.specs.Segments.{Shape, used, shape_of, segment_file, last_bytes, IsLogFile, NoOther, next_segment}
 use Rattle.log_model.specs.Store.{AreEnded, Keeps}
 use Rattle.log_model.proofs.Places.{next_low, placed_log}
 use Rattle.log_model.proofs.FileNames.{IsNamed, names_apart, is_log_file}

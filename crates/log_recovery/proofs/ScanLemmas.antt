@@ -9,7 +9,7 @@ use Rattle.mq_outside.specs.Files.{Files, bytes_of}
 use Rattle.record_codec.specs.Entry.{Entry}
 use Rattle.log_model.specs.Bases.{Geometry, first_segment}
 use Rattle.log_model.specs.Log.{IsSegmentSize, IsGeometry}
-use Rattle.log_model.specs.Segments.{layouts, Shape, empty_shape, added, opened, segment_file, last_name, last_bytes, next_segment}
+use Rattle.log_model.specs.Segments.{layouts, empty_shape, added, opened, segment_file, last_name, last_bytes, next_segment}
 use Rattle.log_model.specs.Store.{EndsInBlank, ComesNext, IsDamagedAt}
 use Rattle.log_model.proofs.Places.{next_low, used_push}
 use Rattle.log_recovery.specs.declared.tail.LogTail.{LogTail}

@@ -8,3 +8,4 @@ pub mod Counts
 pub mod Tails
 pub mod Places
 pub mod Matches
+pub mod Visits

@@ -1,6 +1,7 @@
 //! Reads the records of one file after another, as long as each follows those before it.
 
-ghost use Rattle.std.specs.Prelude.{◌≡◌, ◌⊎◌, ◌+◌, ◌*◌, ◌/◌, ◌^◌, ◌<◌, ◌≤◌, [], ◌++◌, List, ℕ, true, false, take, length, IfOk, OnOk};
+ghost use Rattle.std.specs.Prelude.{◌≡◌, ◌⊎◌, ◌+◌, ◌*◌, ◌/◌, ◌^◌, ◌<◌, ◌≤◌, [], ◌++◌, List, ℕ, Option};
+ghost use Rattle.std.specs.Prelude.{true, false, take, length, IfOk, OnOk};
 ghost use Rattle.mq_outside.specs.Files.{Files, bytes_of};
 ghost use Rattle.mq_bytes.specs.Names.{log_file};
 ghost use Rattle.record_codec.specs.Blanks.{blank_front};
@@ -12,6 +13,7 @@ ghost use Rattle.log_model.specs.Segments.{layouts, segment_file, next_segment};
 ghost use Rattle.log_model.specs.Store.{ComesNext, EndsInBlank, IsDamagedAt};
 ghost use Rattle.log_recovery.specs.Reads.{OnlyReads};
 ghost use Rattle.log_recovery.specs.Recovered.{Handed, OnDamage};
+ghost use Rattle.log_recovery.specs.Visits.{WasHanded, GoesOn, IsGiven, OnStop};
 ghost use Rattle.log_recovery.specs.Scan.{Shows, StandsIn, Reading, Onward, Stood, StepsTo, Stops, ScansTo, Opened, HandsOn, ReadLog};
 ghost use Rattle.log_recovery.specs.Names.{AreNamed, NoFurther};
 
@@ -53,16 +55,19 @@ fn step<D: Disk, V: Visit>(
     ensures from { OnOk result (scan.new.window.from ≤ at) }
     ensures shows { D.tells → (bytes : List ℕ) → bytes_of (D.state disk.old).reads (log_file base) ≡ bytes → Shows scan.old.window bytes
         → OnOk result (Shows scan.new.window bytes) }
-    ensures next { D.tells → (begun : Begun) (files : Files) (read : Reading) → (D.state disk.old).reads ≡ files
-        → Shows scan.old.window (bytes_of files (log_file base))
+    ensures next { D.tells → (begun : Begun) (since : Option V) (files : Files) (read : Reading)
+        → (D.state disk.old).reads ≡ files → Shows scan.old.window (bytes_of files (log_file base))
         → Stood (geometry segment begun) files read scan.old.tail base at
         → IfOk result (λ n. StepsTo (geometry segment begun) files read scan.new.tail
-        (Onward (V.stands begun each.old) (V.stands begun each.new) read.records) n
+        (Onward (WasHanded V.Visit begun since each.old) (WasHanded V.Visit begun since each.new) read.records) n
         ⊎ Stops (geometry segment begun) files read scan.new.tail
-        (Onward (V.stands begun each.old) (V.stands begun each.new) read.records) n) }
+        (Onward (WasHanded V.Visit begun since each.old) (WasHanded V.Visit begun since each.new) read.records) n) }
     ensures damage { OnDamage result (λ place name. ⊥) }
-    ensures handed { (begun : Begun) → HandsOn (geometry segment begun) scan.old.tail (V.stands begun each.old)
-        → OnOk result (HandsOn (geometry segment begun) scan.new.tail (V.stands begun each.new)) }
+    ensures handed { (begun : Begun) (since : Option V)
+        → HandsOn (geometry segment begun) scan.old.tail (WasHanded V.Visit begun since each.old)
+        → OnOk result (HandsOn (geometry segment begun) scan.new.tail (WasHanded V.Visit begun since each.new)) }
+    ensures stopped { (begun : Begun) (first : V) → HandsOn (geometry segment begun) scan.old.tail (GoesOn V.Visit first each.old)
+        → OnStop result (IsGiven (geometry segment begun) (GoesOn V.Visit first each.new)) (V.fails first each.new) }
     ensures only_reads { OnlyReads D.Disk result disk.old disk.new }
 {
     load(&mut scan.window, disk, name, at, segment)?;
@@ -91,13 +96,16 @@ fn scan_file<D: Disk, V: Visit>(
     requires size { IsSegmentSize segment }
     requires base { base ≤ 2 ^ 63 }
     ensures low { IfOk result (λ at. at ≤ 2 ^ 62) }
-    ensures scanned { D.tells → (begun : Begun) (files : Files) (read : Reading) → (D.state disk.old).reads ≡ files
+    ensures scanned { D.tells → (begun : Begun) (since : Option V) (files : Files) (read : Reading) → (D.state disk.old).reads ≡ files
         → Stood (geometry segment begun) files read scan.old.tail base 0
         → IfOk result (ScansTo (geometry segment begun) files scan.new.tail base
-        (Onward (V.stands begun each.old) (V.stands begun each.new) read.records)) }
+        (Onward (WasHanded V.Visit begun since each.old) (WasHanded V.Visit begun since each.new) read.records)) }
     ensures damage { OnDamage result (λ place name. ⊥) }
-    ensures handed { (begun : Begun) → HandsOn (geometry segment begun) scan.old.tail (V.stands begun each.old)
-        → OnOk result (HandsOn (geometry segment begun) scan.new.tail (V.stands begun each.new)) }
+    ensures handed { (begun : Begun) (since : Option V)
+        → HandsOn (geometry segment begun) scan.old.tail (WasHanded V.Visit begun since each.old)
+        → OnOk result (HandsOn (geometry segment begun) scan.new.tail (WasHanded V.Visit begun since each.new)) }
+    ensures stopped { (begun : Begun) (first : V) → HandsOn (geometry segment begun) scan.old.tail (GoesOn V.Visit first each.old)
+        → OnStop result (IsGiven (geometry segment begun) (GoesOn V.Visit first each.new)) (V.fails first each.new) }
     ensures only_reads { OnlyReads D.Disk result disk.old disk.new }
 {
     let file = LogFile::of(base);
@@ -169,19 +177,22 @@ fn read_ended<D: Disk, V: Visit>(
 ) -> Result<(), RecoverFault>
     requires size { IsSegmentSize segment }
     requires base { base ≤ 2 ^ 63 }
-    ensures opened { D.tells → (begun : Begun) (files : Files) (read : Reading) → (D.state disk.old).reads ≡ files
+    ensures opened { D.tells → (begun : Begun) (since : Option V) (files : Files) (read : Reading) → (D.state disk.old).reads ≡ files
         → Stood (geometry segment begun) files read scan.old.tail base 0 → base < 2 ^ 63
         → ComesNext (geometry segment begun) (next_segment (geometry segment begun) read.shape.older) files (log_file base)
         → OnOk result (Opened (geometry segment begun) files (next_segment (geometry segment begun) read.shape.older + 1) scan.new.tail
-        (Onward (V.stands begun each.old) (V.stands begun each.new) read.records)) }
+        (Onward (WasHanded V.Visit begun since each.old) (WasHanded V.Visit begun since each.new) read.records)) }
     ensures damaged { D.tells → (begun : Begun) (files : Files) (read : Reading) (behind : List ℕ)
         → (D.state disk.old).reads ≡ files
         → Stood (geometry segment begun) files read scan.old.tail base 0 → base < 2 ^ 63
         → ComesNext (geometry segment begun) (next_segment (geometry segment begun) read.shape.older) files (log_file base)
         → ComesNext (geometry segment begun) (next_segment (geometry segment begun) read.shape.older + 1) files behind
         → OnDamage result (IsDamagedAt (geometry segment begun) files) }
-    ensures handed { (begun : Begun) → HandsOn (geometry segment begun) scan.old.tail (V.stands begun each.old)
-        → OnOk result (HandsOn (geometry segment begun) scan.new.tail (V.stands begun each.new)) }
+    ensures handed { (begun : Begun) (since : Option V)
+        → HandsOn (geometry segment begun) scan.old.tail (WasHanded V.Visit begun since each.old)
+        → OnOk result (HandsOn (geometry segment begun) scan.new.tail (WasHanded V.Visit begun since each.new)) }
+    ensures stopped { (begun : Begun) (first : V) → HandsOn (geometry segment begun) scan.old.tail (GoesOn V.Visit first each.old)
+        → OnStop result (IsGiven (geometry segment begun) (GoesOn V.Visit first each.new)) (V.fails first each.new) }
     ensures only_reads { OnlyReads D.Disk result disk.old disk.new }
 {
     let at = scan_file(disk, segment, base, scan, each)?;
@@ -213,16 +224,19 @@ fn read_front<D: Disk, V: Visit>(
     requires size { IsGeometry (geometry segment (base_of base.now)) }
     requires from { base.now.place / segment ≤ count }
     requires low { (k : ℕ) → k < count → k * segment < 2 ^ 63 }
-    ensures opened { D.tells → (files : Files) → (D.state disk.old).reads ≡ files
+    ensures opened { D.tells → (since : Option V) (files : Files) → (D.state disk.old).reads ≡ files
         → StandsIn (geometry segment (base_of base.now)) scan.old.tail [] → AreNamed (geometry segment (base_of base.now)) count files
         → OnOk result (Opened (geometry segment (base_of base.now)) files count scan.new.tail
-        (Onward (V.stands (base_of base.now) each.old) (V.stands (base_of base.now) each.new) [])) }
+        (Onward (WasHanded V.Visit (base_of base.now) since each.old) (WasHanded V.Visit (base_of base.now) since each.new) [])) }
     ensures damaged { D.tells → (files : Files) (behind : List ℕ) → (D.state disk.old).reads ≡ files
         → StandsIn (geometry segment (base_of base.now)) scan.old.tail [] → AreNamed (geometry segment (base_of base.now)) count files
         → ComesNext (geometry segment (base_of base.now)) count files behind
         → OnDamage result (IsDamagedAt (geometry segment (base_of base.now)) files) }
-    ensures handed { HandsOn (geometry segment (base_of base.now)) scan.old.tail (V.stands (base_of base.now) each.old)
-        → OnOk result (HandsOn (geometry segment (base_of base.now)) scan.new.tail (V.stands (base_of base.now) each.new)) }
+    ensures handed { (since : Option V)
+        → HandsOn (geometry segment (base_of base.now)) scan.old.tail (WasHanded V.Visit (base_of base.now) since each.old)
+        → OnOk result (HandsOn (geometry segment (base_of base.now)) scan.new.tail (WasHanded V.Visit (base_of base.now) since each.new)) }
+    ensures stopped { (first : V) → HandsOn (geometry segment (base_of base.now)) scan.old.tail (GoesOn V.Visit first each.old)
+        → OnStop result (IsGiven (geometry segment (base_of base.now)) (GoesOn V.Visit first each.new)) (V.fails first each.new) }
     ensures only_reads { OnlyReads D.Disk result disk.old disk.new }
 {
     let first = first_of(segment, base);
@@ -253,17 +267,20 @@ fn read_all<D: Disk, V: Visit>(
     requires from { base.now.place / segment ≤ count }
     requires low { (k : ℕ) → k < count → k * segment < 2 ^ 63 }
     ensures low { IfOk result (λ end. end ≤ 2 ^ 62) }
-    ensures read { D.tells → (files : Files) → (D.state disk.old).reads ≡ files
+    ensures read { D.tells → (since : Option V) (files : Files) → (D.state disk.old).reads ≡ files
         → StandsIn (geometry segment (base_of base.now)) scan.old.tail [] → AreNamed (geometry segment (base_of base.now)) count files
         → NoFurther (geometry segment (base_of base.now)) count files
-        → IfOk result (ReadLog (geometry segment (base_of base.now)) files (V.stands (base_of base.now) each.old)
-        (V.stands (base_of base.now) each.new) count) }
+        → IfOk result (ReadLog (geometry segment (base_of base.now)) files (WasHanded V.Visit (base_of base.now) since each.old)
+        (WasHanded V.Visit (base_of base.now) since each.new) count) }
     ensures damaged { D.tells → (files : Files) → (D.state disk.old).reads ≡ files
         → StandsIn (geometry segment (base_of base.now)) scan.old.tail [] → AreNamed (geometry segment (base_of base.now)) count files
         → NoFurther (geometry segment (base_of base.now)) count files
         → OnDamage result (IsDamagedAt (geometry segment (base_of base.now)) files) }
-    ensures handed { HandsOn (geometry segment (base_of base.now)) scan.old.tail (V.stands (base_of base.now) each.old)
-        → IfOk result (Handed (geometry segment (base_of base.now)) (V.stands (base_of base.now) each.new)) }
+    ensures handed { (since : Option V)
+        → HandsOn (geometry segment (base_of base.now)) scan.old.tail (WasHanded V.Visit (base_of base.now) since each.old)
+        → IfOk result (Handed (geometry segment (base_of base.now)) (WasHanded V.Visit (base_of base.now) since each.new)) }
+    ensures stopped { (first : V) → HandsOn (geometry segment (base_of base.now)) scan.old.tail (GoesOn V.Visit first each.old)
+        → OnStop result (IsGiven (geometry segment (base_of base.now)) (GoesOn V.Visit first each.new)) (V.fails first each.new) }
     ensures only_reads { OnlyReads D.Disk result disk.old disk.new }
 {
     let first = first_of(segment, base);
@@ -287,11 +304,14 @@ pub(crate) fn read_log<D: Disk, V: Visit>(
     requires { IsGeometry (geometry segment (base_of base.now)) }
     ensures low { IfOk result (λ log. log.end ≤ 2 ^ 62) }
     ensures count { IfOk result (λ log. (k : ℕ) → k < log.count → k * segment < 2 ^ 63) }
-    ensures read { D.tells → IfOk result (λ log. ReadLog (geometry segment (base_of base.now)) (D.state disk.old).reads
-        (V.stands (base_of base.now) each.old) (V.stands (base_of base.now) each.new) log.count log.end) }
+    ensures read { D.tells → (since : Option V)
+        → IfOk result (λ log. ReadLog (geometry segment (base_of base.now)) (D.state disk.old).reads
+        (WasHanded V.Visit (base_of base.now) since each.old) (WasHanded V.Visit (base_of base.now) since each.new) log.count log.end) }
     ensures damaged { D.tells → OnDamage result (IsDamagedAt (geometry segment (base_of base.now)) (D.state disk.old).reads) }
-    ensures handed { V.stands (base_of base.now) each.old []
-        → IfOk result (λ log. Handed (geometry segment (base_of base.now)) (V.stands (base_of base.now) each.new) log.end) }
+    ensures handed { (since : Option V) → WasHanded V.Visit (base_of base.now) since each.old []
+        → IfOk result (λ log. Handed (geometry segment (base_of base.now)) (WasHanded V.Visit (base_of base.now) since each.new) log.end) }
+    ensures stopped { (first : V) → V.goes first [] each.old
+        → OnStop result (IsGiven (geometry segment (base_of base.now)) (GoesOn V.Visit first each.new)) (V.fails first each.new) }
     ensures only_reads { OnlyReads D.Disk result disk.old disk.new }
 {
     let names = disk.list(alloc)?;

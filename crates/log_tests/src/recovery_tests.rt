@@ -7,7 +7,7 @@ ghost use Rattle.log_model.specs.Told.{base_of};
 
 use crate::worked::PLAIN;
 use log_model::Base;
-use log_recovery::{RecoverFault, Visit, recover};
+use log_recovery::{RecoverFault, Visit, read_kept, recover};
 use mq_bytes::LogFile;
 use mq_outside::{Disk, Failed, MemDisk, Room};
 use record_codec::View;
@@ -89,6 +89,13 @@ fn recovered(alloc: Global, disk: &mut MemDisk) -> (Result<u64, RecoverFault>, u
     (answer, count.records)
 }
 
+/// What reading the kept log answers, and how many records it hands on.
+fn read(alloc: Global, disk: &mut MemDisk) -> (Result<u64, RecoverFault>, u64) {
+    let mut count = Count { records: 0 };
+    let answer = read_kept(alloc, disk, SEGMENT, &Base::none(alloc), &mut count);
+    (answer, count.records)
+}
+
 /// Whether so many records are kept, and where they end.
 fn is_kept(alloc: Global, disk: &mut MemDisk, end: u64, records: u64) -> bool {
     match recovered(alloc, disk) {
@@ -150,6 +157,23 @@ fn a_last_file_without_records_is_removed_whichever_call_fails(
             assert!(rt; keeps_both(rt.alloc(), second, fail)?, "call {fail} failed");
         }
     }
+    Ok(())
+}
+
+/// The records but for the last 16 bytes of the second.
+fn torn(records: &[u8; 216]) -> &[u8] {
+    &records[..200]
+}
+
+#[test]
+fn a_reading_of_the_kept_log_changes_nothing(rt: HostRuntime) -> Result<(), Fail> {
+    let two = two_records();
+    let mut disk = disk_of(rt.alloc(), torn(&two), &[], 0)?;
+    let is_read = match read(rt.alloc(), &mut disk) {
+        (Ok(end), records) => end == 108 && records == 1,
+        (Err(_), _) => false,
+    };
+    assert!(rt; is_read && holds(&disk, 0, torn(&two)));
     Ok(())
 }
 

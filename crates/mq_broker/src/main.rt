@@ -14,7 +14,7 @@ use std::alloc::{AllocError, Global};
 use std::process::ExitCode;
 use std::sync::Wait;
 use std::thread::Threads;
-use store_open::{help, help_of};
+use store_open::{Verb, help, help_of};
 use telling::{say, warn};
 
 /// The status of a usage error.
@@ -22,6 +22,9 @@ const USAGE: u8 = 1;
 
 /// The status of a run that is out of memory.
 const NO_MEMORY: u8 = 7;
+
+/// The commands, in the order in which the help shows them.
+const COMMANDS: [Verb; 2] = [Verb::Serve, Verb::Pipe];
 
 /// The text of `--version`.
 const VERSION: &str = "mq_broker 0.1.0\n";
@@ -48,7 +51,7 @@ fn run_words<W: Wait + Threads + Sync>(
     words: &[&str],
 ) -> Result<u8, AllocError> {
     match asked_of(words) {
-        Asked::Help => Ok(say(rt, help(alloc)?.as_str())),
+        Asked::Help => Ok(say(rt, help(alloc, &COMMANDS)?.as_str())),
         Asked::HelpOf(verb) => Ok(say(rt, help_of(alloc, verb)?.as_str())),
         Asked::Version => Ok(say(rt, VERSION)),
         Asked::Unfit(place) => {

@@ -19,6 +19,9 @@ use Rattle.store_open.specs.Options.{sync_in, segment_in, slots_in, entries_in, 
 use Rattle.store_open.specs.Options.{IsHost, IsInRange, AreSaid, IsSettingOf, AreArguments, text_in, sizes_of, host_of, store_of}
 use Rattle.store_open.specs.Words.{IsCommand, IsFirstWrong}
 use Rattle.store_open.specs.ServeWords.{IsServeCommand, IsFirstWrongOfServe}
+use Rattle.store_open.specs.ToolWords.{IsToolCommand, IsFirstWrongOfTool}
+use Rattle.store_open.specs.declared.tool_words.Tool.{Tool}
+use Rattle.store_open.specs.declared.tool_words.ToolCommand.{ToolCommand}
 use Rattle.store_open.proofs.HostLemmas.{no_dot, no_colon}
 use Rattle.store_open.proofs.OptionLemmas.{one_name, no_unfit_word}
 
@@ -245,3 +248,7 @@ no_wrong_word words command place is first = no_unfit_word _ words is.settings p
 
 pub no_wrong_serve_word : (words : List (List ℕ)) (command : ServeCommand) (place : ℕ) → IsServeCommand words command → IsFirstWrongOfServe words place → ⊥
 no_wrong_serve_word words command place is first = no_unfit_word _ words is.settings place is.are first
+
+pub no_wrong_tool_word : (tool : Tool) (words : List (List ℕ)) (command : ToolCommand) (place : ℕ) → IsToolCommand tool words command
+    → IsFirstWrongOfTool tool words place → ⊥
+no_wrong_tool_word tool words command place is first = no_unfit_word _ words is.settings place is.are first

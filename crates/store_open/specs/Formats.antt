@@ -1,5 +1,5 @@
 -- The text of the format: which store this is.
-use Rattle.std.specs.Prelude.{◌≡◌, ℕ, ◌≤◌, List, ◌∷◌, ◌++◌, codes, IfSome, unwrap_or}
+use Rattle.std.specs.Prelude.{◌≡◌, ℕ, ◌≤◌, List, ◌∷◌, ◌++◌, codes, IfSome, None, unwrap_or}
 use Rattle.mq_bytes.specs.Decimal.{digits_of}
 use Rattle.log_model.specs.Log.{IsSegmentSize}
 use Rattle.store_open.specs.declared.format.Sizes.{Sizes}
@@ -41,6 +41,10 @@ pub record AreAllowed (asked : AskedSizes) : Type 0 where
   pub segment : IfSome asked.segment IsSegmentSize
   pub slots : IfSome asked.slots IsSlotCount
   pub entries : IfSome asked.entries IsEntryCount
+
+-- no size is asked for
+abbrev pub no_sizes : AskedSizes
+no_sizes = record { segment = None; slots = None; entries = None }
 
 -- the sizes of a new store: those that are asked for, and the defaults for the rest
 abbrev pub new_sizes : AskedSizes → Sizes

@@ -5,3 +5,4 @@ pub mod Options
 pub mod ServeWords
 pub mod Statuses
 pub mod Words
+pub mod ToolWords

@@ -6,7 +6,7 @@ use Rattle.mq_bytes.specs.Decimal.{digits_of}
 use Rattle.log_model.specs.Log.{IsSegmentSize}
 use Rattle.store_open.specs.declared.format.AskedSizes.{AskedSizes}
 use Rattle.store_open.specs.declared.settings.Verb.{Verb}
-use Rattle.store_open.specs.declared.settings.Verb.TheVariants.{Pipe, Serve}
+use Rattle.store_open.specs.declared.settings.Verb.TheVariants.{Pipe, Serve, Dump, Verify}
 use Rattle.store_open.specs.declared.settings.Choice.{Choice}
 use Rattle.store_open.specs.declared.settings.Choice.TheVariants.{Flush, Segment, Slots, Entries, Host, Store, Listen, Links, Connections}
 use Rattle.store_open.specs.declared.settings.Setting.{Setting}
@@ -24,6 +24,8 @@ texts_of = map (λ word. word.now)
 abbrev pub word_of : Verb → List ℕ
 word_of Pipe = codes "pipe"
 word_of Serve = codes "serve"
+word_of Dump = codes "dump"
+word_of Verify = codes "verify"
 
 -- the word of an option
 abbrev pub spelled : Choice → List ℕ
@@ -37,9 +39,23 @@ spelled Listen = codes "--listen"
 spelled Links = codes "--links"
 spelled Connections = codes "--connections"
 
+-- a tool has this option: the store's folder alone
+abbrev pub IsOfTool : Choice → Type 0
+IsOfTool Flush = ⊥
+IsOfTool Segment = ⊥
+IsOfTool Slots = ⊥
+IsOfTool Entries = ⊥
+IsOfTool Host = ⊥
+IsOfTool Store = Unit {0}
+IsOfTool Listen = ⊥
+IsOfTool Links = ⊥
+IsOfTool Connections = ⊥
+
 -- the command has this option
 abbrev pub IsOffered : Verb → Choice → Type 0
 IsOffered Serve choice = Unit {0}
+IsOffered Dump choice = IsOfTool choice
+IsOffered Verify choice = IsOfTool choice
 IsOffered Pipe Flush = Unit {0}
 IsOffered Pipe Segment = Unit {0}
 IsOffered Pipe Slots = Unit {0}

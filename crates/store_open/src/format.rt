@@ -12,7 +12,7 @@
 ghost use Rattle.std.specs.Prelude.{◌≡◌, ◌↔◌, ℕ, List, ◌∷◌, ◌++◌, ◌≤◌, Some, IfSome, IfOk, IsTrue, MatchOption};
 ghost use Rattle.mq_bytes.specs.Decimal.{digits_of};
 ghost use Rattle.store_open.specs.declared.format.Sizes.{Sizes as TheSizes};
-ghost use Rattle.store_open.specs.Formats.{format_text, IsFormat, AreSizes, Agrees, sizes_text, new_sizes};
+ghost use Rattle.store_open.specs.Formats.{format_text, AreAllowed, IsFormat, AreSizes, Agrees, sizes_text, new_sizes, no_sizes};
 
 use crate::number::read_number;
 use mq_bytes::write_number;
@@ -52,6 +52,18 @@ pub struct AskedSizes {
 }
 
 impl AskedSizes {
+    /// No size is asked for.
+    pub fn none() -> AskedSizes
+        ensures none { result ≡ no_sizes }
+        ensures allowed { AreAllowed result }
+    {
+        AskedSizes {
+            segment: None,
+            slots: None,
+            entries: None,
+        }
+    }
+
     /// The sizes of a new store: those that are asked for, and the defaults for the rest.
     pub(crate) fn of_new_store(&self) -> Sizes
         ensures { result ≡ new_sizes self.now }

@@ -6,6 +6,9 @@ use std::alloc::{AllocError, Global};
 /// Where the column of the options' texts begins.
 const COLUMN: usize = 34;
 
+/// Where the column of the commands' texts begins.
+const COMMAND_COLUMN: usize = 10;
+
 // Appends spaces up to this column of a line of so many bytes, and at least one.
 fn pad(line: usize, column: usize, out: &mut String) -> Result<(), AllocError> {
     out.push_str(" ")?;
@@ -35,6 +38,8 @@ fn purpose(verb: Verb) -> &'static str {
     match verb {
         Verb::Pipe => "answers the requests of standard input on standard output, and ends with it",
         Verb::Serve => "accepts connections over TCP and answers their requests",
+        Verb::Dump => "writes a line for each record of a store that no broker has open",
+        Verb::Verify => "reads a store that no broker has open and tells whether it is sound",
     }
 }
 
@@ -63,20 +68,41 @@ pub fn help_of(alloc: Global, verb: Verb) -> Result<String, AllocError> {
     Ok(out)
 }
 
-/// The help of the program: its commands and their options.
-pub fn help(alloc: Global) -> Result<String, AllocError> {
-    let mut out = String::from_str(alloc, "mq_broker COMMAND [OPTION VALUE]...\n\ncommands:\n")?;
-    for verb in &[Verb::Serve, Verb::Pipe] {
-        out.push_str("  ")?;
-        out.push_str(verb.word())?;
-        pad(verb.word().len().saturating_add(2), 9, &mut out)?;
-        out.push_str(purpose(*verb))?;
-        out.push_str("\n")?;
+// Appends the line of a command.
+fn push_command(verb: Verb, out: &mut String) -> Result<(), AllocError> {
+    out.push_str("  ")?;
+    out.push_str(verb.word())?;
+    pad(verb.word().len().saturating_add(2), COMMAND_COLUMN, out)?;
+    out.push_str(purpose(verb))?;
+    out.push_str("\n")
+}
+
+// Appends the options of a tool, where the command is one.
+fn push_tool(verb: Verb, out: &mut String) -> Result<(), AllocError> {
+    match verb {
+        Verb::Serve | Verb::Pipe => Ok(()),
+        Verb::Dump | Verb::Verify => {
+            out.push_str("\noption of ")?;
+            out.push_str(verb.word())?;
+            out.push_str(":\n")?;
+            push_options(verb, None, out)
+        }
     }
-    out.push_str("\noptions of both commands, each at most once and in any order:\n")?;
+}
+
+/// The help of a program that has these commands: what each does, and its options.
+pub fn help(alloc: Global, verbs: &[Verb]) -> Result<String, AllocError> {
+    let mut out = String::from_str(alloc, "mq_broker COMMAND [OPTION VALUE]...\n\ncommands:\n")?;
+    for verb in verbs {
+        push_command(*verb, &mut out)?;
+    }
+    out.push_str("\noptions of serve and pipe, each at most once and in any order:\n")?;
     push_options(Verb::Pipe, None, &mut out)?;
     out.push_str("\noptions of serve alone:\n")?;
     push_options(Verb::Serve, Some(Verb::Pipe), &mut out)?;
+    for verb in verbs {
+        push_tool(*verb, &mut out)?;
+    }
     out.push_str("\nmq_broker --help | --version; mq_broker COMMAND --help\n")?;
     Ok(out)
 }

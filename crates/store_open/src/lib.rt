@@ -11,6 +11,7 @@ mod options;
 mod serve_words;
 mod settings;
 mod status;
+mod tool_words;
 mod unfit;
 mod words;
 
@@ -21,5 +22,6 @@ pub use opening::open_format;
 pub use serve_words::{ServeCommand, read_serve_words};
 pub use settings::Verb;
 pub use status::Status;
+pub use tool_words::{Tool, ToolCommand, read_tool_words};
 pub use unfit::{Unfit, unfit_at};
 pub use words::{Command, read_words};

@@ -13,6 +13,8 @@ impl Verb {
         match self {
             Verb::Pipe => "pipe",
             Verb::Serve => "serve",
+            Verb::Dump => "dump",
+            Verb::Verify => "verify",
         }
     }
 }

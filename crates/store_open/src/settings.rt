@@ -1,16 +1,16 @@
-//! The options of `pipe` and `serve`: each is a name and its value, and is given at most once.
+//! The options of the commands: each is a name and its value, and is given at most once.
 //!
-//! | option          | value                                                    | of              |
-//! |-----------------|----------------------------------------------------------|-----------------|
-//! | `--flush`       | `sync` or `async`                                        | `pipe`, `serve` |
-//! | `--segment`     | bytes of a segment, 4096 to 1073741824                   | `pipe`, `serve` |
-//! | `--slots`       | slots of an index file, 1 to 5000000                     | `pipe`, `serve` |
-//! | `--entries`     | entry numbers of an index file, 2 to 20000000            | `pipe`, `serve` |
-//! | `--host`        | `A.B.C.D:PORT`, the address that clients are told        | `pipe`, `serve` |
-//! | `--store`       | the path of the store's folder, any text that isn't empty | `pipe`, `serve` |
-//! | `--listen`      | `A.B.C.D:PORT`, where the broker listens                 | `serve`         |
-//! | `--links`       | how many connections may be open at a time, 1 to 4096    | `serve`         |
-//! | `--connections` | after how many connections the program ends, 1 to 4096   | `serve`         |
+//! | option          | value                                                     | of              |
+//! |-----------------|-----------------------------------------------------------|-----------------|
+//! | `--flush`       | `sync` or `async`                                         | `pipe`, `serve` |
+//! | `--segment`     | bytes of a segment, 4096 to 1073741824                    | `pipe`, `serve` |
+//! | `--slots`       | slots of an index file, 1 to 5000000                      | `pipe`, `serve` |
+//! | `--entries`     | entry numbers of an index file, 2 to 20000000             | `pipe`, `serve` |
+//! | `--host`        | `A.B.C.D:PORT`, the address that clients are told         | `pipe`, `serve` |
+//! | `--store`       | the path of the store's folder, any text that isn't empty | all             |
+//! | `--listen`      | `A.B.C.D:PORT`, where the broker listens                  | `serve`         |
+//! | `--links`       | how many connections may be open at a time, 1 to 4096     | `serve`         |
+//! | `--connections` | after how many connections the program ends, 1 to 4096    | `serve`         |
 
 ghost use Rattle.std.specs.Prelude.{◌≡◌, ◌≢◌, ◌↔◌, ◌∷◌, ◌++◌, [], List, Bool, IfSome, IsNone, IsTrue};
 ghost use Rattle.store_open.specs.declared.settings.Choice.{Choice};
@@ -35,6 +35,8 @@ const DEFAULT_STORE: &str = "store";
 pub enum Verb {
     Pipe,
     Serve,
+    Dump,
+    Verify,
 }
 
 /// An option.
@@ -219,6 +221,7 @@ pub(crate) fn is_offered(verb: Verb, choice: Choice) -> bool
     match verb {
         Verb::Serve => true,
         Verb::Pipe => !matches!(choice, Choice::Listen | Choice::Links | Choice::Connections),
+        Verb::Dump | Verb::Verify => matches!(choice, Choice::Store),
     }
 }
 

@@ -23,6 +23,10 @@ pub enum Unfit<'a> {
 fn verb_of(word: &str) -> Verb {
     if word == Verb::Serve.word() {
         Verb::Serve
+    } else if word == Verb::Dump.word() {
+        Verb::Dump
+    } else if word == Verb::Verify.word() {
+        Verb::Verify
     } else {
         Verb::Pipe
     }
@@ -44,7 +48,7 @@ fn unfit_value<'a>(name: &'a str, value: &'a str) -> Unfit<'a> {
     }
 }
 
-/// What is wrong with the first argument that doesn't fit, whose place `read_words` or `read_serve_words` gave.
+/// What is wrong with the first argument that doesn't fit, whose place `read_words`, `read_serve_words` or `read_tool_words` gave.
 pub fn unfit_at<'a>(words: &[&'a str], place: u64) -> Unfit<'a> {
     let Some(command) = words.first() else {
         return Unfit::NoCommand;

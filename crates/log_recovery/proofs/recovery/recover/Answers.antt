@@ -1,4 +1,4 @@
-use Rattle.std.proofs.Common.{ℕ, ◌+◌, ◌-◌, ◌/◌, ◌%◌, ◌<◌, List, max, length, ap, arith}
+use Rattle.std.proofs.Common.{None, ℕ, ◌+◌, ◌-◌, ◌/◌, ◌%◌, ◌<◌, List, max, length, ap, arith}
 use Rattle.std.proofs.lemmas.List.{length-take-le}
 use Rattle.mq_outside.specs.Files.{bytes_of}
 use Rattle.mq_outside.specs.Disk.{DiskState}
@@ -21,24 +21,24 @@ returns-in_err-log-clause-outside g c = λ tells. rests_outside _ _ (c.read_log.
 -- ---- the files were read
 
 pub settle-requires-clause-within : goal.settle-requires-clause-within
-settle-requires-clause-within g c = λ tells. read_within (geometry c.args.segment (base_of c.args.base.now)) c.in_ok-log.log.count c.in_ok-log.log.end _ _ _ _ (c.in_ok-log.ensures.read tells) (c.read_log.ensures.only_reads.rests tells).same
+settle-requires-clause-within g c = λ tells. read_within (geometry c.args.segment (base_of c.args.base.now)) c.in_ok-log.log.count c.in_ok-log.log.end _ _ _ _ (c.in_ok-log.ensures.read tells None) (c.read_log.ensures.only_reads.rests tells).same
 
 pub returns-in_err-settle-clause-flushed : goal.returns-in_err-settle-clause-flushed
-returns-in_err-settle-clause-flushed g c = λ tells. read_stays (geometry c.args.segment (base_of c.args.base.now)) c.in_ok-log.log.count c.in_ok-log.log.end _ _ _ _ _ (geometry_size _ c.requires.size) c.in_ok-log.ensures.low c.in_ok-log.ensures.count (c.in_ok-log.ensures.read tells)
+returns-in_err-settle-clause-flushed g c = λ tells. read_stays (geometry c.args.segment (base_of c.args.base.now)) c.in_ok-log.log.count c.in_ok-log.log.end _ _ _ _ _ (geometry_size _ c.requires.size) c.in_ok-log.ensures.low c.in_ok-log.ensures.count (c.in_ok-log.ensures.read tells None)
     (c.read_log.ensures.only_reads.rests tells) (g.met.D.Disk.reads_is_image c.args.disk.now tells) (c.settle.ensures.settles tells)
 
 pub returns-in_err-settle-clause-outside : goal.returns-in_err-settle-clause-outside
 returns-in_err-settle-clause-outside g c = λ tells. settles_outside (geometry c.args.segment (base_of c.args.base.now)) _ _ _ _ _ _ (c.read_log.ensures.only_reads.rests tells) (c.settle.ensures.settles tells)
 
 pub returns-clause-flushed : goal.returns-clause-flushed
-returns-clause-flushed g c = λ tells. read_stays (geometry c.args.segment (base_of c.args.base.now)) c.in_ok-log.log.count c.in_ok-log.log.end _ _ _ _ _ (geometry_size _ c.requires.size) c.in_ok-log.ensures.low c.in_ok-log.ensures.count (c.in_ok-log.ensures.read tells)
+returns-clause-flushed g c = λ tells. read_stays (geometry c.args.segment (base_of c.args.base.now)) c.in_ok-log.log.count c.in_ok-log.log.end _ _ _ _ _ (geometry_size _ c.requires.size) c.in_ok-log.ensures.low c.in_ok-log.ensures.count (c.in_ok-log.ensures.read tells None)
     (c.read_log.ensures.only_reads.rests tells) (g.met.D.Disk.reads_is_image c.args.disk.now tells) (c.settle.ensures.settles tells)
 
 pub returns-clause-outside : goal.returns-clause-outside
 returns-clause-outside g c = λ tells. settles_outside (geometry c.args.segment (base_of c.args.base.now)) _ _ _ _ _ _ (c.read_log.ensures.only_reads.rests tells) (c.settle.ensures.settles tells)
 
 pub returns-clause-kept : goal.returns-clause-kept
-returns-clause-kept g c = λ tells. let read = c.in_ok-log.ensures.read tells in record { records = read.records; keeps = read.keeps; handed = read.handed; ends = read.ends }
+returns-clause-kept g c = λ tells. let read = c.in_ok-log.ensures.read tells None in record { records = read.records; keeps = read.keeps; handed = read.handed; ends = read.ends }
 
 pub returns-clause-inside : goal.returns-clause-inside
 returns-clause-inside g c = λ tells.
@@ -46,7 +46,7 @@ returns-clause-inside g c = λ tells.
     let end : ℕ = c.in_ok-log.log.end in
     let old : DiskState = g.D.Disk.state c.read_log.new.disk in
     let new : DiskState = g.D.Disk.state c.settle.new.disk in
-    let within = read_within S c.in_ok-log.log.count end _ _ _ _ (c.in_ok-log.ensures.read tells) (c.read_log.ensures.only_reads.rests tells).same in
+    let within = read_within S c.in_ok-log.log.count end _ _ _ _ (c.in_ok-log.ensures.read tells None) (c.read_log.ensures.only_reads.rests tells).same in
     let last = (c.in_ok-settle.ensures.settled tells).at new.reads (g.met.D.Disk.reads_is_image c.settle.new.disk tells) in
     omega (arith, ap (λ (l : List ℕ). length l) last.last.bytes, length-take-le (end % S.size) (bytes_of old.reads (segment_file S (end / S.size))) within)
 
@@ -58,7 +58,7 @@ returns-clause-exact g c = λ tells is_settled records keeps.
     let first : DiskState = g.D.Disk.state c.args.disk.now in
     let old : DiskState = g.D.Disk.state c.read_log.new.disk in
     let new : DiskState = g.D.Disk.state c.settle.new.disk in
-    let read = c.in_ok-log.ensures.read tells in
+    let read = c.in_ok-log.ensures.read tells None in
     let at = ends_at S read.records end read.keeps.well_formed read.ends in
     let n : ℕ = max (end / S.size + 1) (count - 1) in
     let named = top_named S end count (geometry_size _ c.requires.size) c.in_ok-log.ensures.low c.in_ok-log.ensures.count in
@@ -68,7 +68,7 @@ returns-clause-exact g c = λ tells is_settled records keeps.
     exact_each S count end n _ _ first old new read rests named (omega arith) behind is_settled settled records keeps
 
 pub returns-clause-ours : goal.returns-clause-ours
-returns-clause-ours g c = λ tells log flushed stores honest. read_recovered (geometry c.args.segment (base_of c.args.base.now)) c.in_ok-log.log.count c.in_ok-log.log.end _ _ _ _ _ (geometry_size _ c.requires.size) c.in_ok-log.ensures.low c.in_ok-log.ensures.count (c.in_ok-log.ensures.read tells)
+returns-clause-ours g c = λ tells log flushed stores honest. read_recovered (geometry c.args.segment (base_of c.args.base.now)) c.in_ok-log.log.count c.in_ok-log.log.end _ _ _ _ _ (geometry_size _ c.requires.size) c.in_ok-log.ensures.low c.in_ok-log.ensures.count (c.in_ok-log.ensures.read tells None)
     (c.read_log.ensures.only_reads.rests tells) (g.met.D.Disk.reads_is_image c.args.disk.now tells) log flushed stores honest (c.in_ok-settle.ensures.settled tells)
 
 pub returns-clause-reads : goal.returns-clause-reads
@@ -79,7 +79,7 @@ returns-clause-reads g c = λ tells records keeps.
     let first : DiskState = g.D.Disk.state c.args.disk.now in
     let old : DiskState = g.D.Disk.state c.read_log.new.disk in
     let new : DiskState = g.D.Disk.state c.settle.new.disk in
-    let read = c.in_ok-log.ensures.read tells in
+    let read = c.in_ok-log.ensures.read tells None in
     let at = ends_at S read.records end read.keeps.well_formed read.ends in
     let n : ℕ = max (end / S.size + 1) (count - 1) in
     let m : ℕ = next_segment S (shape_of S read.records).older in
@@ -88,3 +88,6 @@ returns-clause-reads g c = λ tells records keeps.
     let settles = settles_here S end n m (used (shape_of S read.records)) old new at (c.settle.ensures.settles tells) in
     let settled = settled_here S end n m (used (shape_of S read.records)) old new at (c.in_ok-settle.ensures.settled tells) in
     has_kept S count end n _ _ first old new read (c.read_log.ensures.only_reads.rests tells) named behind settles (settled.at new.reads (g.met.D.Disk.reads_is_image c.settle.new.disk tells)).last records keeps
+
+pub returns-clause-handed : goal.returns-clause-handed
+returns-clause-handed g c = λ start. c.in_ok-log.ensures.handed None start
