@@ -36,9 +36,13 @@ abbrev pub newest_places : ℕ → ℤ → ℤ → ℤ → ℕ → List KeyEntry
 newest_places hash from to most end entries =
     take (asked_number 64 most) (once (map place_of (filter (is_sought hash from to end) (reverse entries))))
 
+-- keys with these hashes of a record that has this place and store time
+abbrev pub entries_at : ℕ → ℕ → List ℕ → List KeyEntry
+entries_at place store hashes = map (λ hash. record { hash = hash; place = place; store = store }) hashes
+
 -- a record's keys
 abbrev pub entries_in : Entry → List KeyEntry
-entries_in r = map (λ hash. record { hash = hash; place = r.offset; store = r.store }) (index_keys r)
+entries_in r = entries_at r.offset r.store (index_keys r)
 
 -- those of each record, in the order of the log
 abbrev pub key_entries : List Entry → List KeyEntry

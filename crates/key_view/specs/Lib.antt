@@ -1,2 +1,4 @@
 pub mod Entries
+pub mod Hashes
+pub mod Parted
 pub mod Rooms

@@ -7,13 +7,15 @@ ghost use Rattle.std.specs.List.Sorted.{IsNonDecreasingBy};
 ghost use Rattle.record_codec.specs.Entry.{Entry};
 ghost use Rattle.log_model.specs.Bases.{Base};
 ghost use Rattle.log_model.specs.Numbered.{Log, above};
-ghost use Rattle.key_view.specs.Entries.{KeyTable, KeyEntry, newest_places, key_entries, newest_records, AreRising, CutsKeys};
+ghost use Rattle.log_model.specs.Keys.{index_keys};
+ghost use Rattle.key_view.specs.Entries.{KeyTable, KeyEntry, newest_places, key_entries, entries_at, newest_records, AreRising, CutsKeys};
 ghost use Rattle.key_view.specs.Rooms.{newest_in};
 
+use crate::keys::RecordKeys;
 use crate::places::{Sought, asked, put};
 use crate::row::{KeyRow, distance};
+use crate::rows::KeyRows;
 use crate::slots::{grow, newest, set_newest};
-use chunks::Chunks;
 use std::alloc::{AllocError, Global};
 use std::marker::Model;
 
@@ -26,7 +28,7 @@ const ADDED_MAX: u64 = 1 << 62;
 /// The keys of the records, in the order of the log.
 #[derive(Drop)]
 pub struct KeyView {
-    rows: Chunks<KeyRow>,
+    rows: KeyRows,
     // How many rows were cut off before the first one.
     gone: u64,
     // For each slot the number of its newest row.
@@ -52,21 +54,23 @@ impl KeyView {
         ensures records { result.entries ≡ key_entries [] }
     {
         KeyView {
-            rows: Chunks::new(alloc),
+            rows: KeyRows::new(alloc),
             gone: 0,
             slots: Vec::new(alloc),
         }
     }
 
-    /// Makes room for `additional` keys more, at most 1,024. No key changes, at `Err` either.
+    /// Makes room for `additional` keys more. No key changes, at `Err` either.
     pub fn reserve(&mut self, alloc: Global, additional: usize) -> Result<(), AllocError>
-        requires { additional ≤ 1024 }
         ensures entries { self.new.entries ≡ self.old.entries }
         ensures spare { OnOk result (additional ≤ self.new.spare) }
         ensures kept { self.old.spare ≤ self.new.spare }
     {
         let count = self.rows.len();
-        if count > ROWS_MAX - additional || self.gone > ADDED_MAX - (count + additional) as u64 {
+        if additional > ROWS_MAX || count > ROWS_MAX - additional {
+            return Err(AllocError);
+        }
+        if self.gone > ADDED_MAX - (count + additional) as u64 {
             return Err(AllocError);
         }
         self.rows.reserve(alloc, additional)?;
@@ -88,6 +92,20 @@ impl KeyView {
             back,
         });
         set_newest(&mut self.slots, hash, number);
+    }
+
+    /// Adds the keys of the record at `place`, for which there is room; takes no memory. Times are milliseconds.
+    pub fn add_all(&mut self, keys: RecordKeys<'_>, place: u64, store: u64)
+        requires { length keys ≤ self.old.spare }
+        ensures entries { self.new.entries ≡ self.old.entries ++ entries_at place store keys.entry }
+        ensures spare { self.old.spare ≤ self.new.spare + length keys.entry }
+        ensures records { (log : List Entry) (r : Entry) → self.old.entries ≡ key_entries log → keys.entry ≡ index_keys r → place ≡ r.offset
+            → store ≡ r.store → self.new.entries ≡ key_entries (log ++ r ∷ []) }
+    {
+        let mut left = keys;
+        while let Some(hash) = left.next() {
+            self.add(hash, place, store);
+        }
     }
 
     /// How many keys there are.
@@ -138,7 +156,7 @@ impl KeyView {
         ensures records { (n : ℕ) (log : Log) (later : Base) → self.old.entries ≡ key_entries log.records → AreRising log.records
             → CutsKeys log n later → place ≡ later.place → self.new.entries ≡ key_entries (above log later).records }
     {
-        let count = self.rows.search(self.rows.len(), place);
+        let count = self.rows.search(place);
         self.rows.cut(count);
         self.gone += count as u64;
     }

@@ -1,0 +1,14 @@
+use Rattle.std.proofs.Common.{FitsSigned, rules, ap, ◌∙◌}
+use Rattle.std.specs.Int.{w32, cast_signed}
+use Rattle.std.proofs.lemmas.Int.{to_z-of_z}
+use Rattle.mq_bytes.specs.Hashes.{java_hash}
+use Rattle.key_view.proofs.HashLemmas.{key_on, with_sign}
+use Rattle.key_view.proofs.hash.signed_from.Goals as goal
+
+pub returns : goal.returns
+unfolding java_hash
+returns c =
+    let topic = c.args.topic.now in
+    let fits : FitsSigned w32 c.cast_signed.result = search rules in
+    to_z-of_z w32 c.cast_signed.result fits ∙ c.cast_signed.ensures
+    ∙ ap (cast_signed w32) (c.after_text.ensures ∙ key_on topic c.args.key.now c.args.start (with_sign topic c.utf8.topic) c.requires)
