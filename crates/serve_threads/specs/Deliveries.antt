@@ -8,8 +8,8 @@ use Rattle.broker_events.specs.declared.event.Event.{Event}
 use Rattle.broker_events.specs.declared.event.Event.TheVariants.{Deliver}
 use Rattle.broker_events.specs.declared.said.Said.{Said}
 use Rattle.broker_core.specs.Owner.{plain_look}
-use Rattle.broker_core.specs.Represents.{Represents}
-use Rattle.broker_core.specs.declared.parts.Parts.{Parts}
+use Rattle.core_log.specs.Represents.{Represents}
+use Rattle.core_log.specs.declared.parts.Parts.{Parts}
 use Rattle.worker_turns.specs.Turns.{Steps}
 use Rattle.worker_turns.specs.Delays.{delivery, DeliversNone}
 

@@ -1,7 +1,7 @@
 //! When delayed messages are to be delivered, and their deliveries, which the flusher makes.
 
 ghost use Rattle.std.specs.Prelude.{◌≡◌, ◌<◌, ◌≤◌, ◌^◌, true};
-ghost use Rattle.broker_core.specs.declared.parts.Parts.{Parts};
+ghost use Rattle.core_log.specs.declared.parts.Parts.{Parts};
 ghost use Rattle.worker_turns.specs.Acts.{IsFree};
 ghost use Rattle.worker_turns.specs.Delays.{Delivers};
 ghost use Rattle.serve_threads.specs.Deliveries.{DeliversSome, IsNextDelivery, MakesDeliveries, most_at_once};

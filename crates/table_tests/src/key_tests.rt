@@ -155,8 +155,5 @@ fn more_keys_than_a_chunk_are_added_for_one_record(rt: HostRuntime) -> Result<()
         let found = view.query(alloc, key_hash("T", key), 0, 9, 64, 5)?;
         assert!(rt; found.as_slice() == places, "{key}");
     }
-    view.cut(2);
-    let left = view.query(alloc, key_hash("T", "0"), 0, 9, 64, 5)?;
-    assert!(rt; left.as_slice() == &[4, 3, 2][..]);
     Ok(())
 }

@@ -1,5 +1,5 @@
 use Rattle.std.proofs.Common.{Some, subst}
-use Rattle.broker_core.specs.declared.parts.Parts.{Parts}
+use Rattle.core_log.specs.declared.parts.Parts.{Parts}
 use Rattle.serve_threads.specs.Deliveries.{IsNextDelivery}
 use Rattle.serve_threads.proofs.Delivering.{look_made}
 use Rattle.serve_threads.proofs.timetable.next_delivery.Goals as goal
