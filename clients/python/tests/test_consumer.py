@@ -7,6 +7,7 @@ from unittest import mock
 
 from fake import MemoryBroker, Port, Speaker, reply, until
 from mq_client import BrokerError, BrokerUnavailable, Connection, Consumer, NotSupported, ProtocolError
+from mq_client.errors import ConnectionLost
 from mq_client.message import Message
 from mq_client.queue_state import QueueState
 
@@ -172,7 +173,7 @@ class Consumers(unittest.TestCase):
         with Connection(address, timeout=0.3) as connection, self.assertRaises(BrokerUnavailable):
             Consumer(connection, "G", "T")
         with Speaker(b"HTTP/1.1 400 Bad Request\r\n\r\n") as port, Connection(port.address, timeout=1) as connection:
-            with self.assertRaises(ProtocolError):
+            with self.assertRaises((ProtocolError, ConnectionLost)):  # the second where it was closed before it was read
                 Consumer(connection, "G", "T")
 
     def test_a_broker_that_stays_away_is_reported_once_patience_is_over(self):
