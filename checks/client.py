@@ -217,10 +217,10 @@ def _(folder):
             assert message.body == b"hi", message
             transaction(connection)
             producer.send("T", "x", delay_level=1)
+            has_key(admin)
+            assert admin.view(sent.message_id).body == b"hi"
             rows = [("batches", lambda: producer.send_batch("T", ["x", "y"])),
-                    ("sending back", lambda: consumer.send_back(message)),
-                    ("queries by key", lambda: has_key(admin)),
-                    ("views by id", lambda: admin.view(sent.message_id))]
+                    ("sending back", lambda: consumer.send_back(message))]
             for name, call in rows:
                 try:
                     call()

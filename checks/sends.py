@@ -113,11 +113,8 @@ def _(folder):
     assert [r["body"] for r in records(folder)] == [b"a", b"b"]
 
 
-@check("requests of codes that nobody knows, and whole ones that aren't served, are answered with 3")
+@check("requests of codes that nobody knows are answered with 3")
 def _(folder):
     codes = [320, 999, -5, 0, 13, 32767]
     told = answers(b"".join(frame({"code": code, "opaque": k, "extFields": {}}, binary=k % 2 == 1) for k, code in enumerate(codes)), folder)
     assert [(r["code"], r["remark"]) for r in told] == [(3, f"code {code}") for code in codes]
-    whole = [frame({"code": 33, "opaque": k, "extFields": {"offset": "0"}}, binary=k == 1) for k in range(2)]
-    told = answers(b"".join(whole), folder)
-    assert [(r["code"], r["remark"]) for r in told] == [(3, "code 33")] * 2

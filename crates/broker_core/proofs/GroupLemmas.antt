@@ -84,6 +84,7 @@ represents_groups old groups s offsets locks are has_offsets kept has_locks =
       kept = kept;
       halves = are.halves;
       levels = are.levels;
+      keys = are.keys;
     }
 
 -- the parts with groups that keep the same

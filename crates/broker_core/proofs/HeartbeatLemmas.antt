@@ -42,6 +42,7 @@ represents_clients old clients s table are has =
       kept = are.kept;
       halves = are.halves;
       levels = are.levels;
+      keys = are.keys;
     }
 
 pub does_beat : (old : Parts) (link : ℕ) (host : List ℕ) (now : ℕ) (b : Said)

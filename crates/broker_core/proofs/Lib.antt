@@ -1,4 +1,5 @@
 pub mod AnswerLemmas
+mod AskedLemmas
 mod CheckBackLemmas
 mod CheckLemmas
 mod CheckedOrigins
@@ -15,6 +16,7 @@ mod MadeLemmas
 mod MessageLemmas
 mod PairLemmas
 pub mod PullLemmas
+pub mod QueryLemmas
 pub mod ReadLemmas
 mod RenewalPlaces
 pub mod ReplyLemmas

@@ -102,6 +102,7 @@ represents_read old new s now are is low =
       kept = are.kept;
       halves = are.halves;
       levels = are.levels;
+      keys = are.keys;
     } in
     subst (λ (p : Parts). Represents p t) (sym is) there
 

@@ -4,6 +4,7 @@ use Rattle.std.proofs.lemmas.Fmt.{length-decimal-le}
 use Rattle.std.specs.List.Sorted.{IsStrictlySortedBy}
 use Rattle.mq_bytes.specs.Decimal.{digits_of}
 use Rattle.remoting_frame.specs.Head.{IsInOrder, pairs_size}
+use Rattle.broker_model.specs.Answers.{query_ext}
 use Rattle.broker_core.specs.Reads.{offset_ext, pull_ext}
 
 pub offset_in_order : (n : ℕ) → IsInOrder (offset_ext n)
@@ -13,6 +14,13 @@ offset_in_order n = (tt, tt)
 pub pull_in_order : (high low next : ℕ) → IsInOrder (pull_ext high low next)
 unfolding IsStrictlySortedBy
 pull_in_order high low next = ((refl, (refl, (refl, tt))), ((refl, (refl, tt)), ((refl, tt), (tt, tt))))
+
+pub query_in_order : IsInOrder query_ext
+unfolding IsStrictlySortedBy
+query_in_order = ((refl, tt), (tt, tt))
+
+pub query_is_short : pairs_size query_ext ≤ 200
+query_is_short = omega arith
 
 pub length-digits_of : (n : ℕ) → n < 2 ^ 64 → length (digits_of n) ≤ 20
 length-digits_of n small = length-decimal-le 20 n (omega arith) (omega (arith, small)) small

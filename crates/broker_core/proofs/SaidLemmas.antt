@@ -61,14 +61,14 @@ served_answer : (s : State) (now : ℕ) (request : ARequest) (records : List Ent
 unfolding request_answer
 served_answer s now (Send send) records served = append_says s (waits (kept_props send.props)) (reply_with (send_ext send records) []) 1
 served_answer s now (Pull p) records served = tt
-served_answer s now (Query q) records served = cc served
+served_answer s now (Query q) records served = tt
 served_answer s now (OffsetOf q) records served = tt
 served_answer s now (SetOffset q) records served = tt
 served_answer s now (MakeTopic t) records served = tt
 served_answer s now (Search q) records served = tt
 served_answer s now (MaxOffset q) records served = tt
 served_answer s now (MinOffset q) records served = tt
-served_answer s now (ViewById v) records served = cc served
+served_answer s now (ViewById v) records served = tt
 served_answer s now (Beat b) records served = tt
 served_answer s now (Unregister u) records served = tt
 served_answer s now (EndTransaction end) records served = verdict_says s end records

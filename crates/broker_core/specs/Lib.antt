@@ -4,6 +4,7 @@ pub mod Delivers
 pub mod Kinds
 pub mod Makes
 pub mod Owner
+pub mod Queries
 pub mod Reads
 pub mod SendRows
 pub mod Stores

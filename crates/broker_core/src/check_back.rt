@@ -119,7 +119,7 @@ fn append_renewal(
         → IsRenewedBy s now origin first draft.now → IsCheckedBy s now origin (draft.now ∷ []) said parts.new) }
     ensures stays { OnErr result (Stays parts.old parts.new) }
 {
-    let table = parts.make_ready(alloc, draft.topic.as_str(), draft.queue)?;
+    let table = parts.make_ready(alloc, draft)?;
     let place = parts.next_place(table, size, now);
     let ask = ask_for(parts, alloc, draft, &place, size)?;
     let whole = Whole::of(alloc, draft, &place, size)?;

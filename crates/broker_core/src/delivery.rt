@@ -52,7 +52,7 @@ fn append_delivered(
         → IsDelivered s now level count draft.now said parts.new) }
     ensures stays { OnErr result (Stays parts.old parts.new) }
 {
-    let table = parts.make_ready(alloc, draft.topic.as_str(), draft.queue)?;
+    let table = parts.make_ready(alloc, draft)?;
     let place = parts.next_place(table, size, now);
     parts.append_delivery(table, draft, &place, size, level)?;
     Ok(Said::Delivered(Some((level, count))))

@@ -11,6 +11,7 @@ mod heartbeats;
 mod offsets;
 mod owner;
 mod pull;
+mod query;
 mod queue_locks;
 mod replies;
 mod request;
@@ -20,6 +21,7 @@ mod send_rows;
 mod store;
 mod topic;
 mod verdict;
+mod view;
 
 pub use alone::Alone;
 pub use broker::Core;

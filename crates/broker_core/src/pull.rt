@@ -79,8 +79,12 @@ fn slice_of(stored: &FrozenRanges, unit: Unit) -> Result<Slice, AllocError>
     }))
 }
 
-// The ranges where the records of these units stand.
-fn slices_of(alloc: Global, stored: &FrozenRanges, units: &[Unit]) -> Result<Vec<Slice>, AllocError>
+/// The ranges where the records of these units stand.
+pub(crate) fn slices_of(
+    alloc: Global,
+    stored: &FrozenRanges,
+    units: &[Unit],
+) -> Result<Vec<Slice>, AllocError>
     requires { (k : ℕ) (unit : QueueUnit) → slice_get units.now k ≡ Some unit
         → HasRange stored.now.pieces.items unit.offset unit.size }
     ensures { IfOk result (λ slices. AreSlicesAt stored.now slices.items units.now) }

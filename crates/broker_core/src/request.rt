@@ -10,9 +10,11 @@ use crate::consumer_offsets::{set_offset, stored_offset};
 use crate::heartbeats::unregister;
 use crate::offsets::{max_offset, min_offset, search};
 use crate::pull::pull;
+use crate::query::query;
 use crate::queue_locks::{lock_queues, unlock_queues};
 use crate::topic::make_topic;
 use crate::verdict::end_transaction;
+use crate::view::view;
 use broker_events::Said;
 use core_log::Parts;
 use request_fields::Request;
@@ -48,6 +50,7 @@ pub(crate) fn request(
         Request::Lock(asked) => lock_queues(parts, alloc, now, asked),
         Request::Unlock(asked) => unlock_queues(parts, alloc, now, asked),
         Request::EndTransaction(end) => end_transaction(parts, alloc, now, end),
-        Request::Query(_) | Request::ViewById(_) => unreachable!(),
+        Request::Query(asked) => query(parts, alloc, now, asked),
+        Request::ViewById(asked) => view(parts, alloc, now, asked),
     }
 }

@@ -118,7 +118,7 @@ fn append_in(
     requires kept { IsKeptAs target.now.kind (entry_of draft.now place.now) }
     requires target { IsTarget parts.old.topics target.now.topic.now target.now.known target.now.made }
     requires table { number_of parts.old.queues draft.now.topic draft.now.queue ≡ Some table }
-    requires room { HasRoomFor parts.old table }
+    requires room { HasRoomFor parts.old table draft.now }
     requires size { size ≡ draft_size draft.now }
     requires short { length parts.old.pending.bytes + size ≤ 67108864 }
     ensures appended { OnOk result ((s : State) → Represents parts.old s → MayStand s draft.now place.now
@@ -157,7 +157,7 @@ pub(crate) fn store(
         said parts.new) }
     ensures stays { OnErr result (Stays parts.old parts.new) }
 {
-    let table = parts.make_ready(alloc, draft.topic.as_str(), draft.queue)?;
+    let table = parts.make_ready(alloc, draft)?;
     let place = parts.next_place(table, size, now.max(parts.now));
     let reply = sent(alloc, draft.store_host, place, target.queue)?;
     let said = answer(parts, waits(&draft.props), reply, 1);

@@ -138,7 +138,7 @@ fn append_alone(
         → Represents parts.new (with_records s now (next_records s.setup.segment now s.log (op.now ∷ [])))) }
     ensures stays { OnErr result (Stays parts.old parts.new) }
 {
-    let table = parts.make_ready(alloc, op.topic.as_str(), op.queue)?;
+    let table = parts.make_ready(alloc, op)?;
     let place = parts.next_place(table, size, now);
     parts.append_op(alloc, table, op, &place, size, origin)
 }

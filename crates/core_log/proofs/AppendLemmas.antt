@@ -28,16 +28,18 @@ use Rattle.core_log.specs.declared.parts.Parts.{Parts}
 use Rattle.half_records.specs.declared.halves.Halves.{Halves}
 use Rattle.level_records.specs.declared.levels.Levels.{Levels}
 use Rattle.core_log.specs.Represents.{Represents, AreKeptFor, AreOut, AreTabled, AreCovered, HasRoom, turn_of}
-use Rattle.core_log.specs.Appends.{HasRoomFor, MayStand}
+use Rattle.key_view.specs.Entries.{KeyTable, key_entries}
+use Rattle.core_log.specs.Appends.{HasRoomFor, MayStand, key_count}
 use Rattle.core_log.proofs.TableLemmas.{MoreRoom, NewTable, room_made, there_is, as_added, is_its_table, to_view, from_view, map_push, tabled_kept, tabled_push}
 use Rattle.core_log.proofs.StateLemmasB.{get_push, count_with, follows, state_with}
 
 -- the parts with other rows and tables, that represent the same
-pub represents_roomier : (old : Parts) (rows : RowTable) (queues : List Table) (s : State) → Represents old s → rows.first ≡ old.rows.first → rows.items ≡ old.rows.items
+pub represents_roomier : (old : Parts) (rows : RowTable) (queues : List Table) (keys : KeyTable) (s : State) → Represents old s → rows.first ≡ old.rows.first → rows.items ≡ old.rows.items
     → ((topic : List ℕ) (queue k : ℕ) → number_of old.queues topic queue ≡ Some k → number_of queues topic queue ≡ Some k)
     → ((low : List ℕ → ℕ → ℕ) (added : List Added) (n : ℕ) → view.AreTablesOf low added n old.queues → view.AreTablesOf low added n queues)
-    → Represents (record old { rows = rows; queues = queues }) s
-represents_roomier old rows queues s are first items kept tables =
+    → keys.entries ≡ old.keys.entries
+    → Represents (record old { rows = rows; queues = queues; keys = keys }) s
+represents_roomier old rows queues keys s are first items kept tables entries =
     let n = s.dispatched - s.log.base.records in
     let numbers = are.numbers in
     record {
@@ -70,13 +72,14 @@ represents_roomier old rows queues s are first items kept tables =
       kept = are.kept;
       halves = are.halves;
       levels = are.levels;
+      keys = entries ∙ are.keys;
     }
 
 -- there is room for one record more of the queue
-pub room_for : {E : Type 0} (core : Parts) (old : List Table) (topic : List ℕ) (queue : ℕ) (result : Result ℕ E) → 0 < core.rows.spare
-    → MoreRoom result old core.queues topic queue → NewTable result old core.queues topic queue → IfOk result (λ k. number_of core.queues topic queue ≡ Some k) → IfOk result (λ k. HasRoomFor core k)
-room_for {E = E} core old topic queue (Ok k) row there absent mine = record { row = row; unit = room_made {E = E} old core.queues topic queue k k (Ok k) refl there absent mine }
-room_for core old topic queue (Err fault) row there absent mine = tt
+pub room_for : {E : Type 0} (core : Parts) (old : List Table) (d : Draft) (topic : List ℕ) (queue : ℕ) (result : Result ℕ E) → 0 < core.rows.spare → key_count d ≤ core.keys.spare
+    → MoreRoom result old core.queues topic queue → NewTable result old core.queues topic queue → IfOk result (λ k. number_of core.queues topic queue ≡ Some k) → IfOk result (λ k. HasRoomFor core k d)
+room_for {E = E} core old d topic queue (Ok k) row keys there absent mine = record { row = row; unit = room_made {E = E} old core.queues topic queue k k (Ok k) refl there absent mine; keys = keys }
+room_for core old d topic queue (Err fault) row keys there absent mine = tt
 
 -- what an append does to the tables
 pub record HasUnit (old : List Table) (table : ℕ) (r : Entry) (new : List Table) : Type 0 where
@@ -137,14 +140,14 @@ covered_longer old s r within are =
     }
 
 -- the parts with a record more
-pub represents_appended : (old : Parts) (s : State) (d : Draft) (p : Place) (table : ℕ) (pending : PendingPart) (queues : List Table) (rows : RowTable) (halves : Halves) (levels : Levels)
+pub represents_appended : (old : Parts) (s : State) (d : Draft) (p : Place) (table : ℕ) (pending : PendingPart) (queues : List Table) (rows : RowTable) (keys : KeyTable) (halves : Halves) (levels : Levels)
     → Represents old s → MayStand s d p → IsRecord (entry_of d p) → number_of old.queues d.topic d.queue ≡ Some table
     → pending ≡ appended old.pending (entry_of d p) → IsPendingOf (with_appended s.log (entry_of d p ∷ [])) pending
     → HasUnit old.queues table (entry_of d p) queues
     → rows.items ≡ old.rows.items ++ record { place = p.offset; size = draft_size d; table = table } ∷ [] → AreRowsOf (with_appended s.log (entry_of d p ∷ [])) rows
-    → AreKeptFor (with_appended s.log (entry_of d p ∷ [])) s.dispatched halves levels
-    → Represents (record old { pending = pending; queues = queues; rows = rows; now = p.store; halves = halves; levels = levels }) (with_records s p.store (entry_of d p ∷ []))
-represents_appended old s d p table pending queues rows halves levels are may layout mine pending_is is_pending unit items are_rows whole =
+    → keys.entries ≡ key_entries (s.log.records ++ entry_of d p ∷ []) → AreKeptFor (with_appended s.log (entry_of d p ∷ [])) s.dispatched halves levels
+    → Represents (record old { pending = pending; queues = queues; rows = rows; keys = keys; now = p.store; halves = halves; levels = levels }) (with_records s p.store (entry_of d p ∷ []))
+represents_appended old s d p table pending queues rows keys halves levels are may layout mine pending_is is_pending unit items are_rows entries whole =
     let r : Entry = entry_of d p in
     let n = s.dispatched - s.log.base.records in
     let numbers = are.numbers in
@@ -200,4 +203,5 @@ represents_appended old s d p table pending queues rows halves levels are may la
       kept = are.kept;
       halves = whole.halves;
       levels = whole.levels;
+      keys = entries;
     }

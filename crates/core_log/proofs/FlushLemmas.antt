@@ -305,6 +305,7 @@ represents_flushed old s receipt turn stored are e pushed pending =
       kept = are.kept;
       halves = are.halves;
       levels = are.levels;
+      keys = are.keys;
     }
 
 -- the turn that is out has written its batch

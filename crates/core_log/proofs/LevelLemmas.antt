@@ -91,6 +91,7 @@ represents_halves old halves s are has = record {
   kept = are.kept;
   halves = has;
   levels = are.levels;
+  keys = are.keys;
 }
 
 -- a half message is added
@@ -158,4 +159,5 @@ represents_levels old levels s are has = record {
   kept = are.kept;
   halves = are.halves;
   levels = has;
+  keys = are.keys;
 }

@@ -24,6 +24,7 @@ use Rattle.log_model.specs.Queues.{queue_of}
 use Rattle.log_model.specs.Transactions.{last_of}
 use Rattle.log_model.proofs.Places.{end_of-append, well_formed_take}
 use Rattle.half_records.specs.OfLog.{HasHalves}
+use Rattle.key_view.specs.Entries.{key_entries}
 use Rattle.level_records.specs.OfLog.{HasLevels}
 use Rattle.pending_log.specs.Rows.{AreAlike, AreRowsOf}
 use Rattle.pending_log.specs.declared.rows.Row.{Row}
@@ -191,9 +192,10 @@ pub loads : (saved : List TopicRow) (records : List Entry) (r : Entry) (old new 
     → ((segment : ℕ) (log : Log) → IsWellFormed (geometry segment log.base) log.records → Follows (geometry segment log.base) log.records r → old.rows.first + length old.rows.items ≡ count_of log
     → HasHalves log old.halves → HasHalves (with_appended log (r ∷ [])) new.halves)
     → ((segment : ℕ) (log : Log) → HasLevels log 0 old.levels → IsLawful segment (with_appended log (r ∷ [])) → HasLevels (with_appended log (r ∷ [])) 0 new.levels)
+    → ((log : List Entry) → old.keys.entries ≡ key_entries log → new.keys.entries ≡ key_entries (log ++ r ∷ []))
     → new.end ≡ r.offset + size r → new.store ≡ r.store → new.store < 2 ^ 62 → new.groups ≡ old.groups
     → IsLoadedFrom saved (records ++ r ∷ []) new
-loads saved records r old new row is real rows items tables topics halves levels end store low groups = record {
+loads saved records r old new row is real rows items tables topics halves levels keys end store low groups = record {
   rows = rows;
   tabled = subst (λ (xs : List Row). AreTabled new.queues (records ++ r ∷ []) xs) (sym items) tables.0;
   queues = tables.1;
@@ -205,6 +207,7 @@ loads saved records r old new row is real rows items tables topics halves levels
       (let before = lawful_before segment records r lawful in
       halves segment (whole_log records) before (last_follows segment records r lawful) (rows_end (whole_log records) old.rows is.rows) (is.halves segment before));
   levels = λ segment lawful. levels segment (whole_log records) (is.levels segment (lawful_before segment records r lawful)) lawful;
+  keys = keys records is.keys;
   end = end ∙ sym (end_of-append no_base records r);
   store = store ∙ ap store_time (sym (last_push records r));
   low = low;
@@ -264,6 +267,7 @@ loads_known saved old topic n is plain legal known = record {
   real = is.real;
   halves = is.halves;
   levels = is.levels;
+  keys = is.keys;
   end = is.end;
   store = is.store;
   low = is.low;
@@ -292,6 +296,7 @@ loads_topic saved old new topic n is plain legal unknown others made =
       real = is.real;
       halves = is.halves;
       levels = is.levels;
+      keys = is.keys;
       end = is.end;
       store = is.store;
       low = is.low;
@@ -352,6 +357,7 @@ loads_offset saved records kept old groups group topic queue offset end cut (Ok 
       real = is.real;
       halves = is.halves;
       levels = is.levels;
+      keys = is.keys;
       end = is.end;
       store = is.store;
       low = is.low;

@@ -247,7 +247,7 @@ pub represents_opened : (setup : Setup) (saved : Saved) (records : List Entry) (
     → AreTabled queues records loaded.rows.items × AreTablesOf no_base records (count - 0) queues
     → HasLevels (whole_log records) count levels
     → HasClients clients no_clients
-    → Represents (record { setup = setup; rows = loaded.rows; pending = pending; stored = stored; halves = loaded.halves; levels = levels; queues = queues; topics = loaded.topics; groups = loaded.groups; clients = clients; dispatched = count; now = loaded.store })
+    → Represents (record { setup = setup; rows = loaded.rows; pending = pending; stored = stored; keys = loaded.keys; halves = loaded.halves; levels = levels; queues = queues; topics = loaded.topics; groups = loaded.groups; clients = clients; dispatched = count; now = loaded.store })
     (opened (setup_of setup) (whole_log records) saved)
 represents_opened setup saved records loaded stored pending levels queues clients count may host is pending_is is_pending tables has nobody =
     let s = opened (setup_of setup) (whole_log records) saved in
@@ -285,4 +285,5 @@ represents_opened setup saved records loaded stored pending levels queues client
       kept = all_cut (whole_log records) saved.offsets may.of_log.rows_kept;
       halves = may.of_log.halves setup.segment may.lawful;
       levels = subst (λ (n : ℕ). HasLevels (whole_log records) n levels) same has;
+      keys = may.of_log.keys;
     }

@@ -247,6 +247,7 @@ represents_dispatched old s to tables levels has are more within tabled queues =
   kept = are.kept;
   halves = are.halves;
   levels = has;
+  keys = are.keys;
 }
 
 pub dispatches : (old : Parts) (s : State) (most to : ℕ) (tables : List Table) (levels : Levels) → HasLevels s.log to levels → Represents old s → to ≡ min old.pending.flushed (old.dispatched + most)

@@ -132,6 +132,7 @@ represents_later old s now are later time =
       kept = are.kept;
       halves = are.halves;
       levels = are.levels;
+      keys = are.keys;
     }
 
 numbers_topics : (old : Parts) (topics : Topics) (s : State) → HasNumbers old s → HasNumbers (record old { topics = topics }) s
@@ -168,6 +169,7 @@ represents_same_topics old topics s are same = record {
   kept = are.kept;
   halves = are.halves;
   levels = are.levels;
+  keys = are.keys;
 }
 
 named_with : (topic : List ℕ) (n : ℕ) (rows : List TopicRow) → is_legal topic ≡ true → All IsNamed rows → All IsNamed (with_topic topic n rows)
@@ -215,6 +217,7 @@ represents_made old topics s topic n are plain legal made =
       kept = are.kept;
       halves = are.halves;
       levels = are.levels;
+      keys = are.keys;
     }
 
 pub row_is : (read write : ℕ) → (0 < read) × (read ≤ 1024) → (0 < write) × (write ≤ 1024) → (0 < max read write) × (max read write ≤ 1024)

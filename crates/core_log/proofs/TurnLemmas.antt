@@ -118,6 +118,7 @@ represents_room old s stored none items end are = record {
   kept = are.kept;
   halves = are.halves;
   levels = are.levels;
+  keys = are.keys;
 }
 
 empty_list : {A : Type 0} (xs : List A) → length xs ≡ 0 → xs ≡ []
@@ -206,6 +207,7 @@ represents_turn old s stored b count end are none items ends room pending same s
   kept = are.kept;
   halves = are.halves;
   levels = are.levels;
+  keys = are.keys;
 }
 
 -- what a call that may begin a turn says, by its batch
@@ -311,6 +313,7 @@ represents_failed old s count turn out are there is held pending = record {
   kept = are.kept;
   halves = are.halves;
   levels = are.levels;
+  keys = are.keys;
 }
 
 fails_one : (old : Parts) (s : State) (count : ℕ) (p : Option Out) (o : Option model.Out) → Represents old s → old.pending.out ≡ p → s.out ≡ o → IsSome p → AreOut p o → IsPendingOf s.log (with_failed old.pending count p)

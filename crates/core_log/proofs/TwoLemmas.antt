@@ -26,6 +26,7 @@ use Rattle.pending_log.specs.Parts.{appended}
 use Rattle.pending_log.specs.Pending.{IsPendingOf}
 use Rattle.pending_log.specs.Tables.{RowTable}
 use Rattle.pending_log.specs.Rows.{AreRowsOf}
+use Rattle.key_view.specs.Entries.{KeyTable, key_entries}
 use Rattle.broker_model.specs.State.{State}
 use Rattle.broker_model.specs.Step.{with_records}
 use Rattle.core_log.specs.declared.parts.Parts.{Parts}
@@ -64,7 +65,7 @@ second_place s d p e q may =
     may.second.next.offset ∙ ap (λ (n : ℕ). place_after s.setup.segment n (draft_size e)) (end_of-append s.log.base s.log.records (entry_of d p))
 
 -- the parts with both records
-pub represents_two : (old : Parts) (s : State) (d : Draft) (p : Place) (e : Draft) (q : Place) (table other origin number : ℕ) (how : OriginState) (queues queues_too : List Table) (rows rows_too : RowTable) (halves halves_too : Halves)
+pub represents_two : (old : Parts) (s : State) (d : Draft) (p : Place) (e : Draft) (q : Place) (table other origin number : ℕ) (how : OriginState) (queues queues_too : List Table) (rows rows_too : RowTable) (keys keys_too : KeyTable) (halves halves_too : Halves)
     → Represents old s → MayStandBoth s d p e q → IsRecord (entry_of d p) → IsRecord (entry_of e q)
     → number_of old.queues d.topic d.queue ≡ Some table → number_of old.queues e.topic e.queue ≡ Some other
     → IsPendingOf (with_appended s.log (entry_of d p ∷ [])) (appended old.pending (entry_of d p))
@@ -73,24 +74,26 @@ pub represents_two : (old : Parts) (s : State) (d : Draft) (p : Place) (e : Draf
     → rows.items ≡ old.rows.items ++ record { place = p.offset; size = draft_size d; table = table } ∷ []
     → rows_too.items ≡ rows.items ++ record { place = q.offset; size = draft_size e; table = other } ∷ []
     → AreRowsOf (with_appended s.log (entry_of d p ∷ [])) rows → AreRowsOf (with_appended (with_appended s.log (entry_of d p ∷ [])) (entry_of e q ∷ [])) rows_too
+    → ((log : Log) → old.keys.entries ≡ key_entries log.records → keys.entries ≡ key_entries (log.records ++ entry_of d p ∷ []))
+    → ((log : Log) → keys.entries ≡ key_entries log.records → keys_too.entries ≡ key_entries (log.records ++ entry_of e q ∷ []))
     → SettlesAs old.halves.view origin how (entry_of d p) → IsOpOf origin (entry_of e q) → number ≡ old.rows.first + length old.rows.items
     → Settles old.halves halves (Some origin) how number → Settles halves halves_too (Some origin) RolledBack (number + 1)
-    → Represents (record old { pending = appended (appended old.pending (entry_of d p)) (entry_of e q); queues = queues_too; rows = rows_too; now = q.store; halves = halves_too })
+    → Represents (record old { pending = appended (appended old.pending (entry_of d p)) (entry_of e q); queues = queues_too; rows = rows_too; keys = keys_too; now = q.store; halves = halves_too })
     (with_records s p.store (entry_of d p ∷ entry_of e q ∷ []))
-represents_two old s d p e q table other origin number how queues queues_too rows rows_too halves halves_too are may layout layout_too mine mine_too pending pending_too unit unit_too items items_too are_rows are_rows_too copy op number_same settled settled_too =
+represents_two old s d p e q table other origin number how queues queues_too rows rows_too keys keys_too halves halves_too are may layout layout_too mine mine_too pending pending_too unit unit_too items items_too are_rows are_rows_too indexed indexed_too copy op number_same settled settled_too =
     let r = entry_of d p in
     let x = entry_of e q in
     let count = number_same ∙ number_is old s are in
-    let mid : Parts = record old { pending = appended old.pending r; queues = queues; rows = rows; now = p.store; halves = halves; levels = old.levels } in
+    let mid : Parts = record old { pending = appended old.pending r; queues = queues; rows = rows; keys = keys; now = p.store; halves = halves; levels = old.levels } in
     let s_mid = with_records s p.store (r ∷ []) in
-    let are_mid : Represents mid s_mid = represents_appended old s d p table (appended old.pending r) queues rows halves old.levels are may.first layout mine refl pending unit items are_rows
+    let are_mid : Represents mid s_mid = represents_appended old s d p table (appended old.pending r) queues rows keys halves old.levels are may.first layout mine refl pending unit items are_rows (indexed s.log are.keys)
     (record { halves = origin_settled old s d p origin number how halves are may.first layout copy count settled; levels = levels_kept old s d p are copy.other }) in
     let more = count_with s.log r in
     let next : number + 1 ≡ count_of s_mid.log = omega (arith, count, more) in
     let mine_mid = unit_kept old.queues queues table r unit e.topic e.queue other mine_too in
-    subst (λ (later : State). Represents (record old { pending = appended (appended old.pending r) x; queues = queues_too; rows = rows_too; now = q.store; halves = halves_too }) later)
+    subst (λ (later : State). Represents (record old { pending = appended (appended old.pending r) x; queues = queues_too; rows = rows_too; keys = keys_too; now = q.store; halves = halves_too }) later)
     (both_records s p.store q.store r x may.time)
-    (represents_appended mid s_mid e q other (appended (appended old.pending r) x) queues_too rows_too halves_too old.levels are_mid may.second layout_too mine_mid refl pending_too unit_too items_too are_rows_too
+    (represents_appended mid s_mid e q other (appended (appended old.pending r) x) queues_too rows_too keys_too halves_too old.levels are_mid may.second layout_too mine_mid refl pending_too unit_too items_too are_rows_too (indexed_too s_mid.log are_mid.keys)
     (record { halves = origin_settled mid s_mid e q origin (number + 1) RolledBack halves_too are_mid may.second layout_too (op_settles halves.view origin x op) next settled_too; levels = levels_kept mid s_mid e q are_mid op.other }))
 
 -- a record's unit was added to its queue's table

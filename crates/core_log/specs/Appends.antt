@@ -1,5 +1,5 @@
 -- When a record may be appended, and that there is room for it.
-use Rattle.std.specs.Prelude.{◌≡◌, ◌≢◌, ℕ, ◌+◌, ◌-◌, ◌^◌, ◌<◌, ◌≤◌, [], ◌∷◌, false, slice_get, Some}
+use Rattle.std.specs.Prelude.{◌≡◌, ◌≢◌, ℕ, ◌+◌, ◌-◌, ◌^◌, ◌<◌, ◌≤◌, [], ◌∷◌, false, length, slice_get, Some}
 use Rattle.record_codec.specs.Entry.{Entry}
 use Rattle.log_model.specs.Kinds.{is_half, is_op, is_copy, is_discard}
 use Rattle.log_model.specs.declared.origin.OriginState.{OriginState}
@@ -8,6 +8,7 @@ use Rattle.half_view.specs.OfLog.{with_settlement}
 use Rattle.delay_view.specs.OfLog.{IsOther}
 use Rattle.delay_view.specs.Levels.{Level}
 use Rattle.level_records.specs.declared.levels.Levels.{Levels}
+use Rattle.key_view.specs.Hashes.{keys_in}
 use Rattle.record_codec.specs.Drafts.{entry_of, draft_size}
 use Rattle.record_codec.specs.declared.draft.Draft.{Draft}
 use Rattle.record_codec.specs.declared.draft.Place.{Place}
@@ -19,10 +20,15 @@ use Rattle.broker_model.specs.Step.{with_records}
 use Rattle.queue_view.specs.Tables.{Table}
 use Rattle.core_log.specs.declared.parts.Parts.{Parts}
 
--- there is room for one record more in the rows, and for its unit in this table
-pub record HasRoomFor (core : Parts) (table : ℕ) : Type 0 where
+-- how many keys the records of a draft have
+abbrev pub key_count : Draft → ℕ
+key_count d = length (keys_in d.topic d.props)
+
+-- there is room for one record more in the rows, for its unit in this table, and for its keys
+pub record HasRoomFor (core : Parts) (table : ℕ) (d : Draft) : Type 0 where
   pub row : 0 < core.rows.spare
   pub unit : (t : Table) → slice_get core.queues table ≡ Some t → 0 < t.spare
+  pub keys : key_count d ≤ core.keys.spare
 
 -- this is the next place in the state's log for a record of this draft, at a time that isn't before now
 pub record IsNextPlace (s : State) (d : Draft) (p : Place) : Type 0 where
@@ -62,12 +68,13 @@ pub record MayStandBoth (s : State) (d : Draft) (p : Place) (e : Draft) (q : Pla
   pub second : MayStand (with_records s p.store (entry_of d p ∷ [])) e q
   pub time : q.store ≡ p.store
 
--- there is room for two records more, of these two tables
-pub record HasRoomForTwo (core : Parts) (table other : ℕ) : Type 0 where
+-- there is room for two records more, of these two tables, and for their keys
+pub record HasRoomForTwo (core : Parts) (table other : ℕ) (d e : Draft) : Type 0 where
   pub rows : 2 ≤ core.rows.spare
   pub unit : (t : Table) → slice_get core.queues table ≡ Some t → 0 < t.spare
   pub unit_too : (t : Table) → slice_get core.queues other ≡ Some t → 0 < t.spare
   pub apart : table ≢ other
+  pub keys : key_count d + key_count e ≤ core.keys.spare
 
 -- ---- deliveries
 

@@ -22,6 +22,7 @@ use Rattle.client_tables.specs.Counts.{queues_of}
 use Rattle.group_tables.specs.Held.{lock_of}
 use Rattle.group_tables.specs.Offsets.{HasOffsets, IsOffset}
 use Rattle.half_records.specs.OfLog.{HasHalves}
+use Rattle.key_view.specs.Entries.{key_entries}
 use Rattle.level_records.specs.OfLog.{HasLevels}
 use Rattle.core_log.specs.declared.loaded.Loaded.{Loaded}
 use Rattle.core_log.specs.Represents.{AreTabled, AreTablesOf, AreCovered, IsNamed}
@@ -77,6 +78,7 @@ pub record IsLoadedWith (saved : List TopicRow) (records : List Entry) (kept : L
   pub real : AreForLegalTopics records
   pub halves : (segment : ℕ) → IsLawful segment (whole_log records) → HasHalves (whole_log records) loaded.halves
   pub levels : (segment : ℕ) → IsLawful segment (whole_log records) → HasLevels (whole_log records) 0 loaded.levels
+  pub keys : loaded.keys.entries ≡ key_entries records
   pub end : loaded.end ≡ end_of no_base records
   pub store : loaded.store ≡ store_time (last_of records)
   pub low : loaded.store < 2 ^ 62

@@ -27,6 +27,7 @@ use Rattle.group_tables.specs.Held.{HasLocks}
 use Rattle.group_tables.specs.Offsets.{HasOffsets, IsOffset}
 use Rattle.half_records.specs.declared.halves.Halves.{Halves}
 use Rattle.half_records.specs.OfLog.{HasHalves}
+use Rattle.key_view.specs.Entries.{key_entries}
 use Rattle.level_records.specs.declared.levels.Levels.{Levels}
 use Rattle.level_records.specs.OfLog.{HasLevels}
 use Rattle.core_log.specs.declared.parts.Parts.{Parts}
@@ -137,3 +138,4 @@ pub record Represents (core : Parts) (s : State) : Type 0 where
   pub kept : All IsOffset s.offsets
   pub halves : HasHalves s.log core.halves
   pub levels : HasLevels s.log s.dispatched core.levels
+  pub keys : core.keys.entries ≡ key_entries s.log.records

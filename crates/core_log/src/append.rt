@@ -4,12 +4,14 @@ ghost use Rattle.std.specs.Prelude.{◌≡◌, ◌<◌, ◌≤◌, ◌+◌, ◌^
 ghost use Rattle.record_codec.specs.Drafts.{draft_size, entry_of, IsEncodable};
 ghost use Rattle.record_codec.specs.Layout.{IsRecord};
 ghost use Rattle.record_codec.specs.Units.{unit_of};
+ghost use Rattle.log_model.specs.Keys.{index_keys};
 ghost use Rattle.log_model.specs.Log.{place_after};
 ghost use Rattle.log_model.specs.Numbered.{Log, with_appended};
 ghost use Rattle.pending_log.specs.Rows.{AreRowsOf};
 ghost use Rattle.queue_view.specs.Added.{Added, added_to, AreTablesOf};
 ghost use Rattle.queue_view.specs.Tables.{Table, added_of, number_of, with_unit};
 ghost use Rattle.half_records.specs.declared.halves.Halves.{Halves};
+ghost use Rattle.key_view.specs.Entries.{key_entries};
 ghost use Rattle.level_records.specs.declared.levels.Levels.{Levels};
 ghost use Rattle.broker_model.specs.State.{State};
 ghost use Rattle.broker_model.specs.Step.{with_records};
@@ -18,6 +20,7 @@ ghost use Rattle.core_log.specs.Represents.{AreKeptFor, Represents};
 ghost use Rattle.core_log.specs.Appends.{HasRoomFor, MayStand};
 
 use crate::parts::Parts;
+use key_view::RecordKeys;
 use pending_log::Row;
 use record_codec::{Draft, Place, Unit, tag_code};
 use std::alloc::{AllocError, Global};
@@ -37,16 +40,19 @@ fn unit_at(draft: &Draft, place: &Place, size: u32) -> Unit
 }
 
 impl Parts {
-    /// Makes room for one record more of this queue; the number of the queue's table, which is made where there is none.
-    /// Nothing else changes, at `Err` either.
-    pub fn make_ready(&mut self, alloc: Global, topic: &str, queue: u32) -> Result<u32, AllocError>
-        ensures number { IfOk result (λ table. number_of self.new.queues topic.now queue ≡ Some table) }
-        ensures room { IfOk result (λ table. HasRoomFor self.new table) }
-        ensures others { self.new ≡ record self.old { rows = self.new.rows; queues = self.new.queues } }
+    /// Makes room for the record of this draft, its keys included; the number of its queue's table, which is made where there is
+    /// none. Nothing else changes, at `Err` either.
+    pub fn make_ready(&mut self, alloc: Global, draft: &Draft) -> Result<u32, AllocError>
+        ensures number { IfOk result (λ table. number_of self.new.queues draft.now.topic draft.now.queue ≡ Some table) }
+        ensures room { IfOk result (λ table. HasRoomFor self.new table draft.now) }
+        ensures others { self.new ≡ record self.old { rows = self.new.rows; queues = self.new.queues; keys = self.new.keys } }
         ensures stays { Stays self.old self.new }
     {
+        self.keys
+            .reserve(alloc, RecordKeys::of_draft(draft).count())?;
         self.rows.reserve(alloc, 1)?;
-        self.queues.reserve(alloc, topic, queue, 1)
+        self.queues
+            .reserve(alloc, draft.topic.as_str(), draft.queue, 1)
     }
 
     /// Where the next record of a queue with this table stands, which has so many bytes and this store time.
@@ -63,10 +69,10 @@ impl Parts {
         }
     }
 
-    // The record of this draft, whose bytes are pending, has its unit and its row. Takes no memory.
+    // The record of this draft, whose bytes are pending, has its unit, its keys and its row. Takes no memory.
     pub(crate) fn stand(&mut self, table: u32, draft: &Draft, place: &Place, size: u32)
         requires there { table < length self.old.queues }
-        requires room { HasRoomFor self.old table }
+        requires room { HasRoomFor self.old table draft.now }
         requires few { self.old.rows.first + length self.old.rows.items < 2 ^ 62 }
         requires size { size ≡ draft_size draft.now }
         requires low { place.now.store < 2 ^ 62 }
@@ -81,10 +87,15 @@ impl Parts {
         ensures spare { self.old.rows.spare ≤ self.new.rows.spare + 1 }
         ensures log { (log : Log) → AreRowsOf log self.old.rows
             → AreRowsOf (with_appended log (entry_of draft.now place.now ∷ [])) self.new.rows }
-        ensures rest { self.new ≡ record self.old { queues = self.new.queues; rows = self.new.rows; now = place.now.store } }
+        ensures keys { (log : Log) → self.old.keys.entries ≡ key_entries log.records
+            → self.new.keys.entries ≡ key_entries (with_appended log (entry_of draft.now place.now ∷ [])).records }
+        ensures key_spare { self.old.keys.spare ≤ self.new.keys.spare + length (index_keys (entry_of draft.now place.now)) }
+        ensures rest { self.new ≡ record self.old { queues = self.new.queues; rows = self.new.rows; keys = self.new.keys; now = place.now.store } }
     {
         self.queues
             .add(table, unit_at(draft, place, size), place.store);
+        self.keys
+            .add_all(RecordKeys::of_draft(draft), place.offset, place.store);
         self.rows.push(Row {
             place: place.offset,
             size,
@@ -105,7 +116,7 @@ impl Parts {
         requires some { (s : State) × Represents self.old s × MayStand s draft.now place.now }
         requires encodable { IsEncodable draft.now place.now }
         requires table { number_of self.old.queues draft.now.topic draft.now.queue ≡ Some table }
-        requires room { HasRoomFor self.old table }
+        requires room { HasRoomFor self.old table draft.now }
         requires size { size ≡ draft_size draft.now }
         requires short { length self.old.pending.bytes + size ≤ 67108864 }
         ensures appended { OnOk result ((s : State) (halves : Halves) (levels : Levels) → Represents self.old s

@@ -38,7 +38,7 @@ impl Parts {
         requires some { (s : State) × Represents self.old s × MayStand s draft.now place.now }
         requires encodable { IsEncodable draft.now place.now }
         requires table { number_of self.old.queues draft.now.topic draft.now.queue ≡ Some table }
-        requires room { HasRoomFor self.old table }
+        requires room { HasRoomFor self.old table draft.now }
         requires size { size ≡ draft_size draft.now }
         requires short { length self.old.pending.bytes + size ≤ 67108864 }
         requires first { 1 ≤ level }
@@ -71,7 +71,7 @@ impl Parts {
         requires some { (s : State) × Represents self.old s × MayStand s draft.now place.now }
         requires encodable { IsEncodable draft.now place.now }
         requires table { number_of self.old.queues draft.now.topic draft.now.queue ≡ Some table }
-        requires room { HasRoomFor self.old table }
+        requires room { HasRoomFor self.old table draft.now }
         requires size { size ≡ draft_size draft.now }
         requires short { length self.old.pending.bytes + size ≤ 67108864 }
         requires message { IsKeptAs (Delayed level) (entry_of draft.now place.now) }
@@ -99,7 +99,7 @@ impl Parts {
         requires some { (s : State) × Represents self.old s × MayStand s draft.now place.now }
         requires encodable { IsEncodable draft.now place.now }
         requires table { number_of self.old.queues draft.now.topic draft.now.queue ≡ Some table }
-        requires room { HasRoomFor self.old table }
+        requires room { HasRoomFor self.old table draft.now }
         requires size { size ≡ draft_size draft.now }
         requires short { length self.old.pending.bytes + size ≤ 67108864 }
         requires half { IsHalfOf named (entry_of draft.now place.now) }
@@ -129,7 +129,7 @@ impl Parts {
         requires some { (s : State) × Represents self.old s × MayStand s draft.now place.now }
         requires encodable { IsEncodable draft.now place.now }
         requires table { number_of self.old.queues draft.now.topic draft.now.queue ≡ Some table }
-        requires room { HasRoomFor self.old table }
+        requires room { HasRoomFor self.old table draft.now }
         requires size { size ≡ draft_size draft.now }
         requires short { length self.old.pending.bytes + size ≤ 67108864 }
         requires half { IsHalfOf None (entry_of draft.now place.now) }
@@ -156,7 +156,7 @@ impl Parts {
         requires some { (s : State) × Represents self.old s × MayStand s draft.now place.now }
         requires encodable { IsEncodable draft.now place.now }
         requires table { number_of self.old.queues draft.now.topic draft.now.queue ≡ Some table }
-        requires room { HasRoomFor self.old table }
+        requires room { HasRoomFor self.old table draft.now }
         requires size { size ≡ draft_size draft.now }
         requires short { length self.old.pending.bytes + size ≤ 67108864 }
         requires op { IsOpOf origin (entry_of draft.now place.now) }
@@ -184,7 +184,7 @@ impl Parts {
         requires some { (s : State) × Represents self.old s × MayStand s draft.now place.now }
         requires encodable { IsEncodable draft.now place.now }
         requires table { number_of self.old.queues draft.now.topic draft.now.queue ≡ Some table }
-        requires room { HasRoomFor self.old table }
+        requires room { HasRoomFor self.old table draft.now }
         requires size { size ≡ draft_size draft.now }
         requires short { length self.old.pending.bytes + size ≤ 67108864 }
         requires kept { IsKeptAs kind (entry_of draft.now place.now) }
@@ -212,7 +212,7 @@ impl Parts {
         requires some { (s : State) × Represents self.old s × MayStand s draft.now place.now }
         requires encodable { IsEncodable draft.now place.now }
         requires table { number_of self.old.queues draft.now.topic draft.now.queue ≡ Some table }
-        requires room { HasRoomFor self.old table }
+        requires room { HasRoomFor self.old table draft.now }
         requires size { size ≡ draft_size draft.now }
         requires short { length self.old.pending.bytes + size ≤ 67108864 }
         requires first { 1 ≤ level }

@@ -20,6 +20,7 @@ ghost use Rattle.pending_log.specs.Parts.{appended};
 ghost use Rattle.pending_log.specs.Pending.{IsPendingOf};
 
 use crate::parts::Parts;
+use key_view::RecordKeys;
 use log_model::{OriginState, next_place};
 use record_codec::{Draft, Place};
 use std::alloc::{AllocError, Global};
@@ -48,7 +49,7 @@ impl Parts {
         requires low { place_after self.old.pending.segment self.old.pending.end sizes.0 + sizes.0 ≤ 2 ^ 62 }
         ensures table { IfOk result (λ both. number_of self.new.queues first.now.topic first.now.queue ≡ Some both.0.table) }
         ensures table_too { IfOk result (λ both. number_of self.new.queues second.now.topic second.now.queue ≡ Some both.1.table) }
-        ensures room { IfOk result (λ both. HasRoomForTwo self.new both.0.table both.1.table) }
+        ensures room { IfOk result (λ both. HasRoomForTwo self.new both.0.table both.1.table first.now second.now) }
         ensures drafts { IfOk result (λ both. (both.0.draft.now ≡ first.now) × (both.0.size ≡ sizes.0)
             × (both.1.draft.now ≡ second.now) × (both.1.size ≡ sizes.1)) }
         ensures first_place { IfOk result (λ both.
@@ -58,9 +59,14 @@ impl Parts {
             ((t : Table) → slice_get self.new.queues both.1.table ≡ Some t → both.1.place.queue_offset ≡ added_of t)
             × (both.1.place.offset ≡ place_after self.new.setup.segment (both.0.place.offset + sizes.0) sizes.1)
             × (both.1.place.store ≡ store)) }
-        ensures others { self.new ≡ record self.old { rows = self.new.rows; queues = self.new.queues } }
+        ensures others { self.new ≡ record self.old { rows = self.new.rows; queues = self.new.queues; keys = self.new.keys } }
         ensures stays { Stays self.old self.new }
     {
+        let (one, other) = (RecordKeys::of_draft(first), RecordKeys::of_draft(second));
+        let Some(keys) = one.count().checked_add(other.count()) else {
+            return Err(AllocError);
+        };
+        self.keys.reserve(alloc, keys)?;
         self.rows.reserve(alloc, 2)?;
         let table = self
             .queues
@@ -142,7 +148,7 @@ impl Parts {
         requires encodable_too { IsEncodable op.now.draft.now op.now.place }
         requires table { number_of self.old.queues copy.now.draft.now.topic copy.now.draft.now.queue ≡ Some copy.now.table }
         requires table_too { number_of self.old.queues op.now.draft.now.topic op.now.draft.now.queue ≡ Some op.now.table }
-        requires room { HasRoomForTwo self.old copy.now.table op.now.table }
+        requires room { HasRoomForTwo self.old copy.now.table op.now.table copy.now.draft.now op.now.draft.now }
         requires size { copy.now.size ≡ draft_size copy.now.draft.now }
         requires size_too { op.now.size ≡ draft_size op.now.draft.now }
         requires short { length self.old.pending.bytes + draft_size copy.now.draft.now + draft_size op.now.draft.now ≤ 67108864 }

@@ -18,6 +18,7 @@ ghost use Rattle.core_log.specs.Loads.{count_with, known_with, own_with, real_wi
 use client_tables::Topics;
 use group_tables::Groups;
 use half_records::Halves;
+use key_view::{KeyView, RecordKeys};
 use level_records::Levels;
 use log_model::is_system_topic;
 use mq_bytes::read_decimal;
@@ -36,6 +37,7 @@ const RECORDS_MAX: u64 = 1 << 61;
 #[derive(Drop)]
 pub struct Loaded {
     pub(crate) rows: Rows,
+    pub(crate) keys: KeyView,
     pub(crate) halves: Halves,
     pub(crate) levels: Levels,
     pub(crate) queues: QueueView,
@@ -142,6 +144,7 @@ impl Loaded {
     {
         Ok(Loaded {
             rows: Rows::new(alloc, 0),
+            keys: KeyView::new(alloc),
             halves: Halves::new(alloc),
             levels: Levels::new(alloc)?,
             queues: QueueView::new(alloc),
@@ -184,6 +187,7 @@ impl Loaded {
         let place = view.offset();
         let size = view.size();
         let store = view.store();
+        self.keys.reserve(alloc, RecordKeys::of_view(view).count())?;
         self.rows.reserve(alloc, 1)?;
         let table = self.queues.reserve(alloc, topic, queue, 1)?;
         know_own(&mut self.topics, alloc, topic, queue)?;
@@ -191,6 +195,7 @@ impl Loaded {
         self.halves.load(alloc, view, self.rows.end())?;
         self.levels.load(alloc, view)?;
         self.queues.add(table, unit_of(view), store);
+        self.keys.add_all(RecordKeys::of_view(view), place, store);
         self.rows.push(Row { place, size, table });
         self.end = place + u64::from(size);
         self.store = store;

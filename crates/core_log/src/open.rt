@@ -51,6 +51,7 @@ impl Parts {
             rows: loaded.rows,
             pending,
             stored,
+            keys: loaded.keys,
             halves: loaded.halves,
             levels,
             queues,

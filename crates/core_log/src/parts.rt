@@ -4,6 +4,7 @@ use broker_events::Setup;
 use client_tables::{Clients, Topics};
 use group_tables::Groups;
 use half_records::Halves;
+use key_view::KeyView;
 use level_records::Levels;
 use mq_outside::FrozenRanges;
 use pending_log::{Pending, Rows};
@@ -18,6 +19,8 @@ pub struct Parts {
     pub rows: Rows,
     pub pending: Pending,
     pub stored: FrozenRanges,
+    // The keys of the records.
+    pub keys: KeyView,
     // The half messages, and the delayed messages of each level.
     pub halves: Halves,
     pub levels: Levels,

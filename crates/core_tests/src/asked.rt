@@ -24,12 +24,17 @@ pub(crate) struct Asked {
     pub(crate) sysflag: &'static str,
     /// From which offset messages are pulled.
     pub(crate) from: i32,
-    /// How many messages are pulled at most.
+    /// How many messages are pulled or found at most.
     pub(crate) most: &'static str,
     /// The offset to be stored.
     pub(crate) commit: &'static str,
-    /// The time whose offset is searched, in milliseconds.
+    /// The time whose offset is searched, or from which messages with a key are, in milliseconds.
     pub(crate) time: &'static str,
+    /// Until when messages with the key are searched.
+    pub(crate) until: &'static str,
+    pub(crate) key: &'static str,
+    /// Where the message that is viewed stands.
+    pub(crate) place: &'static str,
     /// The bytes of a message's body.
     pub(crate) size: u32,
 }
@@ -85,6 +90,9 @@ pub(crate) const SEND: Asked = Asked {
     most: "32",
     commit: "0",
     time: "0",
+    until: "9000",
+    key: "",
+    place: "0",
     size: 2,
 };
 
@@ -95,7 +103,17 @@ pub(crate) const PULL: Asked = Asked {
     ..SEND
 };
 
-/// The same as events.
+/// A query of topic `T` for at most 32 messages with the key `Aa` that were stored at 9,000 ms at the latest.
+pub(crate) const QUERY: Asked = Asked {
+    code: 12,
+    key: "Aa",
+    ..SEND
+};
+
+/// A view of the message at place 0.
+pub(crate) const VIEW: Asked = Asked { code: 33, ..SEND };
+
+/// A send and a pull as events.
 pub(crate) const SENT: What = What::Ask(SEND);
 
 pub(crate) const PULLED: What = What::Ask(PULL);

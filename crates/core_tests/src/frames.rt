@@ -73,6 +73,11 @@ fn header_of(alloc: Global, asked: &Asked) -> Result<String, AllocError> {
         ("expressionType", asked.expression),
         ("commitOffset", asked.commit),
         ("timestamp", asked.time),
+        ("key", asked.key),
+        ("maxNum", asked.most),
+        ("beginTimestamp", asked.time),
+        ("endTimestamp", asked.until),
+        ("offset", asked.place),
     ];
     header(alloc, asked, &fields)
 }

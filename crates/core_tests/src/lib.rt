@@ -24,6 +24,8 @@ mod ledger;
 #[cfg(test)]
 mod pull_tests;
 #[cfg(test)]
+mod query_tests;
+#[cfg(test)]
 mod sequences;
 #[cfg(test)]
 mod stage;

@@ -1,5 +1,5 @@
 use Rattle.std.proofs.lemmas.Result.{IfOk-weaker}
-use Rattle.request_fields.specs.declared.request.Request.TheVariants.{Send, Pull, OffsetOf, SetOffset, MakeTopic, Search, MaxOffset, MinOffset, Beat, Unregister, EndTransaction, Lock, Unlock}
+use Rattle.request_fields.specs.declared.request.Request.TheVariants.{Send, Pull, Query, ViewById, OffsetOf, SetOffset, MakeTopic, Search, MaxOffset, MinOffset, Beat, Unregister, EndTransaction, Lock, Unlock}
 use Rattle.broker_model.specs.Events as model
 use Rattle.broker_events.specs.Steps.{Says}
 use Rattle.broker_core.specs.Asked.{CarriesRequest}
@@ -11,6 +11,14 @@ use Rattle.broker_core.proofs.request.request.Goals as goal
 pub returns-in-Pull-clause-carries : goal.returns-in-Pull-clause-carries
 returns-in-Pull-clause-carries c =
     carried c.args.parts.now c.pull.new.parts c.args.link c.args.host.now c.args.now c.args.request.now (Pull c.in-Pull.asked) c.pull.result c.in-Pull.is (c.pull.ensures.carries c.args.link c.args.host.now)
+
+pub returns-in-Query-clause-carries : goal.returns-in-Query-clause-carries
+returns-in-Query-clause-carries c =
+    carried c.args.parts.now c.query.new.parts c.args.link c.args.host.now c.args.now c.args.request.now (Query c.in-Query.asked) c.query.result c.in-Query.is (c.query.ensures.carries c.args.link c.args.host.now)
+
+pub returns-in-ViewById-clause-carries : goal.returns-in-ViewById-clause-carries
+returns-in-ViewById-clause-carries c =
+    carried c.args.parts.now c.view.new.parts c.args.link c.args.host.now c.args.now c.args.request.now (ViewById c.in-ViewById.asked) c.view.result c.in-ViewById.is (c.view.ensures.carries c.args.link c.args.host.now)
 
 pub returns-in-Search-clause-carries : goal.returns-in-Search-clause-carries
 returns-in-Search-clause-carries c =

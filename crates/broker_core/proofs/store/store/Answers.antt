@@ -12,7 +12,7 @@ use Rattle.core_log.specs.declared.parts.Parts.{Parts}
 use Rattle.core_log.specs.Represents.{Represents}
 use Rattle.client_tables.specs.declared.topics.Topics.{Topics}
 use Rattle.broker_core.specs.Stores.{sent_fields, stored_answer, IsTarget}
-use Rattle.core_log.proofs.StoreLemmas.{found_place, is_next_record}
+use Rattle.core_log.proofs.StoreLemmas.{found_place, is_next_record, on_err}
 use Rattle.broker_core.proofs.store.store.Goals as goal
 
 pub append_in-requires-clause-some : goal.append_in-requires-clause-some
@@ -69,3 +69,12 @@ append_in-requires-clause-target c =
 
 pub append_in-requires-clause-kept : goal.append_in-requires-clause-kept
 append_in-requires-clause-kept c = c.requires.storable.kept c.next_place-place.result
+
+pub answer-said-requires-clause-some : goal.answer-said-requires-clause-some
+answer-said-requires-clause-some c =
+    let it = c.requires.some in
+    (it.0, c.in_ok-table.ensures.stays it.0 it.1)
+
+pub returns-in_err-append_in-clause-stays : goal.returns-in_err-append_in-clause-stays
+returns-in_err-append_in-clause-stays c =
+    on_err c.from_residual-in_err-append_in.result (λ s are. c.in_err-append_in.ensures.stays s (c.in_ok-table.ensures.stays s are))

@@ -1,7 +1,6 @@
-use Rattle.std.proofs.Common.{◌∙◌, ap, sym, subst, ℕ, List, [], ◌∷◌}
+use Rattle.std.proofs.Common.{subst, ℕ, [], ◌∷◌}
 use Rattle.record_codec.specs.Entry.{Entry}
 use Rattle.record_codec.specs.Drafts.{entry_of}
-use Rattle.queue_view.specs.Tables.{number_of}
 use Rattle.broker_model.specs.Step.{with_records}
 use Rattle.core_log.specs.Represents.{Represents}
 use Rattle.core_log.proofs.StoreLemmas.{on_ok}
@@ -16,7 +15,7 @@ append_op-requires-clause-some c =
     let old = c.args.parts.now in
     let core = c.make_ready.new.self in
     let d = c.args.op.now in
-    let mine = ap (λ (name : List ℕ). number_of core.queues name d.queue) (sym c.as_str.ensures.value) ∙ c.in_ok-table.ensures.number in
+    let mine = c.in_ok-table.ensures.number in
     let ready = ready_alone old core s c.args.now c.args.origin d c.next_place-place.result c.in_ok-table.table c.args.size are0 (c.in_ok-table.ensures.stays s are0) it mine
     c.next_place-place.ensures.queue_offset c.next_place-place.ensures.offset c.next_place-place.ensures.store c.requires.size c.requires.room in
     (s, c.in_ok-table.ensures.stays s are0, ready.may)
@@ -29,7 +28,7 @@ append_op-requires-clause-encodable c =
     let old = c.args.parts.now in
     let core = c.make_ready.new.self in
     let d = c.args.op.now in
-    let mine = ap (λ (name : List ℕ). number_of core.queues name d.queue) (sym c.as_str.ensures.value) ∙ c.in_ok-table.ensures.number in
+    let mine = c.in_ok-table.ensures.number in
     let ready = ready_alone old core s c.args.now c.args.origin d c.next_place-place.result c.in_ok-table.table c.args.size are0 (c.in_ok-table.ensures.stays s are0) it mine
     c.next_place-place.ensures.queue_offset c.next_place-place.ensures.offset c.next_place-place.ensures.store c.requires.size c.requires.room in
     ready.written
@@ -42,7 +41,7 @@ append_op-requires-clause-short c =
     let old = c.args.parts.now in
     let core = c.make_ready.new.self in
     let d = c.args.op.now in
-    let mine = ap (λ (name : List ℕ). number_of core.queues name d.queue) (sym c.as_str.ensures.value) ∙ c.in_ok-table.ensures.number in
+    let mine = c.in_ok-table.ensures.number in
     let ready = ready_alone old core s c.args.now c.args.origin d c.next_place-place.result c.in_ok-table.table c.args.size are0 (c.in_ok-table.ensures.stays s are0) it mine
     c.next_place-place.ensures.queue_offset c.next_place-place.ensures.offset c.next_place-place.ensures.store c.requires.size c.requires.room in
     ready.short
@@ -55,7 +54,7 @@ append_op-requires-clause-op c =
     let old = c.args.parts.now in
     let core = c.make_ready.new.self in
     let d = c.args.op.now in
-    let mine = ap (λ (name : List ℕ). number_of core.queues name d.queue) (sym c.as_str.ensures.value) ∙ c.in_ok-table.ensures.number in
+    let mine = c.in_ok-table.ensures.number in
     let ready = ready_alone old core s c.args.now c.args.origin d c.next_place-place.result c.in_ok-table.table c.args.size are0 (c.in_ok-table.ensures.stays s are0) it mine
     c.next_place-place.ensures.queue_offset c.next_place-place.ensures.offset c.next_place-place.ensures.store c.requires.size c.requires.room in
     ready.is_op_of
@@ -66,7 +65,7 @@ returns-clause-appended c =
     let old = c.args.parts.now in
     let core = c.make_ready.new.self in
     let d = c.args.op.now in
-    let mine = ap (λ (name : List ℕ). number_of core.queues name d.queue) (sym c.as_str.ensures.value) ∙ c.in_ok-table.ensures.number in
+    let mine = c.in_ok-table.ensures.number in
     let ready = ready_alone old core s c.args.now c.args.origin d c.next_place-place.result c.in_ok-table.table c.args.size are0 (c.in_ok-table.ensures.stays s are0) it mine
     c.next_place-place.ensures.queue_offset c.next_place-place.ensures.offset c.next_place-place.ensures.store c.requires.size c.requires.room in
     let new = c.append_op.new.self in
