@@ -1,7 +1,7 @@
 -- Which status has which cause.
-use Rattle.std.proofs.Common.{◌≡◌, ◌≢◌, ◌⊎◌, ⊎_elim, inl, inr, refl, codes, ◌∙◌, ℕ, ◌≤◌, List, Option, Some, None, Result, Ok, Err, sym, subst, arith}
+use Rattle.std.proofs.Common.{◌≡◌, ◌≢◌, ◌⊎◌, ⊎_elim, inl, inr, refl, codes, ◌∙◌, ℕ, ◌≤◌, Option, Some, None, Result, Ok, Err, sym, subst, arith}
 use Rattle.mq_outside.specs.Counts.{Rises}
-use Rattle.log_recovery.specs.Recovered.{OnDamage, CountsRecoverFault}
+use Rattle.log_recovery.specs.Recovered.{CountsRecoverFault}
 use Rattle.log_recovery.specs.declared.fault.RecoverFault.{RecoverFault}
 use Rattle.log_recovery.specs.declared.fault.RecoverFault.TheVariants.{Damaged, Failed as DiskFailed, Memory as NoMemory}
 use Rattle.log_opening.specs.declared.opening.Opened.{Opened}
@@ -151,14 +151,6 @@ opening_causes status old new (inr (inr (inr kept))) = record {
   known = inr kept.0;
 }
 
--- and one of these statuses
-pub refused_by : (status : Status) (disk disk_then keep keep_then : ℕ) → OpeningCause status disk disk_then keep keep_then
-    → (status.code ≡ 5) ⊎ ((status.code ≡ 6) ⊎ ((status.code ≡ 7) ⊎ ((status.code ≡ 10) × (status.name ≡ codes "keep"))))
-refused_by status disk disk_then keep keep_then (inl failed) = inl failed.0
-refused_by status disk disk_then keep keep_then (inr (inl six)) = inr (inl six)
-refused_by status disk disk_then keep keep_then (inr (inr (inl seven))) = inr (inr (inl seven))
-refused_by status disk disk_then keep keep_then (inr (inr (inr kept))) = inr (inr (inr (kept.0, kept.1)))
-
 -- so has a log that was not recovered
 pub fault_causes : (status : Status) (fault : RecoverFault) (old new : AllFaults) → StatusTellsFault status fault → CountsRecoverFault {A = Opened} (Err fault) old.disk new.disk → Causes status old new
 fault_causes status (Damaged place name) old new tells counts =
@@ -188,10 +180,3 @@ run_causes status old new disk same keep same_keep counts = record {
   device = λ e. subst (λ (n : ℕ). ((status.name ≡ codes "clock") × Rises old.clock new.clock) ⊎ ((status.name ≡ codes "keep") × Rises n new.keep)) same_keep (counts.device e);
   known = known_codes status counts.known;
 }
-
--- what holds where damage is told holds of the status that tells it
-pub damage_told : (status : Status) (fault : RecoverFault) (P : ℕ → List ℕ → Type 0) → StatusTellsFault status fault → OnDamage {A = Unit {0}} (Err fault) P → status.code ≡ 8 → P status.place status.name
-damage_told status (Damaged place name) P tells damaged code =
-    subst (λ (n : ℕ). P n status.name) (sym tells.1) (subst (λ (t : List ℕ). P place t) (sym tells.2) damaged)
-damage_told status DiskFailed P tells damaged code = absurd (omega (arith, tells, code))
-damage_told status NoMemory P tells damaged code = absurd (omega (arith, tells, code))

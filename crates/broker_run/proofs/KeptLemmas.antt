@@ -1,9 +1,9 @@
 -- What a run leaves of the kept files, and which status tells it.
 use Rattle.std.proofs.Common.{◌≡◌, ◌≢◌, ◌⊎◌, inl, inr, ◌∙◌, sym, ap, subst, arith, codes, ℕ, ◌<◌, List, [], ◌∷◌, All, Option, Some, None, Result, Ok, Err}
 use Rattle.mq_outside.specs.Counts.{Rises, CountsDiskFault}
-use Rattle.mq_outside.specs.Disk.{DiskState, Rests}
+use Rattle.mq_outside.specs.Disk.{DiskState}
 use Rattle.mq_outside.specs.Files.{Files, OldOrNew, At}
-use Rattle.mq_outside.proofs.Moments.{at_end, weaker, chained, throughout_rests}
+use Rattle.mq_outside.proofs.Moments.{at_end, weaker, chained}
 use Rattle.mq_outside.specs.declared.faults.DiskFault.{DiskFault}
 use Rattle.mq_outside.specs.declared.faults.DiskFault.TheVariants as keeper
 use Rattle.std.proofs.lemmas.List.Elements.{All-nil, All-cons, All-head, All-tail}
@@ -11,13 +11,13 @@ use Rattle.broker_model.specs.Lawful.{IsTopic}
 use Rattle.broker_model.specs.State.{State}
 use Rattle.core_log.specs.declared.parts.Parts.{Parts}
 use Rattle.core_log.specs.Represents.{Represents, IsNamed}
-use Rattle.broker_model.specs.Tables.{OffsetRow, TopicRow}
-use Rattle.config_store.specs.Configs.{OFFSETS, TOPICS, HasConfig, HasOffsets, HasTopics, PutsConfig, Replaces}
-use Rattle.config_store.specs.Faults.{IsBadText, OnBadText, CountsConfigFault}
+use Rattle.broker_model.specs.Tables.{TopicRow}
+use Rattle.config_store.specs.Configs.{OFFSETS, TOPICS, PutsConfig, Replaces}
+use Rattle.config_store.specs.Faults.{CountsConfigFault}
 use Rattle.config_store.specs.declared.config.ConfigFault.{ConfigFault}
 use Rattle.config_store.specs.declared.config.ConfigFault.TheVariants.{BadText, Failed as KeepFailed, Memory as NoMemoryHere}
 use Rattle.config_store.specs.Texts.{IsKeptTopic, offsets_text_of, topics_text_of}
-use Rattle.store_open.specs.Openings.{FORMAT, StoreTold, PutsOnly, IsOpened, format_after}
+use Rattle.store_open.specs.Openings.{FORMAT, StoreTold, PutsOnly, IsOpened}
 use Rattle.store_open.specs.declared.format.Sizes.{Sizes}
 use Rattle.store_open.specs.declared.format.AskedSizes.{AskedSizes}
 use Rattle.store_open.specs.declared.status.Status.{Status}
@@ -28,7 +28,7 @@ use Rattle.pipe_stream.specs.declared.stop.Halt.TheVariants.{BadFrame, Read, Sto
 use Rattle.pipe_stream.specs.declared.stop.Stop.TheVariants as stops
 use Rattle.keeper_turns.specs.Turns.{HasKept}
 use Rattle.exit_status.specs.Statuses.{StatusKept, StatusTellsConfig, TellsDevice}
-use Rattle.broker_run.specs.Promise.{StatusOf, StatusAfter, AllWell, AllFaults, Causes, Seen, before, behind, KeepSeen, ReplacesAll, PutsAll, CanBeKept, KeepsOpen, KeepsState, Misread, CountsStatus, CountsEnd}
+use Rattle.broker_run.specs.Promise.{StatusOf, StatusAfter, AllWell, AllFaults, Causes, before, KeepSeen, ReplacesAll, PutsAll, CanBeKept, KeepsOpen, KeepsState, CountsStatus, CountsEnd}
 use Rattle.broker_run.proofs.CauseLemmas.{quiet}
 use Rattle.pipe_stream.specs.Telling.{fault_counts}
 
@@ -155,13 +155,6 @@ then_replaced format offsets topics old mid new opened replaced = record {
   others = λ name not_format not_offsets not_topics. replaced.others name not_offsets not_topics ∙ opened.others name not_format;
 }
 
--- a keep that rests once the format was put
-pub puts_still : (format : List ℕ) (old opened loaded : DiskState) → PutsOnly format old opened → Rests opened loaded → PutsOnly format old loaded
-puts_still format old opened loaded puts rests = record {
-  reads = subst (λ (files : Files). At FORMAT (OldOrNew format) old.reads files) (sym rests.same) puts.reads;
-  at_each = chained puts.at_each (throughout_rests rests (at_end puts.at_each));
-}
-
 pub puts_all : (format offsets topics : List ℕ) (old opened new : DiskState) → PutsOnly format old opened → PutsConfig offsets topics opened new → PutsAll format offsets topics old new
 puts_all format offsets topics old opened new puts replaced =
     let images = at_end puts.at_each in
@@ -176,18 +169,7 @@ puts_all format offsets topics old opened new puts replaced =
 
 -- ---- the opening
 
--- the format stands, and stays so
-pub opened_still : (asked : AskedSizes) (sizes : Sizes) (store : StoreTold) (opened loaded : DiskState) → (store.keep → Rests opened loaded)
-    → IsOpened asked sizes store opened → IsOpened asked sizes store loaded
-opened_still asked sizes store opened loaded rests is = record {
-  sizes_are = is.sizes_are;
-  own = is.own;
-  stands = λ told. subst (λ (f : Files). f FORMAT ≡ Some (format_after (store.texts FORMAT) sizes)) (sym (rests told).same) (is.stands told);
-  stays = λ told after image.
-      let rest = rests told in
-      is.stays told after (rest.quiet.each loaded.moment after rest.quiet.later (omega arith) image) ∙ ap (λ (f : Files). f FORMAT) (sym rest.same);
-}
-
+-- the format stands, and stays so where the kept files are replaced
 pub opened_kept : (asked : AskedSizes) (sizes : Sizes) (store : StoreTold) (offsets topics : List ℕ) (opened new : DiskState) → (store.keep → PutsConfig offsets topics opened new)
     → IsOpened asked sizes store opened → IsOpened asked sizes store new
 opened_kept asked sizes store offsets topics opened new puts is = record {
@@ -199,35 +181,6 @@ opened_kept asked sizes store offsets topics opened new puts is = record {
       let found = put.at_each.each new.moment after put.at_each.later (omega arith) image in
       found.2.others FORMAT (λ e. absurd (cc e)) (λ e. absurd (cc e)) ∙ is.stays told found.0 found.1 ∙ sym (put.reads.others FORMAT (λ e. absurd (cc e)) (λ e. absurd (cc e)));
 }
-
--- what the kept files had, seen from before the format was put
-pub config_before : (format : List ℕ) (old opened : DiskState) (offsets : List OffsetRow) (topics : List TopicRow) → PutsOnly format old opened → HasConfig opened.reads offsets topics → HasConfig old.reads offsets topics
-config_before format old opened offsets topics puts has = record {
-  offsets_are = subst (λ (o : Option (List ℕ)). HasOffsets o offsets) (puts.reads.others OFFSETS (λ e. absurd (cc e))) has.offsets_are;
-  topics_are = subst (λ (o : Option (List ℕ)). HasTopics o topics) (puts.reads.others TOPICS (λ e. absurd (cc e))) has.topics_are;
-}
-
-bad_before : (format : List ℕ) (old opened : DiskState) (name : List ℕ) → PutsOnly format old opened → IsBadText opened.reads name → IsBadText old.reads name
-bad_before format old opened name puts (inl it) = inl (record {
-  named = it.named;
-  none = λ rows has. it.none rows (subst (λ (o : Option (List ℕ)). HasOffsets o rows) (sym (puts.reads.others OFFSETS (λ e. absurd (cc e)))) has);
-})
-bad_before format old opened name puts (inr it) = inr (record {
-  named = it.named;
-  none = λ rows has. it.none rows (subst (λ (o : Option (List ℕ)). HasTopics o rows) (sym (puts.reads.others TOPICS (λ e. absurd (cc e)))) has);
-})
-
--- they were not loaded
-pub misread : {D : Type 0} (status : Status) (seen : Seen D) (keep : KeepSeen) (fault : ConfigFault) (format : List ℕ) (opened : DiskState) → StatusTellsConfig status fault
-    → (keep.tells → PutsOnly format keep.old opened) → (keep.tells → OnBadText {A = Unit {0}} (Err fault) (IsBadText opened.reads)) → (seen.disk.tells → Rests (before seen) (behind seen)) → Misread status seen keep
-misread status seen keep (BadText name) format opened (inl told) puts bad rests = record {
-  why = inl (told.0, told.1, λ tells. subst (λ (n : List ℕ). IsBadText keep.old.reads n) (sym told.2) (bad_before format keep.old opened name.now (puts tells) (bad tells)));
-  still = rests;
-}
-misread status seen keep (BadText name) format opened (inr seven) puts bad rests = record { why = inr (inl seven); still = rests }
-misread status seen keep KeepFailed format opened (inl told) puts bad rests = record { why = inr (inr told); still = rests }
-misread status seen keep KeepFailed format opened (inr seven) puts bad rests = record { why = inr (inl seven); still = rests }
-misread status seen keep NoMemoryHere format opened seven puts bad rests = record { why = inr (inl seven); still = rests }
 
 -- what is said of the kept files, seen from before the opening
 pub kept_from : (format : List ℕ) (status : Status) (keep : KeepSeen) (opened : DiskState) (failed : ℕ) (s : State) → failed ≡ keep.failed → (keep.tells → PutsOnly format keep.old opened)

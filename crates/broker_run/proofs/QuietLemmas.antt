@@ -22,7 +22,8 @@ use Rattle.mq_outside.specs.declared.faults.DiskFault.{DiskFault}
 use Rattle.mq_outside.specs.declared.faults.DiskFault.TheVariants as keeper
 use Rattle.config_store.specs.Faults.{IsBadText}
 use Rattle.exit_status.specs.Statuses.{TellsDevice, StatusTellsFault}
-use Rattle.broker_run.specs.Promise.{Seen, KeepSeen, AllFaults, Causes, StatusTells, StatusOf, StatusAfter, before, Served, Refused, Misread, Unrecovered, IsNotServed, Call, IsQuiet, EndsWell}
+use Rattle.exit_status.specs.Stores.{Misread, Refused, Unrecovered}
+use Rattle.broker_run.specs.Promise.{Seen, KeepSeen, AllFaults, Causes, StatusTells, StatusOf, StatusAfter, before, store_seen, Served, IsNotServed, Call, IsQuiet, EndsWell}
 
 -- ---- bytes that are whole frames
 
@@ -91,7 +92,7 @@ module _ {D : Type 0} (words : List (List ℕ)) (status : Status) (seen : Seen D
   quiet_after ended last (Err keeper.Failed) good (inl it) = quiet_kept it.1
   quiet_after ended last (Err keeper.Failed) good (inr it) = quiet_status ended last good it.0
 
-  quiet_misread : Misread status seen keep → EndsWell status
+  quiet_misread : Misread status (store_seen seen keep) → EndsWell status
   quiet_misread it = by_why it.why
     where
       by_why : ((status.code ≡ 8) × (status.place ≡ 0) × (keep.tells → IsBadText keep.old.reads status.name)) ⊎ ((status.code ≡ 7) ⊎ ((status.code ≡ 10) × (status.name ≡ codes "keep"))) → EndsWell status
@@ -110,16 +111,16 @@ module _ {D : Type 0} (words : List (List ℕ)) (status : Status) (seen : Seen D
       (subst (λ (r : Result (Unit {0}) Halt). EndsBy r piped.at piped.rest piped.bytes seen.source.tells seen.source.left_then) is piped.ends))
       served.tells
 
-  quiet_unrecovered : (command : Command) → IsCommand words command → Unrecovered command status seen keep → EndsWell status
-  quiet_unrecovered command asked it = by_fault it.fault it.tells
+  quiet_unrecovered : (command : Command) → IsCommand words command → Unrecovered command.sizes status (store_seen seen keep) → EndsWell status
+  quiet_unrecovered command asked it = by_fault it.log.fault it.log.told
     where
       by_fault : (fault : RecoverFault) → StatusTellsFault status fault → EndsWell status
-      by_fault (Damaged place name) tells = absurd (quiet.undamaged command it.sizes asked (it.opened_as.sizes_are quiet.keep_tells) status.place status.name (it.damaged quiet.disk_tells tells.0).0)
+      by_fault (Damaged place name) tells = absurd (quiet.undamaged command it.sizes asked (it.opened_as.sizes_are quiet.keep_tells) status.place status.name (it.log.damaged quiet.disk_tells tells.0).0)
       by_fault DiskFailed tells = absurd (quiet.disk_still (causes.disk_failed tells))
       by_fault NoMemory tells = inr tells
 
   -- the store was not opened
-  quiet_refused : (status.code ≡ 6 → ⊥) → Refused status seen → EndsWell status
+  quiet_refused : (status.code ≡ 6 → ⊥) → Refused status (store_seen seen keep) → EndsWell status
   quiet_refused own refused = by_code refused.refused
     where
       by_code : (status.code ≡ 5) ⊎ ((status.code ≡ 6) ⊎ ((status.code ≡ 7) ⊎ ((status.code ≡ 10) × (status.name ≡ codes "keep")))) → EndsWell status
@@ -133,11 +134,11 @@ module _ {D : Type 0} (words : List (List ℕ)) (status : Status) (seen : Seen D
   quiet_call call foreign = ⊎_elim
       (λ (served : Served call.command status seen keep). quiet_served call.command served)
       (λ (other : IsNotServed call.command status seen keep). ⊎_elim
-      (λ (refused : Refused status seen). quiet_refused
+      (λ (refused : Refused status (store_seen seen keep)). quiet_refused
       (λ six. let it = foreign quiet.disk_tells quiet.keep_tells six in quiet.own it.0 status.name it.1 it.2) refused)
-      (λ (later : Misread status seen keep ⊎ Unrecovered call.command status seen keep). ⊎_elim
-      (λ (bad : Misread status seen keep). quiet_misread bad)
-      (λ (lost : Unrecovered call.command status seen keep). quiet_unrecovered call.command call.asked lost)
+      (λ (later : Misread status (store_seen seen keep) ⊎ Unrecovered call.command.sizes status (store_seen seen keep)). ⊎_elim
+      (λ (bad : Misread status (store_seen seen keep)). quiet_misread bad)
+      (λ (lost : Unrecovered call.command.sizes status (store_seen seen keep)). quiet_unrecovered call.command call.asked lost)
       later)
       other.why)
       call.called

@@ -3,16 +3,15 @@ use Rattle.std.proofs.Math.Seq.{take-length}
 use Rattle.std.proofs.Common.{◌≡◌, ⊎_elim, inl, slice_get, ◌∙◌, ℕ, ◌+◌, ◌≤◌, ◌++◌, List, [], ◌∷◌, Option, Some, Result, Ok, Err, length, take, refl, ap, sym, subst, arith, length-take}
 use Rattle.mq_outside.specs.Readings.{Giving}
 use Rattle.mq_outside.specs.Files.{Files, Same}
-use Rattle.mq_outside.specs.Disk.{DiskState, EachImage, Moves, Rests, Throughout}
-use Rattle.mq_outside.proofs.Moments.{each_same, at_start, at_end, goes_on, weaker, chained, rests_start, rests_call, rests_then}
+use Rattle.mq_outside.specs.Disk.{DiskState, EachImage, Moves, Throughout}
+use Rattle.mq_outside.proofs.Moments.{each_same, at_start, goes_on, weaker}
 use Rattle.record_codec.specs.Entry.{Entry}
 use Rattle.log_model.specs.Bases.{Geometry, geometry, whole}
-use Rattle.log_model.specs.Log.{IsWellFormed}
 use Rattle.log_model.specs.Segments.{IsLogFile, Shape, opened, used, shape_of, AreFilesOf, AreSegmentFiles}
 use Rattle.log_model.proofs.Lists.{get_take}
 use Rattle.log_model.proofs.Steps.{stands_more, stands_exact}
-use Rattle.log_model.specs.Store.{Keeps as RecoveryKeeps, IsDamagedAt, IsHonest, StoresLog}
-use Rattle.log_model.specs.Stored.{Stored, HasRecords, HasFirst, FlushTurn, KeepsAtLeast, stored, turned_by, turned_in}
+use Rattle.log_model.specs.Store.{Keeps as RecoveryKeeps, StoresLog}
+use Rattle.log_model.specs.Stored.{Stored, HasFirst, FlushTurn, KeepsAtLeast, stored, turned_by, turned_in}
 use Rattle.log_model.proofs.OutsideLemmas.{stays_start, stays_same}
 use Rattle.log_model.proofs.StoredLemmas.{first_keeps, keeps_then}
 use Rattle.segment_files.specs.Turn.{IsReady, IsPlaced, NextOpens, Growing, growing}
@@ -32,10 +31,6 @@ use Rattle.worker_turns.specs.Acts.{Act, HasUnwritten, Acts, Acted, DiskView, Pl
 use Rattle.worker_turns.specs.Turning.{AreAllTurns}
 use Rattle.pipe_stream.specs.Serving.{Sides, Point, point_at, point_of, acts_of, Begun, Nothing, Asked, Closing, begun_acts, Breaks}
 use Rattle.pipe_stream.specs.Piping.{RanToEnd, acts_in}
-use Rattle.log_recovery.specs.Recovered.{OnDamage, StaysFlushed}
-use Rattle.log_recovery.specs.declared.fault.RecoverFault.{RecoverFault}
-use Rattle.log_recovery.specs.declared.fault.RecoverFault.TheVariants.{Damaged, Failed as DiskFailed, Memory as NoMemory}
-use Rattle.store_open.specs.Openings.{IsOpened, store_told}
 use Rattle.broker_run.specs.Closing.{ServesToEnd, ReadsPlaced, FlushesPlaced, ending_of, ended_as}
 use Rattle.flush_story.specs.Story.{Reaches}
 use Rattle.flush_story.specs.Keeping.{IsPlacedFor, flushed_in, geometry_of, log_in, IsOpenFor, AreExact, Keeps}
@@ -43,17 +38,14 @@ use Rattle.flush_story.proofs.Keeps.{kept_as}
 use Rattle.flush_story.proofs.Turns.{order_on, exact_later, turned_most}
 use Rattle.flush_story.specs.Leads.{alone}
 use Rattle.flush_story.proofs.ActStory.{acts_lead, acts_written}
-use Rattle.exit_status.specs.Statuses.{StatusTellsFault}
-use Rattle.broker_run.specs.Promise.{AreMoves, opened_over, Seen, before, behind, sides_for, Leaves, Survives, RunFrom, BeginsWithKept, KeepsOn, RunsFromSome, KeepsAfter, LeavesDisk, KeepsOpen, ServedOver, Unrecovered, KeepSeen}
-use Rattle.broker_run.proofs.CauseLemmas.{damage_told}
+use Rattle.exit_status.specs.Stores.{Leaves}
+use Rattle.broker_run.specs.Promise.{AreMoves, opened_over, Seen, before, behind, sides_for, Survives, RunFrom, BeginsWithKept, KeepsOn, RunsFromSome, KeepsAfter, LeavesDisk, KeepsOpen, ServedOver, KeepSeen}
 use Rattle.pipe_stream.specs.declared.stop.Halt.{Halt}
 use Rattle.pipe_stream.specs.declared.stop.Halt.TheVariants.{BadFrame, Read, Stopped}
 use Rattle.worker_turns.specs.declared.broken.Broken.{Broken}
 use Rattle.worker_turns.specs.declared.broken.Broken.TheVariants as broken
 use Rattle.pipe_stream.specs.declared.stop.Stop.TheVariants as stops
 use Rattle.store_open.specs.declared.status.Status.{Status}
-use Rattle.store_open.specs.declared.format.Sizes.{Sizes}
-use Rattle.store_open.specs.declared.words.Command.{Command}
 use Rattle.broker_events.specs.declared.event.Setup.{Setup}
 use Rattle.broker_run.specs.declared.ended.Ended.{Ended}
 use Rattle.worker_turns.proofs.ActLemmas.{acts_then, unwritten_behind}
@@ -300,37 +292,6 @@ run_as setup saved log ended last seen disk P Q as_well ran = record {
   done = as_well (ran.first ++ ran.flushed.acts) ran.reached ran.done;
 }
 
--- each image of a disk that stores a log has what is flushed of it
-each_has : (S : Geometry) (log : List Entry) (flushed : ℕ) (disk : DiskState) → StoresLog S log flushed disk → EachImage (HasRecords S (take flushed log)) disk
-each_has S log flushed disk stores = record {
-  at = λ files image. record { shape = stores.shape; reach = stores.reach; laid = stores.at.laid; stands = stores.at.each.at files image };
-}
-
--- which a crash leaves
-leaves_front : (S : Geometry) (log : List Entry) (flushed : ℕ) (files : Files) → IsWellFormed S log → flushed ≤ length log → HasRecords S (take flushed log) files → Leaves S log flushed files
-leaves_front S log flushed files well within has =
-    let first : HasFirst S log flushed files = record { number = flushed; low = omega arith; high = within; has = has } in
-    record { has = first; keeps = first_keeps S log flushed files well first }
-
--- a call that changes nothing
-pub stores_same : (S : Geometry) (log : List Entry) (flushed : ℕ) (old new : DiskState) → Moves Same old new → StoresLog S log flushed old → StoresLog S log flushed new
-stores_same S log flushed old new moves stores = record {
-  shape = stores.shape;
-  reach = stores.reach;
-  at = record { well_formed = stores.at.well_formed; within = stores.at.within; laid = stores.at.laid; each = each_same moves stores.at.each };
-}
-
-pub honest_same : (S : Geometry) (log : List Entry) (flushed : ℕ) (old new : DiskState) → Moves Same old new → IsHonest S log flushed old.reads → IsHonest S log flushed new.reads
-honest_same S log flushed old new moves honest = subst (λ (files : Files). IsHonest S log flushed files) (sym moves.reads) honest
-
-pub leaves_from : (S : Geometry) (log : List Entry) (flushed : ℕ) (old first mid new : DiskState) → Moves Same old first → Moves Same first mid → StoresLog S log flushed old
-    → Throughout mid new (HasRecords S (take flushed log)) → Throughout old new (Leaves S log flushed)
-leaves_from S log flushed old first mid new opened read stores has =
-    let each = each_has S log flushed old stores in
-    let before = goes_on (at_start old (HasRecords S (take flushed log)) each) opened (each_same opened each) in
-    let all = chained (goes_on before read (each_same read (each_same opened each))) has in
-    weaker all (λ files front. leaves_front S log flushed files stores.at.well_formed stores.at.within front)
-
 survives : (setup : Setup) (log : List Entry) (flushed : ℕ) (opening : List Entry) (acts : List Act) (reached : State) (old mid new : DiskState)
     → Throughout old mid (Leaves (whole setup.segment) log flushed) → KeepsAfter setup opening acts reached mid new
     → Survives (stored (whole setup.segment) log flushed) opening (turns_of acts) reached.log.records old new
@@ -388,42 +349,3 @@ module _ {D : Type 0} (it : Opened) (status : Status) (seen : Seen D) (disk : D)
             ))
             (served.runs setup saved opening opens.opens);
       }
-
--- ---- a log that was not recovered
-
--- damage is told of the files as they were read, and they rest
-both_told : (fault : RecoverFault) (P Q : ℕ → List ℕ → Type 0) → OnDamage {A = Opened} (Err fault) P → OnDamage {A = Opened} (Err fault) Q
-    → OnDamage {A = Unit {0}} (Err fault) (λ place name. P place name × Q place name)
-both_told (Damaged place name) P Q p q = (p, q)
-both_told DiskFailed P Q p q = tt
-both_told NoMemory P Q p q = tt
-
-pub unrecovered : {D : Type 0} (command : Command) (status : Status) (seen : Seen D) (keep : KeepSeen) (first mid after : DiskState) (fault : RecoverFault) (sizes : Sizes)
-    → StatusTellsFault status fault → IsOpened command.sizes sizes (store_told seen.disk.tells (before seen).reads keep.tells keep.old.reads) keep.new
-    → (seen.disk.tells → Moves Same (before seen) first) → (seen.disk.tells → Moves Same first mid)
-    → (seen.disk.tells → OnDamage {A = Opened} (Err fault) (IsDamagedAt (whole sizes.segment) mid.reads)) → (seen.disk.tells → OnDamage {A = Opened} (Err fault) (λ place name. Rests mid after))
-    → (seen.disk.tells → StaysFlushed (whole sizes.segment) mid after) → (seen.disk.tells → Moves Same after (behind seen))
-    → Unrecovered command status seen keep
-unrecovered command status seen keep first mid after fault sizes tells opened_as moves reads damaged rests flushed back =
-    let S : Geometry = whole sizes.segment in
-    record {
-      fault = fault;
-      tells = tells;
-      sizes = sizes;
-      opened_as = opened_as;
-      damaged = λ told code.
-          let both = damage_told status fault (λ place name. IsDamagedAt S mid.reads place name × Rests mid after) tells (both_told fault _ _ (damaged told) (rests told)) code in
-          let quiet = rests_call (rests_call (rests_start (before seen)) (moves told)) (reads told) in (
-            subst (λ (files : Files). IsDamagedAt S files status.place status.name) ((reads told).reads ∙ (moves told).reads) both.0,
-            rests_call (rests_then quiet both.1) (back told),
-          );
-      stores = λ told log flushed_number stores honest.
-          let mid_stores = stores_same S log flushed_number first mid (reads told) (stores_same S log flushed_number (before seen) first (moves told) stores) in
-          let mid_honest = honest_same S log flushed_number first mid (reads told) (honest_same S log flushed_number (before seen) first (moves told) honest) in
-          stores_same S log flushed_number after (behind seen) (back told) (flushed told log flushed_number mid_stores mid_honest).still;
-      leaves = λ told log flushed_number stores honest.
-          let mid_stores = stores_same S log flushed_number first mid (reads told) (stores_same S log flushed_number (before seen) first (moves told) stores) in
-          let mid_honest = honest_same S log flushed_number first mid (reads told) (honest_same S log flushed_number (before seen) first (moves told) honest) in
-          let kept = (flushed told log flushed_number mid_stores mid_honest).any_moment in
-          leaves_from S log flushed_number (before seen) first mid (behind seen) (moves told) (reads told) stores (goes_on kept (back told) (each_same (back told) (at_end kept)));
-    }

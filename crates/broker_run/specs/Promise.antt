@@ -3,7 +3,7 @@ use Rattle.std.specs.Prelude.{◌≡◌, ◌≢◌, ◌⊎◌, ℕ, ◌+◌, ◌
 use Rattle.std.specs.Prelude.{All, Option, Some, None, Result, Ok, Err}
 use Rattle.mq_outside.specs.Counts.{Rises}
 use Rattle.mq_outside.specs.Files.{Files, OldOrNew}
-use Rattle.mq_outside.specs.Disk.{DiskState, EachImage, IsCrashImage, Rests, Throughout}
+use Rattle.mq_outside.specs.Disk.{DiskState, EachImage, IsCrashImage, Throughout}
 use Rattle.mq_outside.specs.declared.faults.DiskFault.{DiskFault}
 use Rattle.mq_outside.specs.declared.faults.DiskFault.TheVariants as keeper
 use Rattle.mq_outside.specs.Readings.{Giving}
@@ -12,16 +12,16 @@ use Rattle.remoting_frame.specs.declared.frame.Frame.{Frame}
 use Rattle.record_codec.specs.Entry.{Entry}
 use Rattle.log_model.specs.Bases.{Geometry, whole}
 use Rattle.log_model.specs.Segments.{AreSegmentFiles}
-use Rattle.log_model.specs.Store.{Keeps, IsDamagedAt, IsHonest, StoresLog, KeepsIfHonest}
-use Rattle.log_model.specs.Stored.{HasFirst, FlushTurn, KeepsAtLeast, stored, turned_by, turned_in, Stored}
-use Rattle.log_recovery.specs.declared.fault.RecoverFault.{RecoverFault}
+use Rattle.log_model.specs.Store.{Keeps, IsDamagedAt, IsHonest, StoresLog}
+use Rattle.log_model.specs.Stored.{FlushTurn, KeepsAtLeast, stored, turned_by, turned_in, Stored}
 use Rattle.segment_files.specs.Turn.{IsReady, growing}
 use Rattle.store_open.specs.Words.{IsCommand}
-use Rattle.store_open.specs.Openings.{FORMAT, AreSizesOf, IsForeign, IsOpened, PutsOnly, own_format, store_told}
+use Rattle.store_open.specs.Openings.{FORMAT, AreSizesOf, IsForeign, IsOpened, own_format}
 use Rattle.store_open.specs.declared.format.Sizes.{Sizes}
 use Rattle.store_open.specs.declared.words.Command.{Command}
 use Rattle.store_open.specs.declared.status.Status.{Status}
-use Rattle.exit_status.specs.Statuses.{TellsDevice, StatusTellsFault}
+use Rattle.exit_status.specs.Statuses.{TellsDevice}
+use Rattle.exit_status.specs.Stores.{Leaves, Misread, PutsFormat, Refused, StoreOver, Unrecovered, store_over, told_before}
 use Rattle.broker_model.specs.State.{State, Saved}
 use Rattle.broker_model.specs.Tables.{OffsetRow, TopicRow}
 use Rattle.broker_model.specs.Events as model
@@ -160,6 +160,10 @@ pub record KeepSeen : Type 1 where
   pub failed : ℕ
   pub failed_then : ℕ
 
+-- the disk and the keep over it
+abbrev pub store_seen : {D : Type 0} → Seen D → KeepSeen → StoreOver
+store_seen seen keep = store_over seen.disk.tells (before seen) (behind seen) keep.tells keep.old keep.new
+
 -- ---- the kept files
 
 -- From old to new each of the three texts is as it was or is this one, and each other one is as it was.
@@ -205,12 +209,6 @@ pub record KeepsState (format : List ℕ) (status : Status) (keep : KeepSeen) (s
   pub formed : CanBeKept s
 
 -- ---- a run from a store
-
--- What a crash left of a log with at least so many records: the files have these at their places, and recovery keeps a prefix
--- with these where they are honest.
-pub record Leaves (S : Geometry) (log : List Entry) (least : ℕ) (files : Files) : Type 0 where
-  pub has : HasFirst S log least files
-  pub keeps : KeepsIfHonest S log least files
 
 -- What every crash leaves of a store that had a log with so many records flushed, when a run from `log` on ended with this log.
 -- Up to a moment it was being opened, and then a crash leaves exactly the files of the run's first log. From then on the turns that
@@ -283,7 +281,7 @@ pub record Served {D : Type 0} (command : Command) (status : Status) (seen : See
   pub replaced : Result (Unit {0}) DiskFault
   pub tells : StatusAfter status ended last replaced
   pub sizes : Sizes
-  pub opened_as : IsOpened command.sizes sizes (store_told seen.disk.tells (before seen).reads keep.tells keep.old.reads) keep.new
+  pub opened_as : IsOpened command.sizes sizes (told_before (store_seen seen keep)) keep.new
   pub offsets : List OffsetRow
   pub topics : List TopicRow
   pub config : keep.tells → HasConfig keep.old.reads offsets topics
@@ -303,36 +301,12 @@ pub record IsUntouched {D : Type 0} (seen : Seen D) : Type 0 where
   pub taken_is : seen.taken_then ≡ seen.taken
   pub readings_is : seen.readings_then ≡ seen.readings
 
--- The store was not opened: its format or its devices ended the call, and the disk is as it was.
-pub record Refused {D : Type 0} (status : Status) (seen : Seen D) : Type 0 where
-  pub refused : (status.code ≡ 5) ⊎ ((status.code ≡ 6) ⊎ ((status.code ≡ 7) ⊎ ((status.code ≡ 10) × (status.name ≡ codes "keep"))))
-  pub still : seen.disk.tells → Rests (before seen) (behind seen)
-
--- The log was not recovered. Status 8 tells where its files are damaged. What was flushed stays.
-pub record Unrecovered {D : Type 0} (command : Command) (status : Status) (seen : Seen D) (keep : KeepSeen) : Type 0 where
-  pub fault : RecoverFault
-  pub tells : StatusTellsFault status fault
-  pub sizes : Sizes
-  pub opened_as : IsOpened command.sizes sizes (store_told seen.disk.tells (before seen).reads keep.tells keep.old.reads) keep.new
-  pub damaged : seen.disk.tells → status.code ≡ 8
-      → IsDamagedAt (whole sizes.segment) (before seen).reads status.place status.name × Rests (before seen) (behind seen)
-  pub stores : seen.disk.tells → (stored : List Entry) (flushed : ℕ) → StoresLog (whole sizes.segment) stored flushed (before seen)
-      → IsHonest (whole sizes.segment) stored flushed (before seen).reads → StoresLog (whole sizes.segment) stored flushed (behind seen)
-  pub leaves : seen.disk.tells → (stored : List Entry) (flushed : ℕ) → StoresLog (whole sizes.segment) stored flushed (before seen)
-      → IsHonest (whole sizes.segment) stored flushed (before seen).reads
-      → Throughout (before seen) (behind seen) (Leaves (whole sizes.segment) stored flushed)
-
--- The kept files were not loaded: status 8 tells which of them isn't of its form. The disk is as it was.
-pub record Misread {D : Type 0} (status : Status) (seen : Seen D) (keep : KeepSeen) : Type 0 where
-  pub why : ((status.code ≡ 8) × (status.place ≡ 0) × (keep.tells → IsBadText keep.old.reads status.name))
-      ⊎ ((status.code ≡ 7) ⊎ ((status.code ≡ 10) × (status.name ≡ codes "keep")))
-  pub still : seen.disk.tells → Rests (before seen) (behind seen)
-
 -- The opening ended the call. At each moment the format is as it was before, or the right text, and no other text changes.
 pub record IsNotServed {D : Type 0} (command : Command) (status : Status) (seen : Seen D) (keep : KeepSeen) : Type 0 where
   pub untouched : IsUntouched seen
-  pub why : Refused status seen ⊎ (Misread status seen keep ⊎ Unrecovered command status seen keep)
-  pub puts : keep.tells → PutsOnly (own_format (keep.old.reads FORMAT) command.sizes) keep.old keep.new
+  pub why : Refused status (store_seen seen keep)
+      ⊎ (Misread status (store_seen seen keep) ⊎ Unrecovered command.sizes status (store_seen seen keep))
+  pub puts : PutsFormat command.sizes (store_seen seen keep)
 
 -- The words are a command, and this came of it.
 pub record Call {D : Type 0} (words : List (List ℕ)) (status : Status) (seen : Seen D) (keep : KeepSeen) : Type 0 where

@@ -1,14 +1,16 @@
 -- What a run leaves, put together from its parts.
-use Rattle.std.proofs.Common.{◌≡◌, ◌≢◌, ◌⊎◌, inl, refl, sym, ap, subst, ◌∙◌, arith, ℕ, List, Option, Some, None, IfSome, Result, OnOk}
+use Rattle.std.proofs.Common.{◌≡◌, ◌≢◌, ◌⊎◌, inl, inr, refl, sym, ap, subst, ◌∙◌, arith, ℕ, List, Option, Some, None, IfSome, Result, OnOk}
 use Rattle.std.specs.Prelude.{IfNone}
-use Rattle.mq_outside.specs.Files.{Files, OldOrNew, At, Same}
-use Rattle.mq_outside.specs.Disk.{DiskState, Moves, Rests}
+use Rattle.mq_outside.specs.Files.{Files, OldOrNew, At}
+use Rattle.mq_outside.specs.Disk.{DiskState, IsCrashImage, Rests}
 use Rattle.mq_outside.specs.declared.faults.DiskFault.{DiskFault}
-use Rattle.mq_outside.proofs.Moments.{at_start, at_end, weaker, chained, throughout_rests, rests_then}
+use Rattle.mq_outside.proofs.Moments.{at_end, weaker, chained, rests_then}
+use Rattle.log_model.specs.Bases.{whole}
+use Rattle.broker_model.specs.State.{Saved}
 use Rattle.broker_model.specs.Tables.{OffsetRow, TopicRow}
 use Rattle.broker_events.specs.declared.event.Setup.{Setup}
 use Rattle.core_log.specs.declared.parts.Parts.{Parts}
-use Rattle.config_store.specs.Configs.{OFFSETS, TOPICS, HasConfig, HasOffsets, HasTopics}
+use Rattle.config_store.specs.Configs.{OFFSETS, TOPICS, HasConfig}
 use Rattle.config_store.specs.Texts.{offsets_text_of, topics_text_of}
 use Rattle.keeper_turns.specs.Puts.{HasSuch, ReplacesBy, PutsBy, KeepsBy}
 use Rattle.keeper_turns.specs.Turns.{IsOffsetsOf, IsTopicsOf}
@@ -16,76 +18,119 @@ use Rattle.keeper_turns.proofs.PutLemmas.{puts_rested}
 use Rattle.worker_turns.specs.Acts.{Place, change_of, place_of}
 use Rattle.log_opening.specs.Opens.{OpensLogWith, OpensKeptWith, saved_as}
 use Rattle.log_opening.specs.declared.opening.Opened.{Opened}
-use Rattle.serve_threads.specs.Kept.{IsTextAlong, keep_over}
+use Rattle.serve_threads.specs.Kept.{IsTextAlong, KeepOver, keep_over}
 use Rattle.serve_threads.specs.Served.{IsLeft, Views}
-use Rattle.store_open.specs.Openings.{FORMAT, IsImageWith, StoreTold, IsOpened, PutsOnly, own_format, store_told}
+use Rattle.store_open.specs.Openings.{FORMAT, StoreTold, IsOpened, PutsOnly, own_format, store_told}
 use Rattle.store_open.specs.ServeWords.{IsServeCommand}
 use Rattle.store_open.specs.declared.format.AskedSizes.{AskedSizes}
 use Rattle.store_open.specs.declared.format.Sizes.{Sizes}
 use Rattle.store_open.specs.declared.serve_words.ServeCommand.{ServeCommand}
 use Rattle.store_open.specs.declared.status.Status.{Status}
-use Rattle.broker_serve.specs.Serves.{EndsOver, HasServed, PutsAllAlong, PutsAllBy, ReplacesAllBy, ServesLog, ServesStore, StoresOurs, run_over, setup_by}
+use Rattle.exit_status.specs.Stores.{Misread, store_over}
+use Rattle.exit_status.proofs.KeepLemmas.{config_before, puts_still}
+use Rattle.broker_serve.specs.Serves.{BeginsOn, EndsOver, HasServed, IsAlike, LeavesCore, PutsAllAlong, PutsAllBy, ReplacesAllBy, RunOver, ServesLog, ServesStore}
+use Rattle.broker_serve.specs.Serves.{before, behind, run_over, setup_by, store_of}
 use Rattle.worker_turns.specs.declared.flush.FlushEnd.{FlushEnd}
 use Rattle.event_loops.specs.declared.event_loop.LoopEnd.{LoopEnd}
-use Rattle.broker_serve.specs.Statuses.{StatusLeft}
-use Rattle.broker_serve.proofs.Storing.{ours_same}
-use Rattle.broker_serve.proofs.Telling.{zero_kept}
+use Rattle.broker_serve.specs.Statuses.{ShutOut, StatusLeft}
+use Rattle.broker_serve.specs.Unserved.{LeavesLog, ServesNobody}
+use Rattle.broker_serve.proofs.Storing.{alike_start, alike_then, begins_before, begins_then, ours_before, stores_left}
+use Rattle.broker_serve.proofs.Telling.{none_of, zero_kept}
+use Rattle.broker_serve.proofs.Unserving.{unserved_before, unused}
 
 -- ---- links that were served, or not
 
 module _ {D : Type 0} (views : Views D) where
-  pub ends_unserved : (opened : Opened) (left : Option Parts) (status : Status) (told : Type 0) (old new : DiskState) → left ≡ None → Rests old new
-      → EndsOver views opened left status (keep_over told old new)
-  ends_unserved opened left status told old new none rests = subst (λ o. EndsOver views opened o status (keep_over told old new)) (sym none) (λ tells. rests)
+  pub ends_unserved : (opened : Opened) (left : Option Parts) (run : RunOver D) → left ≡ None → (views.disk.tells → Rests (before views run) (behind views run))
+      → (run.keep.tells → Rests run.keep.old run.keep.new) → EndsOver views opened left run
+  ends_unserved opened left run none disk keep = subst (λ o. EndsOver views opened o run) (sym none) (disk, keep)
 
-  pub ends_served : (opened : Opened) (left : Option Parts) (status : Status) (told : Type 0) (old new : DiskState) (core : Parts) (stopped : LoopEnd) (last : FlushEnd)
-      (kept : Result (Unit {0}) DiskFault) (began : D) (ended : Place D) → left ≡ Some core → StatusLeft status stopped last kept
-      → IsLeft views (change_of opened.core (place_of opened.flusher.file began) core ended) (keep_over told old new) kept → EndsOver views opened left status (keep_over told old new)
-  ends_served opened left status told old new core stopped last kept began ended some tells is =
-      subst (λ o. EndsOver views opened o status (keep_over told old new)) (sym some) (record { stopped = stopped; last = last; kept = kept; tells = tells; began = began; ended = ended; left = is })
+  -- from the disk before the run on
+  pub ends_served : (opened : Opened) (left : Option Parts) (run : RunOver D) (core : Parts) (stopped : LoopEnd) (last : FlushEnd) (kept : Result (Unit {0}) DiskFault) (ended : Place D)
+      → left ≡ Some core → StatusLeft run.status stopped last kept → IsAlike views.disk ended.disk run.disk_then
+      → IsLeft views (change_of opened.core (place_of opened.flusher.file run.disk) core ended) run.keep kept → EndsOver views opened left run
+  ends_served opened left run core stopped last kept ended some tells back is =
+      subst (λ o. EndsOver views opened o run) (sym some)
+      (record { stopped = stopped; last = last; kept = kept; tells = tells; began = run.disk; ended = ended; back = back; left = is }, alike_start views.disk run.disk)
 
-module _ {D : Type 0} (views : Views D) (setup : Setup) (status : Status) (disk : DiskState) (told : Type 0) where
-  pub log_unserved : (offsets : List OffsetRow) (topics : List TopicRow) (left : Option Parts) (disk_then old new : DiskState) → left ≡ None → (told → Rests old new)
-      → ServesLog views setup (saved_as offsets topics) left (run_over status disk disk_then (keep_over told old new))
-  log_unserved offsets topics left disk_then old new none rests =
-      subst (λ o. ServesLog views setup (saved_as offsets topics) o (run_over status disk disk_then (keep_over told old new))) (sym none) (record { still = λ is. rests; served = tt })
+  -- seen from before, whatever the disk was then
+  abbrev ends_with : (opened : Opened) (core : Parts) (status : Status) (disk other disk_then : D) (keep : KeepOver) → LeavesCore views opened core (run_over status disk disk_then keep)
+      → LeavesCore views opened core (run_over status other disk_then keep)
+  ends_with opened core status disk other disk_then keep ends = record {
+    stopped = ends.stopped;
+    last = ends.last;
+    kept = ends.kept;
+    tells = ends.tells;
+    began = ends.began;
+    ended = ends.ended;
+    back = ends.back;
+    left = ends.left;
+  }
 
-  log_served : (offsets : List OffsetRow) (topics : List TopicRow) (left : Option Parts) (disk_then old new : DiskState) (opened : Opened)
-      → OpensLogWith setup (saved_as offsets topics) opened
-      → (views.disk.tells → OpensKeptWith setup (saved_as offsets topics) disk.reads opened)
-      → (views.disk.tells → IfSome left (λ core. StoresOurs setup.segment disk core disk_then)) → EndsOver views opened left status (keep_over told old new)
-      → ServesLog views setup (saved_as offsets topics) left (run_over status disk disk_then (keep_over told old new))
-  log_served offsets topics None disk_then old new opened over kept stores ends = record { still = λ is. ends; served = tt }
-  log_served offsets topics (Some core) disk_then old new opened over kept stores ends = record { still = λ is. absurd (cc is); served = (opened, over, kept, stores, ends) }
+  -- from before the disk was lent
+  pub ends_lent : (opened : Opened) (left : Option Parts) (status : Status) (disk lent disk_then : D) (keep : KeepOver) → IsAlike views.disk disk lent
+      → EndsOver views opened left (run_over status lent disk_then keep) → EndsOver views opened left (run_over status disk disk_then keep)
+  ends_lent opened None status disk lent disk_then keep alike ends = (λ told. rests_then (alike.rests told) (ends.0 told), ends.1)
+  ends_lent opened (Some core) status disk lent disk_then keep alike ends =
+      (ends_with opened core status lent disk disk_then keep ends.0, alike_then views.disk disk lent ends.0.began alike ends.1)
+
+module _ {D : Type 0} (views : Views D) (setup : Setup) where
+  pub log_unserved : (saved : Saved) (left : Option Parts) (run : RunOver D) → left ≡ None → (run.keep.tells → Rests run.keep.old run.keep.new)
+      → IfNone left (LeavesLog (whole setup.segment) views.disk.tells run.status (before views run) (behind views run)) → ServesLog views setup saved left run
+  log_unserved saved left run none rests unserved = record { still = λ is. rests; unserved = unserved; served = none_of _ left none }
+
+  log_served : (saved : Saved) (left : Option Parts) (status : Status) (disk on disk_then : D) (keep : KeepOver) (opened : Opened) (failed failed_then : ℕ)
+      → (views.disk.tells → IsCrashImage (views.disk.state disk) (views.disk.state disk).reads) → OpensLogWith setup saved opened
+      → (views.disk.tells → OpensKeptWith setup saved (views.disk.state disk).reads opened) → BeginsOn setup saved opened views.disk disk on
+      → IfNone left (ShutOut status failed failed_then) → EndsOver views opened left (run_over status on disk_then keep)
+      → ServesLog views setup saved left (run_over status disk disk_then keep)
+  log_served saved None status disk on disk_then keep opened failed failed_then image over kept begins why ends = record {
+    still = λ is. ends.1;
+    unserved = inr (unused setup saved views.disk opened status disk on disk_then failed failed_then image kept begins why ends.0);
+    served = tt;
+  }
+  log_served saved (Some core) status disk on disk_then keep opened failed failed_then image over kept begins why ends =
+      let left = ends_with views opened core status on disk disk_then keep ends.0 in
+      let from = begins_then setup saved opened views.disk disk on left.began begins ends.1 in
+      record {
+        still = λ is. absurd (cc is);
+        unserved = tt;
+        served = (opened, over, kept, stores_left views setup saved opened core (run_over status disk disk_then keep) left from, left, from);
+      }
 
   -- the same with the rows as they were given
-  pub log_served_with : (offsets given_offsets : List OffsetRow) (topics given_topics : List TopicRow) (left : Option Parts) (disk_then old new : DiskState) (opened : Opened)
-      → given_offsets ≡ offsets → given_topics ≡ topics → OpensLogWith setup (saved_as given_offsets given_topics) opened
-      → (views.disk.tells → OpensKeptWith setup (saved_as given_offsets given_topics) disk.reads opened)
-      → (views.disk.tells → IfSome left (λ core. StoresOurs setup.segment disk core disk_then)) → EndsOver views opened left status (keep_over told old new)
-      → ServesLog views setup (saved_as offsets topics) left (run_over status disk disk_then (keep_over told old new))
-  log_served_with offsets given_offsets topics given_topics left disk_then old new opened offsets_are topics_are over kept stores ends =
-      subst (λ (o : List OffsetRow). ServesLog views setup (saved_as o topics) left (run_over status disk disk_then (keep_over told old new))) offsets_are
-      (subst (λ (t : List TopicRow). ServesLog views setup (saved_as given_offsets t) left (run_over status disk disk_then (keep_over told old new))) topics_are
-      (log_served given_offsets given_topics left disk_then old new opened over kept stores ends))
+  pub log_served_with : (offsets given_offsets : List OffsetRow) (topics given_topics : List TopicRow) (left : Option Parts) (status : Status) (disk on disk_then : D) (keep : KeepOver) (opened : Opened)
+      (failed failed_then : ℕ) → given_offsets ≡ offsets → given_topics ≡ topics → (views.disk.tells → IsCrashImage (views.disk.state disk) (views.disk.state disk).reads)
+      → OpensLogWith setup (saved_as given_offsets given_topics) opened → (views.disk.tells → OpensKeptWith setup (saved_as given_offsets given_topics) (views.disk.state disk).reads opened)
+      → BeginsOn setup (saved_as given_offsets given_topics) opened views.disk disk on → IfNone left (ShutOut status failed failed_then)
+      → EndsOver views opened left (run_over status on disk_then keep) → ServesLog views setup (saved_as offsets topics) left (run_over status disk disk_then keep)
+  log_served_with offsets given_offsets topics given_topics left status disk on disk_then keep opened failed failed_then offsets_are topics_are image over kept begins why ends =
+      subst (λ (o : List OffsetRow). ServesLog views setup (saved_as o topics) left (run_over status disk disk_then keep)) offsets_are
+      (subst (λ (t : List TopicRow). ServesLog views setup (saved_as given_offsets t) left (run_over status disk disk_then keep)) topics_are
+      (log_served (saved_as given_offsets given_topics) left status disk on disk_then keep opened failed failed_then image over kept begins why ends))
 
-  pub store_unserved : (left : Option Parts) (disk_then old new : DiskState) → left ≡ None → (told → Rests old new) → ServesStore views setup left (run_over status disk disk_then (keep_over told old new))
-  store_unserved left disk_then old new none rests =
-      subst (λ o. ServesStore views setup o (run_over status disk disk_then (keep_over told old new))) (sym none) (record { still = λ is. rests; served = tt })
+  pub store_unserved : (left : Option Parts) (run : RunOver D) → left ≡ None → (run.keep.tells → Rests run.keep.old run.keep.new)
+      → IfNone left (Misread run.status (store_of views run) ⊎ LeavesLog (whole setup.segment) views.disk.tells run.status (before views run) (behind views run))
+      → ServesStore views setup left run
+  store_unserved left run none rests unserved = record { still = λ is. rests; unserved = unserved; served = none_of _ left none }
 
   -- with what was loaded, which changed nothing
-  pub store_served : (left : Option Parts) (offsets : List OffsetRow) (topics : List TopicRow) (disk_then old loaded new : DiskState) → (told → Rests old loaded) → (told → HasConfig old.reads offsets topics)
-      → ServesLog views setup (saved_as offsets topics) left (run_over status disk disk_then (keep_over told loaded new)) → ServesStore views setup left (run_over status disk disk_then (keep_over told old new))
-  store_served None offsets topics disk_then old loaded new rests config it = record { still = λ is t. rests_then (rests t) (it.still refl t); served = tt }
-  store_served (Some core) offsets topics disk_then old loaded new rests config it =
+  pub store_served : (left : Option Parts) (offsets : List OffsetRow) (topics : List TopicRow) (status : Status) (disk disk_then : D) (told : Type 0) (old loaded new : DiskState) → (told → Rests old loaded)
+      → (told → HasConfig old.reads offsets topics) → ServesLog views setup (saved_as offsets topics) left (run_over status disk disk_then (keep_over told loaded new))
+      → ServesStore views setup left (run_over status disk disk_then (keep_over told old new))
+  store_served None offsets topics status disk disk_then told old loaded new rests config it =
+      record { still = λ is t. rests_then (rests t) (it.still refl t); unserved = inr it.unserved; served = tt }
+  store_served (Some core) offsets topics status disk disk_then told old loaded new rests config it =
       let opened = it.served.0 in
       let over = it.served.1 in
       let kept = it.served.2 in
       let stores = it.served.3 in
       let ends = it.served.4 in
+      let begins = it.served.5 in
       let left = ends.left in
       record {
         still = λ is. absurd (cc is);
+        unserved = tt;
         served = record {
           offsets = offsets;
           topics = topics;
@@ -96,7 +141,9 @@ module _ {D : Type 0} (views : Views D) (setup : Setup) (status : Status) (disk 
           history = left.history;
           stands = left.stands;
           began = ends.began;
+          begins = begins;
           ended = ends.ended;
+          back = ends.back;
           made = left.made;
           stores = stores;
           put = λ t. puts_rested (IsTextAlong (λ s. offsets_text_of s.offsets) opened.core left.history) (IsTextAlong (λ s. topics_text_of s.topics) opened.core left.history)
@@ -112,10 +159,10 @@ module _ {D : Type 0} (views : Views D) (setup : Setup) (status : Status) (disk 
       }
 
   -- no other text of the keep changed
-  pub store_others : (left : Option Parts) (disk_then old new : DiskState) → ServesStore views setup left (run_over status disk disk_then (keep_over told old new)) → told
-      → (name : List ℕ) → name ≢ OFFSETS → name ≢ TOPICS → new.reads name ≡ old.reads name
-  store_others None disk_then old new it tells_it name not_offsets not_topics = ap (λ (f : Files). f name) (it.still refl tells_it).same
-  store_others (Some core) disk_then old new it tells_it name not_offsets not_topics = (it.served.put tells_it).reads.others name not_offsets not_topics
+  pub store_others : (left : Option Parts) (run : RunOver D) → ServesStore views setup left run → run.keep.tells
+      → (name : List ℕ) → name ≢ OFFSETS → name ≢ TOPICS → run.keep.new.reads name ≡ run.keep.old.reads name
+  store_others None run it told name not_offsets not_topics = ap (λ (f : Files). f name) (it.still refl told).same
+  store_others (Some core) run it told name not_offsets not_topics = (it.served.put told).reads.others name not_offsets not_topics
 
 -- ---- from before the opening on
 
@@ -149,20 +196,6 @@ puts_all format P Q old opened new puts replaced =
           (before.0, before.1, then_replaced format P Q before.0 image.0 files before.2 image.2)));
     }
 
--- a keep that rests once the format was put
-puts_still : (format : List ℕ) (old opened new : DiskState) → PutsOnly format old opened → Rests opened new → PutsOnly format old new
-puts_still format old opened new puts rests = record {
-  reads = subst (λ (files : Files). At FORMAT (OldOrNew format) old.reads files) (sym rests.same) puts.reads;
-  at_each = chained puts.at_each (throughout_rests rests (at_end puts.at_each));
-}
-
--- nothing was put
-pub puts_no_format : (text : List ℕ) (keep : DiskState) → PutsOnly text keep keep
-puts_no_format text keep = record { reads = same keep.reads; at_each = at_start keep (IsImageWith text keep) (record { at = λ files image. (files, image, same files) }) }
-  where
-    same : (files : Files) → At FORMAT (OldOrNew text) files files
-    same files = record { here = inl refl; others = λ other apart. refl }
-
 -- the format stands, and stays so
 opened_kept : (P Q : List ℕ → Type 0) (asked : AskedSizes) (sizes : Sizes) (store : StoreTold) (opened new : DiskState) → (store.keep → PutsBy P Q opened new)
     → IsOpened asked sizes store opened → IsOpened asked sizes store new
@@ -176,41 +209,39 @@ opened_kept P Q asked sizes store opened new puts is = record {
       found.2.others FORMAT (λ e. absurd (cc e)) (λ e. absurd (cc e)) ∙ is.stays told found.0 found.1 ∙ sym (put.reads.others FORMAT (λ e. absurd (cc e)) (λ e. absurd (cc e)));
 }
 
--- what the kept files had, seen from before the format was put
-config_before : (format : List ℕ) (old opened : DiskState) (offsets : List OffsetRow) (topics : List TopicRow) → PutsOnly format old opened → HasConfig opened.reads offsets topics → HasConfig old.reads offsets topics
-config_before format old opened offsets topics puts has = record {
-  offsets_are = subst (λ (o : Option (List ℕ)). HasOffsets o offsets) (puts.reads.others OFFSETS (λ e. absurd (cc e))) has.offsets_are;
-  topics_are = subst (λ (o : Option (List ℕ)). HasTopics o topics) (puts.reads.others TOPICS (λ e. absurd (cc e))) has.topics_are;
-}
-
 -- a run over a store that was opened so
-pub run_served : {D : Type 0} (views : Views D) (left : Option Parts) (words : List (List ℕ)) (command : ServeCommand) (sizes : Sizes) (status : Status) (disk before disk_then : DiskState) (told : Type 0)
-    (old opened new : DiskState) → (views.disk.tells → Moves Same before disk) → IsServeCommand words command → IsOpened command.sizes sizes (store_told views.disk.tells before.reads told old.reads) opened
+pub run_served : {D : Type 0} (views : Views D) (left : Option Parts) (words : List (List ℕ)) (command : ServeCommand) (sizes : Sizes) (status : Status) (first disk disk_then : D) (told : Type 0)
+    (old opened new : DiskState) → (views.disk.tells → Rests (views.disk.state first) (views.disk.state disk)) → views.disk.faults disk ≡ views.disk.faults first → IsServeCommand words command
+    → IsOpened command.sizes sizes (store_told views.disk.tells (views.disk.state first).reads told old.reads) opened
     → (told → PutsOnly (own_format (old.reads FORMAT) command.sizes) old opened) → ServesStore views (setup_by command sizes.segment) left (run_over status disk disk_then (keep_over told opened new))
-    → IfSome left (λ core. (c : ServeCommand) × (s : Sizes) × (IsServeCommand words c × IsOpened c.sizes s (store_told views.disk.tells before.reads told old.reads) new)
-    × HasServed views (setup_by c s.segment) (run_over status before disk_then (keep_over told old new)) (λ start history. PutsAllAlong (own_format (old.reads FORMAT) c.sizes) start history old new) core)
-run_served views None words command sizes status disk before disk_then told old opened new same asked is puts it = tt
-run_served views (Some core) words command sizes status disk before disk_then told old opened new same asked is puts it =
+    → IfSome left (λ core. (c : ServeCommand) × (s : Sizes) × (IsServeCommand words c × IsOpened c.sizes s (store_told views.disk.tells (views.disk.state first).reads told old.reads) new)
+    × HasServed views (setup_by c s.segment) (run_over status first disk_then (keep_over told old new)) (λ start history. PutsAllAlong (own_format (old.reads FORMAT) c.sizes) start history old new) core)
+run_served views None words command sizes status first disk disk_then told old opened new rests same asked is puts it = tt
+run_served views (Some core) words command sizes status first disk disk_then told old opened new rests same asked is puts it =
     let run = it.served in
+    let setup = setup_by command sizes.segment in
+    let saved = saved_as run.offsets run.topics in
     let P = IsTextAlong (λ s. offsets_text_of s.offsets) run.opened.core run.history in
     let Q = IsTextAlong (λ s. topics_text_of s.topics) run.opened.core run.history in
     let format = own_format (old.reads FORMAT) command.sizes in (
       command,
       sizes,
-      (asked, opened_kept P Q command.sizes sizes (store_told views.disk.tells before.reads told old.reads) opened new run.put is),
+      (asked, opened_kept P Q command.sizes sizes (store_told views.disk.tells (views.disk.state first).reads told old.reads) opened new run.put is),
       record {
         offsets = run.offsets;
         topics = run.topics;
         config = λ t. config_before format old opened run.offsets run.topics (puts t) (run.config t);
         opened = run.opened;
         over = run.over;
-        kept = λ t. subst (λ (f : Files). OpensKeptWith (setup_by command sizes.segment) (saved_as run.offsets run.topics) f run.opened) (same t).reads (run.kept t);
+        kept = λ t. subst (λ (f : Files). OpensKeptWith setup saved f run.opened) (rests t).same (run.kept t);
         history = run.history;
         stands = run.stands;
         began = run.began;
+        begins = begins_before setup saved run.opened views.disk first disk run.began rests same run.begins;
         ended = run.ended;
+        back = run.back;
         made = run.made;
-        stores = λ t. ours_same sizes.segment before disk core disk_then (same t) (run.stores t);
+        stores = λ t. ours_before sizes.segment (views.disk.state first) (views.disk.state disk) core (views.disk.state disk_then) (rests t) (run.stores t);
         put = λ t. puts_all format P Q old opened new (puts t) (run.put t);
         stopped = run.stopped;
         last = run.last;
@@ -222,7 +253,20 @@ run_served views (Some core) words command sizes status disk before disk_then to
     )
 
 -- where no links were served
-pub run_unserved : {D : Type 0} (views : Views D) (left : Option Parts) (setup : Setup) (status : Status) (disk disk_then : DiskState) (told : Type 0) (format : List ℕ) (old opened new : DiskState)
-    → (told → PutsOnly format old opened) → ServesStore views setup left (run_over status disk disk_then (keep_over told opened new)) → told → IfNone left ((text : List ℕ) × PutsOnly text old new)
-run_unserved views None setup status disk disk_then told format old opened new puts it t = (format, puts_still format old opened new (puts t) (it.still refl t))
-run_unserved views (Some core) setup status disk disk_then told format old opened new puts it t = tt
+pub run_unserved : {D : Type 0} (views : Views D) (left : Option Parts) (words : List (List ℕ)) (command : ServeCommand) (sizes : Sizes) (status : Status) (first disk disk_then : D) (told : Type 0)
+    (old opened new : DiskState) → (views.disk.tells → Rests (views.disk.state first) (views.disk.state disk)) → IsServeCommand words command
+    → IsOpened command.sizes sizes (store_told views.disk.tells (views.disk.state first).reads told old.reads) opened
+    → (told → PutsOnly (own_format (old.reads FORMAT) command.sizes) old opened) → ServesStore views (setup_by command sizes.segment) left (run_over status disk disk_then (keep_over told opened new))
+    → IfNone left (ServesNobody words status (store_over views.disk.tells (views.disk.state first) (views.disk.state disk_then) told old new))
+run_unserved views None words command sizes status first disk disk_then told old opened new rests asked is puts it =
+    let format = own_format (old.reads FORMAT) command.sizes in
+    inr (
+      command,
+      asked,
+      record {
+        why = inr (unserved_before command.sizes sizes status format views.disk.tells (views.disk.state first) (views.disk.state disk) (views.disk.state disk_then) told old opened new rests
+            is puts (it.still refl) it.unserved);
+        puts = λ t. puts_still format old opened new (puts t) (it.still refl t);
+      },
+    )
+run_unserved views (Some core) words command sizes status first disk disk_then told old opened new rests asked is puts it = tt

@@ -1,15 +1,16 @@
 -- What the disk stores after a run, by the history that the threads made.
-use Rattle.std.proofs.Common.{◌≡◌, ℕ, List, Option, Some, None, IfSome, length, take, length-take, sym, ap, subst, arith}
-use Rattle.mq_outside.specs.Files.{Files, Same}
-use Rattle.mq_outside.specs.Disk.{DiskState, Moves}
-use Rattle.mq_outside.proofs.Moments.{each_same}
+use Rattle.std.proofs.Common.{◌≡◌, ◌∙◌, ℕ, List, length, take, length-take, refl, ap, subst, arith}
+use Rattle.mq_bytes.specs.Names.{log_file}
+use Rattle.mq_outside.specs.Files.{Files, bytes_of}
+use Rattle.mq_outside.specs.Disk.{DiskState, Rests}
+use Rattle.mq_outside.proofs.Moments.{rests_start, rests_then}
 use Rattle.record_codec.specs.Entry.{Entry}
 use Rattle.log_model.specs.Bases.{Geometry, geometry, whole}
 use Rattle.log_model.specs.Segments.{IsLogFile}
-use Rattle.log_model.specs.Store.{IsHonest, StoresLog}
-use Rattle.log_model.specs.Stored.{Stored, stored}
-use Rattle.log_model.proofs.OutsideLemmas.{stays_start, stays_same}
-use Rattle.segment_files.specs.Turn.{Growing, IsReady, growing}
+use Rattle.log_model.specs.Store.{StoresLog}
+use Rattle.log_model.specs.Stored.{IsOutside, stored}
+use Rattle.log_model.proofs.OutsideLemmas.{outside_then}
+use Rattle.segment_files.specs.Turn.{Growing, IsInside, IsReady, growing}
 use Rattle.segment_files.specs.declared.last_file.LastFile.{LastFile}
 use Rattle.segment_files.proofs.Ready.{ready_as}
 use Rattle.broker_model.specs.State.{State, Saved}
@@ -24,24 +25,65 @@ use Rattle.flush_story.proofs.Keeps.{keeps_stores}
 use Rattle.log_opening.specs.Opens.{OpensOursWith}
 use Rattle.log_opening.specs.declared.opening.Opened.{Opened}
 use Rattle.session.specs.Serving.{Made}
-use Rattle.worker_turns.specs.Acts.{Place, change_of, place_of}
+use Rattle.worker_turns.specs.Acts.{DiskView, Place, change_of, place_of}
+use Rattle.exit_status.proofs.LogLemmas.{honest_rests, leaves_around, stays_rests, stores_rests}
 use Rattle.serve_threads.specs.Served.{IsMadeBy, Views}
-use Rattle.broker_serve.specs.Serves.{StoresOn, StoresOpened, StoresOurs}
+use Rattle.broker_serve.specs.Serves.{BeginsOn, IsAlike, LeavesCore, RunOver, StoresOn, StoresOpened, StoresOurs, before, behind}
 
--- ---- calls that change nothing
+-- ---- a disk that is lent
 
-pub stores_same : (S : Geometry) (log : List Entry) (flushed : ℕ) (old new : DiskState) → Moves Same old new → StoresLog S log flushed old → StoresLog S log flushed new
-stores_same S log flushed old new moves stores = record {
-  shape = stores.shape;
-  reach = stores.reach;
-  at = record { well_formed = stores.at.well_formed; within = stores.at.within; laid = stores.at.laid; each = each_same moves stores.at.each };
+-- nothing was asked of it
+pub alike_start : {D : Type 0} (view : DiskView D) (disk : D) → IsAlike view disk disk
+alike_start view disk = record { rests = λ told. rests_start (view.state disk); faults = refl; syncs = refl }
+
+pub alike_then : {D : Type 0} (view : DiskView D) (old mid new : D) → IsAlike view old mid → IsAlike view mid new → IsAlike view old new
+alike_then view old mid new first second = record {
+  rests = λ told. rests_then (first.rests told) (second.rests told);
+  faults = second.faults ∙ first.faults;
+  syncs = second.syncs ∙ first.syncs;
 }
 
-pub ready_same : (it : Stored) (file : LastFile) (old new : DiskState) → Moves Same old new → IsReady it 0 (growing file old) → IsReady it 0 (growing file new)
-ready_same it file old new moves ready = ready_as it 0 file old new (stays_same (stays_start IsLogFile old) moves) ready
+-- the next bytes go where they went
+pub inside_rests : (base offset : ℕ) (old new : DiskState) → Rests old new → IsInside base offset old → IsInside base offset new
+inside_rests base offset old new rests inside = omega (arith, ap (λ (files : Files). length (bytes_of files (log_file base))) rests.same, inside)
 
-pub honest_same : (S : Geometry) (log : List Entry) (flushed : ℕ) (old new : DiskState) → Moves Same old new → IsHonest S log flushed old.reads → IsHonest S log flushed new.reads
-honest_same S log flushed old new moves honest = subst (λ (files : Files). IsHonest S log flushed files) (sym moves.reads) honest
+-- ---- the opening
+
+-- a log of ours that was opened on a disk is open on one that is alike
+ours_rests : (setup : Setup) (saved : Saved) (log : List Entry) (flushed : ℕ) (old new : DiskState) (it : Opened) → Rests old new
+    → OpensOursWith setup saved log flushed old it → OpensOursWith setup saved log flushed new it
+ours_rests setup saved log flushed old new it rests ours = record {
+  number = ours.number;
+  low = ours.low;
+  high = ours.high;
+  opens = ours.opens;
+  ready = ready_as (stored (whole setup.segment) (take ours.number log) ours.number) 0 it.flusher.file old new (stays_rests IsLogFile old new rests) ours.ready;
+}
+
+module _ {D : Type 0} (setup : Setup) (saved : Saved) (it : Opened) (view : DiskView D) where
+  -- a disk that was lent after the opening
+  pub begins_then : (old mid began : D) → BeginsOn setup saved it view old mid → IsAlike view mid began → BeginsOn setup saved it view old began
+  begins_then old mid began begins alike = record {
+    ours = λ told log flushed stores honest.
+        ours_rests setup saved log flushed (view.state mid) (view.state began) it (alike.rests told) (begins.ours told log flushed stores honest);
+    leaves = λ told.
+        leaves_around (whole setup.segment) (view.state old) (view.state old) (view.state mid) (view.state began) (rests_start (view.state old)) (begins.leaves told) (alike.rests told);
+    outside = λ told. outside_then (begins.outside told) (stays_rests IsOutside (view.state mid) (view.state began) (alike.rests told));
+    faults = alike.faults ∙ begins.faults;
+  }
+
+  -- seen from before the store was opened
+  pub begins_before : (old mid began : D) → (view.tells → Rests (view.state old) (view.state mid)) → view.faults mid ≡ view.faults old → BeginsOn setup saved it view mid began
+      → BeginsOn setup saved it view old began
+  begins_before old mid began rests same begins = record {
+    ours = λ told log flushed stores honest.
+        begins.ours told log flushed (stores_rests (whole setup.segment) log flushed (view.state old) (view.state mid) (rests told) stores)
+        (honest_rests (whole setup.segment) log flushed (view.state old) (view.state mid) (rests told) honest);
+    leaves = λ told.
+        leaves_around (whole setup.segment) (view.state old) (view.state mid) (view.state began) (view.state began) (rests told) (begins.leaves told) (rests_start (view.state began));
+    outside = λ told. outside_then (stays_rests IsOutside (view.state old) (view.state mid) (rests told)) (begins.outside told);
+    faults = begins.faults ∙ same;
+  }
 
 -- ---- the disk
 
@@ -91,29 +133,15 @@ stores_ours setup saved log flushed disk it core new ours stores =
           (subst (λ (n : ℕ). IsReady (stored (whole setup.segment) (take ours.number log) n) 0 (growing it.flusher.file disk)) long ours.ready);
     }
 
+-- where links were served over it, from the disk that the opening left to the one that came back
+pub stores_left : {D : Type 0} (views : Views D) (setup : Setup) (saved : Saved) (it : Opened) (core : Parts) (run : RunOver D) (ends : LeavesCore views it core run)
+    → BeginsOn setup saved it views.disk run.disk ends.began → views.disk.tells → StoresOurs setup.segment (before views run) core (behind views run)
+stores_left views setup saved it core run ends begins told log flushed was honest =
+    stores_ours setup saved log flushed (views.disk.state ends.began) it core (behind views run) (begins.ours told log flushed was honest)
+    (stores_opened views it.core it.flusher.file ends.began ends.left.history core ends.ended (behind views run) ends.left.made told
+    (λ S records number stores. stores_rests S records number (views.disk.state ends.ended.disk) (behind views run) (ends.back.rests told) stores))
+
 -- also from a call before that changed nothing
-pub ours_same : (segment : ℕ) (old mid : DiskState) (core : Parts) (new : DiskState) → Moves Same old mid → StoresOurs segment mid core new → StoresOurs segment old core new
-ours_same segment old mid core new moves stores log flushed was honest =
-    stores log flushed (stores_same (whole segment) log flushed old mid moves was) (honest_same (whole segment) log flushed old mid moves honest)
-
--- of what is there
-pub some_of : {X : Type 0} (P : X → Type 0) (left : Option X) (x : X) → left ≡ Some x → P x → IfSome left P
-some_of {X} P left x is so = subst (λ (o : Option X). IfSome o P) (sym is) so
-
-pub none_of : {X : Type 0} (P : X → Type 0) (left : Option X) → left ≡ None → IfSome left P
-none_of {X} P left is = subst (λ (o : Option X). IfSome o P) (sym is) tt
-
--- each log of ours that was opened is stored, where links were served
-pub stores_each : (setup : Setup) (saved : Saved) (old disk : DiskState) (it : Opened) (new : DiskState) (left : Option Parts)
-    → ((log : List Entry) (flushed : ℕ) → StoresLog (whole setup.segment) log flushed old → IsHonest (whole setup.segment) log flushed old.reads → OpensOursWith setup saved log flushed disk it)
-    → IfSome left (λ core. StoresOpened it.core it.flusher.file disk core new) → IfSome left (λ core. StoresOurs setup.segment old core new)
-stores_each setup saved old disk it new None ours stores = tt
-stores_each setup saved old disk it new (Some core) ours stores =
-    λ log flushed was honest. stores_ours setup saved log flushed disk it core new (ours log flushed was honest) stores
-
--- also over a disk before it, on which each log was ready as it was then
-pub stores_before : (start : Parts) (file : LastFile) (old mid new : DiskState) (left : Option Parts) → ((it : Stored) (at : LastFile) → IsReady it 0 (growing at old) → IsReady it 0 (growing at mid))
-    → IfSome left (λ core. StoresOpened start file mid core new) → IfSome left (λ core. StoresOpened start file old core new)
-stores_before start file old mid new None ready stores = tt
-stores_before start file old mid new (Some core) ready stores =
-    λ setup saved records represents was. stores setup saved records represents (ready (stored (whole setup.segment) records (length records)) file was)
+pub ours_before : (segment : ℕ) (old mid : DiskState) (core : Parts) (new : DiskState) → Rests old mid → StoresOurs segment mid core new → StoresOurs segment old core new
+ours_before segment old mid core new rests stores log flushed was honest =
+    stores log flushed (stores_rests (whole segment) log flushed old mid rests was) (honest_rests (whole segment) log flushed old mid rests honest)

@@ -1,5 +1,5 @@
 -- Which status tells what.
-use Rattle.std.proofs.Common.{◌≡◌, ◌≢◌, ◌⊎◌, inl, inr, refl, sym, subst, ◌∙◌, arith, ℕ, List, Option, Some, None, Result, Ok, Err}
+use Rattle.std.proofs.Common.{◌≡◌, ◌≢◌, ◌⊎◌, inl, inr, refl, sym, subst, ◌∙◌, arith, ℕ, List, Option, Some, None, IfSome, Result, Ok, Err}
 use Rattle.std.specs.Prelude.{codes, IfNone}
 use Rattle.mq_outside.specs.Counts.{CountsDiskFault}
 use Rattle.mq_outside.specs.Files.{Files, Same}
@@ -11,7 +11,6 @@ use Rattle.log_model.specs.Store.{IsDamagedAt}
 use Rattle.log_recovery.specs.Recovered.{OnDamage, CountsRecoverFault}
 use Rattle.log_recovery.specs.declared.fault.RecoverFault.{RecoverFault}
 use Rattle.log_recovery.specs.declared.fault.RecoverFault.TheVariants as recovery
-use Rattle.config_store.specs.Configs.{OFFSETS, TOPICS, HasOffsets, HasTopics}
 use Rattle.config_store.specs.Faults.{IsBadText, OnBadText, CountsConfigFault}
 use Rattle.config_store.specs.declared.config.ConfigFault.{ConfigFault}
 use Rattle.config_store.specs.declared.config.ConfigFault.TheVariants as config
@@ -26,8 +25,9 @@ use Rattle.store_open.specs.declared.serve_words.ServeCommand.{ServeCommand}
 use Rattle.store_open.specs.declared.status.Status.{Status}
 use Rattle.serve_threads.specs.Causes.{WorldFaults, counts_of}
 use Rattle.exit_status.specs.Statuses.{TellsDevice, StatusKept, StatusTellsFault, StatusTellsConfig}
+use Rattle.exit_status.proofs.KeepLemmas.{bad_before}
 use Rattle.broker_serve.specs.Statuses.{StatusTellsLoops, StatusTellsEnd, AllWell, StatusLeft}
-use Rattle.broker_serve.specs.Statuses.{StatusTellsReader, ShutOut, Unopened, Unserved, IsDamagedLog, IsDamagedIn, IsDamagedFor, Refused}
+use Rattle.broker_serve.specs.Statuses.{StatusTellsReader, ShutOut, Unopened, Unserved, IsDamagedLog, IsDamagedIn, IsDamagedFor, TellsWhy}
 
 -- ---- links were served
 
@@ -73,6 +73,10 @@ zero_kept status end last (Err device.Failed) (inr tells) zero = absurd (tells.1
 pub why_unserved : {A S : Type 0} (P : Status → S → Type 0) (left : Option A) (told status : Status) (then store : S) → left ≡ None → told ≡ status → then ≡ store → P status store → IfNone left (P told then)
 why_unserved P left told status then store none same same_store is =
     subst (λ (o : Option _). IfNone o (P told then)) (sym none) (subst (λ (s : Status). P s then) (sym same) (subst (λ t. P status t) (sym same_store) is))
+
+-- nothing is said of links that weren't
+pub none_of : {X : Type 0} (P : X → Type 0) (left : Option X) → left ≡ None → IfSome left P
+none_of {X} P left is = subst (λ (o : Option X). IfSome o P) (sym is) tt
 
 -- nothing is said where they were
 pub why_served : {A : Type 0} (P : Type 0) (left : Option A) (core : A) → left ≡ Some core → IfNone left P
@@ -130,17 +134,6 @@ not_formed damaged status disk disk_then keep keep_then (inr (inl six)) = inl si
 not_formed damaged status disk disk_then keep keep_then (inr (inr (inl seven))) = inr (inr (inr (out_of_memory status disk disk_then seven)))
 not_formed damaged status disk disk_then keep keep_then (inr (inr (inr kept))) = inr (inl kept)
 
--- a kept file that isn't of its form was so before the format was put
-bad_before : (format : List ℕ) (old opened : DiskState) (name : List ℕ) → PutsOnly format old opened → IsBadText opened.reads name → IsBadText old.reads name
-bad_before format old opened name puts (inl it) = inl (record {
-  named = it.named;
-  none = λ rows has. it.none rows (subst (λ (o : Option (List ℕ)). HasOffsets o rows) (sym (puts.reads.others OFFSETS (λ e. absurd (cc e)))) has);
-})
-bad_before format old opened name puts (inr it) = inr (record {
-  named = it.named;
-  none = λ rows has. it.none rows (subst (λ (o : Option (List ℕ)). HasTopics o rows) (sym (puts.reads.others TOPICS (λ e. absurd (cc e)))) has);
-})
-
 module _ (words : List (List ℕ)) (command : ServeCommand) (sizes : Sizes) (tells keeps : Type 0) (format : List ℕ) (disk disk_opened keep keep_opened : DiskState)
     (same : tells → Moves Same disk disk_opened) (sizes_are : keeps → AreSizesOf (keep.reads FORMAT) command.sizes sizes) (puts : keeps → PutsOnly format keep keep_opened) where
   damaged_for : (place : ℕ) (name : List ℕ) → IsDamagedIn sizes.segment (store_told tells disk_opened.reads keeps keep_opened.reads) place name → IsDamagedFor command (store_told tells disk.reads keeps keep.reads) place name
@@ -154,10 +147,10 @@ module _ (words : List (List ℕ)) (command : ServeCommand) (sizes : Sizes) (tel
   before_opening status d d_then k k_then (inr (inr shut)) = inr (inr shut)
 
   -- seen from before the store was opened
-  pub refused : (status : Status) (d d_opened d_then k k_opened k_then : ℕ) (world world_then : WorldFaults) → IsServeCommand words command → d_opened ≡ d → k_opened ≡ k
+  pub tells_why : (status : Status) (d d_opened d_then k k_opened k_then : ℕ) (world world_then : WorldFaults) → IsServeCommand words command → d_opened ≡ d → k_opened ≡ k
       → Unserved (IsDamagedIn sizes.segment (store_told tells disk_opened.reads keeps keep_opened.reads)) status d_opened d_then k_opened k_then
-      → Refused words (store_told tells disk.reads keeps keep.reads) status (counts_of d k world) (counts_of d_then k_then world_then)
-  refused status d d_opened d_then k k_opened k_then world world_then asked same_disk same_keep is =
+      → TellsWhy words (store_told tells disk.reads keeps keep.reads) status (counts_of d k world) (counts_of d_then k_then world_then)
+  tells_why status d d_opened d_then k k_opened k_then world world_then asked same_disk same_keep is =
       inr (
         command,
         asked,

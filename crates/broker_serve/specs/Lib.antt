@@ -1,3 +1,4 @@
 pub mod Causes
 pub mod Serves
 pub mod Statuses
+pub mod Unserved

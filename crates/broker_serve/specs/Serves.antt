@@ -1,13 +1,13 @@
 -- What a run of `serve` leaves.
 use Rattle.std.specs.Prelude.{◌≡◌, ◌≢◌, ◌⊎◌, ℕ, ◌≤◌, ◌++◌, List, length, take}
-use Rattle.std.specs.Prelude.{Option, Some, None, IfSome, OnOk, Result}
+use Rattle.std.specs.Prelude.{Option, Some, None, IfSome, IfNone, OnOk, Result}
 use Rattle.mq_outside.specs.Files.{Files, OldOrNew}
 use Rattle.mq_outside.specs.Disk.{DiskState, IsCrashImage, Rests, Throughout}
 use Rattle.mq_outside.specs.declared.faults.DiskFault.{DiskFault}
 use Rattle.record_codec.specs.Entry.{Entry}
 use Rattle.log_model.specs.Bases.{whole}
 use Rattle.log_model.specs.Store.{IsHonest, StoresLog}
-use Rattle.log_model.specs.Stored.{stored}
+use Rattle.log_model.specs.Stored.{StaysOutside, stored}
 use Rattle.segment_files.specs.Turn.{IsReady, growing}
 use Rattle.segment_files.specs.declared.last_file.LastFile.{LastFile}
 use Rattle.broker_model.specs.Run.{opened}
@@ -24,9 +24,9 @@ use Rattle.config_store.specs.Configs.{OFFSETS, TOPICS, HasConfig}
 use Rattle.config_store.specs.Texts.{offsets_text_of, topics_text_of}
 use Rattle.keeper_turns.specs.Puts.{HasSuch, KeepsBy}
 use Rattle.keeper_turns.specs.Turns.{IsOffsetsOf, IsTopicsOf}
-use Rattle.log_opening.specs.Opens.{OpensLogWith, OpensKeptWith, saved_as}
+use Rattle.log_opening.specs.Opens.{OpensLogWith, OpensKeptWith, OpensOursWith, saved_as}
 use Rattle.log_opening.specs.declared.opening.Opened.{Opened}
-use Rattle.worker_turns.specs.Acts.{Place, change_of, place_of}
+use Rattle.worker_turns.specs.Acts.{DiskView, Place, change_of, place_of}
 use Rattle.spine.specs.Stands.{Stands}
 use Rattle.serve_threads.specs.Kept.{IsTextAlong, KeepOver, PutsAlong}
 use Rattle.serve_threads.specs.Served.{IsLeft, IsMadeBy, Views}
@@ -35,7 +35,9 @@ use Rattle.store_open.specs.declared.serve_words.ServeCommand.{ServeCommand}
 use Rattle.store_open.specs.declared.status.Status.{Status}
 use Rattle.worker_turns.specs.declared.flush.FlushEnd.{FlushEnd}
 use Rattle.event_loops.specs.declared.event_loop.LoopEnd.{LoopEnd}
+use Rattle.exit_status.specs.Stores.{LeavesFlushed, Misread, StoreOver, store_over}
 use Rattle.broker_serve.specs.Statuses.{StatusLeft}
+use Rattle.broker_serve.specs.Unserved.{LeavesLog}
 
 -- what the words set up, in segments of this size
 abbrev pub setup_by : ServeCommand → ℕ → Setup
@@ -97,50 +99,84 @@ StoresOpened start file old core new = (setup : Setup) (saved : Saved) (records 
 -- ---- a run
 
 -- a run over a store: its status, the disk before the run and behind it, and the keep
-pub record RunOver : Type 1 where
+pub record RunOver (D : Type 0) : Type 1 where
   pub status : Status
-  pub disk : DiskState
-  pub disk_then : DiskState
+  pub disk : D
+  pub disk_then : D
   pub keep : KeepOver
 
-abbrev pub run_over : Status → DiskState → DiskState → KeepOver → RunOver
+abbrev pub run_over : {D : Type 0} → Status → D → D → KeepOver → RunOver D
 run_over status disk disk_then keep = record { status = status; disk = disk; disk_then = disk_then; keep = keep }
 
--- Links were served over this open log, and this core is left. Why the loops ended, how the last flush turn did and the last
--- replacement of the kept files tell the status.
-pub record LeavesCore {D : Type 0} (views : Views D) (opened : Opened) (core : Parts) (status : Status) (keep : KeepOver) : Type 0 where
+-- what the disk holds before the run, and behind it
+abbrev pub before : {D : Type 0} → Views D → RunOver D → DiskState
+before views run = views.disk.state run.disk
+
+abbrev pub behind : {D : Type 0} → Views D → RunOver D → DiskState
+behind views run = views.disk.state run.disk_then
+
+-- the store over it
+abbrev pub store_of : {D : Type 0} → Views D → RunOver D → StoreOver
+store_of views run = store_over views.disk.tells (before views run) (behind views run) run.keep.tells run.keep.old run.keep.new
+
+-- The disk was lent and given back, and is as it was: what is read of it, what a crash leaves of it, and its counts of failures and
+-- of syncs.
+pub record IsAlike {D : Type 0} (view : DiskView D) (old new : D) : Type 0 where
+  pub rests : view.tells → Rests (view.state old) (view.state new)
+  pub faults : view.faults new ≡ view.faults old
+  pub syncs : view.syncs new ≡ view.syncs old
+
+-- Links were served over this open log, and this core is left. The disk that they ended with is the one behind the run. Why the loops
+-- ended, how the last flush turn did and the last replacement of the kept files tell the status.
+pub record LeavesCore {D : Type 0} (views : Views D) (opened : Opened) (core : Parts) (run : RunOver D) : Type 0 where
   pub stopped : LoopEnd
   pub last : FlushEnd
   pub kept : Result (Unit {0}) DiskFault
-  pub tells : StatusLeft status stopped last kept
+  pub tells : StatusLeft run.status stopped last kept
   pub began : D
   pub ended : Place D
-  pub left : IsLeft views (change_of opened.core (place_of opened.flusher.file began) core ended) keep kept
+  pub back : IsAlike views.disk ended.disk run.disk_then
+  pub left : IsLeft views (change_of opened.core (place_of opened.flusher.file began) core ended) run.keep kept
 
--- the same where links were served; else the keep stays
-abbrev pub EndsOver : {D : Type 0} → Views D → Opened → Option Parts → Status → KeepOver → Type 0
-EndsOver views opened None status keep = keep.tells → Rests keep.old keep.new
-EndsOver views opened (Some core) status keep = LeavesCore views opened core status keep
+-- the same where links were served, from the disk before the run on; else the disk and the keep stay
+abbrev pub EndsOver : {D : Type 0} → Views D → Opened → Option Parts → RunOver D → Type 0
+EndsOver views opened None run = (views.disk.tells → Rests (before views run) (behind views run))
+    × (run.keep.tells → Rests run.keep.old run.keep.new)
+EndsOver views opened (Some core) run = (ends : LeavesCore views opened core run) × IsAlike views.disk run.disk ends.began
+
+-- The opening of a log, from the disk before it to the one that links were served over. A log that the first one stored, and was read
+-- of honestly, opened as a prefix with all that was flushed, for which the second is ready; at each moment a crash leaves what was
+-- flushed. Files outside the log's folder stay, and no failure was counted.
+pub record BeginsOn {D : Type 0} (setup : Setup) (saved : Saved) (opened : Opened) (view : DiskView D) (old began : D) : Type 0 where
+  pub ours : view.tells → (log : List Entry) (flushed : ℕ) → StoresLog (whole setup.segment) log flushed (view.state old)
+      → IsHonest (whole setup.segment) log flushed (view.state old).reads
+      → OpensOursWith setup saved log flushed (view.state began) opened
+  pub leaves : view.tells → LeavesFlushed (whole setup.segment) (view.state old) (view.state began)
+  pub outside : view.tells → StaysOutside (view.state old) (view.state began)
+  pub faults : view.faults began ≡ view.faults old
 
 -- A log was opened by this setup with what the kept files had, and the core stands for one history since, of which each entry is the
 -- flusher's, one of the loops' or the keeper's. Where the disk tells its files, it is the log that recovery keeps of them; and a log
--- that it stored and was read of honestly it stores still, with what was flushed since. What was put into the kept files is told along
--- this history. Why the loops ended, how the last flush turn did and the last replacement of the kept files tell the status. Where that
--- replacement ended Ok, as it did with status 0, both have the texts of the core, and keep them through a crash.
-pub record HasServed {D : Type 0} (views : Views D) (setup : Setup) (run : RunOver)
+-- that it stored and was read of honestly it stores still, with what was flushed since. The history begins on the disk that the opening
+-- left, and ends on the one behind the run. What was put into the kept files is told along this history. Why the loops ended, how the
+-- last flush turn did and the last replacement of the kept files tell the status. Where that replacement ended Ok, as it did with
+-- status 0, both have the texts of the core, and keep them through a crash.
+pub record HasServed {D : Type 0} (views : Views D) (setup : Setup) (run : RunOver D)
     (puts : Parts → List (Event × Option Said) → Type 0) (core : Parts) : Type 0 where
   pub offsets : List OffsetRow
   pub topics : List TopicRow
   pub config : run.keep.tells → HasConfig run.keep.old.reads offsets topics
   pub opened : Opened
   pub over : OpensLogWith setup (saved_as offsets topics) opened
-  pub kept : views.disk.tells → OpensKeptWith setup (saved_as offsets topics) run.disk.reads opened
+  pub kept : views.disk.tells → OpensKeptWith setup (saved_as offsets topics) (before views run).reads opened
   pub history : List (Event × Option Said)
   pub stands : Stands opened.core history core
   pub began : D
+  pub begins : BeginsOn setup (saved_as offsets topics) opened views.disk run.disk began
   pub ended : Place D
+  pub back : IsAlike views.disk ended.disk run.disk_then
   pub made : IsMadeBy views history (change_of opened.core (place_of opened.flusher.file began) core ended)
-  pub stores : views.disk.tells → StoresOurs setup.segment run.disk core run.disk_then
+  pub stores : views.disk.tells → StoresOurs setup.segment (before views run) core (behind views run)
   pub put : run.keep.tells → puts opened.core history
   pub stopped : LoopEnd
   pub last : FlushEnd
@@ -149,15 +185,18 @@ pub record HasServed {D : Type 0} (views : Views D) (setup : Setup) (run : RunOv
   pub done : run.keep.tells → OnOk replaced (KeepsBy (IsOffsetsOf core) (IsTopicsOf core) run.keep.new)
   pub ends : run.keep.tells → run.status.code ≡ 0 → KeepsBy (IsOffsetsOf core) (IsTopicsOf core) run.keep.new
 
--- the same with what was kept, once that was loaded
-pub record ServesLog {D : Type 0} (views : Views D) (setup : Setup) (saved : Saved) (core : Option Parts) (run : RunOver) : Type 0 where
+-- The same with what was kept, once that was loaded. Where no links were served, why, and what is left of the log.
+pub record ServesLog {D : Type 0} (views : Views D) (setup : Setup) (saved : Saved) (core : Option Parts) (run : RunOver D) : Type 0 where
   pub still : core ≡ None → run.keep.tells → Rests run.keep.old run.keep.new
+  pub unserved : IfNone core (LeavesLog (whole setup.segment) views.disk.tells run.status (before views run) (behind views run))
   pub served : IfSome core (λ left. (opened : Opened) × OpensLogWith setup saved opened
-      × (views.disk.tells → OpensKeptWith setup saved run.disk.reads opened)
-      × (views.disk.tells → StoresOurs setup.segment run.disk left run.disk_then)
-      × LeavesCore views opened left run.status run.keep)
+      × (views.disk.tells → OpensKeptWith setup saved (before views run).reads opened)
+      × (views.disk.tells → StoresOurs setup.segment (before views run) left (behind views run))
+      × (ends : LeavesCore views opened left run) × BeginsOn setup saved opened views.disk run.disk ends.began)
 
 -- the same from a keep whose format stands
-pub record ServesStore {D : Type 0} (views : Views D) (setup : Setup) (core : Option Parts) (run : RunOver) : Type 0 where
+pub record ServesStore {D : Type 0} (views : Views D) (setup : Setup) (core : Option Parts) (run : RunOver D) : Type 0 where
   pub still : core ≡ None → run.keep.tells → Rests run.keep.old run.keep.new
+  pub unserved : IfNone core (Misread run.status (store_of views run)
+      ⊎ LeavesLog (whole setup.segment) views.disk.tells run.status (before views run) (behind views run))
   pub served : IfSome core (HasServed views setup run (λ start history. PutsAlong start history run.keep.old run.keep.new))

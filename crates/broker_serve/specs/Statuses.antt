@@ -93,7 +93,7 @@ IsDamagedFor command store place name =
 
 -- No links were served: the arguments don't fit, or threads can't be started, or the store is another's, or it is damaged, or a device
 -- failed, by its count, or there was no memory.
-abbrev pub Refused : List (List ℕ) → StoreTold → Status → ServeFaults → ServeFaults → Type 0
-Refused words store status old new =
+abbrev pub TellsWhy : List (List ℕ) → StoreTold → Status → ServeFaults → ServeFaults → Type 0
+TellsWhy words store status old new =
     (status.code ≡ 1) ⊎ ((command : ServeCommand) × IsServeCommand words command
     × ((status.code ≡ 9) ⊎ ((status.code ≡ 6) ⊎ Unserved (IsDamagedFor command store) status old.disk new.disk old.keep new.keep)))

@@ -2,17 +2,13 @@
 
 ghost use Rattle.std.specs.Prelude.{◌≡◌, ◌≢◌, ℕ, List, All, Some, None, IfSome, IfNone, IfOk, IfErr, codes};
 ghost use Rattle.mq_outside.specs.Counts.{CountsDiskFault};
-ghost use Rattle.mq_outside.specs.Disk.{Moves};
+ghost use Rattle.mq_outside.specs.Disk.{Moves, Rests};
 ghost use Rattle.mq_outside.specs.Files.{Same};
-ghost use Rattle.record_codec.specs.Entry.{Entry};
-ghost use Rattle.log_model.specs.Bases.{Geometry};
 ghost use Rattle.log_model.specs.Log.{IsSegmentSize};
-ghost use Rattle.log_model.specs.Store.{StoresLog};
-ghost use Rattle.log_model.specs.Stored.{Stored, StaysOutside};
-ghost use Rattle.segment_files.specs.Turn.{IsInside, IsReady, growing};
-ghost use Rattle.segment_files.specs.declared.last_file.LastFile.{LastFile};
+ghost use Rattle.log_model.specs.Stored.{StaysOutside};
+ghost use Rattle.segment_files.specs.Turn.{IsInside};
 ghost use Rattle.core_log.specs.Shows.{shown_of};
-ghost use Rattle.store_open.specs.Openings.{FORMAT, IsForeign, IsOpened, PutsOnly, own_format, store_told};
+ghost use Rattle.store_open.specs.Openings.{FORMAT, IsForeign, IsOpened, own_format, store_told};
 ghost use Rattle.store_open.specs.Words.{texts_of};
 ghost use Rattle.store_open.specs.ServeWords.{IsServeCommand, IsFirstWrongOfServe};
 ghost use Rattle.store_open.specs.Statuses.{FitsTable};
@@ -27,11 +23,13 @@ ghost use Rattle.serve_threads.specs.Kept.{keep_over};
 ghost use Rattle.serve_threads.specs.Served.{AreLoops, views_of};
 ghost use Rattle.serve_threads.specs.Causes.{HasCauses, ServeFaults as TheFaults, counts_of, world_faults};
 ghost use Rattle.broker_serve.specs.Causes.{BlamesDoor, Causes};
-ghost use Rattle.broker_serve.specs.Serves.{EndsOver, HasServed, PutsAllAlong, ServesLog, ServesStore, StoresOpened};
+ghost use Rattle.broker_serve.specs.Serves.{EndsOver, HasServed, IsAlike, PutsAllAlong, ServesLog, ServesStore};
 ghost use Rattle.broker_serve.specs.Serves.{run_over, setup_by};
 ghost use Rattle.exit_status.specs.Statuses.{TellsDevice};
-ghost use Rattle.broker_serve.specs.Statuses.{IsDamagedIn, IsDamagedLog, Refused, ShutOut, StatusLeft, Unopened};
+ghost use Rattle.exit_status.specs.Stores.{store_over};
+ghost use Rattle.broker_serve.specs.Statuses.{IsDamagedIn, IsDamagedLog, ShutOut, StatusLeft, TellsWhy, Unopened};
 ghost use Rattle.broker_serve.specs.Statuses.{Unserved as UnservedBy};
+ghost use Rattle.broker_serve.specs.Unserved.{ServesNobody};
 
 use crate::statuses::{last_status, status_of_making, status_of_reader};
 use broker_core::Core;
@@ -100,13 +98,10 @@ fn bounds_of(command: &ServeCommand) -> Bounds {
 }
 
 // A reader for each loop.
-#[tactic(auto, using(crate::proofs::Storing::ready_same))]
 fn readers_of<D: Disk>(alloc: Global, disk: &mut D) -> Result<(D::Reader, D::Reader), DiskFault>
-    ensures reads { D.tells → (D.state disk.new).reads ≡ (D.state disk.old).reads }
-    ensures outside { D.tells → StaysOutside (D.state disk.old) (D.state disk.new) }
-    ensures ready { D.tells → (it : Stored) (file : LastFile) → IsReady it 0 (growing file (D.state disk.old))
-        → IsReady it 0 (growing file (D.state disk.new)) }
+    ensures rests { D.tells → Rests (D.state disk.old) (D.state disk.new) }
     ensures cause { CountsDiskFault result (D.faults disk.old) (D.faults disk.new) }
+    ensures syncs { D.syncs disk.new ≡ D.syncs disk.old }
 {
     let one = disk.reader(alloc)?;
     match disk.reader(alloc) {
@@ -119,12 +114,8 @@ fn readers_of<D: Disk>(alloc: Global, disk: &mut D) -> Result<(D::Reader, D::Rea
 }
 
 // Gives the readers back to the disk.
-#[tactic(auto, using(crate::proofs::Storing::stores_same))]
 fn give_back<D: Disk>(disk: D, readers: (D::Reader, D::Reader)) -> D
-    ensures outside { D.tells → StaysOutside (D.state disk) (D.state result) }
-    ensures stores { D.tells → (S : Geometry) (log : List Entry) (flushed : ℕ) → StoresLog S log flushed (D.state disk)
-        → StoresLog S log flushed (D.state result) }
-    ensures faults { D.faults result ≡ D.faults disk }
+    ensures { IsAlike (view_of D.tells D.state D.faults D.syncs) disk result }
 {
     let mut disk = disk;
     let (one, two) = readers;
@@ -142,9 +133,7 @@ fn ended_of<P: Ready + Drop, K: Clock + Drop, D: Disk + Drop, E: Keep + Drop>(
     ensures tells { StatusLeft result.status served.end served.last served.kept }
     ensures core { result.core ≡ Some served.core }
     ensures keep { result.store.keep ≡ served.keep }
-    ensures outside { D.tells → StaysOutside (D.state served.disk) (D.state result.store.disk) }
-    ensures stores { D.tells → (S : Geometry) (log : List Entry) (flushed : ℕ) → StoresLog S log flushed (D.state served.disk)
-        → StoresLog S log flushed (D.state result.store.disk) }
+    ensures alike { IsAlike (view_of D.tells D.state D.faults D.syncs) served.disk result.store.disk }
     ensures cause { (before : TheFaults) → HasCauses served.end served.last served.kept before
         (counts_of (D.faults served.disk) (E.faults served.keep) (world_faults P.faults P.Door.faults K.faults served.world))
         → Causes result.status before (counts_of (D.faults result.store.disk) (E.faults result.store.keep)
@@ -193,10 +182,8 @@ where
     ensures status { (result.status.code ≢ 1) × (result.status.code ≢ 6) × FitsTable result.status }
     ensures why { IfNone result.core (result.status.code ≡ 7) }
     ensures ends { EndsOver (views_of P.Link.tells D.Reader.gives (view_of D.tells D.state D.faults D.syncs))
-        (record { core = core; flusher = devices.flusher }) result.core result.status
-        (keep_over E.tells (E.state devices.keep) (E.state result.store.keep)) }
-    ensures stores { D.tells → IfSome result.core (λ left.
-        StoresOpened core devices.flusher.file (D.state devices.disk) left (D.state result.store.disk)) }
+        (record { core = core; flusher = devices.flusher }) result.core (run_over result.status devices.disk result.store.disk
+        (keep_over E.tells (E.state devices.keep) (E.state result.store.keep))) }
     ensures outside { D.tells → StaysOutside (D.state devices.disk) (D.state result.store.disk) }
     ensures cause { Causes result.status
         (counts_of (D.faults devices.disk) (E.faults devices.keep) (world_faults P.faults P.Door.faults K.faults loops.world))
@@ -243,9 +230,8 @@ where
     ensures status { (result.status.code ≢ 1) × (result.status.code ≢ 6) × FitsTable result.status }
     ensures why { IfNone result.core (ShutOut result.status (D.faults store.disk) (D.faults result.store.disk)) }
     ensures ends { EndsOver (views_of P.Link.tells D.Reader.gives (view_of D.tells D.state D.faults D.syncs)) opened
-        result.core result.status (keep_over E.tells (E.state store.keep) (E.state result.store.keep)) }
-    ensures stores { D.tells → IfSome result.core (λ left.
-        StoresOpened opened.core opened.flusher.file (D.state store.disk) left (D.state result.store.disk)) }
+        result.core (run_over result.status store.disk result.store.disk
+        (keep_over E.tells (E.state store.keep) (E.state result.store.keep))) }
     ensures outside { D.tells → StaysOutside (D.state store.disk) (D.state result.store.disk) }
     ensures cause { Causes result.status
         (counts_of (D.faults store.disk) (E.faults store.keep) (world_faults P.faults P.Door.faults K.faults loops.world))
@@ -318,9 +304,8 @@ where
     ensures status { (result.status.code ≢ 1) × (result.status.code ≢ 6) × FitsTable result.status }
     ensures why { IfNone result.core (ShutOut result.status (D.faults store.disk) (D.faults result.store.disk)) }
     ensures ends { EndsOver (views_of P.Link.tells D.Reader.gives (view_of D.tells D.state D.faults D.syncs)) opened
-        result.core result.status (keep_over E.tells (E.state store.keep) (E.state result.store.keep)) }
-    ensures stores { D.tells → IfSome result.core (λ left.
-        StoresOpened opened.core opened.flusher.file (D.state store.disk) left (D.state result.store.disk)) }
+        result.core (run_over result.status store.disk result.store.disk
+        (keep_over E.tells (E.state store.keep) (E.state result.store.keep))) }
     ensures outside { D.tells → StaysOutside (D.state store.disk) (D.state result.store.disk) }
     ensures cause { Causes result.status
         (counts_of (D.faults store.disk) (E.faults store.keep) (world_faults P.faults P.Door.faults K.faults world))
@@ -362,7 +347,7 @@ where
         (D.faults store.disk) (D.faults result.store.disk)) }
     ensures served { ServesLog (views_of P.Link.tells D.Reader.gives (view_of D.tells D.state D.faults D.syncs))
         (setup_by command.now segment) (saved_as config.offsets.items config.topics.items) result.core
-        (run_over result.status (D.state store.disk) (D.state result.store.disk)
+        (run_over result.status store.disk result.store.disk
         (keep_over E.tells (E.state store.keep) (E.state result.store.keep))) }
     ensures outside { D.tells → StaysOutside (D.state store.disk) (D.state result.store.disk) }
     ensures cause { Causes result.status
@@ -406,7 +391,7 @@ where
         (IsDamagedIn segment (store_told D.tells (D.state store.disk).reads E.tells (E.state store.keep).reads)) result.status
         (D.faults store.disk) (D.faults result.store.disk) (E.faults store.keep) (E.faults result.store.keep)) }
     ensures served { ServesStore (views_of P.Link.tells D.Reader.gives (view_of D.tells D.state D.faults D.syncs))
-        (setup_by command.now segment) result.core (run_over result.status (D.state store.disk) (D.state result.store.disk)
+        (setup_by command.now segment) result.core (run_over result.status store.disk result.store.disk
         (keep_over E.tells (E.state store.keep) (E.state result.store.keep))) }
     ensures outside { D.tells → StaysOutside (D.state store.disk) (D.state result.store.disk) }
     ensures cause { Causes result.status
@@ -455,22 +440,25 @@ where
 
     // Where links were served, they were served by the core of the log with what the kept files had. The core that is left stands
     // for one history of steps since, each of which is the flusher's, one link's or the keeper's. The disk stores the log of a state
-    // that this core represents, and the kept files have texts of states of this history.
+    // that this core represents, and the kept files have texts of states of this history. From the given disk to the one that comes
+    // back there is nothing but the opening, this history, and readers that are lent.
     ensures served { IfSome result.core (λ core. (command : ACommand) × (sizes : TheSizes) × (IsServeCommand (texts_of words.now) command
         × IsOpened command.sizes sizes
         (store_told D.tells (D.state store.disk).reads E.tells (E.state store.keep).reads) (E.state result.store.keep))
         × HasServed (views_of P.Link.tells D.Reader.gives (view_of D.tells D.state D.faults D.syncs))
-        (setup_by command sizes.segment) (run_over result.status (D.state store.disk) (D.state result.store.disk)
+        (setup_by command sizes.segment) (run_over result.status store.disk result.store.disk
         (keep_over E.tells (E.state store.keep) (E.state result.store.keep)))
         (λ start history. PutsAllAlong (own_format ((E.state store.keep).reads FORMAT) command.sizes) start history
         (E.state store.keep) (E.state result.store.keep)) core) }
 
-    // Else of the keep only the format of a new store was written.
-    ensures unserved { E.tells → IfNone result.core ((text : List ℕ)
-        × PutsOnly text (E.state store.keep) (E.state result.store.keep)) }
+    // Else what was flushed stays, whatever crashes. No device was asked, or the store or its kept files were refused and the disk is
+    // as it was, or the log was not recovered, or it was opened and is what recovery keeps. Of the keep only the format of a new store
+    // was written.
+    ensures unserved { IfNone result.core (ServesNobody (texts_of words.now) result.status
+        (store_over D.tells (D.state store.disk) (D.state result.store.disk) E.tells (E.state store.keep) (E.state result.store.keep))) }
 
     // Then the status tells why: the words, no threads, another's store, damage, a device that failed, or no memory.
-    ensures why { IfNone result.core (Refused (texts_of words.now)
+    ensures why { IfNone result.core (TellsWhy (texts_of words.now)
         (store_told D.tells (D.state store.disk).reads E.tells (E.state store.keep).reads) result.status
         (counts_of (D.faults store.disk) (E.faults store.keep) (world_faults P.faults P.Door.faults K.faults world))
         (counts_of (D.faults result.store.disk) (E.faults result.store.keep)

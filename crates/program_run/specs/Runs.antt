@@ -5,7 +5,7 @@ use Rattle.mq_outside.specs.Files.{Same}
 use Rattle.log_model.specs.Stored.{StaysOutside}
 use Rattle.core_log.specs.declared.parts.Parts.{Parts}
 use Rattle.config_store.specs.Configs.{OFFSETS, TOPICS}
-use Rattle.store_open.specs.Openings.{FORMAT, IsForeign, IsOpened, PutsOnly, own_format, store_told}
+use Rattle.store_open.specs.Openings.{FORMAT, IsForeign, IsOpened, own_format, store_told}
 use Rattle.store_open.specs.Statuses.{FitsTable}
 use Rattle.store_open.specs.Words.{IsCommand, IsFirstWrong}
 use Rattle.store_open.specs.ServeWords.{IsServeCommand, IsFirstWrongOfServe}
@@ -20,7 +20,9 @@ use Rattle.serve_threads.specs.Served.{Views}
 use Rattle.serve_threads.specs.Causes.{ServeFaults}
 use Rattle.broker_serve.specs.Causes.{Causes}
 use Rattle.broker_serve.specs.Serves.{HasServed, PutsAllAlong, run_over, setup_by}
-use Rattle.broker_serve.specs.Statuses.{Refused}
+use Rattle.broker_serve.specs.Statuses.{TellsWhy}
+use Rattle.broker_serve.specs.Unserved.{ServesNobody}
+use Rattle.exit_status.specs.Stores.{store_over}
 
 -- the words ask for links: the first of them is `serve`
 abbrev pub AsksLinks : List (List ℕ) → Type 0
@@ -64,11 +66,13 @@ pub record Serves {D : Type 0} (words : List (List ℕ)) (status : Status) (seen
       × IsOpened command.sizes sizes
       (store_told seen.views.disk.tells (seen.views.disk.state seen.old).reads seen.keep.tells seen.keep.old.reads) seen.keep.new)
       × HasServed seen.views (setup_by command sizes.segment)
-      (run_over status (seen.views.disk.state seen.old) (seen.views.disk.state seen.new) seen.keep)
+      (run_over status seen.old seen.new seen.keep)
       (λ start history. PutsAllAlong (own_format (seen.keep.old.reads FORMAT) command.sizes) start history seen.keep.old seen.keep.new)
       left)
-  pub unserved : seen.keep.tells → IfNone seen.core ((text : List ℕ) × PutsOnly text seen.keep.old seen.keep.new)
-  pub why : IfNone seen.core (Refused words
+  pub unserved : IfNone seen.core (ServesNobody words status
+      (store_over seen.views.disk.tells (seen.views.disk.state seen.old) (seen.views.disk.state seen.new)
+      seen.keep.tells seen.keep.old seen.keep.new))
+  pub why : IfNone seen.core (TellsWhy words
       (store_told seen.views.disk.tells (seen.views.disk.state seen.old).reads seen.keep.tells seen.keep.old.reads) status old new)
   pub foreign : seen.views.disk.tells → seen.keep.tells → status.code ≡ 6 → (command : ServeCommand) × IsServeCommand words command
       × IsForeign (seen.views.disk.state seen.old).reads (seen.keep.old.reads FORMAT) command.sizes status.name

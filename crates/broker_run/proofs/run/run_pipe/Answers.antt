@@ -15,9 +15,12 @@ use Rattle.broker_run.specs.Promise.{pipe_setup, KeepSeen, KeepsOpen, KeepsState
 use Rattle.store_open.proofs.OptionLemmas.{no_unfit_word}
 use Rattle.store_open.proofs.SizeLemmas.{asks_sizes}
 use Rattle.broker_run.proofs.QuietLemmas.{quiet_call}
-use Rattle.broker_run.proofs.CauseLemmas.{opening_causes, refused_by, is_ours, fits_arguments, run_causes}
-use Rattle.broker_run.proofs.KeptLemmas.{opened_still, opened_kept, puts_still, kept_from, config_before, misread, config_causes, not_of_config}
-use Rattle.broker_run.proofs.RunLemmas.{left_open, runs_some, begins_with, keeps_on, unrecovered, stores_same, honest_same, leaves_from}
+use Rattle.log_opening.specs.declared.opening.Opened.{Opened}
+use Rattle.exit_status.proofs.KeepLemmas.{config_before, misread, misread_before, opened_still, puts_still, refused_by}
+use Rattle.exit_status.proofs.LogLemmas.{honest_rests, leaves_around, leaves_flushed, stores_rests, unrecovered, unrecovered_around}
+use Rattle.broker_run.proofs.CauseLemmas.{opening_causes, is_ours, fits_arguments, run_causes}
+use Rattle.broker_run.proofs.KeptLemmas.{opened_kept, kept_from, config_causes, not_of_config}
+use Rattle.broker_run.proofs.RunLemmas.{left_open, runs_some, begins_with, keeps_on}
 use Rattle.broker_run.proofs.run.run_pipe.Goals as goal
 
 pub returns-in-Err-open_format-clause-foreign : goal.returns-in-Err-open_format-clause-foreign
@@ -33,11 +36,15 @@ returns-in-Err-open_log_with-clause-fits g c = λ fits. record {
   asked = c.in-Ok.ensures.fits;
   called = inr (record {
     untouched = record { given_is = refl; taken_is = refl; readings_is = refl };
-    why = inr (inr (unrecovered c.in-Ok.command c.status_of_fault.result _ _ _ _ _
-        c.in-Err-open_log_with.fault c.in-Ok-open_format.sizes c.status_of_fault.ensures.tells
-        (opened_still _ _ _ _ _ c.in-Ok-load_config.ensures.rests c.in-Ok-open_format.ensures.opened)
-        c.in-Ok-open_format.ensures.rests c.in-Ok-reader.ensures.moves
-        c.in-Err-open_log_with.ensures.damaged c.in-Err-open_log_with.ensures.untouched c.in-Err-open_log_with.ensures.flushed c.take_back.ensures.moves));
+    why = inr (inr (record {
+      sizes = c.in-Ok-open_format.sizes;
+      opened_as = opened_still _ _ _ _ _ c.in-Ok-load_config.ensures.rests c.in-Ok-open_format.ensures.opened;
+      log = unrecovered_around (whole c.in-Ok-open_format.sizes.segment) _ c.status_of_fault.result _ _ _ _
+          (λ told. rests_call (rests_call (rests_start _) (c.in-Ok-open_format.ensures.rests told)) (c.in-Ok-reader.ensures.moves told))
+          (unrecovered Opened _ _ c.status_of_fault.result _ _ c.in-Err-open_log_with.fault c.status_of_fault.ensures.tells
+          c.in-Err-open_log_with.ensures.damaged c.in-Err-open_log_with.ensures.untouched c.in-Err-open_log_with.ensures.flushed)
+          (λ told. rests_call (rests_start _) (c.take_back.ensures.moves told));
+    }));
     puts = λ told. puts_still _ _ _ _ (c.in-Ok-open_format.ensures.puts told) (c.in-Ok-load_config.ensures.rests told);
   });
 }
@@ -48,8 +55,9 @@ returns-in-Err-load_config-clause-fits g c = λ fits. record {
   asked = c.in-Ok.ensures.fits;
   called = inr (record {
     untouched = record { given_is = refl; taken_is = refl; readings_is = refl };
-    why = inr (inl (misread c.status_of_config.result _ _ c.in-Err-load_config.fault _ _ c.status_of_config.ensures.tells c.in-Ok-open_format.ensures.puts c.in-Err-load_config.ensures.bad
-        (λ told. rests_call (rests_start _) (c.in-Ok-open_format.ensures.rests told))));
+    why = inr (inl (misread_before c.status_of_config.result _ _ _ _ _ _ _ _ _
+        (λ told. rests_call (rests_start _) (c.in-Ok-open_format.ensures.rests told)) c.in-Ok-open_format.ensures.puts
+        (misread c.status_of_config.result _ c.in-Err-load_config.fault c.status_of_config.ensures.tells c.in-Err-load_config.ensures.bad (λ told. rests_start _))));
     puts = λ told. puts_still _ _ _ _ (c.in-Ok-open_format.ensures.puts told) (c.in-Err-load_config.ensures.rests told);
   });
 }
@@ -110,11 +118,11 @@ returns-clause-fits g c = λ fits.
         begins = λ told. begins_with opened c.serve_log.result _ c.open_log_with.new.disk setup saved mid kept as_well served
             (g.D.Disk.state c.reader.new.self).reads ((reader told).reads ∙ (format told).reads) (c.in-Ok-open_log_with.ensures.kept told);
         durable = λ told log flushed stores honest.
-            let mid_stores = stores_same (whole sizes.segment) log flushed _ _ (reader told) (stores_same (whole sizes.segment) log flushed _ _ (format told) stores) in
-            let mid_honest = honest_same (whole sizes.segment) log flushed _ _ (reader told) (honest_same (whole sizes.segment) log flushed _ _ (format told) honest) in
+            let S = whole sizes.segment in
+            let rests = rests_call (rests_call (rests_start _) (format told)) (reader told) in
             keeps_on opened c.serve_log.result _ c.open_log_with.new.disk setup saved mid kept as_well served told log flushed
-            (c.in-Ok-open_log_with.ensures.ours told log flushed mid_stores mid_honest)
-            (leaves_from (whole sizes.segment) log flushed _ _ _ _ (format told) (reader told) stores (c.in-Ok-open_log_with.ensures.flushed told log flushed mid_stores mid_honest).any_moment);
+            (c.in-Ok-open_log_with.ensures.ours told log flushed (stores_rests S log flushed _ _ rests stores) (honest_rests S log flushed _ _ rests honest))
+            (leaves_around S _ _ _ _ rests (leaves_flushed S _ _ (c.in-Ok-open_log_with.ensures.flushed told)) (rests_start _) log flushed stores honest);
       });
     }
 

@@ -1,13 +1,16 @@
-use Rattle.std.proofs.Common.{◌∙◌, refl, inl, inr, [], ap, sym, subst, ℕ, List}
-use Rattle.std.specs.Prelude.{IfNone}
+use Rattle.std.proofs.Common.{◌∙◌, refl, inl, inr, ap, sym, subst}
+use Rattle.mq_outside.proofs.Moments.{rests_start, rests_call}
 use Rattle.log_model.specs.Stored.{StaysOutside}
 use Rattle.log_model.proofs.OutsideLemmas.{outside_start, outside_same, outside_then}
-use Rattle.store_open.specs.Openings.{FORMAT, PutsOnly, own_format, store_told}
+use Rattle.store_open.specs.Openings.{FORMAT, store_told}
 use Rattle.store_open.specs.Words.{texts_of}
 use Rattle.store_open.proofs.SizeLemmas.{serve_asks_sizes}
-use Rattle.broker_serve.specs.Statuses.{IsDamagedFor, Refused}
-use Rattle.broker_serve.proofs.Serving.{puts_no_format, run_served, run_unserved, store_others}
-use Rattle.broker_serve.proofs.Telling.{why_unserved, why_then, not_formed, refused}
+use Rattle.exit_status.specs.Stores.{store_over}
+use Rattle.exit_status.proofs.KeepLemmas.{refused_by}
+use Rattle.broker_serve.specs.Statuses.{IsDamagedFor, TellsWhy}
+use Rattle.broker_serve.specs.Unserved.{ServesNobody}
+use Rattle.broker_serve.proofs.Serving.{run_served, run_unserved, store_others}
+use Rattle.broker_serve.proofs.Telling.{why_unserved, why_then, not_formed, tells_why}
 use Rattle.serve_threads.specs.Causes.{counts_of, world_faults}
 use Rattle.broker_serve.proofs.Causing.{causes_from, causes_unserved, opening_causes, threads_cause, words_cause}
 use Rattle.broker_serve.proofs.run.run_serve.Goals as goal
@@ -18,29 +21,45 @@ serve_store-requires-clause-size g c κs within = (c.in-Ok-open_format.ensures.a
 -- ---- the words don't fit
 
 pub returns-in-Err-clause-unserved : goal.returns-in-Err-clause-unserved
-returns-in-Err-clause-unserved g c = λ told.
-    let before = c.args.store.keep in
-    subst (λ o. IfNone o ((text : List ℕ) × PutsOnly text (g.E.Keep.state before) (g.E.Keep.state c.unserved.result.store.keep))) (sym c.unserved.ensures.core)
-    ([], subst (λ k. PutsOnly [] (g.E.Keep.state before) (g.E.Keep.state k)) (sym (ap (λ s. s.keep) c.unserved.ensures.store)) (puts_no_format [] _))
+returns-in-Err-clause-unserved g c =
+    let before = c.args.store in
+    let ended = c.unserved in
+    why_unserved (λ s store. ServesNobody (texts_of c.args.words.now) s
+    (store_over g.D.Disk.tells (g.D.Disk.state before.disk) (g.D.Disk.state store.disk) g.E.Keep.tells (g.E.Keep.state before.keep) (g.E.Keep.state store.keep))) _ _ _ _ _
+    ended.ensures.core ended.ensures.status ended.ensures.store
+    (inl (record { why = inl c.at.ensures.code; disk_still = λ tells. rests_start _; keep_still = λ told. rests_start _ }))
 
 -- ---- threads can't be started
 
 pub returns-then-not-can_start_threads-clause-unserved : goal.returns-then-not-can_start_threads-clause-unserved
-returns-then-not-can_start_threads-clause-unserved g c = λ told.
-    let before = c.args.store.keep in
+returns-then-not-can_start_threads-clause-unserved g c =
+    let before = c.args.store in
     let ended = c.unserved-then-not-can_start_threads in
-    subst (λ o. IfNone o ((text : List ℕ) × PutsOnly text (g.E.Keep.state before) (g.E.Keep.state ended.result.store.keep))) (sym ended.ensures.core)
-    ([], subst (λ k. PutsOnly [] (g.E.Keep.state before) (g.E.Keep.state k)) (sym (ap (λ s. s.keep) ended.ensures.store)) (puts_no_format [] _))
+    why_unserved (λ s store. ServesNobody (texts_of c.args.words.now) s
+    (store_over g.D.Disk.tells (g.D.Disk.state before.disk) (g.D.Disk.state store.disk) g.E.Keep.tells (g.E.Keep.state before.keep) (g.E.Keep.state store.keep))) _ _ _ _ _
+    ended.ensures.core ended.ensures.status ended.ensures.store
+    (inl (record { why = inr c.plain.ensures.code; disk_still = λ tells. rests_start _; keep_still = λ told. rests_start _ }))
 
 -- ---- the store isn't opened
 
 pub returns-in-Err-open_format-clause-unserved : goal.returns-in-Err-open_format-clause-unserved
-returns-in-Err-open_format-clause-unserved g c = λ told.
-    let before = c.args.store.keep in
+returns-in-Err-open_format-clause-unserved g c =
+    let before = c.args.store in
     let ended = c.unserved-in-Err-open_format in
-    let format = own_format ((g.E.Keep.state before).reads FORMAT) c.in-Ok.command.sizes in
-    subst (λ o. IfNone o ((text : List ℕ) × PutsOnly text (g.E.Keep.state before) (g.E.Keep.state ended.result.store.keep))) (sym ended.ensures.core)
-    (format, subst (λ k. PutsOnly format (g.E.Keep.state before) (g.E.Keep.state k)) (sym (ap (λ s. s.keep) ended.ensures.store)) (c.open_format.ensures.puts told))
+    why_unserved (λ s store. ServesNobody (texts_of c.args.words.now) s
+    (store_over g.D.Disk.tells (g.D.Disk.state before.disk) (g.D.Disk.state store.disk) g.E.Keep.tells (g.E.Keep.state before.keep) (g.E.Keep.state store.keep))) _ _ _ _ _
+    ended.ensures.core ended.ensures.status ended.ensures.store
+    (inr (
+      c.in-Ok.command,
+      c.in-Ok.ensures.fits,
+      record {
+        why = inl (record {
+          refused = refused_by c.in-Err-open_format.status _ _ _ _ c.in-Err-open_format.ensures.cause;
+          still = λ tells. rests_call (rests_start _) (c.in-Err-open_format.ensures.rests tells);
+        });
+        puts = c.in-Err-open_format.ensures.puts;
+      },
+    ))
 
 pub returns-in-Err-open_format-clause-outside : goal.returns-in-Err-open_format-clause-outside
 returns-in-Err-open_format-clause-outside g c = λ tells.
@@ -51,11 +70,13 @@ returns-in-Err-open_format-clause-outside g c = λ tells.
 
 pub returns-in-Ok-open_format-clause-served : goal.returns-in-Ok-open_format-clause-served
 returns-in-Ok-open_format-clause-served g c =
-    run_served _ _ _ _ _ _ _ _ _ _ _ _ _ c.in-Ok-open_format.ensures.rests c.in-Ok.ensures.fits c.in-Ok-open_format.ensures.opened
-    c.in-Ok-open_format.ensures.puts c.serve_store.ensures.served
+    run_served _ _ _ _ _ _ _ _ _ _ _ _ _ (λ tells. rests_call (rests_start _) (c.in-Ok-open_format.ensures.rests tells)) c.in-Ok-open_format.ensures.disk_still c.in-Ok.ensures.fits
+    c.in-Ok-open_format.ensures.opened c.in-Ok-open_format.ensures.puts c.serve_store.ensures.served
 
 pub returns-in-Ok-open_format-clause-unserved : goal.returns-in-Ok-open_format-clause-unserved
-returns-in-Ok-open_format-clause-unserved g c = run_unserved _ _ _ _ _ _ _ _ _ _ _ c.in-Ok-open_format.ensures.puts c.serve_store.ensures.served
+returns-in-Ok-open_format-clause-unserved g c =
+    run_unserved _ _ _ _ _ _ _ _ _ _ _ _ _ (λ tells. rests_call (rests_start _) (c.in-Ok-open_format.ensures.rests tells)) c.in-Ok.ensures.fits
+    c.in-Ok-open_format.ensures.opened c.in-Ok-open_format.ensures.puts c.serve_store.ensures.served
 
 pub returns-in-Ok-open_format-clause-outside : goal.returns-in-Ok-open_format-clause-outside
 returns-in-Ok-open_format-clause-outside g c = λ tells.
@@ -63,11 +84,11 @@ returns-in-Ok-open_format-clause-outside g c = λ tells.
 
 pub returns-in-Ok-open_format-clause-stands : goal.returns-in-Ok-open_format-clause-stands
 returns-in-Ok-open_format-clause-stands g c = λ told text stood.
-    store_others _ _ _ _ _ _ _ _ _ c.serve_store.ensures.served told FORMAT (λ e. absurd (cc e)) (λ e. absurd (cc e)) ∙ c.in-Ok-open_format.ensures.stands told text stood
+    store_others _ _ _ _ c.serve_store.ensures.served told FORMAT (λ e. absurd (cc e)) (λ e. absurd (cc e)) ∙ c.in-Ok-open_format.ensures.stands told text stood
 
 pub returns-in-Ok-open_format-clause-kept : goal.returns-in-Ok-open_format-clause-kept
 returns-in-Ok-open_format-clause-kept g c = λ told name not_format not_offsets not_topics.
-    store_others _ _ _ _ _ _ _ _ _ c.serve_store.ensures.served told name not_offsets not_topics ∙ c.in-Ok-open_format.ensures.others told name not_format
+    store_others _ _ _ _ c.serve_store.ensures.served told name not_offsets not_topics ∙ c.in-Ok-open_format.ensures.others told name not_format
 
 -- ---- why no links were served
 
@@ -76,7 +97,7 @@ returns-in-Err-clause-why g c =
     let before = c.args.store in
     let told = store_told g.D.Disk.tells (g.D.Disk.state before.disk).reads g.E.Keep.tells (g.E.Keep.state before.keep).reads in
     let counts = world_faults g.P.Ready.faults g.P.Door.Door.faults g.K.Clock.faults in
-    why_unserved (λ s store. Refused (texts_of c.args.words.now) told s (counts_of (g.D.Disk.faults before.disk) (g.E.Keep.faults before.keep) (counts c.args.world))
+    why_unserved (λ s store. TellsWhy (texts_of c.args.words.now) told s (counts_of (g.D.Disk.faults before.disk) (g.E.Keep.faults before.keep) (counts c.args.world))
     (counts_of (g.D.Disk.faults store.disk) (g.E.Keep.faults store.keep) (counts c.unserved.result.world))) _ _ _ _ _
     c.unserved.ensures.core c.unserved.ensures.status c.unserved.ensures.store (inl c.at.ensures.code)
 
@@ -86,7 +107,7 @@ returns-then-not-can_start_threads-clause-why g c =
     let ended = c.unserved-then-not-can_start_threads in
     let told = store_told g.D.Disk.tells (g.D.Disk.state before.disk).reads g.E.Keep.tells (g.E.Keep.state before.keep).reads in
     let counts = world_faults g.P.Ready.faults g.P.Door.Door.faults g.K.Clock.faults in
-    why_unserved (λ s store. Refused (texts_of c.args.words.now) told s (counts_of (g.D.Disk.faults before.disk) (g.E.Keep.faults before.keep) (counts c.args.world))
+    why_unserved (λ s store. TellsWhy (texts_of c.args.words.now) told s (counts_of (g.D.Disk.faults before.disk) (g.E.Keep.faults before.keep) (counts c.args.world))
     (counts_of (g.D.Disk.faults store.disk) (g.E.Keep.faults store.keep) (counts ended.result.world))) _ _ _ _ _
     ended.ensures.core ended.ensures.status ended.ensures.store
     (inr (c.in-Ok.command, c.in-Ok.ensures.fits, inl c.plain.ensures.code))
@@ -97,7 +118,7 @@ returns-in-Err-open_format-clause-why g c =
     let ended = c.unserved-in-Err-open_format in
     let told = store_told g.D.Disk.tells (g.D.Disk.state before.disk).reads g.E.Keep.tells (g.E.Keep.state before.keep).reads in
     let counts = world_faults g.P.Ready.faults g.P.Door.Door.faults g.K.Clock.faults in
-    why_unserved (λ s store. Refused (texts_of c.args.words.now) told s (counts_of (g.D.Disk.faults before.disk) (g.E.Keep.faults before.keep) (counts c.args.world))
+    why_unserved (λ s store. TellsWhy (texts_of c.args.words.now) told s (counts_of (g.D.Disk.faults before.disk) (g.E.Keep.faults before.keep) (counts c.args.world))
     (counts_of (g.D.Disk.faults store.disk) (g.E.Keep.faults store.keep) (counts ended.result.world))) _ _ _ _ _
     ended.ensures.core ended.ensures.status ended.ensures.store
     (inr (c.in-Ok.command, c.in-Ok.ensures.fits, inr (not_formed (IsDamagedFor c.in-Ok.command told) c.in-Err-open_format.status _ _ _ _ c.in-Err-open_format.ensures.cause)))
@@ -105,7 +126,7 @@ returns-in-Err-open_format-clause-why g c =
 pub returns-in-Ok-open_format-clause-why : goal.returns-in-Ok-open_format-clause-why
 returns-in-Ok-open_format-clause-why g c =
     let counts = world_faults g.P.Ready.faults g.P.Door.Door.faults g.K.Clock.faults in
-    why_then _ (refused _ c.in-Ok.command c.in-Ok-open_format.sizes _ _ _ _ _ _ _ c.in-Ok-open_format.ensures.rests c.in-Ok-open_format.ensures.opened.sizes_are
+    why_then _ (tells_why _ c.in-Ok.command c.in-Ok-open_format.sizes _ _ _ _ _ _ _ c.in-Ok-open_format.ensures.rests c.in-Ok-open_format.ensures.opened.sizes_are
     c.in-Ok-open_format.ensures.puts _ _ _ _ _ _ _ (counts c.args.world) (counts c.serve_store.result.world) c.in-Ok.ensures.fits c.in-Ok-open_format.ensures.disk_still c.in-Ok-open_format.ensures.keep_still)
     c.serve_store.ensures.why
 

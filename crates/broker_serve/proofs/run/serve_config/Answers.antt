@@ -1,11 +1,14 @@
-use Rattle.std.proofs.Common.{refl, sym, ap, subst}
+use Rattle.std.proofs.Common.{inl, refl, sym, ap, subst}
 use Rattle.mq_outside.specs.Disk.{Rests}
 use Rattle.mq_outside.proofs.Moments.{rests_start}
+use Rattle.log_model.specs.Bases.{whole}
 use Rattle.log_model.specs.Stored.{StaysOutside}
 use Rattle.log_model.proofs.OutsideLemmas.{outside_then}
+use Rattle.log_opening.specs.declared.opening.Opened.{Opened}
+use Rattle.exit_status.proofs.LogLemmas.{leaves_flushed, unrecovered}
 use Rattle.broker_serve.specs.Statuses.{IsDamagedLog, Unopened}
+use Rattle.broker_serve.specs.Unserved.{LeavesLog}
 use Rattle.broker_serve.proofs.Serving.{log_unserved, log_served_with}
-use Rattle.broker_serve.proofs.Storing.{stores_each}
 use Rattle.broker_serve.proofs.Telling.{why_unserved, why_then, not_recovered, shut_out}
 use Rattle.serve_threads.specs.Causes.{world_faults}
 use Rattle.broker_serve.proofs.Causing.{causes_from, causes_unserved, log_causes}
@@ -13,8 +16,12 @@ use Rattle.broker_serve.proofs.run.serve_config.Goals as goal
 
 pub returns-in-Err-clause-served : goal.returns-in-Err-clause-served
 returns-in-Err-clause-served g c =
-    log_unserved _ _ _ _ _ _ _ _ _ _ _ c.unserved.ensures.core
+    let S = whole c.args.segment in
+    log_unserved _ _ _ _ _ c.unserved.ensures.core
     (λ told. subst (λ k. Rests (g.E.Keep.state c.args.store.keep) (g.E.Keep.state k)) (sym (ap (λ s. s.keep) c.unserved.ensures.store)) (rests_start _))
+    (why_unserved (λ s store. LeavesLog S g.D.Disk.tells s (g.D.Disk.state c.args.store.disk) (g.D.Disk.state store.disk)) _ _ _ _ _
+    c.unserved.ensures.core c.unserved.ensures.status c.unserved.ensures.store
+    (inl (unrecovered Opened S g.D.Disk.tells c.status_of_fault.result _ _ c.in-Err.fault c.status_of_fault.ensures.tells c.in-Err.ensures.damaged c.in-Err.ensures.untouched c.in-Err.ensures.flushed)))
 
 pub returns-in-Err-clause-outside : goal.returns-in-Err-clause-outside
 returns-in-Err-clause-outside g c = λ tells.
@@ -22,9 +29,16 @@ returns-in-Err-clause-outside g c = λ tells.
 
 pub returns-clause-served : goal.returns-clause-served
 returns-clause-served g c =
-    log_served_with _ _ _ _ _ _ c.as_slice-offsets.result.now _ c.as_slice-topics.result.now _ _ _ _ c.in-Ok.opened
-    c.as_slice-offsets.ensures.value c.as_slice-topics.ensures.value c.in-Ok.ensures.represents c.in-Ok.ensures.kept
-    (λ tells. stores_each _ _ _ _ c.in-Ok.opened _ c.serve_log.result.core (c.in-Ok.ensures.ours tells) (c.serve_log.ensures.stores tells)) c.serve_log.ensures.ends
+    let disk = g.met.D.Disk g.world.𝓛 g.world.𝓜 g.world.𝓡 ((λ s x. x), (λ x. x), (λ x. x), λ x. x) in
+    log_served_with _ _ _ c.as_slice-offsets.result.now _ c.as_slice-topics.result.now c.serve_log.result.core _ _ _ _ _ c.in-Ok.opened _ _
+    c.as_slice-offsets.ensures.value c.as_slice-topics.ensures.value (λ tells. disk.reads_is_image c.args.store.disk tells) c.in-Ok.ensures.represents c.in-Ok.ensures.kept
+    (record {
+      ours = c.in-Ok.ensures.ours;
+      leaves = λ tells. leaves_flushed (whole c.args.segment) _ _ (c.in-Ok.ensures.flushed tells);
+      outside = c.in-Ok.ensures.outside;
+      faults = c.in-Ok.ensures.cause;
+    })
+    c.serve_log.ensures.why c.serve_log.ensures.ends
 
 pub returns-clause-outside : goal.returns-clause-outside
 returns-clause-outside g c = λ tells. outside_then (c.in-Ok.ensures.outside tells) (c.serve_log.ensures.outside tells)

@@ -1,11 +1,12 @@
 use Rattle.std.proofs.Common.{refl, sym, ap, subst}
 use Rattle.mq_outside.specs.Disk.{Rests}
 use Rattle.mq_outside.proofs.Moments.{rests_start}
-use Rattle.log_model.specs.Stored.{StaysOutside}
+use Rattle.log_model.specs.Stored.{IsOutside, StaysOutside}
 use Rattle.log_model.proofs.OutsideLemmas.{outside_then}
+use Rattle.exit_status.proofs.LogLemmas.{stays_rests}
 use Rattle.broker_serve.specs.Statuses.{ShutOut}
-use Rattle.broker_serve.proofs.Serving.{ends_unserved}
-use Rattle.broker_serve.proofs.Storing.{none_of, stores_before}
+use Rattle.broker_serve.proofs.Serving.{ends_unserved, ends_lent}
+use Rattle.broker_serve.proofs.Storing.{inside_rests}
 use Rattle.broker_serve.proofs.Telling.{why_unserved, why_then, no_reader, out_of_memory}
 use Rattle.serve_threads.specs.Causes.{world_faults}
 use Rattle.broker_serve.proofs.Causing.{causes_from, causes_unserved, reader_causes}
@@ -13,21 +14,24 @@ use Rattle.broker_serve.proofs.run.serve_loops.Goals as goal
 
 pub returns-in-Err-clause-ends : goal.returns-in-Err-clause-ends
 returns-in-Err-clause-ends g c =
-    ends_unserved _ _ _ _ _ _ _ c.unserved.ensures.core
-    (subst (λ k. Rests (g.E.Keep.state c.args.store.keep) (g.E.Keep.state k)) (sym (ap (λ s. s.keep) c.unserved.ensures.store)) (rests_start _))
+    ends_unserved _ _ _ _ c.unserved.ensures.core
+    (λ tells. subst (λ d. Rests (g.D.Disk.state c.args.store.disk) (g.D.Disk.state d)) (sym (ap (λ s. s.disk) c.unserved.ensures.store)) (c.readers_of.ensures.rests tells))
+    (λ told. subst (λ k. Rests (g.E.Keep.state c.args.store.keep) (g.E.Keep.state k)) (sym (ap (λ s. s.keep) c.unserved.ensures.store)) (rests_start _))
+
+pub returns-in-Ok-clause-ends : goal.returns-in-Ok-clause-ends
+returns-in-Ok-clause-ends g c =
+    ends_lent _ c.args.opened _ _ _ _ _ _ (record { rests = c.in-Ok.ensures.rests; faults = c.in-Ok.ensures.cause; syncs = c.in-Ok.ensures.syncs }) c.serve_open.ensures.ends
+
+pub serve_open-requires-clause-inside : goal.serve_open-requires-clause-inside
+serve_open-requires-clause-inside g c κs within = λ tells. inside_rests _ _ _ _ (c.in-Ok.ensures.rests tells) (c.requires.inside tells)
 
 pub returns-in-Err-clause-outside : goal.returns-in-Err-clause-outside
 returns-in-Err-clause-outside g c = λ tells.
-    subst (λ d. StaysOutside (g.D.Disk.state c.args.store.disk) (g.D.Disk.state d)) (sym (ap (λ s. s.disk) c.unserved.ensures.store)) (c.readers_of.ensures.outside tells)
+    subst (λ d. StaysOutside (g.D.Disk.state c.args.store.disk) (g.D.Disk.state d)) (sym (ap (λ s. s.disk) c.unserved.ensures.store))
+    (stays_rests IsOutside _ _ (c.readers_of.ensures.rests tells))
 
 pub returns-in-Ok-clause-outside : goal.returns-in-Ok-clause-outside
-returns-in-Ok-clause-outside g c = λ tells. outside_then (c.in-Ok.ensures.outside tells) (c.serve_open.ensures.outside tells)
-
-pub returns-in-Err-clause-stores : goal.returns-in-Err-clause-stores
-returns-in-Err-clause-stores g c = λ tells. none_of _ _ c.unserved.ensures.core
-
-pub returns-in-Ok-clause-stores : goal.returns-in-Ok-clause-stores
-returns-in-Ok-clause-stores g c = λ tells. stores_before _ _ _ _ _ c.serve_open.result.core (c.in-Ok.ensures.ready tells) (c.serve_open.ensures.stores tells)
+returns-in-Ok-clause-outside g c = λ tells. outside_then (stays_rests IsOutside _ _ (c.in-Ok.ensures.rests tells)) (c.serve_open.ensures.outside tells)
 
 pub returns-in-Err-clause-why : goal.returns-in-Err-clause-why
 returns-in-Err-clause-why g c =

@@ -1,14 +1,13 @@
 use Rattle.std.proofs.Common.{◌≡◌, ◌∙◌, sym, ap, subst}
 use Rattle.mq_outside.specs.Disk.{Rests}
 use Rattle.mq_outside.proofs.Moments.{rests_start}
-use Rattle.log_model.specs.Stored.{StaysOutside}
+use Rattle.log_model.specs.Stored.{IsOutside, StaysOutside}
 use Rattle.log_model.proofs.OutsideLemmas.{outside_then}
 use Rattle.worker_turns.specs.Acts.{change_of, place_of, view_of}
+use Rattle.exit_status.proofs.LogLemmas.{stays_rests}
 use Rattle.serve_threads.specs.Kept.{keep_over}
 use Rattle.serve_threads.specs.Served.{IsLeft, views_of}
-use Rattle.broker_serve.specs.Serves.{StoresOpened}
 use Rattle.broker_serve.proofs.Serving.{ends_unserved, ends_served}
-use Rattle.broker_serve.proofs.Storing.{none_of, some_of, stores_opened}
 use Rattle.broker_serve.proofs.Telling.{why_unserved, why_served}
 use Rattle.broker_serve.proofs.Causing.{causes_seven}
 use Rattle.broker_serve.proofs.run.serve_open.Goals as goal
@@ -16,37 +15,28 @@ use Rattle.broker_serve.proofs.run.serve_open.Goals as goal
 pub returns-in-Err-clause-ends : goal.returns-in-Err-clause-ends
 returns-in-Err-clause-ends g c =
     let same = ap (λ s. s.keep) c.unserved.ensures.store ∙ ap (λ d. d.keep) c.in-Err.ensures.err.0 in
-    ends_unserved _ _ _ _ _ _ _ c.unserved.ensures.core (subst (λ k. Rests (g.E.Keep.state c.args.devices.keep) (g.E.Keep.state k)) (sym same) (rests_start _))
+    ends_unserved _ _ _ _ c.unserved.ensures.core
+    (λ tells. subst (λ d. Rests (g.D.Disk.state c.args.devices.disk) (g.D.Disk.state d)) (sym (ap (λ s. s.disk) c.unserved.ensures.store))
+    (subst (λ d. Rests (g.D.Disk.state d) (g.D.Disk.state c.give_back.result)) (ap (λ d. d.disk) c.in-Err.ensures.err.0) (c.give_back.ensures.rests tells)))
+    (λ told. subst (λ k. Rests (g.E.Keep.state c.args.devices.keep) (g.E.Keep.state k)) (sym same) (rests_start _))
 
 pub returns-in-Err-clause-outside : goal.returns-in-Err-clause-outside
 returns-in-Err-clause-outside g c = λ tells.
     subst (λ d. StaysOutside (g.D.Disk.state c.args.devices.disk) (g.D.Disk.state d)) (sym (ap (λ s. s.disk) c.unserved.ensures.store))
-    (subst (λ d. StaysOutside (g.D.Disk.state d) (g.D.Disk.state c.give_back.result)) (ap (λ d. d.disk) c.in-Err.ensures.err.0) (c.give_back.ensures.outside tells))
+    (subst (λ d. StaysOutside (g.D.Disk.state d) (g.D.Disk.state c.give_back.result)) (ap (λ d. d.disk) c.in-Err.ensures.err.0)
+    (stays_rests IsOutside _ _ (c.give_back.ensures.rests tells)))
 
 pub returns-in-Ok-clause-ends : goal.returns-in-Ok-clause-ends
 returns-in-Ok-clause-ends g c =
     let served = c.in-Ok.served in
     let views = views_of g.P.Link.Link.tells g.D.Reader.Reader.gives (view_of g.D.Disk.tells g.D.Disk.state g.D.Disk.faults g.D.Disk.syncs) in
     let ended = place_of c.in-Ok.ensures.left.0 served.disk in
-    ends_served _ (record { core = c.args.core; flusher = c.args.devices.flusher }) _ _ _ _ _ _ served.end served.last _ c.args.devices.disk ended c.ended_of.ensures.core c.ended_of.ensures.tells
+    ends_served views (record { core = c.args.core; flusher = c.args.devices.flusher }) _ _ _ served.end served.last _ ended c.ended_of.ensures.core c.ended_of.ensures.tells c.ended_of.ensures.alike
     (subst (λ k. IsLeft views (change_of c.args.core (place_of c.args.devices.flusher.file c.args.devices.disk) served.core ended)
     (keep_over g.E.Keep.tells (g.E.Keep.state c.args.devices.keep) (g.E.Keep.state k)) served.kept) (sym c.ended_of.ensures.keep) c.in-Ok.ensures.left.1)
 
-pub returns-in-Ok-clause-stores : goal.returns-in-Ok-clause-stores
-returns-in-Ok-clause-stores g c = λ tells.
-    let views = views_of g.P.Link.Link.tells g.D.Reader.Reader.gives (view_of g.D.Disk.tells g.D.Disk.state g.D.Disk.faults g.D.Disk.syncs) in
-    let served = c.in-Ok.served in
-    let left = c.in-Ok.ensures.left in
-    some_of (λ core. StoresOpened c.args.core c.args.devices.flusher.file (g.D.Disk.state c.args.devices.disk) core (g.D.Disk.state c.ended_of.result.store.disk)) _ _
-    c.ended_of.ensures.core
-    (stores_opened views c.args.core c.args.devices.flusher.file c.args.devices.disk left.1.history served.core (place_of left.0 served.disk) _ left.1.made tells
-    (c.ended_of.ensures.stores tells))
-
 pub returns-in-Ok-clause-outside : goal.returns-in-Ok-clause-outside
-returns-in-Ok-clause-outside g c = λ tells. outside_then (c.in-Ok.ensures.outside tells) (c.ended_of.ensures.outside tells)
-
-pub returns-in-Err-clause-stores : goal.returns-in-Err-clause-stores
-returns-in-Err-clause-stores g c = λ tells. none_of _ _ c.unserved.ensures.core
+returns-in-Ok-clause-outside g c = λ tells. outside_then (c.in-Ok.ensures.outside tells) (stays_rests IsOutside _ _ (c.ended_of.ensures.alike.rests tells))
 
 pub returns-in-Err-clause-why : goal.returns-in-Err-clause-why
 returns-in-Err-clause-why g c =

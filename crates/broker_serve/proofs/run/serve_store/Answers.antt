@@ -1,9 +1,14 @@
-use Rattle.std.proofs.Common.{refl, sym, ap, subst}
+use Rattle.std.proofs.Common.{◌⊎◌, inl, refl, sym, ap, subst}
 use Rattle.mq_outside.specs.Disk.{Rests}
+use Rattle.mq_outside.proofs.Moments.{rests_start}
+use Rattle.log_model.specs.Bases.{whole}
 use Rattle.log_model.specs.Stored.{StaysOutside}
 use Rattle.log_model.proofs.OutsideLemmas.{outside_start}
 use Rattle.store_open.specs.Openings.{store_told}
+use Rattle.exit_status.specs.Stores.{Misread, store_over}
+use Rattle.exit_status.proofs.KeepLemmas.{misread}
 use Rattle.broker_serve.specs.Statuses.{IsDamagedIn, Unserved}
+use Rattle.broker_serve.specs.Unserved.{LeavesLog}
 use Rattle.broker_serve.proofs.Serving.{store_unserved, store_served}
 use Rattle.broker_serve.proofs.Telling.{why_unserved, why_then, not_loaded, not_opened}
 use Rattle.serve_threads.specs.Causes.{world_faults}
@@ -12,8 +17,13 @@ use Rattle.broker_serve.proofs.run.serve_store.Goals as goal
 
 pub returns-in-Err-clause-served : goal.returns-in-Err-clause-served
 returns-in-Err-clause-served g c =
-    store_unserved _ _ _ _ _ _ _ _ _ c.unserved.ensures.core
-    (λ told. subst (λ k. Rests (g.E.Keep.state c.args.store.keep) (g.E.Keep.state k)) (sym (ap (λ s. s.keep) c.unserved.ensures.store)) (c.load_config.ensures.rests told))
+    let before = c.args.store in
+    store_unserved _ _ _ _ c.unserved.ensures.core
+    (λ told. subst (λ k. Rests (g.E.Keep.state before.keep) (g.E.Keep.state k)) (sym (ap (λ s. s.keep) c.unserved.ensures.store)) (c.load_config.ensures.rests told))
+    (why_unserved (λ s store. Misread s (store_over g.D.Disk.tells (g.D.Disk.state before.disk) (g.D.Disk.state store.disk) g.E.Keep.tells (g.E.Keep.state before.keep) (g.E.Keep.state store.keep))
+    ⊎ LeavesLog (whole c.args.segment) g.D.Disk.tells s (g.D.Disk.state before.disk) (g.D.Disk.state store.disk)) _ _ _ _ _
+    c.unserved.ensures.core c.unserved.ensures.status c.unserved.ensures.store
+    (inl (misread c.status_of_config.result _ c.in-Err.fault c.status_of_config.ensures.tells c.in-Err.ensures.bad (λ tells. rests_start _))))
 
 pub returns-in-Err-clause-outside : goal.returns-in-Err-clause-outside
 returns-in-Err-clause-outside g c = λ tells.
