@@ -102,7 +102,7 @@ def _(folder):
 @check("arguments that don't fit are status 1 with a line that names the first of them, and nothing is made")
 def _(folder):
     rows = [
-        ((), "no command"), (("dump",), '"dump" is no command'), (("--help", "x"), '"--help" is no command'), (("pipe", "x"), '"x" is no option'),
+        ((), "no command"), (("dumps",), '"dumps" is no command'), (("--help", "x"), '"--help" is no command'), (("pipe", "x"), '"x" is no option'),
         (("pipe", "--links", "1"), '"--links" is no option'), (("pipe", "--listen", "127.0.0.1:1"), '"--listen" is no option'),
         (("pipe", "--flush"), '"--flush" has no value'), (("pipe", "--flush", "often"), '"often" is no value of --flush'),
         (("pipe", "--store", ""), '"" is no value of --store'), (("pipe", "--segment", "4096", "--segment", "4096"), '"--segment" is given twice'),

@@ -1,4 +1,4 @@
-//! Tests of the log: what it says, its tail, its files, its recovery and its flush turns.
+//! Tests of the log: what it says, its tail, its files, its recovery, its flush turns and the tools.
 #![tactic(auto)]
 
 #[cfg(test)]
@@ -13,5 +13,7 @@ mod replay_tests;
 mod segment_tests;
 #[cfg(test)]
 mod tail_tests;
+#[cfg(test)]
+mod tool_tests;
 #[cfg(test)]
 mod worked;

@@ -48,7 +48,7 @@ impl Visit for Count {
 }
 
 /// The same message twice: the second record stands at place 108 and has the queue offset 1.
-fn two_records() -> [u8; 216] {
+pub fn two_records() -> [u8; 216] {
     let mut bytes = [0; 216];
     bytes[..108].copy_from_slice(PLAIN);
     bytes[108..].copy_from_slice(PLAIN);
@@ -59,7 +59,7 @@ fn two_records() -> [u8; 216] {
 }
 
 /// A segment with these records and a blank of 3,880 bytes.
-fn ended_segment() -> [u8; 4096] {
+pub fn ended_segment() -> [u8; 4096] {
     let mut bytes = [0; 4096];
     bytes[..216].copy_from_slice(&two_records());
     bytes[216..224].copy_from_slice(b"\x00\x00\x0F\x28\xCB\xD4\x31\x94");
@@ -161,7 +161,7 @@ fn a_last_file_without_records_is_removed_whichever_call_fails(
 }
 
 /// The records but for the last 16 bytes of the second.
-fn torn(records: &[u8; 216]) -> &[u8] {
+pub fn torn(records: &[u8; 216]) -> &[u8] {
     &records[..200]
 }
 

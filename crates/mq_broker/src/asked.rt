@@ -1,6 +1,10 @@
 //! What the arguments ask for, found before anything is made.
 
-use store_open::{Verb, read_serve_words, read_words};
+use store_open::{Tool, Verb, read_serve_words, read_tool_words, read_words};
+use tool_run::asked_tool;
+
+/// The commands, in the order in which the help shows them.
+pub(crate) const COMMANDS: [Verb; 4] = [Verb::Serve, Verb::Pipe, Verb::Dump, Verb::Verify];
 
 /// A run: the command, the store's folder, and where `serve` listens (the address, and the port in four bytes, high byte first).
 #[derive(Clone, Copy)]
@@ -17,6 +21,8 @@ pub(crate) enum Asked<'a> {
     HelpOf(Verb),
     Version,
     Run(Target<'a>),
+    /// A tool over the store in this folder.
+    Use(Tool, &'a str),
     /// The argument at this place, counted from 0, is the first that doesn't fit.
     Unfit(u64),
 }
@@ -45,6 +51,14 @@ fn asked_of_serve<'a>(words: &[&'a str]) -> Asked<'a> {
     }
 }
 
+// The use of a tool that its arguments ask for.
+fn asked_of_tool<'a>(tool: Tool, words: &[&'a str]) -> Asked<'a> {
+    match read_tool_words(tool, words) {
+        Err(place) => Asked::Unfit(place),
+        Ok(command) => Asked::Use(tool, command.store),
+    }
+}
+
 // The help or the version, where the one argument asks for it.
 fn asked_alone<'a>(word: &str) -> Option<Asked<'a>> {
     if word == "--help" {
@@ -59,14 +73,14 @@ fn asked_alone<'a>(word: &str) -> Option<Asked<'a>> {
 // The help of a command, where the two arguments ask for it.
 fn asked_help<'a>(command: &str, word: &str) -> Option<Asked<'a>> {
     if word != "--help" {
-        None
-    } else if command == Verb::Pipe.word() {
-        Some(Asked::HelpOf(Verb::Pipe))
-    } else if command == Verb::Serve.word() {
-        Some(Asked::HelpOf(Verb::Serve))
-    } else {
-        None
+        return None;
     }
+    for verb in &COMMANDS {
+        if command == verb.word() {
+            return Some(Asked::HelpOf(*verb));
+        }
+    }
+    None
 }
 
 // The text that the arguments ask for, if it is one.
@@ -83,6 +97,9 @@ fn asked_text<'a>(words: &[&str]) -> Option<Asked<'a>> {
 pub(crate) fn asked_of<'a>(words: &[&'a str]) -> Asked<'a> {
     if let Some(asked) = asked_text(words) {
         return asked;
+    }
+    if let Some(tool) = asked_tool(words) {
+        return asked_of_tool(tool, words);
     }
     match words.first() {
         Some(word) if *word == Verb::Serve.word() => asked_of_serve(words),

@@ -1,30 +1,30 @@
-//! `mq_broker pipe` answers the requests of standard input on standard output; `mq_broker serve` accepts connections over TCP.
-//! The arguments are read before anything is made. Standard output has replies and the texts of `--help` and `--version`
-//! alone; standard error has one line for each run that ends with another status than 0, and two of each run of `serve`.
+//! `mq_broker pipe` answers the requests of standard input on standard output; `mq_broker serve` accepts connections over TCP;
+//! `mq_broker dump` and `mq_broker verify` tell what a store holds. The arguments are read before anything is made. Standard
+//! output has replies and the texts of the tools, of `--help` and of `--version` alone; standard error has one line for each
+//! run that ends with another status than 0, and two of each run of `serve`.
 #![tactic(auto)]
 
 mod asked;
 mod running;
 mod telling;
+mod tooling;
 
-use asked::{Asked, asked_of};
+use asked::{Asked, COMMANDS, asked_of};
 use exit_status::usage_line;
 use running::run_target;
 use std::alloc::{AllocError, Global};
 use std::process::ExitCode;
 use std::sync::Wait;
 use std::thread::Threads;
-use store_open::{Verb, help, help_of};
+use store_open::{help, help_of};
 use telling::{say, warn};
+use tooling::use_tool;
 
 /// The status of a usage error.
 const USAGE: u8 = 1;
 
 /// The status of a run that is out of memory.
 const NO_MEMORY: u8 = 7;
-
-/// The commands, in the order in which the help shows them.
-const COMMANDS: [Verb; 2] = [Verb::Serve, Verb::Pipe];
 
 /// The text of `--version`.
 const VERSION: &str = "mq_broker 0.1.0\n";
@@ -59,6 +59,7 @@ fn run_words<W: Wait + Threads + Sync>(
             Ok(USAGE)
         }
         Asked::Run(target) => run_target(threads, rt, alloc, words, &target),
+        Asked::Use(tool, store) => use_tool(rt, alloc, words, tool, store),
     }
 }
 

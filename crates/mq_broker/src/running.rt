@@ -22,8 +22,8 @@ const DAMAGED: u8 = 8;
 
 const DEVICE: u8 = 10;
 
-// The store's devices.
-type FolderStore = Store<FolderDisk<HostRuntime>, FolderKeep<HostRuntime>>;
+/// The store's devices.
+pub(crate) type FolderStore = Store<FolderDisk<HostRuntime>, FolderKeep<HostRuntime>>;
 
 // The readiness of both loops, the clocks, and the door.
 type TcpWorld = World<TcpReady<HostRuntime>, MachineClock<HostRuntime>>;
@@ -44,8 +44,12 @@ fn cause_in<'a>(store: &'a FolderStore, status: &Status) -> Option<&'a str> {
     }
 }
 
-// The devices of the store in this folder. Nothing is made yet.
-fn store_in(rt: HostRuntime, alloc: Global, folder: &str) -> Result<FolderStore, AllocError> {
+/// The devices of the store in this folder. Nothing is made yet.
+pub(crate) fn store_in(
+    rt: HostRuntime,
+    alloc: Global,
+    folder: &str,
+) -> Result<FolderStore, AllocError> {
     Ok(Store {
         disk: FolderDisk::new(rt, String::from_str(alloc, folder)?),
         keep: FolderKeep::new(rt, String::from_str(alloc, folder)?),
@@ -125,8 +129,8 @@ fn tell_lost_log(rt: HostRuntime, alloc: Global, store: &str) -> Result<u8, Allo
     Ok(DAMAGED)
 }
 
-// Prints how a run in this folder ended, whose devices these are, and answers the exit status.
-fn tell_run<'a>(
+/// Prints how a run in this folder ended, whose devices these are, and answers the exit status.
+pub(crate) fn tell_run<'a>(
     rt: HostRuntime,
     alloc: Global,
     verb: Verb,

@@ -1,0 +1,4 @@
+pub mod WriteLemmas
+pub mod ReportLemmas
+pub mod ReadingLemmas
+pub mod RunLemmas

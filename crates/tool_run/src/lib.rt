@@ -1,0 +1,17 @@
+//! Where is a message in a store, and is the store sound? The tools over a store that no broker has open. They change
+//! nothing of it.
+#![tactic(auto)]
+
+mod asked;
+mod dump;
+mod ends;
+mod lines;
+mod ran;
+mod reading;
+mod run;
+mod tally;
+mod texts;
+
+pub use asked::asked_tool;
+pub use ran::ToolRan;
+pub use run::run_tool;
