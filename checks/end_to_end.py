@@ -129,7 +129,7 @@ def _(folder):
 
 @check("other words are status 1")
 def _(folder):
-    for words in ((), ("pipe", "x"), ("pipe", "--segment"), ("pipe", "--segment", "4095"), ("pipe", "--segment", "04096"), ("dump",),
+    for words in ((), ("pipe", "x"), ("pipe", "--segment"), ("pipe", "--segment", "4095"), ("pipe", "--segment", "04096"), ("dumps",),
                   ("pipe", "--flush", "often"), ("pipe", "--host", "127.0.0.1"), ("pipe", "--segment", "4096", "--segment", "4096")):
         assert run(b"", folder, words) == (1, b""), words
 

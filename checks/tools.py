@@ -20,6 +20,17 @@ FIRST = "commitlog/" + "0" * 20
 TOOLS = ("dump", "verify")
 MOST_MEMORY = 32 << 20  # bytes that a tool may take, over a log of any size
 
+# Runs the arguments, and prints the status, the most memory and how many bytes were read. A process of its own, since the memory of
+# whoever starts a program counts as the program's.
+MEASURED = """
+import os, sys
+pid = os.spawnv(os.P_NOWAIT, sys.argv[1], sys.argv[1:])
+os.waitid(os.P_PID, pid, os.WEXITED | os.WNOWAIT)
+read = open(f"/proc/{pid}/io").readline().split()[1]
+_, status, used = os.wait4(pid, 0)
+print(status, used.ru_maxrss << 10, read, file=sys.stderr)
+"""
+
 
 def call(folder, *words, **more):
     """The status, and what was written on standard output and standard error."""
@@ -218,10 +229,7 @@ def _(folder):
     size = sum(len(data) for _, data in log_files(folder))
     for tool, text in (("dump", lines_of(found)), ("verify", f"records {count} end {end_of(found)}\n")):
         with open(folder + "/out", "wb") as out:
-            child = subprocess.Popen([PROGRAM, tool], cwd=folder, stdout=out)
-            os.waitid(os.P_PID, child.pid, os.WEXITED | os.WNOWAIT)
-            read = int(open(f"/proc/{child.pid}/io").readline().split()[1])
-            _, status, used = os.wait4(child.pid, 0)
-        child.returncode = os.waitstatus_to_exitcode(status)
+            done = subprocess.run([sys.executable, "-SEc", MEASURED, PROGRAM, tool], cwd=folder, stdout=out, stderr=subprocess.PIPE, check=True)
+        status, memory, read = map(int, done.stderr.split())
         assert status == 0 and open(folder + "/out").read() == text
-        assert used.ru_maxrss << 10 < MOST_MEMORY and read < 1.05 * size, (tool, used.ru_maxrss, read, size)
+        assert memory < MOST_MEMORY and read < 1.05 * size, (tool, memory, read, size)

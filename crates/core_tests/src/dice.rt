@@ -84,6 +84,9 @@ impl Dice {
             most: self.pick(&["-1", "0", "1", "2", "32", "40"]),
             commit: self.pick(&["0", "1", "3", "9", "30"]),
             time: self.pick(TIMES),
+            until: "9000",
+            key: "",
+            place: "0",
             size: self.roll(800),
         }
     }

@@ -3,11 +3,11 @@
 #![tactic(auto)]
 
 #[cfg(test)]
+mod ask_way_tests;
+#[cfg(test)]
 mod messages;
 #[cfg(test)]
 mod numbers;
-#[cfg(test)]
-mod outbox_tests;
 #[cfg(test)]
 mod places_tests;
 #[cfg(test)]

@@ -1,4 +1,0 @@
-pub mod Frames
-pub mod Rule
-pub mod Closing
-pub mod Passes
