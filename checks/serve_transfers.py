@@ -1,21 +1,21 @@
 #!/usr/bin/env python3
 """Transfers between two accounts over TCP in real time: checks/serve_transfers.py PROGRAM.
 
-Eight producers store transfers as half messages and decide them; ten times the broker is killed meanwhile. The first account pays
-when a producer decides to commit, the second gets what a consumer sees. What the broker wasn't told is asked by `pipe` over the same
-store, since `serve` doesn't ask yet. Each check prints its name; the first that fails ends it.
+Who is asked back, and when, is checked with one producer that doesn't decide at once. Then eight producers store transfers as half
+messages and decide them; ten times the broker is killed meanwhile. The first account pays when a producer decides to commit, the
+second gets what a consumer sees. What the broker wasn't told it asks. Each check prints its name; the first that fails ends it.
 """
 import logging
 import random
-import shlex
 import threading
 import time
 
-from killed_broker import Broker, until
+from killed_broker import WAIT, Broker, until
 from mq_client import Admin, BrokerUnavailable, Connection, Decision, SendUnknown, TransactionProducer
-from wire import PROGRAM, SYSTEM_TOPICS, check, records
+from wire import SYSTEM_TOPICS, check, records
 
 PRODUCERS, KILLS = 8, 10
+FIRST_CHECK = 6  # seconds after a half message was stored
 PAUSE = 0.45  # seconds between two kills
 ALL_ASKED = 90  # seconds in which each check-back has come, also where the first one was lost
 HALF_TOPIC, OP_TOPIC = SYSTEM_TOPICS[1:3]
@@ -95,13 +95,43 @@ def consumed(address):
     return found
 
 
-def settle_the_rest(folder, bank):
-    """Has `pipe` ask for what is open. It asks before each request."""
-    with Connection(f"pipe:{shlex.quote(PROGRAM)} pipe --store {shlex.quote(folder)}/store") as connection:
-        admin = Admin(connection)
-        with TransactionProducer(connection, "Bank", bank):
-            until(lambda: admin.queue_count("Transfers") is not None and not open_halves(folder),
-                  lambda: f"half messages that nothing settles: {open_halves(folder)}", ALL_ASKED)
+def settle_the_rest(broker, bank):
+    """Has the broker ask for what is open. Nothing else is sent meanwhile but the verdicts and heartbeats."""
+    with Connection(broker.address) as connection, TransactionProducer(connection, "Bank", bank):
+        until(lambda: not open_halves(broker.folder), lambda: f"half messages that nothing settles: {open_halves(broker.folder)}",
+              ALL_ASKED)
+
+
+def asked_once(producer):
+    """The one check-back that comes to a producer by itself."""
+    found = list(producer.checks(count=1, idle=WAIT))
+    assert len(found) == 1, "nobody is asked"
+    return found[0]
+
+
+@check("a producer that doesn't decide is asked by itself six seconds later, and where it has gone another one of its group")
+def _(folder):
+    with Broker(folder) as broker, Connection(broker.address) as near, Connection(broker.address) as far, Connection(broker.address) as apart:
+        first = TransactionProducer(near, "Bank")
+        time.sleep(1)  # by then a heartbeat has told who is there
+        with TransactionProducer(far, "Bank") as second, TransactionProducer(apart, "Till") as other:
+            time.sleep(1)
+            for number, producer in enumerate((first, other)):
+                producer.send_half("Transfers", b"%d 100" % number, queue=number)
+            stored = time.monotonic()
+            asked = [asked_once(producer) for producer in (first, other)]
+            assert time.monotonic() - stored > FIRST_CHECK - 0.5 and [one.message.body for one in asked] == [b"0 100", b"1 100"], asked
+            first.end_transaction(asked[0], Decision.COMMIT)
+            other.end_transaction(asked[1], Decision.ROLLBACK)
+            first.send_half("Transfers", b"2 100", queue=2)
+            first.close()
+            near.close()
+            late = asked_once(second)
+            assert late.message.body == b"2 100", late
+            second.end_transaction(late, Decision.COMMIT)
+            until(lambda: not open_halves(folder), "a half message is open")
+            assert consumed(broker.address) == [(0, 100), (2, 100)]
+            assert [list(one.checks(idle=0.5)) for one in (second, other)] == [[], []]
 
 
 class Story:
@@ -126,8 +156,8 @@ class Story:
                 raise self.faults[0]
             broker.kill()
             self.left_open = len(open_halves(folder))
-            settle_the_rest(folder, self.bank)
             broker.start()
+            settle_the_rest(broker, self.bank)
             self.seen = consumed(broker.address)
 
     def guarded(self, address, is_sending):

@@ -15,7 +15,8 @@ import tempfile
 import time
 
 from clocked import FIRST, Clock, Pipe, Serve, answers, greatest, is_clock_taken, pairs_of, pulled_all, said_of
-from wire import SYSTEM_TOPICS, check, frame, properties, pull, pulled, records, send
+from killed_broker import until
+from wire import SYSTEM_TOPICS, check, frame, frames_of, properties, pull, pulled, records, reply_of, send
 
 HALF_TOPIC, OP_TOPIC, GIVEN_UP_TOPIC = SYSTEM_TOPICS[1:]
 UNKNOWN, COMMIT, ROLLBACK = 0, 8, 12
@@ -361,6 +362,37 @@ def _(folder):
     assert states(folder) == ["committed", "rolled back", "open"] * 2
     assert sorted(r["body"] for r in pulled_all(folder, clock, ["T"])) == [b"0", b"3"]
     assert [len(origin.family) for origin in Following(records(folder)).origins] == [1, 1, 2] * 2
+
+
+def heard_by(serve, wanted):
+    """The frames that come over the link of `serve` until there are so many."""
+    while len(frames_of(serve.held)[0]) < wanted:
+        serve.held += serve.link.recv(1 << 16) or b"-" * 4
+    found, serve.held = [reply_of(data) for data in frames_of(serve.held)[0]], b""
+    return found
+
+
+@check("serve asks by itself fifteen times about a half message of which nobody decides, and gives it up then")
+def _(folder):
+    clock = Clock(folder)
+    with Serve(folder, clock) as serve:
+        serve.ask(beat(0, "P"))
+        serve.ask(half(1, b"hi", [("PGROUP", "P"), ("UNIQ_KEY", "u")]))
+        for count in range(1, MOST_CHECKS + 1):
+            clock.set(clock.now + (NEXT_CHECK if count > 1 else FIRST_CHECK))
+            serve.link.sendall(send(count + 1, b"x"))  # it wakes the flusher, which else sleeps by a clock of its own
+            told_of = heard_by(serve, 2)
+            reply, = [one for one in told_of if one["flag"] & 1]
+            asked, = [one for one in told_of if not one["flag"] & 1]
+            assert (reply["opaque"], reply["code"], asked["opaque"], asked["code"]) == (count + 1, 0, count - 1, 39), told_of
+            one, = pulled(asked["body"])
+            assert (one["body"], one["topic"], one["queue"], asked["extFields"]["msgId"]) == (b"hi", "T", 0, "u"), asked
+            assert dict(pairs_of(one["props"]))["TRANSACTION_CHECK_TIMES"] == str(count), one
+        clock.set(clock.now + NEXT_CHECK)
+        serve.ask(send(0, b"x"))
+        until(lambda: any(r["topic"] == GIVEN_UP_TOPIC for r in records(folder, whole=False)), "it isn't given up")
+        reply, = serve.ask(verdict(0, COMMIT, one["queue_offset"], one["place"], key="u"))
+        assert told(reply) == (1, "settled discarded"), reply
 
 
 class Bank:

@@ -1,4 +1,4 @@
--- Deliveries and looks, one behind another.
+-- Deliveries, checks and looks, one behind another.
 use Rattle.std.proofs.Common.{◌≡◌, ℕ, ◌+◌, ◌++◌, List, [], ◌∷◌, map, length, true, false, Option, Some, None, Ok, Err, inl, inr, ⊎_elim, refl, sym, subst, arith, append-nil}
 use Rattle.std.proofs.lemmas.List.{map-append, length-append}
 use Rattle.std.specs.declared.alloc.AllocError.{AllocError}
@@ -11,25 +11,25 @@ use Rattle.broker_events.proofs.Makes.{makes_snoc, makes_append}
 use Rattle.broker_core.specs.Owner.{plain_look}
 use Rattle.worker_turns.specs.Turns.{Steps}
 use Rattle.worker_turns.specs.Delays.{delivery, Delivers}
-use Rattle.serve_threads.specs.Deliveries.{most_at_once, FoundNone, EndsAt, DeliversSome, AreOfDeliveries, MakesDeliveries}
+use Rattle.serve_threads.specs.Deliveries.{most_at_once, FoundNone, EndsAt, DeliversSome, AreOfDuties, MakesDuties}
 
 abbrev Entries : Type 0
 Entries = List (Event × Option Said)
 
 -- ---- their kind
 
-delivered_are : (now : ℕ) (delivered : List (ℕ × ℕ)) → AreOfDeliveries (map (delivery now) delivered)
+delivered_are : (now : ℕ) (delivered : List (ℕ × ℕ)) → AreOfDuties (map (delivery now) delivered)
 delivered_are now [] = tt
 delivered_are now (what ∷ delivered) = (inl (now, refl), delivered_are now delivered)
 
-append_are : (first later : Entries) → AreOfDeliveries first → AreOfDeliveries later → AreOfDeliveries (first ++ later)
+pub append_are : (first later : Entries) → AreOfDuties first → AreOfDuties later → AreOfDuties (first ++ later)
 append_are [] later are more = more
 append_are (step ∷ first) later are more = (are.0, append_are first later are.1 more)
 
-last_are : (now count : ℕ) (last : Entries) → EndsAt now count last → AreOfDeliveries last
+last_are : (now count : ℕ) (last : Entries) → EndsAt now count last → AreOfDuties last
 last_are now count last ends =
-    ⊎_elim (λ one. subst (λ (l : Entries). AreOfDeliveries l) (sym one.2) (inl (now, refl), tt))
-    (λ none. subst (λ (l : Entries). AreOfDeliveries l) (sym none.1) tt) ends
+    ⊎_elim (λ one. subst (λ (l : Entries). AreOfDuties l) (sym one.2) (inl (now, refl), tt))
+    (λ none. subst (λ (l : Entries). AreOfDuties l) (sym none.1) tt) ends
 
 -- so many deliveries were made at this reading, and nothing else
 pub record HasMadeOnly {C : Type 0} (makes : Steps C) (now : ℕ) (x : C) (count : ℕ) (y : C) : Type 0 where
@@ -81,20 +81,20 @@ module _ {C : Type 0} (makes : Steps C) where
 
   -- ---- all of them
 
-  pub no_deliveries : (x : C) → MakesDeliveries makes x x
-  no_deliveries x = record { steps = []; are = tt; made = refl }
+  pub no_duties : (x : C) → MakesDuties makes x x
+  no_duties x = record { steps = []; are = tt; made = refl }
 
-  pub deliveries_then : (x y z : C) → MakesDeliveries makes x y → MakesDeliveries makes y z → MakesDeliveries makes x z
-  deliveries_then x y z first later = record {
+  pub duties_then : (x y z : C) → MakesDuties makes x y → MakesDuties makes y z → MakesDuties makes x z
+  duties_then x y z first later = record {
     steps = first.steps ++ later.steps;
     are = append_are first.steps later.steps first.are later.are;
     made = makes_append makes x first.steps y later.steps z first.made later.made;
   }
 
-  pub look_made : (what : Option Said) (x y : C) → makes x plain_look what y → MakesDeliveries makes x y
-  look_made what x y made = record { steps = (plain_look, what) ∷ []; are = (inr refl, tt); made = (y, made, refl) }
+  pub look_made : (what : Option Said) (x y : C) → makes x plain_look what y → MakesDuties makes x y
+  look_made what x y made = record { steps = (plain_look, what) ∷ []; are = (inr (inr (0, refl)), tt); made = (y, made, refl) }
 
-  pub some_made : (now count : ℕ) (x y : C) → DeliversSome makes now x count y → MakesDeliveries makes x y
+  pub some_made : (now count : ℕ) (x y : C) → DeliversSome makes now x count y → MakesDuties makes x y
   some_made now count x y it = record {
     steps = map (delivery now) it.delivered ++ it.last;
     are = append_are (map (delivery now) it.delivered) it.last (delivered_are now it.delivered) (last_are now count it.last it.ends);

@@ -16,7 +16,7 @@ use Rattle.story_lock.specs.Counts.{times}
 use Rattle.story_lock.specs.Owned.{HasAt, AscendsFrom}
 use Rattle.story_lock.proofs.Sums.{one_at, times_append}
 use Rattle.flush_story.specs.Story.{IsBetween, AreBetween}
-use Rattle.serve_threads.specs.Served.{AreAnswered, AreLooks, IsMerged}
+use Rattle.serve_threads.specs.Served.{AreAnswered, AreAnsweredFrom, AreLooks, IsMerged}
 
 -- the flusher's steps are some of these, in order; each other one flushes nothing
 abbrev pub Laid : Made → Made → Type 0
@@ -65,8 +65,8 @@ acts_between (one ∷ acts) each =
     (λ other. absurd (other.0 refl)) (made_one one.link one))
     (acts_between acts (λ link. between_back (made_for link (one ∷ [])) (made_for link acts) (split link)))
 
-loop_between : (tells : Type 0) (gives : Giving) (number : ℕ) (made : Made) → AreAnswered tells gives number made → AreBetween made
-loop_between tells gives number made is =
+loop_between : (tells : Type 0) (gives : Giving) (number : ℕ) (made : Made) (asks : List AskParts) → AreAnswered tells gives number made asks → AreBetween made
+loop_between tells gives number made asks is =
     subst (λ (m : Made). AreBetween m) (sym is.all)
     (acts_between is.acts (λ link. ⊎_elim (λ none. subst (λ (m : Made). AreBetween m) (sym none.0) tt) (λ some. tale_between tells gives link (made_for link is.acts) (asks_for link is.acts) some.1) (is.each link)))
 
@@ -161,9 +161,9 @@ some_of zero zero (suc c) d some P first second third = inr (second (omega arith
 some_of zero zero zero d some P first second third = inr (third (omega (arith, some)))
 
 -- in a history of the flusher, two loops and the keeper the flusher's steps stand so
-pub laid : (tells : Type 0) (gives : Giving) (history turns first second looks : Made) → IsMerged history turns first second looks
-    → AreAnswered tells gives 0 first × AreAnswered tells gives 1 second → AreLooks looks → Laid history turns
-laid tells gives history turns first second looks merged links keeper =
+pub laid : (tells : Type 0) (gives : Giving) (put : List AskParts × List AskParts) (history turns first second looks : Made) → IsMerged history turns first second looks
+    → AreAnsweredFrom tells gives 0 put.0 first × AreAnsweredFrom tells gives 1 put.1 second → AreLooks looks → Laid history turns
+laid tells gives put history turns first second looks merged links keeper =
     laid_from history [] turns merged.turns_at merged.ascend.0 merged.are.0
     (λ k e low at.
     let within = slice_get_within history k e at in
@@ -172,6 +172,6 @@ laid tells gives history turns first second looks merged links keeper =
     let three = times_append k (merged.turns_at ++ merged.first_at) merged.second_at in
     let two = times_append k merged.turns_at merged.first_at in
     some_of (times k merged.turns_at) (times k merged.first_at) (times k merged.second_at) (times k merged.looks_at) (omega (arith, some, all, three, two)) (IsBetween e.0)
-    (λ one. held_between history merged.first_at first merged.are.1 (loop_between tells gives 0 first links.0) k e at one)
-    (λ one. held_between history merged.second_at second merged.are.2 (loop_between tells gives 1 second links.1) k e at one)
+    (λ one. held_between history merged.first_at first merged.are.1 (loop_between tells gives 0 first links.0.0 links.0.2) k e at one)
+    (λ one. held_between history merged.second_at second merged.are.2 (loop_between tells gives 1 second links.1.0 links.1.2) k e at one)
     (λ one. held_between history merged.looks_at looks merged.are.3 (looks_between looks keeper) k e at one))

@@ -1,6 +1,5 @@
 -- Whose the entries of the history are: those of four passes that met again.
-use Rattle.std.proofs.Common.{◌≡◌, ◌⊎◌, ⊎_elim, inl, inr, ℕ, zero, suc, ◌<◌, ◌≤◌, List, [], ◌∷◌, ◌++◌, length, Option, Some, None, IfSome, refl, sym, ap, ◌∙◌, subst, arith, append-nil}
-use Rattle.std.specs.Prelude.{slice_get}
+use Rattle.std.proofs.Common.{◌≡◌, ⊎_elim, inl, inr, ℕ, zero, suc, ◌<◌, ◌≤◌, List, [], ◌∷◌, ◌++◌, length, Option, Some, IfSome, refl, sym, ap, ◌∙◌, subst, arith, append-nil}
 use Rattle.mq_outside.specs.Readings.{Giving}
 use Rattle.broker_events.specs.Makes.{Makes}
 use Rattle.broker_events.specs.declared.event.Event.{Event}
@@ -10,7 +9,9 @@ use Rattle.core_log.specs.declared.parts.Parts.{Parts}
 use Rattle.session.specs.Owing.{Steps}
 use Rattle.session.specs.Serving.{Made, Leads}
 use Rattle.reply_fields.specs.Parts.{AskParts}
-use Rattle.event_loops.specs.Tales.{Act, steps_of, made_for, asks_for, loop_of, IsTale, IsAnsweredInOrder, LinkView, loop_numbers, LeadsBy, GoesOn}
+use Rattle.ask_ways.specs.Ways.{taken_by}
+use Rattle.ask_ways.specs.declared.ends.Receiver.{Receiver}
+use Rattle.event_loops.specs.Tales.{steps_of, asks_of, made_for, asks_for, AreSome, loop_of, IsTale, IsAnsweredInOrder, LinkView, loop_numbers, LeadsWith, GoesOn}
 use Rattle.event_loops.specs.declared.links.Links.{Links}
 use Rattle.event_loops.proofs.Told.{told_none}
 use Rattle.story_lock.specs.declared.chronicle.Chronicle.{Ghosts}
@@ -29,7 +30,9 @@ use Rattle.segment_files.specs.declared.last_file.LastFile.{LastFile}
 use Rattle.worker_turns.specs.Acts as acts
 use Rattle.worker_turns.specs.Acts.{Acted, DiskView, Place, place_of, change_of}
 use Rattle.serve_threads.specs.Kept.{SeesAll}
-use Rattle.serve_threads.specs.Served.{AreFlushing, Write, AreAnswered, AreLooks, IsMerged, Meets, Cuts, AreCut, AreMet, ByThread, HasMade, IsMadeBy, Views, by_thread}
+use Rattle.serve_threads.specs.Asking.{HasTaken, IsFrontOf}
+use Rattle.serve_threads.specs.Served.{FlushesTo, Write, AreAnsweredFrom, Worked, AreLooks, IsMerged, Meets, Cuts, AreCut, AreMet, ByThread, HasMade, IsMadeBy, Views, by_thread}
+use Rattle.serve_threads.proofs.Asking.{got_more, front_some}
 use Rattle.serve_threads.proofs.Keeping.{SeesAt, starts_then}
 use Rattle.serve_threads.proofs.Keys.{cut_numbers}
 use Rattle.serve_threads.proofs.Turns.{acts_make, acts_write}
@@ -37,32 +40,45 @@ use Rattle.serve_threads.proofs.SharedStory.{leads_on}
 
 -- ---- what a loop made
 
--- what a loop did from its beginning on is what it made for each of its links
-pub answered : {L C : Type 0} (view : LinkView L) (gives : Giving) (makes : Steps C) (number : ℕ) (x y : C) (old new : Links L)
+-- what a loop did from its beginning on is what it made for each of its links, with some of the check-backs that it took
+pub answered : {L C : Type 0} (view : LinkView L) (gives : Giving) (makes : Steps C) (number : ℕ) (x y : C) (before after : Receiver AskParts) (old new : Links L)
     → ((link : ℕ) (made : Made) (asks : List AskParts) → IsTale view.tells gives link made asks → IsAnsweredInOrder view.tells gives link made asks)
-    → (old.loops ≡ 2) × (old.number ≡ number) × (old.slots.items ≡ []) → LeadsBy makes x y (λ acts. GoesOn view gives old acts new)
-    → Leads makes x y (AreAnswered view.tells gives number)
-answered {L} view gives makes number x y old new law begins went =
+    → (old.loops ≡ 2) × (old.number ≡ number) × (old.slots.items ≡ []) → taken_by before ≡ [] → (taken : List AskParts) → HasTaken before taken after
+    → LeadsWith makes x y taken (λ acts. GoesOn view gives old acts new) → Worked makes view.tells gives number x y before after
+answered {L} view gives makes number x y before after old new law begins none taken took went =
     let told = went.so.keeps [] (told_none view gives (loop_numbers old) old.slots.items begins.2) in
     let loops : new.loops ≡ 2 = went.so.same.0 ∙ begins.0 in
-    let is : new.number ≡ number = went.so.same.1 ∙ begins.1 in record {
-      made = steps_of went.acts;
-      leads = went.leads;
-      so = record {
-        acts = went.acts;
-        all = refl;
-        none_asked = went.wrote;
-        each = λ link. ⊎_elim (λ no. inl no)
-            (λ some. inr (subst (λ (n : ℕ). loop_of n link ≡ number) loops (some.0 ∙ is), law link (made_for link went.acts) (asks_for link went.acts) some.1)) (told.each link);
+    let is : new.number ≡ number = went.so.same.1 ∙ begins.1 in
+    let all : taken ≡ taken_by after = sym (took.all ∙ ap (λ (l : List AskParts). l ++ taken) none) in
+    record {
+      leads = record {
+        made = steps_of went.acts;
+        leads = went.leads;
+        so = (
+          asks_of went.acts,
+          subst (λ (l : List AskParts). AreSome (asks_of went.acts) l) all went.wrote,
+          record {
+            acts = went.acts;
+            all = refl;
+            asked = refl;
+            each = λ link. ⊎_elim (λ no. inl no)
+                (λ some. inr (subst (λ (n : ℕ). loop_of n link ≡ number) loops (some.0 ∙ is), law link (made_for link went.acts) (asks_for link went.acts) some.1)) (told.each link);
+          },
+        );
       };
+      same = took.same;
     }
 
--- ---- entries at places
+-- it took the first of what was put on its way
+pub took_first : {C : Type 0} (makes : Steps C) (tells : Type 0) (gives : Giving) (number : ℕ) (x y : C) (taken put : List AskParts) → IsFrontOf taken put
+    → Leads makes x y (AreAnsweredFrom tells gives number taken) → Leads makes x y (AreAnsweredFrom tells gives number put)
+took_first makes tells gives number x y taken put front went = record {
+  made = went.made;
+  leads = went.leads;
+  so = (went.so.0, front_some went.so.0 taken put went.so.1 front, went.so.2);
+}
 
-got_more : {X : Type 0} (xs ys : List X) (k : ℕ) (x : X) → slice_get xs k ≡ Some x → slice_get (xs ++ ys) k ≡ Some x
-got_more [] ys k x at = let none : None ≡ Some x = at in cc
-got_more (y ∷ xs) ys zero x at = at
-got_more (y ∷ xs) ys (suc k) x at = got_more xs ys k x at
+-- ---- entries at places
 
 has_more : {X : Type 0} (log more : List X) (ks : List ℕ) (xs : List X) → HasAt log ks xs → HasAt (log ++ more) ks xs
 has_more log more [] [] has = tt
@@ -119,21 +135,21 @@ module _ {chronicle : Ghosts Shared Event (Option Said)} where
       record { made = (plain_look, Some all.1.0.what) ∷ rest.made; leads = (all.0, all.1.0.step, rest.leads); so = (refl, rest.so) }
 
   -- these turns are the pass's own since
-  record GainsTurns {D : Type 0} (view : DiskView D) (old : Pass Shared Event (Option Said) chronicle) (p : Place D) (new : Pass Shared Event (Option Said) chronicle) (q : Place D) : Type 0 where
+  record GainsTurns {D : Type 0} (view : DiskView D) (P : List acts.Act → Type 0) (old : Pass Shared Event (Option Said) chronicle) (p : Place D) (new : Pass Shared Event (Option Said) chronicle) (q : Place D) : Type 0 where
     turns : List acts.Act
-    flushing : AreFlushing turns
+    so : P turns
     owns : Owns old (acts.steps_of turns) new
     write : Write view turns p q
 
-  gains_turns : {C D : Type 0} (pass_of : C → Option (Pass Shared Event (Option Said) chronicle)) (view : DiskView D) (x y : C) (p q : Place D) (old new : Pass Shared Event (Option Said) chronicle)
-      → pass_of x ≡ Some old → pass_of y ≡ Some new → Acted (StepsBy pass_of) view AreFlushing (change_of x p y q) → GainsTurns view old p new q
-  gains_turns pass_of view x y p q old new at there acted =
+  gains_turns : {C D : Type 0} (pass_of : C → Option (Pass Shared Event (Option Said) chronicle)) (view : DiskView D) (P : List acts.Act → Type 0) (x y : C) (p q : Place D) (old new : Pass Shared Event (Option Said) chronicle)
+      → pass_of x ≡ Some old → pass_of y ≡ Some new → Acted (StepsBy pass_of) view P (change_of x p y q) → GainsTurns view P old p new q
+  gains_turns pass_of view P x y p q old new at there acted =
       let made = acts_make (StepsBy pass_of) view acted.acts x y p q acted.happened in
       let all = owned pass_of (λ a es b. Makes (StepsBy pass_of) a es b) (λ a b s. s) (λ a s ss b m. m) x (acts.steps_of acted.acts) y old at made in
       let is : all.0 ≡ new = same_some all.0 new (pass_of y) all.1 there in
       record {
         turns = acted.acts;
-        flushing = acted.kind;
+        so = acted.kind;
         owns = subst (λ (r : Pass Shared Event (Option Said) chronicle). Owns old (acts.steps_of acted.acts) r) is all.2;
         write = acts_write (StepsBy pass_of) view acted.acts x y p q acted.happened;
       }
@@ -150,9 +166,9 @@ module _ {chronicle : Ghosts Shared Event (Option Said)} where
       (P : Made → Type 0) → pass_of x ≡ Some old → IsPassOf story old → Leads (StepsBy pass_of) x y P → IfSome (pass_of y) (λ p. IsPassOf story p)
   stays_leading pass_of story x y old P at of went = stays_made pass_of story x y old went.made at of went.leads
 
-  pub stays_acting : {C D : Type 0} (pass_of : C → Option (Pass Shared Event (Option Said) chronicle)) (view : DiskView D) (story : Story Shared Event (Option Said)) (x y : C) (p q : Place D)
-      (old : Pass Shared Event (Option Said) chronicle) → pass_of x ≡ Some old → IsPassOf story old → Acted (StepsBy pass_of) view AreFlushing (change_of x p y q) → IfSome (pass_of y) (λ p. IsPassOf story p)
-  stays_acting pass_of view story x y p q old at of acted =
+  pub stays_acting : {C D : Type 0} (pass_of : C → Option (Pass Shared Event (Option Said) chronicle)) (view : DiskView D) (P : List acts.Act → Type 0) (story : Story Shared Event (Option Said)) (x y : C) (p q : Place D)
+      (old : Pass Shared Event (Option Said) chronicle) → pass_of x ≡ Some old → IsPassOf story old → Acted (StepsBy pass_of) view P (change_of x p y q) → IfSome (pass_of y) (λ p. IsPassOf story p)
+  stays_acting pass_of view P story x y p q old at of acted =
       stays_made pass_of story x y old (acts.steps_of acted.acts) at of (acts_make (StepsBy pass_of) view acted.acts x y p q acted.happened)
 
   -- ---- four passes met
@@ -170,10 +186,10 @@ module _ {chronicle : Ghosts Shared Event (Option Said)} where
   met_last new are = (joined are.meets.late are.looks new are.meets.at_last).1
 
   module _ {D : Type 0} (views : Views D) where
-    met : (p : Place D) (file : LastFile) (disk : D) (whole k a b e kt at bt et new : Pass Shared Event (Option Said) chronicle) → mine_of whole ≡ [] → numbers_of whole ≡ 0 ∷ 1 ∷ 2 ∷ 3 ∷ []
-        → Cuts whole k a b e → GainsTurns views.disk k p kt (place_of file disk) → Gains a (AreAnswered views.links views.gives 0) at → Gains b (AreAnswered views.links views.gives 1) bt
+    met : (put : List AskParts × List AskParts) (p : Place D) (file : LastFile) (disk : D) (whole k a b e kt at bt et new : Pass Shared Event (Option Said) chronicle) → mine_of whole ≡ [] → numbers_of whole ≡ 0 ∷ 1 ∷ 2 ∷ 3 ∷ []
+        → Cuts whole k a b e → GainsTurns views.disk (FlushesTo put) k p kt (place_of file disk) → Gains a (AreAnsweredFrom views.links views.gives 0 put.0) at → Gains b (AreAnsweredFrom views.links views.gives 1 put.1) bt
         → Gains e AreLooks et → Meets kt at bt et new → HasMade views p new disk
-    met p file disk whole k a b e kt at bt et new none numbers cuts turns one two three meets =
+    met put p file disk whole k a b e kt at bt et new none numbers cuts turns one two three meets =
         let early = joined kt at meets.early meets.first in
         let mid = joined meets.early bt meets.late meets.then in
         let late = joined meets.late et new meets.at_last in
@@ -218,7 +234,8 @@ module _ {chronicle : Ghosts Shared Event (Option Said)} where
               ∙ ap (λ (l : List ℕ). ((turns.owns.places ++ l) ++ mine_of bt) ++ mine_of et) own_one
               ∙ ap (λ (l : List ℕ). ((turns.owns.places ++ one.owns.places) ++ l) ++ mine_of et) own_two
               ∙ ap (λ (l : List ℕ). ((turns.owns.places ++ one.owns.places) ++ two.owns.places) ++ l) own_three;
-          flusher = turns.flushing;
+          put = put;
+          flusher = turns.so;
           file = file;
           write = turns.write;
           links = (one.so, two.so);
@@ -227,16 +244,16 @@ module _ {chronicle : Ghosts Shared Event (Option Said)} where
         }
 
     -- four callers whose passes were cut from one and met again
-    pub made_of : {C : Type 0} (pass_of : C → Option (Pass Shared Event (Option Said) chronicle)) (p : Place D) (file : LastFile) (disk : D) (story : Story Shared Event (Option Said))
+    pub made_of : {C : Type 0} (pass_of : C → Option (Pass Shared Event (Option Said) chronicle)) (put : List AskParts × List AskParts) (p : Place D) (file : LastFile) (disk : D) (story : Story Shared Event (Option Said))
         (whole new : Pass Shared Event (Option Said) chronicle) (k a b e kt at bt et : C) → mine_of whole ≡ [] → numbers_of whole ≡ 0 ∷ 1 ∷ 2 ∷ 3 ∷ []
         → AreCut story whole (by_thread (pass_of k) (pass_of a) (pass_of b) (pass_of e)) → AreMet (by_thread (pass_of kt) (pass_of at) (pass_of bt) (pass_of et)) new
-        → Acted (StepsBy pass_of) views.disk AreFlushing (change_of k p kt (place_of file disk)) → Leads (StepsBy pass_of) a at (AreAnswered views.links views.gives 0)
-        → Leads (StepsBy pass_of) b bt (AreAnswered views.links views.gives 1) → Leads (StepsBy pass_of) e et AreLooks → HasMade views p new disk
-    made_of pass_of p file disk story whole new k a b e kt at bt et none numbers cut are acted first second looks =
-        met p file disk whole cut.turns cut.first cut.second cut.looks are.turns are.first are.second are.looks new none numbers cut.cuts
-        (gains_turns pass_of views.disk k kt p (place_of file disk) cut.turns are.turns cut.are.0 are.are.0 acted)
-        (gains pass_of (AreAnswered views.links views.gives 0) a at cut.first are.first cut.are.1 are.are.1 first)
-        (gains pass_of (AreAnswered views.links views.gives 1) b bt cut.second are.second cut.are.2 are.are.2 second)
+        → Acted (StepsBy pass_of) views.disk (FlushesTo put) (change_of k p kt (place_of file disk)) → Leads (StepsBy pass_of) a at (AreAnsweredFrom views.links views.gives 0 put.0)
+        → Leads (StepsBy pass_of) b bt (AreAnsweredFrom views.links views.gives 1 put.1) → Leads (StepsBy pass_of) e et AreLooks → HasMade views p new disk
+    made_of pass_of put p file disk story whole new k a b e kt at bt et none numbers cut are acted first second looks =
+        met put p file disk whole cut.turns cut.first cut.second cut.looks are.turns are.first are.second are.looks new none numbers cut.cuts
+        (gains_turns pass_of views.disk (FlushesTo put) k kt p (place_of file disk) cut.turns are.turns cut.are.0 are.are.0 acted)
+        (gains pass_of (AreAnsweredFrom views.links views.gives 0 put.0) a at cut.first are.first cut.are.1 are.are.1 first)
+        (gains pass_of (AreAnsweredFrom views.links views.gives 1 put.1) b bt cut.second are.second cut.are.2 are.are.2 second)
         (gains pass_of AreLooks e et cut.looks are.looks cut.are.3 are.are.3 looks) are.meets
 
     merged_of : {p : Place D} {disk : D} (pass : Pass Shared Event (Option Said) chronicle) (history : Made) (made : HasMade views p pass disk) → seen_by pass ≡ history → IsDistinct (mine_of pass)
@@ -267,11 +284,12 @@ module _ {chronicle : Ghosts Shared Event (Option Said)} where
           first = made.first;
           second = made.second;
           looks = made.looks;
+          put = made.put;
           merged = merged;
           flusher = made.flusher;
           links = made.links;
           keeper = made.keeper;
           write = made.write;
-          leads = leads_on views.disk views.links views.gives (change_of (start_of story).core old core (place_of made.file disk)) history made.turns made.first made.second made.looks
+          leads = leads_on views.disk views.links views.gives made.put (change_of (start_of story).core old core (place_of made.file disk)) history made.turns made.first made.second made.looks
               stands merged made.links made.keeper made.write;
         }

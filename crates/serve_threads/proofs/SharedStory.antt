@@ -1,5 +1,5 @@
 -- The history of a shared broker is a story of the model and the disk.
-use Rattle.std.proofs.Common.{◌≡◌, ◌⊎◌, ⊎_elim, ℕ, zero, suc, ◌<◌, ◌≤◌, List, [], ◌∷◌, ◌++◌, length, Option, Some, Ok, Err, refl, sym, ap, ◌∙◌, subst, arith, append_assoc}
+use Rattle.std.proofs.Common.{◌≡◌, ⊎_elim, ℕ, zero, suc, ◌<◌, ◌≤◌, List, [], ◌∷◌, ◌++◌, length, Option, Some, Ok, Err, refl, sym, ap, ◌∙◌, subst, arith, append_assoc}
 use Rattle.mq_outside.specs.Readings.{Giving}
 use Rattle.log_model.specs.Stored.{Stored}
 use Rattle.log_model.specs.declared.batch.Batch.{Batch}
@@ -21,7 +21,8 @@ use Rattle.flush_story.specs.Story as stories
 use Rattle.flush_story.specs.Story.{StepsAs, Happening, Stepped, Ended, Broke, Story, Reaches, IsBetween, AreBetween, span_of}
 use Rattle.flush_story.proofs.Keeps.{keeps_start, keeps_story}
 use Rattle.spine.specs.Stands.{StepsAlong, Along, Stands}
-use Rattle.serve_threads.specs.Served.{AreAnswered, AreLooks, IsMerged, of_anybody, Write, LeadsOn}
+use Rattle.reply_fields.specs.Parts.{AskParts}
+use Rattle.serve_threads.specs.Served.{AreAnsweredFrom, AreLooks, IsMerged, of_anybody, Write, LeadsOn}
 use Rattle.serve_threads.proofs.Laid.{Laid, laid}
 
 -- ---- one step
@@ -234,14 +235,14 @@ module _ {D : Type 0} (view : DiskView D) where
       (λ own. told_own fuel e H own.0 turns s t p q (told_all fuel t q) less own.1 own.2 along write) is
 
   -- the history of the flusher, two loops and the keeper leads on, and every crash leaves what the turns flushed
-  pub leads_on : (tells : Type 0) (gives : Giving) (change : Change Parts (Place D)) (history : Made) (turns : List Act) (first second looks : Made)
-      → Stands change.calls history change.calls_then → IsMerged history (steps_of turns) first second looks → AreAnswered tells gives 0 first × AreAnswered tells gives 1 second → AreLooks looks
+  pub leads_on : (tells : Type 0) (gives : Giving) (put : List AskParts × List AskParts) (change : Change Parts (Place D)) (history : Made) (turns : List Act) (first second looks : Made)
+      → Stands change.calls history change.calls_then → IsMerged history (steps_of turns) first second looks → AreAnsweredFrom tells gives 0 put.0 first × AreAnsweredFrom tells gives 1 put.1 second → AreLooks looks
       → Write view turns change.place change.place_then → (s : State) → Represents change.calls s → LeadsOn view history change s
-  leads_on tells gives change history turns first second looks stands merged links keeper write s are =
+  leads_on tells gives put change history turns first second looks stands merged links keeper write s are =
       let old = change.place in
       let new = change.place_then in
       let run = stands.runs s are in
-      let told = told_all (length history) run.0 new history turns s old (omega arith) (laid tells gives history (steps_of turns) first second looks merged links keeper) run.1 write in
+      let told = told_all (length history) run.0 new history turns s old (omega arith) (laid tells gives put history (steps_of turns) first second looks merged links keeper) run.1 write in
       let low : s.log.base.records ≤ s.flushed = omega (arith, are.state.base, are.state.dispatched) in
       record {
         reached = run.0;

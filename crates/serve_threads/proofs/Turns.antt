@@ -1,6 +1,5 @@
 -- The flusher's turns, one after another.
-use Rattle.std.proofs.Common.{◌≡◌, ◌≢◌, ⊎_elim, ℕ, List, [], ◌∷◌, ◌++◌, Option, Some, None, inl, inr, refl, sym, ap, ◌∙◌, subst, append_assoc}
-use Rattle.log_model.specs.declared.batch.Batch.{Batch}
+use Rattle.std.proofs.Common.{◌≡◌, ◌≢◌, ℕ, List, [], ◌∷◌, ◌++◌, Option, Some, None, inl, inr, refl, sym, ap, ◌∙◌, subst, append_assoc}
 use Rattle.log_model.specs.declared.batch.Receipt.{Receipt}
 use Rattle.broker_events.specs.Makes.{Makes}
 use Rattle.broker_events.proofs.Makes.{makes_append}
@@ -17,8 +16,11 @@ use Rattle.worker_turns.specs.Acts.{Act, DiskView, Place, IsBetween, TakesBatch,
 use Rattle.worker_turns.specs.Turning.{IsTurn, IsDispatch, most_seen}
 use Rattle.worker_turns.specs.Due.{acts_of_steps}
 use Rattle.worker_turns.proofs.ActLemmas.{IsOther, still, acted_then, acted_as, acted_none, one_step, takes_none, turn_acted}
-use Rattle.serve_threads.specs.Deliveries.{IsOfDeliveries, AreOfDeliveries, MakesDeliveries}
-use Rattle.serve_threads.specs.Served.{IsOfFlusher, AreOfFlusher, AreFlushing, of_anybody, Write}
+use Rattle.serve_threads.specs.Deliveries.{IsOfDuties, AreOfDuties}
+use Rattle.serve_threads.specs.Asking.{Asking, Asks, HasNoneAsked, MakesAsking, asking_of, put_of}
+use Rattle.serve_threads.specs.declared.asks.AskWays.{AskWays}
+use Rattle.serve_threads.specs.Served.{IsOfFlusher, AreOfFlusher, AreFlushing, FlushesBetween, FlushesTo, of_anybody, Write}
+use Rattle.serve_threads.proofs.Asking.{asks_still, asks_then, hands_out}
 
 -- ---- events of the flusher
 
@@ -34,8 +36,8 @@ fails count = inr (inr (inl (count, refl)))
 shows : (most : ℕ) → IsOfFlusher (events.Dispatch most)
 shows most = inr (inr (inr (inl (most, refl))))
 
-delivers : (event : Event) → IsOfDeliveries event → IsOfFlusher event
-delivers event is = inr (inr (inr (inr is)))
+attends : (event : Event) → IsOfDuties event → IsOfFlusher event
+attends event is = inr (inr (inr (inr is)))
 
 flusher_append : (xs ys : Made) → AreOfFlusher xs → AreOfFlusher ys → AreOfFlusher (xs ++ ys)
 flusher_append [] ys are more = more
@@ -48,16 +50,24 @@ steps_append (x ∷ xs) ys = ap (λ (l : Made). steps_in x ++ l) (steps_append x
 flushing_append : (xs ys : List Act) → AreFlushing xs → AreFlushing ys → AreFlushing (xs ++ ys)
 flushing_append xs ys are more = subst AreOfFlusher (sym (steps_append xs ys)) (flusher_append (steps_of xs) (steps_of ys) are more)
 
-deliveries_flushing : (steps : Made) → AreOfDeliveries steps → AreFlushing (acts_of_steps steps)
-deliveries_flushing [] are = tt
-deliveries_flushing (step ∷ steps) are = (delivers step.0 are.0, deliveries_flushing steps are.1)
+duties_flushing : (steps : Made) → AreOfDuties steps → AreFlushing (acts_of_steps steps)
+duties_flushing [] are = tt
+duties_flushing (step ∷ steps) are = (attends step.0 are.0, duties_flushing steps are.1)
 
--- a delivery and a look have to do with no batch
-delivers_between : (event : Event) → IsOfDeliveries event → IsBetween event
-delivers_between event is = ⊎_elim (λ it. subst (λ (e : Event). IsBetween e) (sym it.1) tt) (λ it. subst (λ (e : Event). IsBetween e) (sym it) tt) is
+duties_steps : (steps : Made) → steps_of (acts_of_steps steps) ≡ steps
+duties_steps [] = refl
+duties_steps (step ∷ steps) = ap (λ (l : Made). step ∷ l) (duties_steps steps)
 
-delivers_other : (event : Event) → IsOfDeliveries event → IsOther event
-delivers_other event is = ⊎_elim (λ it. subst (λ (e : Event). IsOther e) (sym it.1) tt) (λ it. subst (λ (e : Event). IsOther e) (sym it) tt) is
+-- a delivery, a check and a look have to do with no batch
+duties_between : (event : Event) → IsOfDuties event → IsBetween event
+duties_between event (inl it) = subst (λ (e : Event). IsBetween e) (sym it.1) tt
+duties_between event (inr (inl it)) = subst (λ (e : Event). IsBetween e) (sym it.1) tt
+duties_between event (inr (inr it)) = subst (λ (e : Event). IsBetween e) (sym it.1) tt
+
+duties_other : (event : Event) → IsOfDuties event → IsOther event
+duties_other event (inl it) = subst (λ (e : Event). IsOther e) (sym it.1) tt
+duties_other event (inr (inl it)) = subst (λ (e : Event). IsOther e) (sym it.1) tt
+duties_other event (inr (inr it)) = subst (λ (e : Event). IsOther e) (sym it.1) tt
 
 -- ---- turns
 
@@ -114,27 +124,51 @@ module _ {C D : Type 0} (makes : Steps C) (view : DiskView D) where
         (takes_none (events.Dispatch most_seen) (Some (said.Moved made.0)) tt) made.1 refl;
   }
 
-  -- deliveries and looks, by which the disk stays as it is
-  deliveries_acts : (p : Place D) (steps : Made) (x y : C) → AreOfDeliveries steps → Makes makes x steps y → Acts makes view (acts_of_steps steps) (change_of x p y p)
-  deliveries_acts p [] x y are made = subst (λ (w : C). Acts makes view [] (change_of x p w p)) made (still makes view x p)
-  deliveries_acts p (step ∷ steps) x y are made = (
+  -- deliveries, checks and looks, by which the disk stays as it is
+  duties_acts : (p : Place D) (steps : Made) (x y : C) → AreOfDuties steps → Makes makes x steps y → Acts makes view (acts_of_steps steps) (change_of x p y p)
+  duties_acts p [] x y are made = subst (λ (w : C). Acts makes view [] (change_of x p w p)) made (still makes view x p)
+  duties_acts p (step ∷ steps) x y are made = (
     made.0,
     p,
     record {
       made = made.1;
-      between = delivers_between step.0 are.0;
-      apart = λ takes from. takes_none step.0 step.1 (delivers_other step.0 are.0) takes;
+      between = duties_between step.0 are.0;
+      apart = λ takes from. takes_none step.0 step.1 (duties_other step.0 are.0) takes;
       still = refl;
     },
-    deliveries_acts p steps made.0 y are.1 made.2,
+    duties_acts p steps made.0 y are.1 made.2,
   )
 
-  pub deliveries_turns : (x y : C) (p : Place D) → MakesDeliveries makes x y → Acted makes view AreFlushing (change_of x p y p)
-  deliveries_turns x y p it = record {
+  pub duties_turns : (x y : C) (p : Place D) (old new : AskWays) → MakesAsking makes x old y new → Acted makes view (FlushesBetween (asking_of old) (asking_of new)) (change_of x p y p)
+  duties_turns x y p old new it = record {
     acts = acts_of_steps it.steps;
-    kind = deliveries_flushing it.steps it.are;
-    happened = deliveries_acts p it.steps x y it.are it.made;
+    kind = (duties_flushing it.steps it.are, subst (λ (l : Made). Asks l (asking_of old) (asking_of new)) (sym (duties_steps it.steps)) it.asks);
+    happened = duties_acts p it.steps x y it.are it.made;
   }
+
+  -- ---- turns by which the flusher goes on asking
+
+  pub no_flushes : (x : C) (p : Place D) (it : Asking) → Acted makes view (FlushesBetween it it) (change_of x p x p)
+  no_flushes x p it = acted_none makes view (FlushesBetween it it) x p (tt, asks_still [] it)
+
+  -- flush turns and dispatches ask nobody
+  pub flushes_still : (x y : C) (p q : Place D) (it : Asking) → Acted makes view AreFlushing (change_of x p y q) → Acted makes view (FlushesBetween it it) (change_of x p y q)
+  flushes_still x y p q it acted = acted_as makes view AreFlushing (FlushesBetween it it) x y p q (λ turns are. (are, asks_still (steps_of turns) it)) acted
+
+  pub flushes_then : (x y z : C) (p q r : Place D) (old mid new : Asking) → Acted makes view (FlushesBetween old mid) (change_of x p y q)
+      → Acted makes view (FlushesBetween mid new) (change_of y q z r) → Acted makes view (FlushesBetween old new) (change_of x p z r)
+  flushes_then x y z p q r old mid new first later =
+      acted_then makes view (FlushesBetween old mid) (FlushesBetween mid new) (FlushesBetween old new) x y z p q r first later
+      (λ xs ys one other. (
+        flushing_append xs ys one.0 other.0,
+        subst (λ (l : Made). Asks l old new) (sym (steps_append xs ys)) (asks_then (steps_of xs) (steps_of ys) old mid new one.1 other.1),
+      ))
+
+  -- all of them
+  pub flushes_to : (x y : C) (p q : Place D) (old new : AskWays) → HasNoneAsked old → Acted makes view (FlushesBetween (asking_of old) (asking_of new)) (change_of x p y q)
+      → Acted makes view (FlushesTo (put_of new)) (change_of x p y q)
+  flushes_to x y p q old new none acted =
+      acted_as makes view (FlushesBetween (asking_of old) (asking_of new)) (FlushesTo (put_of new)) x y p q (λ turns are. (are.0, hands_out (steps_of turns) old new none are.1)) acted
 
   -- ---- acts, by their steps and by what they did to the disk
 

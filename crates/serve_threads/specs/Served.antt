@@ -14,8 +14,12 @@ use Rattle.core_log.specs.declared.parts.Parts.{Parts}
 use Rattle.flush_story.specs.Story as stories
 use Rattle.flush_story.specs.Story.{Happening, Story, span_of}
 use Rattle.flush_story.specs.Keeping.{IsOpenFor, Keeps}
-use Rattle.session.specs.Serving.{Made}
-use Rattle.event_loops.specs.Tales.{Act, steps_of, asks_of, made_for, asks_for, DidNothing, loop_of, IsAnsweredInOrder}
+use Rattle.reply_fields.specs.Parts.{AskParts}
+use Rattle.ask_ways.specs.Ways.{taken_by, ArePair}
+use Rattle.ask_ways.specs.declared.ends.Sender.{Sender}
+use Rattle.ask_ways.specs.declared.ends.Receiver.{Receiver}
+use Rattle.session.specs.Serving.{Made, Leads}
+use Rattle.event_loops.specs.Tales.{Act, steps_of, asks_of, made_for, asks_for, AreSome, DidNothing, loop_of, IsAnsweredInOrder}
 use Rattle.event_loops.specs.declared.event_loop.EventLoop.{EventLoop}
 use Rattle.spine.specs.declared.shared.Shared.{Shared}
 use Rattle.worker_turns.specs.Turns.{Steps}
@@ -31,7 +35,8 @@ use Rattle.spine.specs.Passes.{Splits, Joins}
 use Rattle.spine.specs.Stands.{Stands}
 use Rattle.keeper_turns.specs.Puts.{KeepsBy}
 use Rattle.keeper_turns.specs.Turns.{IsOffsetsOf, IsTopicsOf}
-use Rattle.serve_threads.specs.Deliveries.{IsOfDeliveries}
+use Rattle.serve_threads.specs.Asking.{HandsOut, Asking, Asks}
+use Rattle.serve_threads.specs.Deliveries.{IsOfDuties}
 use Rattle.serve_threads.specs.Kept.{KeepOver, PutsAlong}
 
 -- how a run sees its links, what its readers give, and its disk
@@ -49,6 +54,12 @@ views_of links gives disk = record { links = links; gives = gives; disk = disk }
 abbrev pub IsLoop : {Ready Link Door Waker : Type 0} → ℕ → EventLoop Ready Link Door Waker → Type 0
 IsLoop number it = (it.links.loops ≡ 2) × (it.links.number ≡ number) × (it.links.slots.items ≡ [])
 
+-- the same, and at this end of a way it has taken nothing yet
+pub record Begins {Ready Link Door Waker : Type 0} (number : ℕ) (it : EventLoop Ready Link Door Waker) (way : Receiver AskParts)
+    : Type 0 where
+  pub loop : IsLoop number it
+  pub none : taken_by way ≡ []
+
 -- both of them
 abbrev pub AreLoops : {Ready Link Door Waker : Type 0} → EventLoop Ready Link Door Waker → EventLoop Ready Link Door Waker → Type 0
 AreLoops first second = IsLoop 0 first × IsLoop 1 second
@@ -56,10 +67,10 @@ AreLoops first second = IsLoop 0 first × IsLoop 1 second
 -- ---- the flusher
 
 -- the event is one of the flusher's: it takes a batch, tells how a flush turn ended, lets consumers see what is flushed, delivers a
--- delayed message, or looks when the next one is due
+-- delayed message, checks a half message, or looks
 abbrev pub IsOfFlusher : Event → Type 0
 IsOfFlusher event = (event ≡ Take) ⊎ ((receipt : Receipt) × (event ≡ Flushed receipt)) ⊎ ((count : ℕ) × (event ≡ FlushFailed count))
-    ⊎ ((most : ℕ) × (event ≡ Dispatch most)) ⊎ IsOfDeliveries event
+    ⊎ ((most : ℕ) × (event ≡ Dispatch most)) ⊎ IsOfDuties event
 
 -- all of these are the flusher's
 abbrev pub AreOfFlusher : Made → Type 0
@@ -69,6 +80,14 @@ AreOfFlusher (step ∷ steps) = IsOfFlusher step.0 × AreOfFlusher steps
 -- acts of the flusher
 abbrev pub AreFlushing : List acts.Act → Type 0
 AreFlushing turns = AreOfFlusher (acts.steps_of turns)
+
+-- the same, by which the flusher went on asking from the one to the other
+abbrev pub FlushesBetween : Asking → Asking → List acts.Act → Type 0
+FlushesBetween old new turns = AreFlushing turns × Asks (acts.steps_of turns) old new
+
+-- the same, by which check-backs were handed out, of which these were put on the ways to both loops
+abbrev pub FlushesTo : List AskParts × List AskParts → List acts.Act → Type 0
+FlushesTo put turns = AreFlushing turns × HandsOut (acts.steps_of turns) put
 
 -- steps of anybody
 abbrev pub of_anybody : Steps (Unit {0})
@@ -81,13 +100,23 @@ Write view turns old new = Acts of_anybody view turns (change_of tt old tt new)
 -- ---- the links
 
 -- What one of the two loops made: for each of its links its passes, in which each reply is its request's, and behind them at most its
--- `Leave`, and nothing else. No check-back was written.
-pub record AreAnswered (tells : Type 0) (gives : Giving) (number : ℕ) (steps : Made) : Type 0 where
+-- `Leave`, and nothing else. These check-backs were written meanwhile.
+pub record AreAnswered (tells : Type 0) (gives : Giving) (number : ℕ) (steps : Made) (asks : List AskParts) : Type 0 where
   pub acts : List Act
   pub all : steps ≡ steps_of acts
-  pub none_asked : asks_of acts ≡ []
+  pub asked : asks ≡ asks_of acts
   pub each : (link : ℕ) → DidNothing link acts
       ⊎ ((loop_of 2 link ≡ number) × IsAnsweredInOrder tells gives link (made_for link acts) (asks_for link acts))
+
+-- The same, and what was written are some of these check-backs, in their order and each at most once.
+abbrev pub AreAnsweredFrom : Type 0 → Giving → ℕ → List AskParts → Made → Type 0
+AreAnsweredFrom tells gives number put steps = (asks : List AskParts) × AreSome asks put × AreAnswered tells gives number steps asks
+
+-- what one of two loops did, which took check-backs at this end of a way: nothing else was made, and it is the end of the same way
+pub record Worked {C : Type 0} (makes : Steps C) (tells : Type 0) (gives : Giving) (number : ℕ) (x y : C) (old new : Receiver AskParts)
+    : Type 0 where
+  pub leads : Leads makes x y (AreAnsweredFrom tells gives number (taken_by new))
+  pub same : (sender : Sender AskParts) → ArePair sender old → ArePair sender new
 
 -- ---- the keeper
 
@@ -175,10 +204,11 @@ module _ {chronicle : Ghosts Shared Event (Option Said)} where
         × HasAt (seen_by pass) second_at second × HasAt (seen_by pass) looks_at looks
     pub ascend : AscendsFrom 0 turns_at × AscendsFrom 0 first_at × AscendsFrom 0 second_at × AscendsFrom 0 looks_at
     pub mine : mine_of pass ≡ ((turns_at ++ first_at) ++ second_at) ++ looks_at
-    pub flusher : AreFlushing turns
+    pub put : List AskParts × List AskParts
+    pub flusher : FlushesTo put turns
     pub file : LastFile
     pub write : Write views.disk turns old (place_of file disk)
-    pub links : AreAnswered views.links views.gives 0 first × AreAnswered views.links views.gives 1 second
+    pub links : AreAnsweredFrom views.links views.gives 0 put.0 first × AreAnsweredFrom views.links views.gives 1 put.1 second
     pub keeper : AreLooks looks
     pub seats : (k : ℕ) → k < 4 → 0 < times k (numbers_of pass)
 
@@ -196,16 +226,18 @@ pub record LeadsOn {D : Type 0} (view : DiskView D) (history : Made) (change : C
   pub keeps : view.tells → IsOpenFor s (growing_at view change.place)
       → Keeps s reached (stories.turns_of story) (view.state change.place.disk) (growing_at view change.place_then)
 
--- Of this history, which leads from the first core to the second: the entries are the flusher's turns, which wrote what was pending,
--- what the loops made for each link, and the looks of the keeper.
+-- Of this history, which leads from the first core to the second: the entries are the flusher's, whose turns wrote what was pending,
+-- what the loops made for each link, and the looks of the keeper. Each check-back that a loop wrote is one that the flusher handed out
+-- for its loop, and was written to the link that it names.
 pub record IsMadeBy {D : Type 0} (views : Views D) (history : Made) (change : Change Parts (Place D)) : Type 0 where
   pub turns : List acts.Act
   pub first : Made
   pub second : Made
   pub looks : Made
+  pub put : List AskParts × List AskParts
   pub merged : IsMerged history (acts.steps_of turns) first second looks
-  pub flusher : AreFlushing turns
-  pub links : AreAnswered views.links views.gives 0 first × AreAnswered views.links views.gives 1 second
+  pub flusher : FlushesTo put turns
+  pub links : AreAnsweredFrom views.links views.gives 0 put.0 first × AreAnsweredFrom views.links views.gives 1 put.1 second
   pub keeper : AreLooks looks
   pub write : Write views.disk turns change.place change.place_then
   pub leads : (s : State) → Represents change.calls s → LeadsOn views.disk history change s

@@ -1,13 +1,16 @@
-//! The flusher: one write and one sync for all that is pending, as often as something is. Between, it delivers delayed messages.
+//! The flusher: one write and one sync for all that is pending, as often as something is. Between, it delivers delayed messages,
+//! checks half messages, and sends check-backs to the loops.
 
 ghost use Rattle.std.specs.Prelude.{◌≡◌, ◌≤◌, None};
 ghost use Rattle.log_model.specs.Stored.{StaysOutside};
 ghost use Rattle.segment_files.specs.Turn.{IsInside};
-ghost use Rattle.worker_turns.specs.Acts.{Acted, place_of, view_of, change_of};
+ghost use Rattle.worker_turns.specs.Acts.{IsFree, Acted, place_of, view_of, change_of};
 ghost use Rattle.worker_turns.specs.Turning.{IsDispatch};
-ghost use Rattle.serve_threads.specs.Served.{AreFlushing};
+ghost use Rattle.serve_threads.specs.Asking.{AreSameWays, MakesAsking, asking_of};
+ghost use Rattle.serve_threads.specs.Served.{AreFlushing, FlushesBetween};
 ghost use Rattle.serve_threads.specs.Causes.{BlamesDisk};
 
+use crate::asks::AskWays;
 use crate::timetable::Timetable;
 use broker_core::Owner;
 use broker_events::Calls;
@@ -79,11 +82,29 @@ fn flush_all<W: Wait, C: Calls, D: Disk, P: Ready>(
     unreachable!()
 }
 
-/// Flushes whenever it is rung for and delivers delayed messages in their time, until the loops have ended, and then flushes what is
-/// left. What was pending when a turn failed is tried again in the next round. Answers how the last turn ended.
+// Sends the check-backs whose records are flushed, and delivers and checks what is due, where the last flush turn ended like this.
+// Answers how many milliseconds the flusher may sleep then.
+fn attend<W: Wait, C: Owner, P: Ready, K: Clock>(
+    around: &Around<'_, W, P>,
+    timetable: &mut Timetable<K>,
+    ways: &mut AskWays,
+    calls: &mut C,
+    end: FlushEnd,
+) -> Option<u64>
+    ensures made { MakesAsking C.makes calls.old ways.old calls.new ways.new }
+    ensures free { IsFree (C.has_key calls.old) (C.shown calls.old) → IsFree (C.has_key calls.new) (C.shown calls.new) }
+{
+    ways.hand_out(around.alloc, calls, around.ports);
+    timetable.work(around.alloc, calls, ways, end, around.shared.turns())
+}
+
+/// Flushes whenever it is rung for, delivers delayed messages and checks half messages in their time, and sends check-backs to the
+/// loops, until these have ended, and then flushes what is left. What was pending when a turn failed is tried again in the next round.
+/// Answers how the last turn ended.
 pub(crate) fn keep_flushing<W: Wait, C: Owner, D: Disk, P: Ready, K: Clock>(
     around: &Around<'_, W, P>,
     timetable: &mut Timetable<K>,
+    ways: &mut AskWays,
     calls: &mut C,
     flusher: &mut Flusher,
     disk: &mut D,
@@ -95,9 +116,10 @@ pub(crate) fn keep_flushing<W: Wait, C: Owner, D: Disk, P: Ready, K: Clock>(
     ensures none_out { (C.shown calls.new).out ≡ None }
     ensures inside { D.tells → IsInside flusher.new.file.base flusher.new.file.offset (D.state disk.new) }
     ensures outside { D.tells → StaysOutside (D.state disk.old) (D.state disk.new) }
-    ensures acted { Acted C.makes (view_of D.tells D.state D.faults D.syncs) AreFlushing
+    ensures acted { Acted C.makes (view_of D.tells D.state D.faults D.syncs) (FlushesBetween (asking_of ways.old) (asking_of ways.new))
         (change_of calls.old (place_of flusher.old.file disk.old)
         calls.new (place_of flusher.new.file disk.new)) }
+    ensures ways { AreSameWays ways.old ways.new }
     ensures cause { BlamesDisk result (D.faults disk.old) (D.faults disk.new) }
 {
     for _ in around.rt.forever() {
@@ -115,7 +137,7 @@ pub(crate) fn keep_flushing<W: Wait, C: Owner, D: Disk, P: Ready, K: Clock>(
         if over {
             return end;
         }
-        let rest = timetable.deliver(around.alloc, calls, end, around.shared.turns());
+        let rest = attend(around, timetable, ways, calls, end);
         around.shared.sleep(around.rt, rest);
     }
     unreachable!()

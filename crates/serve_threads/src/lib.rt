@@ -1,7 +1,9 @@
-//! The broker over many links, from the core that is opened to the core that is left: two loops serve the links, one
-//! flusher writes what they append and delivers delayed messages. And whose the entries of their history are, and which log the disk stores after it.
+//! The broker over many links, from the core that is opened to the core that is left: two loops serve the links, one flusher writes
+//! what they append, delivers delayed messages, checks half messages and asks back. And whose the entries of their history are, and
+//! which log the disk stores after it.
 #![tactic(auto)]
 
+mod asks;
 mod flusher;
 mod keeper;
 mod laws;

@@ -9,11 +9,14 @@ ghost use Rattle.story_lock.specs.Passes.{IsPassOf, HasSeat, HasKey, start_of, s
 ghost use Rattle.spine.specs.Seen.{shown_by};
 ghost use Rattle.worker_turns.specs.Acts.{Place, change_of, place_of, view_of};
 ghost use Rattle.event_loops.specs.Causes.{door_faults, loop_faults};
+ghost use Rattle.ask_ways.specs.Ways.{ArePair, put_by, taken_by};
+ghost use Rattle.serve_threads.specs.Asking.{HasNoneAsked, IsFrontOf};
 ghost use Rattle.serve_threads.specs.Kept.{PutsAlong, keep_over};
 ghost use Rattle.serve_threads.specs.Served.{AreLoops, AreCut, AreMet, Meets, HasMade, IsLeft, by_thread, views_of};
 ghost use Rattle.serve_threads.specs.Causes.{BlamesDisk, BlamesKeep, BlamesWorld, HasCauses, HasDoor, IsFirstFault};
 ghost use Rattle.serve_threads.specs.Causes.{both_faults, counts_of, world_faults};
 
+use crate::asks::{AskWays, LoopAsks, Ways};
 use crate::loops::Loops;
 use crate::threads::{Flushing, Keeping, Ran, Worker, run_all};
 use crate::world::World;
@@ -131,24 +134,47 @@ fn seats_of<'a, W: Wait>(spine: &'a Spine, rt: &'a W, pass: Pass) -> Seats<'a, W
     }
 }
 
-// What a loop leaves: its pass, its reader, what was outside it, and how it ended.
+// What a loop leaves: its pass, its reader, what was outside it, how it ended, and where check-backs came from.
 fn left_of<W: Wait, P: Ready + Drop, K: Clock + Drop, R: Reader + Drop>(
     worker: Worker<P, K, SpinePass<'_, W>, R>,
-) -> (Pass, R, Outside<P, K>, LoopEnd)
+) -> (Pass, R, Outside<P, K>, LoopEnd, LoopAsks)
     ensures pass { worker.entry.calls.pass ≡ Some result.0 }
     ensures outside { result.2 ≡ worker.entry.outside }
     ensures end { result.3 ≡ worker.entry.end }
+    ensures asks { result.4 ≡ worker.entry.asks }
 {
     let Worker {
         event_loop,
         outside,
+        asks,
         calls,
         reader,
         end,
     } = worker;
-    let left = (calls.leave(), reader, outside, end);
+    let left = (calls.leave(), reader, outside, end, asks);
     drop(event_loop);
     left
+}
+
+// Compares the ends of both ways, which are in one thread again: each loop took the first of what was put on its way.
+fn compare(ways: AskWays, first: LoopAsks, second: LoopAsks)
+    requires pairs { ArePair ways.first first.way × ArePair ways.second second.way }
+    ensures first { IsFrontOf (taken_by first.way) (put_by ways.first) }
+    ensures second { IsFrontOf (taken_by second.way) (put_by ways.second) }
+{
+    let AskWays {
+        first: mut to_first,
+        second: mut to_second,
+        held: _,
+    } = ways;
+    let LoopAsks {
+        way: mut from_first,
+    } = first;
+    let LoopAsks {
+        way: mut from_second,
+    } = second;
+    let _ = from_first.count_beside(&mut to_first);
+    let _ = from_second.count_beside(&mut to_second);
 }
 
 // One pass of four, with the entries and the seat numbers of all.
@@ -181,6 +207,9 @@ fn gather<
     requires first { IfSome ran.first.calls.pass (λ p. IsPassOf spine.now.story p) }
     requires second { IfSome ran.second.calls.pass (λ p. IsPassOf spine.now.story p) }
     requires keeper { IfSome ran.keeping.calls.pass (λ p. IsPassOf spine.now.story p) }
+    requires pairs { ArePair ran.flushing.ways.first ran.first.asks.way × ArePair ran.flushing.ways.second ran.second.asks.way }
+    ensures fronts { IsFrontOf (taken_by ran.entry.first.asks.way) (put_by ran.entry.flushing.ways.first)
+        × IsFrontOf (taken_by ran.entry.second.asks.way) (put_by ran.entry.flushing.ways.second) }
     ensures of { IsPassOf spine.now.story result.pass }
     ensures met { AreMet (by_thread ran.entry.flushing.calls.pass ran.entry.first.calls.pass ran.entry.second.calls.pass
         ran.entry.keeping.calls.pass) result.pass }
@@ -203,14 +232,16 @@ fn gather<
         flusher: _,
         disk,
         clock,
+        ways,
         last,
     } = flushing;
     let Keeping {
         calls: keeper,
         keep,
     } = keeping;
-    let (first_pass, first_reader, near, first_end) = left_of(first);
-    let (second_pass, second_reader, far, second_end) = left_of(second);
+    let (first_pass, first_reader, near, first_end, first_asks) = left_of(first);
+    let (second_pass, second_reader, far, second_end, second_asks) = left_of(second);
+    compare(ways, first_asks, second_asks);
     let turns = calls.leave();
     let looks = keeper.leave();
     Left {
@@ -238,6 +269,7 @@ fn run_seated<
     pass: Pass,
     loops: (EventLoop<P>, EventLoop<P>),
     outsides: (Outside<P, K>, Outside<P, K>, K),
+    ways: Ways,
     devices: Devices<D, R, E>,
 ) -> Left<P, K, D, R, E>
 where
@@ -248,6 +280,8 @@ where
     requires loops { AreLoops loops.0 loops.1 }
     requires door { HasDoor (door_faults P.Door.faults outsides.0.entrance) × (door_faults P.Door.faults outsides.1.entrance ≡ None) }
     requires none_out { (shown_of (start_of spine.now.story).core).out ≡ None }
+    requires pairs { ArePair ways.sends.first ways.first.way × ArePair ways.sends.second ways.second.way }
+    requires none_asked { HasNoneAsked ways.sends × (taken_by ways.first.way ≡ []) × (taken_by ways.second.way ≡ []) }
     requires inside { D.tells → IsInside devices.flusher.file.base devices.flusher.file.offset (D.state devices.disk) }
     ensures outside { D.tells → StaysOutside (D.state devices.disk) (D.state result.disk) }
     ensures of { IsPassOf spine.now.story result.pass }
@@ -268,6 +302,11 @@ where
     } = devices;
     let (first_loop, second_loop) = loops;
     let (near, far, clock) = outsides;
+    let Ways {
+        sends,
+        first: first_asks,
+        second: second_asks,
+    } = ways;
     let Seats {
         flusher: key,
         first,
@@ -277,6 +316,7 @@ where
     let first = Worker {
         event_loop: first_loop,
         outside: near,
+        asks: first_asks,
         calls: first,
         reader: first_reader,
         end: LoopEnd::Done,
@@ -284,6 +324,7 @@ where
     let second = Worker {
         event_loop: second_loop,
         outside: far,
+        asks: second_asks,
         calls: second,
         reader: second_reader,
         end: LoopEnd::Done,
@@ -293,6 +334,7 @@ where
         flusher,
         disk,
         clock,
+        ways: sends,
         last: FlushEnd::Idle,
     };
     let keeping = Keeping {
@@ -379,11 +421,19 @@ where
         (counts_of (D.faults devices.disk) (E.faults devices.keep) (world_faults P.faults P.Door.faults K.faults loops.world))
         (counts_of (D.faults it.disk) (E.faults it.keep) (world_faults P.faults P.Door.faults K.faults it.world))) }
 {
+    let Ok(ways) = Ways::new(alloc) else {
+        drop(core);
+        return Err(Unserved {
+            devices,
+            world: loops.leave(),
+        });
+    };
     let (spine, pass) = match Spine::open(alloc, core, 4) {
         Ok(opened) => opened,
         Err(refused) => {
             // Let go by name, which is proved once a type, and not anew at each end of a scope.
             drop(refused);
+            drop(ways);
             return Err(Unserved {
                 devices,
                 world: loops.leave(),
@@ -410,6 +460,7 @@ where
         pass,
         (first, second),
         world.part(bounds),
+        ways,
         devices,
     );
     Ok(close(rt, alloc, spine, left))

@@ -1,24 +1,24 @@
 //! The threads: each owns what it works with, and gives it back at its end.
 
-ghost use Rattle.std.specs.Prelude.{◌≡◌, ◌≤◌, ℕ, None};
+ghost use Rattle.std.specs.Prelude.{◌≡◌, ◌≤◌, ℕ, [], None};
 ghost use denote.Param.Send.{IsSync, IsSend};
 ghost use Rattle.log_model.specs.Stored.{StaysOutside};
 ghost use Rattle.segment_files.specs.Turn.{IsInside};
-ghost use Rattle.session.specs.Serving.{Leads};
 ghost use Rattle.worker_turns.specs.Acts.{Acted, place_of, view_of, change_of};
 ghost use Rattle.event_loops.specs.Causes.{CountsEnd, loop_faults};
 ghost use Rattle.serve_threads.specs.Kept.{KeepsUp, keep_over};
-ghost use Rattle.serve_threads.specs.Served.{IsLoop, AreFlushing, AreAnswered};
+ghost use Rattle.ask_ways.specs.Ways.{taken_by};
+ghost use Rattle.serve_threads.specs.Asking.{AreSameWays, HasNoneAsked, put_of};
+ghost use Rattle.serve_threads.specs.Served.{Begins, IsLoop, FlushesTo, Worked};
 ghost use Rattle.serve_threads.specs.Causes.{BlamesDisk};
 
+use crate::asks::{AskWays, LoopAsks};
 use crate::flusher::keep_flushing;
 use crate::keeper::keep_up;
 use crate::timetable::Timetable;
 use broker_core::Owner;
 use broker_events::Calls;
-use event_loops::{
-    Around, EventLoop, LoopEnd, NoAsks, Outside, each_link_of_a_loop_is_answered_in_order,
-};
+use event_loops::{Around, EventLoop, LoopEnd, Outside, each_link_of_a_loop_is_answered_in_order};
 use group_flush::Flusher;
 use mq_outside::{Clock, Disk, Keep, Reader};
 use mq_peers::Ready;
@@ -26,11 +26,12 @@ use std::sync::Wait;
 use std::thread::{Parker, Threads, join};
 use worker_turns::FlushEnd;
 
-/// A loop with what is outside it, what it makes steps by, and what it reads pulls by.
+/// A loop with what is outside it, where check-backs come from, what it makes steps by, and what it reads pulls by.
 #[derive(Drop)]
 pub(crate) struct Worker<P: Ready + Drop, K: Clock + Drop, C: Calls + Drop, R: Reader + Drop> {
     pub(crate) event_loop: EventLoop<P>,
     pub(crate) outside: Outside<P, K>,
+    pub(crate) asks: LoopAsks,
     pub(crate) calls: C,
     pub(crate) reader: R,
     pub(crate) end: LoopEnd,
@@ -50,24 +51,26 @@ fn tell_end<W: Wait, P: Ready>(around: &Around<'_, W, P>, end: LoopEnd) {
 impl<P: Ready + Drop, K: Clock + Drop, C: Calls + Drop, R: Reader + Drop> Worker<P, K, C, R> {
     // Runs the loop to its end.
     fn run<W: Wait>(self, around: &Around<'_, W, P>) -> Worker<P, K, C, R>
-        ensures answered { (number : ℕ) → IsLoop number self.event_loop
-            → Leads C.makes self.calls result.calls (AreAnswered P.Link.tells R.gives number) }
+        ensures answered { (number : ℕ) → IsLoop number self.event_loop → taken_by self.asks.way ≡ []
+            → Worked C.makes P.Link.tells R.gives number self.calls result.calls self.asks.way result.asks.way }
         ensures cause { CountsEnd result.end (loop_faults P.faults P.Door.faults K.faults self.outside)
             (loop_faults P.faults P.Door.faults K.faults result.outside) }
     {
         let Worker {
             mut event_loop,
             mut outside,
+            mut asks,
             mut calls,
             mut reader,
             end: _,
         } = self;
-        let end = event_loop.run(around, &mut outside, &mut NoAsks, &mut calls, &mut reader);
+        let end = event_loop.run(around, &mut outside, &mut asks, &mut calls, &mut reader);
         each_link_of_a_loop_is_answered_in_order::<P::Link, R>();
         tell_end(around, end);
         Worker {
             event_loop,
             outside,
+            asks,
             calls,
             reader,
             end,
@@ -82,6 +85,7 @@ pub(crate) struct Flushing<C: Owner + Drop, D: Disk + Drop, K: Clock + Drop> {
     pub(crate) flusher: Flusher,
     pub(crate) disk: D,
     pub(crate) clock: K,
+    pub(crate) ways: AskWays,
     pub(crate) last: FlushEnd,
 }
 
@@ -91,10 +95,12 @@ impl<C: Owner + Drop, D: Disk + Drop, K: Clock + Drop> Flushing<C, D, K> {
         requires key { C.has_key self.calls }
         requires none_out { (C.shown self.calls).out ≡ None }
         requires inside { D.tells → IsInside self.flusher.file.base self.flusher.file.offset (D.state self.disk) }
+        requires none_asked { HasNoneAsked self.ways }
         ensures outside { D.tells → StaysOutside (D.state self.disk) (D.state result.disk) }
-        ensures acted { Acted C.makes (view_of D.tells D.state D.faults D.syncs) AreFlushing
+        ensures acted { Acted C.makes (view_of D.tells D.state D.faults D.syncs) (FlushesTo (put_of result.ways))
             (change_of self.calls (place_of self.flusher.file self.disk)
             result.calls (place_of result.flusher.file result.disk)) }
+        ensures ways { AreSameWays self.ways result.ways }
         ensures cause { BlamesDisk result.last (D.faults self.disk) (D.faults result.disk) }
     {
         let Flushing {
@@ -102,15 +108,24 @@ impl<C: Owner + Drop, D: Disk + Drop, K: Clock + Drop> Flushing<C, D, K> {
             mut flusher,
             mut disk,
             clock,
+            mut ways,
             last: _,
         } = self;
         let mut timetable = Timetable::new(clock);
-        let last = keep_flushing(around, &mut timetable, &mut calls, &mut flusher, &mut disk);
+        let last = keep_flushing(
+            around,
+            &mut timetable,
+            &mut ways,
+            &mut calls,
+            &mut flusher,
+            &mut disk,
+        );
         Flushing {
             calls,
             flusher,
             disk,
             clock: timetable.into_clock(),
+            ways,
             last,
         }
     }
@@ -162,10 +177,10 @@ fn run_loops<
     first: Worker<P, K, C, R>,
     second: Worker<P, K, C, R>,
 ) -> (Worker<P, K, C, R>, Worker<P, K, C, R>)
-    requires first { IsLoop 0 first.event_loop }
-    requires second { IsLoop 1 second.event_loop }
-    ensures first { Leads C.makes first.calls result.0.calls (AreAnswered P.Link.tells R.gives 0) }
-    ensures second { Leads C.makes second.calls result.1.calls (AreAnswered P.Link.tells R.gives 1) }
+    requires first { Begins 0 first.event_loop first.asks.way }
+    requires second { Begins 1 second.event_loop second.asks.way }
+    ensures first { Worked C.makes P.Link.tells R.gives 0 first.calls result.0.calls first.asks.way result.0.asks.way }
+    ensures second { Worked C.makes P.Link.tells R.gives 1 second.calls result.1.calls second.asks.way result.1.asks.way }
     ensures first_cause { CountsEnd result.0.end (loop_faults P.faults P.Door.faults K.faults first.outside)
         (loop_faults P.faults P.Door.faults K.faults result.0.outside) }
     ensures second_cause { CountsEnd result.1.end (loop_faults P.faults P.Door.faults K.faults second.outside)
@@ -175,15 +190,15 @@ fn run_loops<
         around.rt,
         move || -> Worker<P, K, C, R>
             requires { IsSend P.Link.row × IsSend P.Door.row × IsSend P.Waker.row × IsSync P.Waker.row × IsSend K.row
-                × IsLoop 0 first.event_loop }
-            ensures answered { Leads C.makes first.calls result.calls (AreAnswered P.Link.tells R.gives 0) }
+                × Begins 0 first.event_loop first.asks.way }
+            ensures answered { Worked C.makes P.Link.tells R.gives 0 first.calls result.calls first.asks.way result.asks.way }
             ensures cause { CountsEnd result.end (loop_faults P.faults P.Door.faults K.faults first.outside)
                 (loop_faults P.faults P.Door.faults K.faults result.outside) }
         { first.run(around) },
         move || -> Worker<P, K, C, R>
             requires { IsSend P.Link.row × IsSend P.Door.row × IsSend P.Waker.row × IsSync P.Waker.row × IsSend K.row
-                × IsLoop 1 second.event_loop }
-            ensures answered { Leads C.makes second.calls result.calls (AreAnswered P.Link.tells R.gives 1) }
+                × Begins 1 second.event_loop second.asks.way }
+            ensures answered { Worked C.makes P.Link.tells R.gives 1 second.calls result.calls second.asks.way result.asks.way }
             ensures cause { CountsEnd result.end (loop_faults P.faults P.Door.faults K.faults second.outside)
                 (loop_faults P.faults P.Door.faults K.faults result.outside) }
         { second.run(around) },
@@ -207,11 +222,11 @@ fn run_kept<
     second: Worker<P, K, C, R>,
     keeping: Keeping<C, E>,
 ) -> (Keeping<C, E>, (Worker<P, K, C, R>, Worker<P, K, C, R>))
-    requires loops { IsLoop 0 first.event_loop × IsLoop 1 second.event_loop }
+    requires loops { Begins 0 first.event_loop first.asks.way × Begins 1 second.event_loop second.asks.way }
     ensures kept { KeepsUp C.sees (keep_over E.tells (E.state keeping.keep) (E.state result.0.keep)) keeping.calls result.0.calls }
     ensures keep_grows { E.faults keeping.keep ≤ E.faults result.0.keep }
-    ensures first { Leads C.makes first.calls result.1.0.calls (AreAnswered P.Link.tells R.gives 0) }
-    ensures second { Leads C.makes second.calls result.1.1.calls (AreAnswered P.Link.tells R.gives 1) }
+    ensures first { Worked C.makes P.Link.tells R.gives 0 first.calls result.1.0.calls first.asks.way result.1.0.asks.way }
+    ensures second { Worked C.makes P.Link.tells R.gives 1 second.calls result.1.1.calls second.asks.way result.1.1.asks.way }
     ensures first_cause { CountsEnd result.1.0.end (loop_faults P.faults P.Door.faults K.faults first.outside)
         (loop_faults P.faults P.Door.faults K.faults result.1.0.outside) }
     ensures second_cause { CountsEnd result.1.1.end (loop_faults P.faults P.Door.faults K.faults second.outside)
@@ -227,9 +242,10 @@ fn run_kept<
         { keeping.run(around, rings) },
         move || -> (Worker<P, K, C, R>, Worker<P, K, C, R>)
             requires { IsSync W.row × IsSend P.row × IsSync P.row × IsSend P.Link.row × IsSend P.Door.row × IsSend P.Waker.row
-                × IsSync P.Waker.row × IsSend K.row × IsSend C.row × IsSend R.row × IsLoop 0 first.event_loop × IsLoop 1 second.event_loop }
-            ensures first { Leads C.makes first.calls result.0.calls (AreAnswered P.Link.tells R.gives 0) }
-            ensures second { Leads C.makes second.calls result.1.calls (AreAnswered P.Link.tells R.gives 1) }
+                × IsSync P.Waker.row × IsSend K.row × IsSend C.row × IsSend R.row
+                × Begins 0 first.event_loop first.asks.way × Begins 1 second.event_loop second.asks.way }
+            ensures first { Worked C.makes P.Link.tells R.gives 0 first.calls result.0.calls first.asks.way result.0.asks.way }
+            ensures second { Worked C.makes P.Link.tells R.gives 1 second.calls result.1.calls second.asks.way result.1.asks.way }
             ensures first_cause { CountsEnd result.0.end (loop_faults P.faults P.Door.faults K.faults first.outside)
                 (loop_faults P.faults P.Door.faults K.faults result.0.outside) }
             ensures second_cause { CountsEnd result.1.end (loop_faults P.faults P.Door.faults K.faults second.outside)
@@ -275,15 +291,17 @@ where
     requires key { C.has_key flushing.calls }
     requires none_out { (C.shown flushing.calls).out ≡ None }
     requires inside { D.tells → IsInside flushing.flusher.file.base flushing.flusher.file.offset (D.state flushing.disk) }
-    requires loops { IsLoop 0 first.event_loop × IsLoop 1 second.event_loop }
+    requires none_asked { HasNoneAsked flushing.ways }
+    requires loops { Begins 0 first.event_loop first.asks.way × Begins 1 second.event_loop second.asks.way }
     ensures outside { D.tells → StaysOutside (D.state flushing.disk) (D.state result.flushing.disk) }
-    ensures acted { Acted C.makes (view_of D.tells D.state D.faults D.syncs) AreFlushing
+    ensures acted { Acted C.makes (view_of D.tells D.state D.faults D.syncs) (FlushesTo (put_of result.flushing.ways))
         (change_of flushing.calls (place_of flushing.flusher.file flushing.disk)
         result.flushing.calls (place_of result.flushing.flusher.file result.flushing.disk)) }
+    ensures ways { AreSameWays flushing.ways result.flushing.ways }
     ensures kept { KeepsUp C.sees (keep_over E.tells (E.state keeping.keep) (E.state result.keeping.keep)) keeping.calls
         result.keeping.calls }
-    ensures first { Leads C.makes first.calls result.first.calls (AreAnswered P.Link.tells R.gives 0) }
-    ensures second { Leads C.makes second.calls result.second.calls (AreAnswered P.Link.tells R.gives 1) }
+    ensures first { Worked C.makes P.Link.tells R.gives 0 first.calls result.first.calls first.asks.way result.first.asks.way }
+    ensures second { Worked C.makes P.Link.tells R.gives 1 second.calls result.second.calls second.asks.way result.second.asks.way }
     ensures first_cause { CountsEnd result.first.end (loop_faults P.faults P.Door.faults K.faults first.outside)
         (loop_faults P.faults P.Door.faults K.faults result.first.outside) }
     ensures second_cause { CountsEnd result.second.end (loop_faults P.faults P.Door.faults K.faults second.outside)
@@ -295,21 +313,23 @@ where
         around.rt,
         move || -> Flushing<C, D, K>
             requires { C.has_key flushing.calls × ((C.shown flushing.calls).out ≡ None)
-                × (D.tells → IsInside flushing.flusher.file.base flushing.flusher.file.offset (D.state flushing.disk)) }
+                × (D.tells → IsInside flushing.flusher.file.base flushing.flusher.file.offset (D.state flushing.disk))
+                × HasNoneAsked flushing.ways }
             ensures outside { D.tells → StaysOutside (D.state flushing.disk) (D.state result.disk) }
-            ensures acted { Acted C.makes (view_of D.tells D.state D.faults D.syncs) AreFlushing
+            ensures acted { Acted C.makes (view_of D.tells D.state D.faults D.syncs) (FlushesTo (put_of result.ways))
                 (change_of flushing.calls (place_of flushing.flusher.file flushing.disk)
                 result.calls (place_of result.flusher.file result.disk)) }
+            ensures ways { AreSameWays flushing.ways result.ways }
             ensures cause { BlamesDisk result.last (D.faults flushing.disk) (D.faults result.disk) }
         { flushing.run(around) },
         move || -> (Keeping<C, E>, (Worker<P, K, C, R>, Worker<P, K, C, R>))
             requires { IsSync W.row × IsSend P.row × IsSync P.row × IsSend P.Link.row × IsSend P.Door.row × IsSend P.Waker.row
                 × IsSync P.Waker.row × IsSend K.row × IsSend C.row × IsSend R.row × IsSend E.row
-                × IsLoop 0 first.event_loop × IsLoop 1 second.event_loop }
+                × Begins 0 first.event_loop first.asks.way × Begins 1 second.event_loop second.asks.way }
             ensures kept { KeepsUp C.sees (keep_over E.tells (E.state keeping.keep) (E.state result.0.keep)) keeping.calls result.0.calls }
             ensures keep_grows { E.faults keeping.keep ≤ E.faults result.0.keep }
-            ensures first { Leads C.makes first.calls result.1.0.calls (AreAnswered P.Link.tells R.gives 0) }
-            ensures second { Leads C.makes second.calls result.1.1.calls (AreAnswered P.Link.tells R.gives 1) }
+            ensures first { Worked C.makes P.Link.tells R.gives 0 first.calls result.1.0.calls first.asks.way result.1.0.asks.way }
+            ensures second { Worked C.makes P.Link.tells R.gives 1 second.calls result.1.1.calls second.asks.way result.1.1.asks.way }
             ensures first_cause { CountsEnd result.1.0.end (loop_faults P.faults P.Door.faults K.faults first.outside)
                 (loop_faults P.faults P.Door.faults K.faults result.1.0.outside) }
             ensures second_cause { CountsEnd result.1.1.end (loop_faults P.faults P.Door.faults K.faults second.outside)

@@ -1,11 +1,13 @@
-//! When delayed messages are to be delivered, and their deliveries, which the flusher makes.
+//! When delayed messages are to be delivered and half messages to be checked, which the flusher does.
 
-ghost use Rattle.std.specs.Prelude.{◌≡◌, ◌<◌, ◌≤◌, ◌^◌, true};
+ghost use Rattle.std.specs.Prelude.{◌≡◌, ◌<◌, ◌≤◌, ◌^◌};
 ghost use Rattle.core_log.specs.declared.parts.Parts.{Parts};
 ghost use Rattle.worker_turns.specs.Acts.{IsFree};
 ghost use Rattle.worker_turns.specs.Delays.{Delivers};
-ghost use Rattle.serve_threads.specs.Deliveries.{DeliversSome, IsNextDelivery, MakesDeliveries, most_at_once};
+ghost use Rattle.serve_threads.specs.Asking.{MakesAsking};
+ghost use Rattle.serve_threads.specs.Deliveries.{DeliversSome, IsNextDue, MakesDuties, most_at_once, sooner_of};
 
+use crate::asks::AskWays;
 use broker_core::{Core, Owner};
 use broker_events::{Calls, Event, Said};
 use mq_outside::Clock;
@@ -17,7 +19,8 @@ use worker_turns::FlushEnd;
 const DELIVERIES_MAX: u32 = 256;
 
 /// Where records were appended since the last look, the next one is made so many milliseconds after it: a message that they delay is
-/// due after a second at the earliest, so it is seen in time, and no flush turn costs a look of its own.
+/// due after a second at the earliest, and a half message is checked after six, so both are seen in time, and no flush turn costs a look
+/// of its own.
 const LOOK_MILLIS: u64 = 500;
 
 /// Where what is due could not be delivered, it is tried again after so many milliseconds.
@@ -26,17 +29,28 @@ const RETRY_MILLIS: u64 = 500;
 /// So many milliseconds the flusher sleeps at most while a message waits, so that a clock that was set forward is noticed.
 const SLEEP_MAX_MILLIS: u64 = 60_000;
 
-// When a delivery is next due, by one look: no further one is made before it. `None` where no message waits.
-fn next_delivery<C: Owner>(alloc: Global, calls: &mut C) -> Option<u64>
-    ensures next { (core : Parts) × C.sees calls.old core calls.new × IsNextDelivery core result }
-    ensures made { MakesDeliveries C.makes calls.old calls.new }
+// The earlier of two times, each of which may be none.
+fn sooner(one: Option<u64>, other: Option<u64>) -> Option<u64>
+    ensures { result ≡ sooner_of one other }
+{
+    match (one, other) {
+        (Some(one), Some(other)) => Some(one.min(other)),
+        (Some(one), None) => Some(one),
+        (None, other) => other,
+    }
+}
+
+// When a delivery or a check is next due, by one look. `None` where no message waits.
+fn next_due<C: Owner>(alloc: Global, calls: &mut C) -> Option<u64>
+    ensures next { (core : Parts) × C.sees calls.old core calls.new × IsNextDue core result }
+    ensures made { MakesDuties C.makes calls.old calls.new }
     ensures free { IsFree (C.has_key calls.old) (C.shown calls.old) → IsFree (C.has_key calls.new) (C.shown calls.new) }
 {
     calls.look(
         alloc,
         |core: &Core| -> Option<u64>
-            ensures { IsNextDelivery core.now result }
-        { core.next_delivery() },
+            ensures { IsNextDue core.now result }
+        { sooner(core.next_delivery(), core.next_check()) },
     )
 }
 
@@ -77,9 +91,13 @@ fn deliver_due<C: Calls>(alloc: Global, calls: &mut C, now: u64) -> u32
     DELIVERIES_MAX
 }
 
-// How many milliseconds the flusher may sleep after so many deliveries: none where they are to be flushed.
-fn rest_after(delivered: u32) -> u64 {
-    if delivered > 0 { 0 } else { RETRY_MILLIS }
+// How many milliseconds the flusher may sleep after so many deliveries, and checks or none: none where anything is to be flushed.
+fn rest_after(delivered: u32, checked: bool) -> u64 {
+    if delivered > 0 || checked {
+        0
+    } else {
+        RETRY_MILLIS
+    }
 }
 
 // When a look was made, and how many flush turns had ended then.
@@ -130,19 +148,19 @@ impl<K: Clock> Timetable<K> {
         }
     }
 
-    // Looks when the next delivery is due, where that may have changed.
-    #[tactic(auto, using(crate::proofs::Delivering::no_deliveries))]
+    // Looks when something is next due, where that may have changed.
+    #[tactic(auto, using(crate::proofs::Delivering::no_duties))]
     fn look_up<C: Owner>(&mut self, alloc: Global, calls: &mut C, now: u64, turns: u64)
-        ensures made { MakesDeliveries C.makes calls.old calls.new }
+        ensures made { MakesDuties C.makes calls.old calls.new }
         ensures free { IsFree (C.has_key calls.old) (C.shown calls.old) → IsFree (C.has_key calls.new) (C.shown calls.new) }
     {
         if self.is_old(now, turns) {
-            self.next = next_delivery(alloc, calls);
+            self.next = next_due(alloc, calls);
             self.looked = Some(Looked { at: now, turns });
         }
     }
 
-    // Whether a delivery is due.
+    // Whether something is due.
     fn is_due(&self, now: u64) -> bool {
         match self.next {
             Some(next) => next <= now,
@@ -161,28 +179,36 @@ impl<K: Clock> Timetable<K> {
         }
     }
 
-    // Delivers what is due. Answers how many milliseconds the flusher may sleep then.
-    fn deliver_at<C: Calls>(&mut self, alloc: Global, calls: &mut C, now: u64) -> u64
-        requires now { now < 2 ^ 62 }
-        ensures made { MakesDeliveries C.makes calls.old calls.new }
-        ensures free { IsFree (C.has_key calls.old) (C.shown calls.old) → IsFree (C.has_key calls.new) (C.shown calls.new) }
-    {
-        self.looked = None;
-        rest_after(deliver_due(alloc, calls, now))
-    }
-
-    /// Delivers the messages that are due at the clock's reading, so many as are delivered at once, where nothing is pending: `end` is
-    /// how the last flush turn ended, and `turns` how many have. Answers how many milliseconds the flusher may sleep: none where it
-    /// delivered something, which is to be flushed; `None` where no message waits.
-    #[tactic(auto, using(crate::proofs::Delivering::no_deliveries, crate::proofs::Delivering::deliveries_then))]
-    pub(crate) fn deliver<C: Owner>(
+    // Delivers and checks what is due. Answers how many milliseconds the flusher may sleep then.
+    fn do_due<C: Calls>(
         &mut self,
         alloc: Global,
         calls: &mut C,
+        ways: &mut AskWays,
+        now: u64,
+    ) -> u64
+        requires now { now < 2 ^ 62 }
+        ensures made { MakesAsking C.makes calls.old ways.old calls.new ways.new }
+        ensures free { IsFree (C.has_key calls.old) (C.shown calls.old) → IsFree (C.has_key calls.new) (C.shown calls.new) }
+    {
+        self.looked = None;
+        let delivered = deliver_due(alloc, calls, now);
+        let checked = ways.check(alloc, calls, now);
+        rest_after(delivered, checked)
+    }
+
+    /// Delivers the messages that are due at the clock's reading, as many as are delivered at once, and checks the half messages that
+    /// are, where nothing is pending: `end` is how the last flush turn ended, and `turns` how many have. Answers how many milliseconds
+    /// the flusher may sleep: none where anything was appended, which is to be flushed; `None` where no message waits.
+    pub(crate) fn work<C: Owner>(
+        &mut self,
+        alloc: Global,
+        calls: &mut C,
+        ways: &mut AskWays,
         end: FlushEnd,
         turns: u64,
     ) -> Option<u64>
-        ensures made { MakesDeliveries C.makes calls.old calls.new }
+        ensures made { MakesAsking C.makes calls.old ways.old calls.new ways.new }
         ensures free { IsFree (C.has_key calls.old) (C.shown calls.old) → IsFree (C.has_key calls.new) (C.shown calls.new) }
     {
         let Ok(now) = self.clock.now() else {
@@ -195,6 +221,6 @@ impl<K: Clock> Timetable<K> {
         if end != FlushEnd::Idle {
             return Some(RETRY_MILLIS);
         }
-        Some(self.deliver_at(alloc, calls, now))
+        Some(self.do_due(alloc, calls, ways, now))
     }
 }

@@ -1,4 +1,7 @@
 use Rattle.std.proofs.Common.{sym, subst}
+use Rattle.ask_ways.specs.Ways.{ArePair, put_by, taken_by}
+use Rattle.serve_threads.specs.Asking.{IsFrontOf}
+use Rattle.serve_threads.specs.declared.asks.LoopAsks.{LoopAsks}
 use Rattle.event_loops.specs.Causes.{door_faults, loop_faults}
 use Rattle.serve_threads.proofs.Keys.{some_at}
 use Rattle.serve_threads.specs.Causes.{HasDoor, IsFirstFault}
@@ -36,3 +39,20 @@ pub returns-clause-counts : goal.returns-clause-counts
 returns-clause-counts g c =
     world_counts (loop_faults g.P.Ready.faults g.P.Door.Door.faults g.K.Clock.faults) _ _ _ _ _ c.left_of-first_pass.ensures.outside c.left_of-second_pass.ensures.outside
     c.join.ensures.counts
+
+pub compare-requires : goal.compare-requires
+compare-requires g c =
+    let ways = c.args.ran.flushing.ways in
+    record {
+      pairs = (
+        subst (λ (end : LoopAsks). ArePair ways.first end.way) (sym c.left_of-first_pass.ensures.asks) c.requires.pairs.0,
+        subst (λ (end : LoopAsks). ArePair ways.second end.way) (sym c.left_of-second_pass.ensures.asks) c.requires.pairs.1,
+      );
+    }
+
+pub returns-clause-fronts : goal.returns-clause-fronts
+returns-clause-fronts g c =
+    let ways = c.args.ran.flushing.ways in (
+      subst (λ (end : LoopAsks). IsFrontOf (taken_by end.way) (put_by ways.first)) c.left_of-first_pass.ensures.asks c.compare.ensures.first,
+      subst (λ (end : LoopAsks). IsFrontOf (taken_by end.way) (put_by ways.second)) c.left_of-second_pass.ensures.asks c.compare.ensures.second,
+    )

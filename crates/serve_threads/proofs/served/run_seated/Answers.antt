@@ -4,9 +4,10 @@ use Rattle.worker_turns.specs.Acts.{place_of, view_of}
 use Rattle.story_lock.specs.Passes.{seen_by, start_of}
 use Rattle.spine.specs.declared.spine.Spine.{Spine}
 use Rattle.serve_threads.specs.Kept.{PutsAlong}
-use Rattle.serve_threads.specs.Served.{HasMade, views_of}
+use Rattle.serve_threads.specs.Asking.{put_of}
+use Rattle.serve_threads.specs.Served.{FlushesTo, HasMade, views_of}
 use Rattle.serve_threads.proofs.Keeping.{keeps_along, puts_longer}
-use Rattle.serve_threads.proofs.Parts.{looks_of, made_of, met_last, stays_acting, stays_leading}
+use Rattle.serve_threads.proofs.Parts.{looks_of, made_of, met_last, stays_acting, stays_leading, took_first}
 use Rattle.serve_threads.specs.Causes.{BlamesDisk}
 use Rattle.serve_threads.proofs.Counting.{door_stays, loops_blame}
 use Rattle.serve_threads.proofs.served.run_seated.Goals as goal
@@ -14,17 +15,17 @@ use Rattle.serve_threads.proofs.served.run_seated.Goals as goal
 pub gather-requires-clause-turns : goal.gather-requires-clause-turns
 gather-requires-clause-turns g c κs within =
     let cut = c.seats_of-key.ensures.cut in
-    stays_acting (λ z. z.pass) (view_of g.D.Disk.tells g.D.Disk.state g.D.Disk.faults g.D.Disk.syncs) c.args.spine.now.story _ _ _ _ cut.turns cut.are.0 cut.of.0 c.run_all-ran.ensures.acted
+    stays_acting (λ z. z.pass) (view_of g.D.Disk.tells g.D.Disk.state g.D.Disk.faults g.D.Disk.syncs) (FlushesTo (put_of c.run_all-ran.result.flushing.ways)) c.args.spine.now.story _ _ _ _ cut.turns cut.are.0 cut.of.0 c.run_all-ran.ensures.acted
 
 pub gather-requires-clause-first : goal.gather-requires-clause-first
 gather-requires-clause-first g c κs within =
     let cut = c.seats_of-key.ensures.cut in
-    stays_leading (λ z. z.pass) c.args.spine.now.story _ _ cut.first _ cut.are.1 cut.of.1 c.run_all-ran.ensures.first
+    stays_leading (λ z. z.pass) c.args.spine.now.story _ _ cut.first _ cut.are.1 cut.of.1 c.run_all-ran.ensures.first.leads
 
 pub gather-requires-clause-second : goal.gather-requires-clause-second
 gather-requires-clause-second g c κs within =
     let cut = c.seats_of-key.ensures.cut in
-    stays_leading (λ z. z.pass) c.args.spine.now.story _ _ cut.second _ cut.are.2 cut.of.2 c.run_all-ran.ensures.second
+    stays_leading (λ z. z.pass) c.args.spine.now.story _ _ cut.second _ cut.are.2 cut.of.2 c.run_all-ran.ensures.second.leads
 
 pub gather-requires-clause-keeper : goal.gather-requires-clause-keeper
 gather-requires-clause-keeper g c κs within =
@@ -43,8 +44,9 @@ returns-clause-made g c =
     let ran = c.run_all-ran in
     let kept = ran.ensures.kept in
     subst (λ d. HasMade views (place_of c.args.devices.flusher.file c.args.devices.disk) c.gather.result.pass d) (sym c.gather.ensures.disk)
-    (made_of views (λ z. z.pass) (place_of c.args.devices.flusher.file c.args.devices.disk) ran.result.flushing.flusher.file ran.result.flushing.disk c.args.spine.now.story c.args.pass c.gather.result.pass _ _ _ _ _ _ _ _
-    c.requires.first.1 c.requires.numbers c.seats_of-key.ensures.cut c.gather.ensures.met ran.ensures.acted ran.ensures.first ran.ensures.second
+    (made_of views (λ z. z.pass) (put_of ran.result.flushing.ways) (place_of c.args.devices.flusher.file c.args.devices.disk) ran.result.flushing.flusher.file ran.result.flushing.disk c.args.spine.now.story c.args.pass c.gather.result.pass _ _ _ _ _ _ _ _
+    c.requires.first.1 c.requires.numbers c.seats_of-key.ensures.cut c.gather.ensures.met ran.ensures.acted
+    (took_first _ _ _ 0 _ _ _ _ c.gather.ensures.fronts.0 ran.ensures.first.leads) (took_first _ _ _ 1 _ _ _ _ c.gather.ensures.fronts.1 ran.ensures.second.leads)
     (looks_of (λ z. z.pass) (λ z. z.spine.now) (λ (v : Spine). start_of v.story) _ kept.cores _ kept.seen))
 
 pub returns-clause-kept : goal.returns-clause-kept
@@ -72,3 +74,10 @@ returns-clause-disk_cause g c =
 pub returns-clause-keep_grows : goal.returns-clause-keep_grows
 returns-clause-keep_grows g c =
     subst (λ k. g.E.Keep.faults c.args.devices.keep ≤ g.E.Keep.faults k) (sym c.gather.ensures.keep) c.run_all-ran.ensures.keep_grows
+
+pub gather-requires-clause-pairs : goal.gather-requires-clause-pairs
+gather-requires-clause-pairs g c κs within =
+    let ran = c.run_all-ran.ensures in (
+      ran.ways.first c.run_all-ran.result.first.asks.way (ran.first.same c.args.ways.sends.first c.requires.pairs.0),
+      ran.ways.second c.run_all-ran.result.second.asks.way (ran.second.same c.args.ways.sends.second c.requires.pairs.1),
+    )

@@ -17,7 +17,7 @@ returns-clause-left g c =
     let left = c.run_seated-left.ensures in
     let views = views_of g.P.Link.Link.tells g.R.Reader.gives (view_of g.D.Disk.tells g.D.Disk.state g.D.Disk.faults g.D.Disk.syncs) in
     let keep = keep_over g.E.Keep.tells (g.E.Keep.state devices.keep) (g.E.Keep.state c.close.result.keep) in
-    subst (λ (core : Parts). (file : LastFile) × IsLeft views (change_of core place c.close.result.core (place_of file c.close.result.disk)) keep c.close.result.kept) c.in-Ok.ensures.spine.0
+    subst (λ (core : Parts). (file : LastFile) × IsLeft views (change_of core place c.close.result.core (place_of file c.close.result.disk)) keep c.close.result.kept) c.in-Ok-open.ensures.spine.0
     (c.close.ensures.left place devices.keep left.made left.kept)
 
 pub returns-clause-outside : goal.returns-clause-outside

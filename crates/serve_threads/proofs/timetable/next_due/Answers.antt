@@ -1,13 +1,13 @@
 use Rattle.std.proofs.Common.{Some, subst}
 use Rattle.core_log.specs.declared.parts.Parts.{Parts}
-use Rattle.serve_threads.specs.Deliveries.{IsNextDelivery}
+use Rattle.serve_threads.specs.Deliveries.{IsNextDue}
 use Rattle.serve_threads.proofs.Delivering.{look_made}
-use Rattle.serve_threads.proofs.timetable.next_delivery.Goals as goal
+use Rattle.serve_threads.proofs.timetable.next_due.Goals as goal
 
 pub returns-clause-next : goal.returns-clause-next
 returns-clause-next g c =
     let saw = c.look.ensures in
-    let read = saw.2 in (saw.0, saw.1, subst (λ (core : Parts). IsNextDelivery core c.look.result) read.2 read.1)
+    let read = saw.2 in (saw.0, saw.1, subst (λ (core : Parts). IsNextDue core c.look.result) read.2 read.1)
 
 pub returns-clause-made : goal.returns-clause-made
 returns-clause-made g c =
