@@ -111,7 +111,8 @@ def asked_once(producer):
 
 @check("a producer that doesn't decide is asked by itself six seconds later, and where it has gone another one of its group")
 def _(folder):
-    with Broker(folder) as broker, Connection(broker.address) as near, Connection(broker.address) as far, Connection(broker.address) as apart:
+    with Broker(folder) as broker, Connection(broker.address) as near, Connection(broker.address) as far, \
+            Connection(broker.address) as apart:
         first = TransactionProducer(near, "Bank")
         time.sleep(1)  # by then a heartbeat has told who is there
         with TransactionProducer(far, "Bank") as second, TransactionProducer(apart, "Till") as other:

@@ -19,7 +19,7 @@ use Rattle.worker_turns.proofs.ActLemmas.{IsOther, still, acted_then, acted_as, 
 use Rattle.serve_threads.specs.Deliveries.{IsOfDuties, AreOfDuties}
 use Rattle.serve_threads.specs.Asking.{Asking, Asks, HasNoneAsked, MakesAsking, asking_of, put_of}
 use Rattle.serve_threads.specs.declared.asks.AskWays.{AskWays}
-use Rattle.serve_threads.specs.Served.{IsOfFlusher, AreOfFlusher, AreFlushing, FlushesBetween, FlushesTo, of_anybody, Write}
+use Rattle.serve_threads.specs.Served.{IsOfFlusher, AreOfFlusher, ShowsFirst, IsShownBy, ShowsEach, AreFlushing, FlushesBetween, FlushesTo, of_anybody, Write}
 use Rattle.serve_threads.proofs.Asking.{asks_still, asks_then, hands_out}
 
 -- ---- events of the flusher
@@ -47,12 +47,52 @@ steps_append : (xs ys : List Act) → steps_of (xs ++ ys) ≡ steps_of xs ++ ste
 steps_append [] ys = refl
 steps_append (x ∷ xs) ys = ap (λ (l : Made). steps_in x ++ l) (steps_append xs ys) ∙ sym (append_assoc (steps_in x) (steps_of xs) (steps_of ys))
 
+-- ---- what is flushed is shown
+
+shows_more : (xs ys : Made) → ShowsFirst xs → ShowsFirst (xs ++ ys)
+shows_more [] ys shows = absurd shows
+shows_more (x ∷ xs) ys shows = shows
+
+shown_more : (event : Event) (xs ys : Made) → IsShownBy event xs → IsShownBy event (xs ++ ys)
+shown_more (events.Request link host now request) xs ys shown = tt
+shown_more events.Take xs ys shown = tt
+shown_more (events.Flushed receipt) xs ys shown = shows_more xs ys shown
+shown_more (events.FlushFailed count) xs ys shown = tt
+shown_more (events.Look number turn) xs ys shown = tt
+shown_more (events.Dispatch most) xs ys shown = tt
+shown_more (events.Deliver now) xs ys shown = tt
+shown_more (events.Check now) xs ys shown = tt
+shown_more (events.Leave link) xs ys shown = tt
+
+shows_append : (xs ys : Made) → ShowsEach xs → ShowsEach ys → ShowsEach (xs ++ ys)
+shows_append [] ys shows more = more
+shows_append (x ∷ xs) ys shows more = (shown_more x.0 xs ys shows.0, shows_append xs ys shows.1 more)
+
 flushing_append : (xs ys : List Act) → AreFlushing xs → AreFlushing ys → AreFlushing (xs ++ ys)
-flushing_append xs ys are more = subst AreOfFlusher (sym (steps_append xs ys)) (flusher_append (steps_of xs) (steps_of ys) are more)
+flushing_append xs ys one other = record {
+  are = subst AreOfFlusher (sym (steps_append xs ys)) (flusher_append (steps_of xs) (steps_of ys) one.are other.are);
+  shows = subst ShowsEach (sym (steps_append xs ys)) (shows_append (steps_of xs) (steps_of ys) one.shows other.shows);
+}
+
+none_flushing : AreFlushing []
+none_flushing = record { are = tt; shows = tt }
+
+duties_are : (steps : Made) → AreOfDuties steps → AreOfFlusher (steps_of (acts_of_steps steps))
+duties_are [] are = tt
+duties_are (step ∷ steps) are = (attends step.0 are.0, duties_are steps are.1)
+
+-- a delivery, a check and a look flush no batch
+duties_shown : (event : Event) (steps : Made) → IsOfDuties event → IsShownBy event steps
+duties_shown event steps (inl it) = subst (λ (e : Event). IsShownBy e steps) (sym it.1) tt
+duties_shown event steps (inr (inl it)) = subst (λ (e : Event). IsShownBy e steps) (sym it.1) tt
+duties_shown event steps (inr (inr it)) = subst (λ (e : Event). IsShownBy e steps) (sym it.1) tt
+
+duties_show : (steps : Made) → AreOfDuties steps → ShowsEach (steps_of (acts_of_steps steps))
+duties_show [] are = tt
+duties_show (step ∷ steps) are = (duties_shown step.0 (steps_of (acts_of_steps steps)) are.0, duties_show steps are.1)
 
 duties_flushing : (steps : Made) → AreOfDuties steps → AreFlushing (acts_of_steps steps)
-duties_flushing [] are = tt
-duties_flushing (step ∷ steps) are = (attends step.0 are.0, duties_flushing steps are.1)
+duties_flushing steps are = record { are = duties_are steps are; shows = duties_show steps are }
 
 duties_steps : (steps : Made) → steps_of (acts_of_steps steps) ≡ steps
 duties_steps [] = refl
@@ -71,35 +111,69 @@ duties_other event (inr (inr it)) = subst (λ (e : Event). IsOther e) (sym it.1)
 
 -- ---- turns
 
+-- acts of the flusher, which show what is flushed once a dispatch comes directly behind them
+record BeforeShow (turns : List Act) : Type 0 where
+  are : AreOfFlusher (steps_of turns)
+  shows : (what : Option Said) → ShowsEach (steps_of turns ++ (events.Dispatch most_seen, what) ∷ [])
+
+-- one dispatch, whatever was said to it
+Shows : List Act → Type 0
+Shows turns = (what : Option Said) × (turns ≡ acts.Made (events.Dispatch most_seen) what ∷ [])
+
+before_shown : (xs ys : List Act) → BeforeShow xs → Shows ys → AreFlushing (xs ++ ys)
+unfolding Shows
+before_shown xs ys before shown =
+    let dispatch : Made = (events.Dispatch most_seen, shown.0) ∷ [] in
+    let are : steps_of (xs ++ ys) ≡ steps_of xs ++ dispatch = steps_append xs ys ∙ ap (λ (l : List Act). steps_of xs ++ steps_of l) shown.1 in
+    record {
+      are = subst AreOfFlusher (sym are) (flusher_append (steps_of xs) dispatch before.are (shows most_seen, tt));
+      shows = subst ShowsEach (sym are) (before.shows shown.0);
+    }
+
 -- nothing was said, so no batch was taken
 takes_nothing : TakesBatch events.Take None → ⊥
 takes_nothing takes = let is : ◌≡◌ {A = Option Said} None (Some (said.Batch (Some takes.batch))) = takes.said_is in cc
 
 module _ {C D : Type 0} (makes : Steps C) (view : DiskView D) where
   pub no_turns : (x : C) (p : Place D) → Acted makes view AreFlushing (change_of x p x p)
-  no_turns x p = acted_none makes view AreFlushing x p tt
+  no_turns x p = acted_none makes view AreFlushing x p none_flushing
 
   pub turns_then : (x y z : C) (p q r : Place D) → Acted makes view AreFlushing (change_of x p y q) → Acted makes view AreFlushing (change_of y q z r) → Acted makes view AreFlushing (change_of x p z r)
   turns_then x y z p q r first later = acted_then makes view AreFlushing AreFlushing AreFlushing x y z p q r first later flushing_append
 
-  -- a flush turn
-  pub ended_turns : (end : FlushEnd) (x y : C) (old new : Place D)
+  -- a flush turn that found nothing pending
+  pub idle_turns : (end : FlushEnd) (x y : C) (old new : Place D) → end ≡ Idle
       → HasEnded makes (Writes view.tells (synced_at view old) (synced_at view new)) x end y
       → (WroteNone end → new ≡ old) → (TakesFrom makes x old.file → end ≢ Misplaced) → CountsEnd end (view.faults old.disk) (view.faults new.disk) → Acted makes view AreFlushing (change_of x old y new)
+  idle_turns Idle x y old new is ended same placed counts =
+      acted_as makes view (IsTurn Idle) AreFlushing x y old new (λ made is. subst AreFlushing (sym is) (record { are = (takes, tt); shows = (tt, tt) }))
+      (turn_acted makes view Idle x y old new ended same placed counts)
+  idle_turns Done x y old new is ended same placed counts = absurd (cc is)
+  idle_turns (Failed count) x y old new is ended same placed counts = absurd (cc is)
+  idle_turns Misplaced x y old new is ended same placed counts = absurd (cc is)
+  idle_turns Memory x y old new is ended same placed counts = absurd (cc is)
+
+  -- a flush turn
+  ended_turns : (end : FlushEnd) (x y : C) (old new : Place D)
+      → HasEnded makes (Writes view.tells (synced_at view old) (synced_at view new)) x end y
+      → (WroteNone end → new ≡ old) → (TakesFrom makes x old.file → end ≢ Misplaced) → CountsEnd end (view.faults old.disk) (view.faults new.disk) → Acted makes view BeforeShow (change_of x old y new)
   ended_turns Idle x y old new ended same placed counts =
-      acted_as makes view (IsTurn Idle) AreFlushing x y old new (λ made is. subst AreFlushing (sym is) (takes, tt)) (turn_acted makes view Idle x y old new ended same placed counts)
+      acted_as makes view (IsTurn Idle) BeforeShow x y old new (λ made is. subst BeforeShow (sym is) (record { are = (takes, tt); shows = λ what. (tt, (tt, tt)) }))
+      (turn_acted makes view Idle x y old new ended same placed counts)
   ended_turns Done x y old new ended same placed counts =
-      acted_as makes view (IsTurn Done) AreFlushing x y old new (λ made is. subst AreFlushing (sym is.1) (takes, (tells is.0.receipt, tt)))
+      acted_as makes view (IsTurn Done) BeforeShow x y old new
+      (λ made is. subst BeforeShow (sym is.1) (record { are = (takes, (tells is.0.receipt, tt)); shows = λ what. (tt, (refl, (tt, tt))) }))
       (turn_acted makes view Done x y old new ended same placed counts)
   ended_turns (Failed count) x y old new ended same placed counts =
-      acted_as makes view (IsTurn (Failed count)) AreFlushing x y old new (λ made is. subst AreFlushing (sym is.1) (takes, (fails count, tt)))
+      acted_as makes view (IsTurn (Failed count)) BeforeShow x y old new
+      (λ made is. subst BeforeShow (sym is.1) (record { are = (takes, (fails count, tt)); shows = λ what. (tt, (tt, (tt, tt))) }))
       (turn_acted makes view (Failed count) x y old new ended same placed counts)
   ended_turns Misplaced x y old new ended same placed counts =
       let took : Option Said = Some (said.Batch (Some ended.batch)) in
       let failed = ended.steps.2 in
       record {
         acts = acts.Made events.Take took ∷ acts.Made (events.FlushFailed ended.count) (Some said.Done) ∷ [];
-        kind = (takes, (fails ended.count, tt));
+        kind = record { are = (takes, (fails ended.count, tt)); shows = λ what. (tt, (tt, (tt, tt))) };
         happened = (
           ended.steps.0,
           old,
@@ -111,18 +185,25 @@ module _ {C D : Type 0} (makes : Steps C) (view : DiskView D) where
       }
   ended_turns Memory x y old new ended same placed counts = record {
     acts = acts.Made events.Take None ∷ [];
-    kind = (takes, tt);
+    kind = record { are = (takes, tt); shows = λ what. (tt, (tt, tt)) };
     happened = one_step makes view events.Take None x y old new tt takes_nothing (subst (λ (w : C). makes x events.Take None w) ended.2 ended.1) (same tt);
   }
 
-  -- a dispatch
-  pub dispatch_turns : (x y : C) (p : Place D) → IsDispatch makes x y → Acted makes view AreFlushing (change_of x p y p)
-  dispatch_turns x y p made = record {
-    acts = acts.Made (events.Dispatch most_seen) (Some (said.Moved made.0)) ∷ [];
-    kind = (shows most_seen, tt);
-    happened = one_step makes view (events.Dispatch most_seen) (Some (said.Moved made.0)) x y p p tt
-        (takes_none (events.Dispatch most_seen) (Some (said.Moved made.0)) tt) made.1 refl;
-  }
+  -- a flush turn, and the dispatch behind it
+  pub shown_turns : (end : FlushEnd) (x y z : C) (old new : Place D)
+      → HasEnded makes (Writes view.tells (synced_at view old) (synced_at view new)) x end y
+      → (WroteNone end → new ≡ old) → (TakesFrom makes x old.file → end ≢ Misplaced) → CountsEnd end (view.faults old.disk) (view.faults new.disk) → IsDispatch makes y z
+      → Acted makes view AreFlushing (change_of x old z new)
+  unfolding Shows
+  shown_turns end x y z old new ended same placed counts made =
+      let what : Option Said = Some (said.Moved made.0) in
+      acted_then makes view BeforeShow Shows AreFlushing x y z old new new (ended_turns end x y old new ended same placed counts)
+      (record {
+        acts = acts.Made (events.Dispatch most_seen) what ∷ [];
+        kind = (what, refl);
+        happened = one_step makes view (events.Dispatch most_seen) what y z new new tt (takes_none (events.Dispatch most_seen) what tt) made.1 refl;
+      })
+      before_shown
 
   -- deliveries, checks and looks, by which the disk stays as it is
   duties_acts : (p : Place D) (steps : Made) (x y : C) → AreOfDuties steps → Makes makes x steps y → Acts makes view (acts_of_steps steps) (change_of x p y p)
@@ -149,7 +230,7 @@ module _ {C D : Type 0} (makes : Steps C) (view : DiskView D) where
   -- ---- turns by which the flusher goes on asking
 
   pub no_flushes : (x : C) (p : Place D) (it : Asking) → Acted makes view (FlushesBetween it it) (change_of x p x p)
-  no_flushes x p it = acted_none makes view (FlushesBetween it it) x p (tt, asks_still [] it)
+  no_flushes x p it = acted_none makes view (FlushesBetween it it) x p (none_flushing, asks_still [] it)
 
   -- flush turns and dispatches ask nobody
   pub flushes_still : (x y : C) (p q : Place D) (it : Asking) → Acted makes view AreFlushing (change_of x p y q) → Acted makes view (FlushesBetween it it) (change_of x p y q)

@@ -4,7 +4,7 @@ use Rattle.mq_outside.specs.Readings.{Giving}
 use Rattle.mq_outside.specs.declared.faults.DiskFault.{DiskFault}
 use Rattle.log_model.specs.declared.batch.Receipt.{Receipt}
 use Rattle.broker_events.specs.declared.event.Event.{Event}
-use Rattle.broker_events.specs.declared.event.Event.TheVariants.{Take, Flushed, FlushFailed, Dispatch}
+use Rattle.broker_events.specs.declared.event.Event.TheVariants.{Request, Take, Flushed, FlushFailed, Look, Dispatch, Deliver, Check, Leave}
 use Rattle.broker_events.specs.declared.said.Said.{Said}
 use Rattle.segment_files.specs.declared.last_file.LastFile.{LastFile}
 use Rattle.broker_model.specs.State.{State}
@@ -23,6 +23,7 @@ use Rattle.event_loops.specs.Tales.{Act, steps_of, asks_of, made_for, asks_for, 
 use Rattle.event_loops.specs.declared.event_loop.EventLoop.{EventLoop}
 use Rattle.spine.specs.declared.shared.Shared.{Shared}
 use Rattle.worker_turns.specs.Turns.{Steps}
+use Rattle.worker_turns.specs.Turning.{most_seen}
 use Rattle.worker_turns.specs.Acts as acts
 use Rattle.worker_turns.specs.Acts.{Acts, Change, DiskView, Place, place_of, growing_at, change_of}
 use Rattle.story_lock.specs.declared.chronicle.Chronicle.{Ghosts}
@@ -77,9 +78,32 @@ abbrev pub AreOfFlusher : Made → Type 0
 AreOfFlusher [] = Unit {0}
 AreOfFlusher (step ∷ steps) = IsOfFlusher step.0 × AreOfFlusher steps
 
--- acts of the flusher
-abbrev pub AreFlushing : List acts.Act → Type 0
-AreFlushing turns = AreOfFlusher (acts.steps_of turns)
+-- by the first of these steps consumers are let see what is flushed
+abbrev pub ShowsFirst : Made → Type 0
+ShowsFirst [] = ⊥
+ShowsFirst (step ∷ steps) = step.0 ≡ Dispatch most_seen
+
+-- where the event tells that a batch is flushed, the next of these steps does so
+abbrev pub IsShownBy : Event → Made → Type 0
+IsShownBy (Request link host now request) steps = Unit {0}
+IsShownBy Take steps = Unit {0}
+IsShownBy (Flushed receipt) steps = ShowsFirst steps
+IsShownBy (FlushFailed count) steps = Unit {0}
+IsShownBy (Look number turn) steps = Unit {0}
+IsShownBy (Dispatch most) steps = Unit {0}
+IsShownBy (Deliver now) steps = Unit {0}
+IsShownBy (Check now) steps = Unit {0}
+IsShownBy (Leave link) steps = Unit {0}
+
+-- directly behind each step that flushed a batch consumers are let see what is flushed
+abbrev pub ShowsEach : Made → Type 0
+ShowsEach [] = Unit {0}
+ShowsEach (step ∷ steps) = IsShownBy step.0 steps × ShowsEach steps
+
+-- acts of the flusher, which lets consumers see each batch once it is flushed
+pub record AreFlushing (turns : List acts.Act) : Type 0 where
+  pub are : AreOfFlusher (acts.steps_of turns)
+  pub shows : ShowsEach (acts.steps_of turns)
 
 -- the same, by which the flusher went on asking from the one to the other
 abbrev pub FlushesBetween : Asking → Asking → List acts.Act → Type 0

@@ -1,7 +1,8 @@
 //! The flusher: one write and one sync for all that is pending, as often as something is. Between, it delivers delayed messages,
 //! checks half messages, and sends check-backs to the loops.
 
-ghost use Rattle.std.specs.Prelude.{◌≡◌, ◌≤◌, None};
+ghost use Rattle.std.specs.Prelude.{◌≡◌, ◌≤◌, None, true};
+ghost use Rattle.worker_turns.specs.declared.flush.FlushEnd.TheVariants.{Idle};
 ghost use Rattle.log_model.specs.Stored.{StaysOutside};
 ghost use Rattle.segment_files.specs.Turn.{IsInside};
 ghost use Rattle.worker_turns.specs.Acts.{IsFree, Acted, place_of, view_of, change_of};
@@ -31,6 +32,13 @@ fn show<C: Calls>(alloc: Global, calls: &mut C)
     ensures made { IsDispatch C.makes calls.old calls.new }
 {
     let _ = dispatch_turn(alloc, calls, u32::MAX);
+}
+
+// Whether nothing was pending.
+fn is_idle(end: FlushEnd) -> bool
+    ensures { result ≡ true → end ≡ Idle }
+{
+    matches!(end, FlushEnd::Idle)
 }
 
 // Tells the loops that wait for a turn that one has ended like this.
@@ -70,7 +78,7 @@ fn flush_all<W: Wait, C: Calls, D: Disk, P: Ready>(
 {
     for _ in rt.forever() {
         let end = flush_turn(alloc, calls, flusher, disk);
-        if end == FlushEnd::Idle {
+        if is_idle(end) {
             return end;
         }
         show(alloc, calls);

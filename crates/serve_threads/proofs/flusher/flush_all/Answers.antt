@@ -1,7 +1,7 @@
 use Rattle.std.proofs.Common.{arith}
 use Rattle.log_model.proofs.OutsideLemmas.{outside_start, outside_then}
 use Rattle.worker_turns.specs.Acts.{place_of}
-use Rattle.serve_threads.proofs.Turns.{no_turns, turns_then, ended_turns, dispatch_turns}
+use Rattle.serve_threads.proofs.Turns.{no_turns, turns_then, idle_turns, shown_turns}
 use Rattle.serve_threads.proofs.Counting.{turn_grows, turn_blamed}
 use Rattle.serve_threads.proofs.flusher.flush_all.Goals as goal
 
@@ -17,25 +17,24 @@ loop-init g c = record {
   grow = omega arith;
 }
 
-pub returns-then-eq-clause-outside : goal.returns-then-eq-clause-outside
-returns-then-eq-clause-outside g c = λ tells. outside_then (c.loop.invariant.outside tells) (c.flush_turn-end.ensures.outside tells)
+pub returns-then-is_idle-clause-outside : goal.returns-then-is_idle-clause-outside
+returns-then-is_idle-clause-outside g c = λ tells. outside_then (c.loop.invariant.outside tells) (c.flush_turn-end.ensures.outside tells)
 
 pub returns-then-ne-clause-outside : goal.returns-then-ne-clause-outside
 returns-then-ne-clause-outside g c = λ tells. outside_then (c.loop.invariant.outside tells) (c.flush_turn-end.ensures.outside tells)
 
-pub returns-then-eq-clause-acted : goal.returns-then-eq-clause-acted
-returns-then-eq-clause-acted g c =
+pub returns-then-is_idle-clause-acted : goal.returns-then-is_idle-clause-acted
+returns-then-is_idle-clause-acted g c =
     turns_then g.C.Calls.makes _ _ _ _ _ _ _ c.loop.invariant.acted
-    (ended_turns g.C.Calls.makes _ c.flush_turn-end.result _ _ _ _ c.flush_turn-end.ensures.ended
+    (idle_turns g.C.Calls.makes _ c.flush_turn-end.result _ _ _ _ (c.is_idle.ensures c.if-is_idle.true) c.flush_turn-end.ensures.ended
     (λ none. let rests = c.flush_turn-end.ensures.rests none in λ i. place_of ((rests.0 i).file) (rests.1 i)) c.flush_turn-end.ensures.placed c.flush_turn-end.ensures.cause)
 
 pub returns-then-ne-clause-acted : goal.returns-then-ne-clause-acted
 returns-then-ne-clause-acted g c =
     turns_then g.C.Calls.makes _ _ _ _ _ _ _ c.loop.invariant.acted
-    (turns_then g.C.Calls.makes _ _ _ _ _ _ _
-    (ended_turns g.C.Calls.makes _ c.flush_turn-end.result _ _ _ _ c.flush_turn-end.ensures.ended
-    (λ none. let rests = c.flush_turn-end.ensures.rests none in λ i. place_of ((rests.0 i).file) (rests.1 i)) c.flush_turn-end.ensures.placed c.flush_turn-end.ensures.cause)
-    (dispatch_turns g.C.Calls.makes _ _ _ _ c.show.ensures.made))
+    (shown_turns g.C.Calls.makes _ c.flush_turn-end.result _ _ _ _ _ c.flush_turn-end.ensures.ended
+    (λ none. let rests = c.flush_turn-end.ensures.rests none in λ i. place_of ((rests.0 i).file) (rests.1 i)) c.flush_turn-end.ensures.placed c.flush_turn-end.ensures.cause
+    c.show.ensures.made)
 
 pub loop-preserved : goal.loop-preserved
 loop-preserved g c = record {
@@ -46,18 +45,17 @@ loop-preserved g c = record {
   inside = c.flush_turn-end.ensures.inside;
   outside = λ tells. outside_then (c.loop.invariant.outside tells) (c.flush_turn-end.ensures.outside tells);
   acted = turns_then g.C.Calls.makes _ _ _ _ _ _ _ c.loop.invariant.acted
-      (turns_then g.C.Calls.makes _ _ _ _ _ _ _
-      (ended_turns g.C.Calls.makes _ c.flush_turn-end.result _ _ _ _ c.flush_turn-end.ensures.ended
-      (λ none. let rests = c.flush_turn-end.ensures.rests none in λ i. place_of ((rests.0 i).file) (rests.1 i)) c.flush_turn-end.ensures.placed c.flush_turn-end.ensures.cause)
-      (dispatch_turns g.C.Calls.makes _ _ _ _ c.show.ensures.made));
+      (shown_turns g.C.Calls.makes _ c.flush_turn-end.result _ _ _ _ _ c.flush_turn-end.ensures.ended
+      (λ none. let rests = c.flush_turn-end.ensures.rests none in λ i. place_of ((rests.0 i).file) (rests.1 i)) c.flush_turn-end.ensures.placed c.flush_turn-end.ensures.cause
+      c.show.ensures.made);
   grow = omega (arith, c.loop.invariant.grow, turn_grows c.flush_turn-end.result _ _ c.flush_turn-end.ensures.cause);
 }
 
-pub returns-then-eq-clause-grow : goal.returns-then-eq-clause-grow
-returns-then-eq-clause-grow g c = omega (arith, c.loop.invariant.grow, turn_grows c.flush_turn-end.result _ _ c.flush_turn-end.ensures.cause)
+pub returns-then-is_idle-clause-grow : goal.returns-then-is_idle-clause-grow
+returns-then-is_idle-clause-grow g c = omega (arith, c.loop.invariant.grow, turn_grows c.flush_turn-end.result _ _ c.flush_turn-end.ensures.cause)
 
-pub returns-then-eq-clause-cause : goal.returns-then-eq-clause-cause
-returns-then-eq-clause-cause g c = turn_blamed c.flush_turn-end.result _ _ _ c.loop.invariant.grow c.flush_turn-end.ensures.cause
+pub returns-then-is_idle-clause-cause : goal.returns-then-is_idle-clause-cause
+returns-then-is_idle-clause-cause g c = turn_blamed c.flush_turn-end.result _ _ _ c.loop.invariant.grow c.flush_turn-end.ensures.cause
 
 pub returns-then-ne-clause-grow : goal.returns-then-ne-clause-grow
 returns-then-ne-clause-grow g c = omega (arith, c.loop.invariant.grow, turn_grows c.flush_turn-end.result _ _ c.flush_turn-end.ensures.cause)
