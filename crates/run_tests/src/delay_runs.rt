@@ -1,9 +1,9 @@
-//! Calls of `serve` over a peer that sends a delayed message and one that pulls: the message comes by itself once the flusher's clock
-//! says that its time has come, and not before.
+//! Calls of `serve` over a peer that sends a delayed message and one that pulls, and over a producer that leaves a half message
+//! undecided: the message and the check-back come by themselves once the flusher's clock says that their time has come, and not before.
 
 ghost use Rattle.std.specs.Prelude.{◌<◌, ◌^◌};
 
-use crate::frames::put_delayed_send;
+use crate::frames::{put_delayed_send, put_half_send, put_heartbeat};
 use crate::journal::{Journal, Note};
 use crate::links::{Left, disk, left_of, serve_over};
 use crate::peer::{Peer, Script};
@@ -23,6 +23,12 @@ const DUE: u64 = 3_000;
 const DELAYED_LEN: usize = 158;
 
 const DELIVERED_LEN: usize = 123;
+
+/// When the half message is first checked, in milliseconds: six seconds after it was sent.
+const CHECKED: u64 = 8_000;
+
+/// How long its record is.
+const HALF_LEN: usize = 178;
 
 // A peer that sends a message that is delayed by a second.
 fn sender(alloc: Global) -> Result<Script, AllocError> {
@@ -57,6 +63,24 @@ fn sender_and_puller(alloc: Global, last: Reply) -> Result<Vec<Script>, AllocErr
     let mut scripts = Vec::new(alloc);
     scripts.push(sender(alloc)?)?;
     scripts.push(puller(alloc, last)?)?;
+    Ok(scripts)
+}
+
+// A producer that tells who it is and sends a half message, and ends its side once it was told this.
+fn producer(alloc: Global, last: Reply) -> Result<Vec<Script>, AllocError> {
+    let mut first = Vec::new(alloc);
+    put_heartbeat(&mut first)?;
+    put_half_send(&mut first)?;
+    let mut scripts = Vec::new(alloc);
+    scripts.push(Script {
+        number: 1,
+        after: None,
+        first,
+        again: Vec::new(alloc),
+        last,
+        stays: None,
+        gone: None,
+    })?;
     Ok(scripts)
 }
 
@@ -101,6 +125,47 @@ fn a_delayed_message_does_not_come_before_it_is_due(rt: HostRuntime) -> Result<(
     assert!(rt; left == served(1, DELAYED_LEN));
     assert!(rt;
         notes.contains(&Note::Done(2)) && !notes.contains(&Note::Missed),
+        "{notes:?}"
+    );
+    Ok(())
+}
+
+// What is left where a producer's half message is undecided, and the flusher's clock always says this. The producer stays until it was
+// told `last`.
+fn undecided_at<W: Wait + Threads + Clock + Sync>(
+    rt: &W,
+    alloc: Global,
+    last: Reply,
+    timer: u64,
+) -> Result<(Left, Vec<Note>), AllocError>
+    requires { timer < 2 ^ 62 }
+{
+    let journal = Journal::new(rt, alloc);
+    let words = ["serve", "--connections", "1"];
+    let door = door(alloc, &journal, Calls::Never, producer(alloc, last)?)?;
+    let left = serve_at(rt, alloc, &words, door, timer)?;
+    Ok((left, journal.into_notes()))
+}
+
+#[test]
+fn a_producer_that_does_not_decide_is_asked_by_itself_once_it_is_due(
+    rt: HostRuntime,
+) -> Result<(), Fail> {
+    let (left, notes) = undecided_at(&rt, rt.alloc(), Reply::Asked, CHECKED)?;
+    assert!(rt; left.code == 0 && left.records == Some((2, 2)), "{left:?}");
+    assert!(rt;
+        notes.contains(&Note::Done(1)) && !notes.contains(&Note::Missed),
+        "{notes:?}"
+    );
+    Ok(())
+}
+
+#[test]
+fn a_producer_is_not_asked_before_it_is_due(rt: HostRuntime) -> Result<(), Fail> {
+    let (left, notes) = undecided_at(&rt, rt.alloc(), Reply::Sent(0), CHECKED - 1)?;
+    assert!(rt; left == served(1, HALF_LEN));
+    assert!(rt;
+        notes.contains(&Note::Done(1)) && !notes.contains(&Note::Missed),
         "{notes:?}"
     );
     Ok(())

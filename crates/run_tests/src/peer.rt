@@ -3,11 +3,14 @@
 ghost use Rattle.std.specs.Prelude.{◌≡◌, ◌≤◌, ◌∷◌, [], length, IfSome};
 
 use crate::journal::{Journal, LOOKS, Note};
-use crate::replies::{Reply, reply_in};
+use crate::replies::{Reply, first_frame, reply_in};
 use mq_outside::Failed;
 use mq_peers::{Incoming, Link};
 use std::sync::Wait;
 use std::time::Clock;
+
+/// A peer is sent fewer frames than this.
+const FRAMES_MAX: u32 = 16;
 
 /// What a peer says, and when.
 #[derive(Drop)]
@@ -100,8 +103,21 @@ impl<'a, W: Wait + Clock> Saying<'a, W> {
         Some(said)
     }
 
-    // Takes a reply.
-    fn take(&mut self, frame: &[u8]) {
+    // Takes what it is sent.
+    fn take(&mut self, piece: &[u8]) {
+        let mut rest = piece;
+        for _ in 0..FRAMES_MAX {
+            if rest.is_empty() {
+                return;
+            }
+            let (frame, behind) = first_frame(rest);
+            self.take_frame(frame);
+            rest = behind;
+        }
+    }
+
+    // Takes a reply, or a check-back.
+    fn take_frame(&mut self, frame: &[u8]) {
         let reply = reply_in(frame);
         self.journal.note(Note::Took(self.script.number, reply));
         self.waits = false;

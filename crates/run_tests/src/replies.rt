@@ -1,4 +1,6 @@
-//! What the bytes of a reply say.
+//! What the bytes say that a peer takes: replies, and check-backs.
+
+ghost use Rattle.std.specs.Prelude.{◌≤◌, length, IfSome};
 
 /// What a reply says.
 #[derive(Clone, Copy, Debug, PartialEq, Eq)]
@@ -9,7 +11,9 @@ pub(crate) enum Reply {
     Pulled(u64),
     /// It has this code, which isn't 0.
     Refused(u64),
-    /// It is no reply to a send or a pull.
+    /// It is no reply: it asks what became of a half message.
+    Asked,
+    /// It is none of these.
     Unclear,
 }
 
@@ -41,21 +45,39 @@ fn number_behind(frame: &[u8], text: &[u8]) -> Option<u64> {
     Some(number)
 }
 
-// Whether the bytes are one frame.
-fn is_frame(bytes: &[u8]) -> bool {
+// How many bytes the first frame has, where the bytes begin with a whole one.
+fn frame_len(bytes: &[u8]) -> Option<usize>
+    ensures { IfSome result (λ n. n ≤ length bytes.now) }
+{
     match bytes {
-        [a, b, c, d, rest @ ..] => u32::from_be_bytes([*a, *b, *c, *d]) as usize == rest.len(),
-        _ => false,
+        [a, b, c, d, rest @ ..] => {
+            let len = u32::from_be_bytes([*a, *b, *c, *d]) as usize;
+            if len <= rest.len() {
+                Some(4 + len)
+            } else {
+                None
+            }
+        }
+        _ => None,
     }
 }
 
-/// What a reply says.
+/// The first frame of these bytes with what is behind it; where they don't begin with a whole one, all of them.
+pub(crate) fn first_frame(bytes: &[u8]) -> (&[u8], &[u8]) {
+    match frame_len(bytes) {
+        Some(len) => bytes.split_at(len),
+        None => (bytes, &[]),
+    }
+}
+
+/// What a frame says.
 pub(crate) fn reply_in(frame: &[u8]) -> Reply {
-    if !is_frame(frame) {
+    if frame_len(frame) != Some(frame.len()) {
         return Reply::Unclear;
     }
     match number_behind(frame, b"\"code\":") {
         Some(0) => reply_with_offset(frame),
+        Some(39) => Reply::Asked,
         Some(code) => Reply::Refused(code),
         None => Reply::Unclear,
     }
