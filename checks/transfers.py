@@ -16,41 +16,18 @@ import time
 
 from clocked import FIRST, Clock, Pipe, Serve, answers, greatest, is_clock_taken, pairs_of, pulled_all, said_of
 from killed_broker import until
-from wire import SYSTEM_TOPICS, check, frame, frames_of, properties, pull, pulled, records, reply_of, send
+from wire import (COMMIT, ROLLBACK, SYSTEM_TOPICS, UNKNOWN, check, frame, frames_of, half, properties, pull, pulled, records, reply_of,
+                  send, told, verdict, where)
 
 HALF_TOPIC, OP_TOPIC, GIVEN_UP_TOPIC = SYSTEM_TOPICS[1:]
-UNKNOWN, COMMIT, ROLLBACK = 0, 8, 12
 OF_TRANSACTION = ("TRAN_MSG", "REAL_TOPIC", "REAL_QID", "TRAN_PREPARED_QUEUE_OFFSET", "TRANSACTION_CHECK_TIMES")
 FIRST_CHECK, NEXT_CHECK, MOST_CHECKS = 6000, 60000, 15
-
-
-def half(opaque, body, more=(), **fields):
-    """A send of a half message, with perhaps `more` properties."""
-    return send(opaque, body, properties=properties([("TRAN_MSG", "true"), *more]), **fields)
-
-
-def verdict(opaque, decision, queue_offset, place, group="P", key="", flag=0, binary=False):
-    """A verdict on the half message at this queue offset and this place."""
-    ext = {"producerGroup": group, "tranStateTableOffset": str(queue_offset), "commitLogOffset": str(place),
-           "commitOrRollback": str(decision), "fromTransactionCheck": "false", "msgId": key, "transactionId": key}
-    return frame({"code": 37, "extFields": ext, "flag": flag, "opaque": opaque, "version": 395}, b"", binary)
 
 
 def beat(opaque, *groups):
     """A heartbeat of a client that is a producer of these groups."""
     said = {"clientID": "c1", "producerDataSet": [{"groupName": group} for group in groups], "consumerDataSet": []}
     return frame({"code": 34, "extFields": {}, "flag": 0, "opaque": opaque, "version": 395}, json.dumps(said).encode())
-
-
-def told(reply):
-    """The code and the remark of a reply."""
-    return reply["code"], reply.get("remark", "")
-
-
-def where(reply):
-    """Where the half message is that this reply tells of: its queue offset and its place."""
-    assert told(reply) == (0, ""), reply
-    return int(reply["extFields"]["queueOffset"]), int(reply["extFields"]["msgId"][16:], 16)
 
 
 def without(pairs, *names):

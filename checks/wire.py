@@ -12,6 +12,8 @@ import zlib
 PROGRAM = os.path.abspath(sys.argv[1])
 SYSTEM_TOPICS = ("SCHEDULE_TOPIC_XXXX", "RMQ_SYS_TRANS_HALF_TOPIC", "RMQ_SYS_TRANS_OP_HALF_TOPIC", "TRANS_CHECK_MAX_TIME_TOPIC")
 
+UNKNOWN, COMMIT, ROLLBACK = 0, 8, 12  # the verdicts on a half message
+
 # SEND_MESSAGE's names, and the letters that stand for them in SEND_MESSAGE_V2
 LETTERS = {"producerGroup": "a", "topic": "b", "defaultTopic": "c", "defaultTopicQueueNums": "d", "queueId": "e", "sysFlag": "f",
            "bornTimestamp": "g", "flag": "h", "properties": "i", "reconsumeTimes": "j", "unitMode": "k",
@@ -67,6 +69,18 @@ def commit(opaque, offset, **names):
     return of_group(15, opaque, commitOffset=str(offset), **names)
 
 
+def half(opaque, body, more=(), **fields):
+    """A send of a half message, with perhaps `more` properties."""
+    return send(opaque, body, properties=properties([("TRAN_MSG", "true"), *more]), **fields)
+
+
+def verdict(opaque, decision, queue_offset, place, group="P", key="", flag=0, binary=False):
+    """A verdict on the half message at this queue offset and this place."""
+    ext = {"producerGroup": group, "tranStateTableOffset": str(queue_offset), "commitLogOffset": str(place),
+           "commitOrRollback": str(decision), "fromTransactionCheck": "false", "msgId": key, "transactionId": key}
+    return frame({"code": 37, "extFields": ext, "flag": flag, "opaque": opaque, "version": 395}, b"", binary)
+
+
 def binary_header(text):
     """The header that these bytes are, as a JSON header would say it."""
     at = 17
@@ -120,6 +134,17 @@ def reply_of(frame):
     """The reply that this one frame is, with its body."""
     head = int.from_bytes(frame[5:8], "big")
     return {**header_of(frame), "body": frame[8 + head:]}
+
+
+def told(reply):
+    """The code and the remark of a reply."""
+    return reply["code"], reply.get("remark", "")
+
+
+def where(reply):
+    """Where the half message is that this reply tells of: its queue offset and its place."""
+    assert told(reply) == (0, ""), reply
+    return int(reply["extFields"]["queueOffset"]), int(reply["extFields"]["msgId"][16:], 16)
 
 
 def pulled(body):

@@ -5,18 +5,12 @@ ghost use Rattle.broker_events.specs.Shown.{Shown, Accepts, moved};
 ghost use Rattle.broker_events.specs.declared.said.Said.{Said as ASaid};
 ghost use Rattle.core_log.specs.Shows.{shown_of};
 
-use crate::asked::What;
-use crate::frames::{frame_of, verdict_frame};
-use crate::words::Answer;
+use crate::events::{What, event_of};
+use crate::words::put_said;
 use broker_core::Alone;
 use broker_events::{Calls, Event, is_served};
-use remoting_frame::Frame;
-use request_fields::Request;
 use std::alloc::Global;
 use std::test::Fail;
-
-/// The host of each client.
-const HOST: [u8; 8] = [127, 0, 0, 1, 0, 0, 0, 0];
 
 // The event is none of a flush turn, and the core answers it.
 fn is_answered(event: &Event) -> bool
@@ -31,47 +25,23 @@ fn is_answered(event: &Event) -> bool
     }
 }
 
-// The request of a frame comes.
-fn asks(alloc: Global, now: u64, link: u32, frame: Frame) -> Result<Event, Fail> {
-    match Request::read(alloc, frame) {
-        Ok(request) => Ok(Event::Request {
-            link,
-            host: HOST,
-            now,
-            request,
-        }),
-        Err(_) => Err(Fail::from("no request")),
-    }
-}
-
-fn event_of(alloc: Global, now: u64, what: What) -> Result<Event, Fail> {
-    match what {
-        What::Ask(asked) => asks(alloc, now, asked.link, frame_of(alloc, &asked)?),
-        What::Look { number, turn } => Ok(Event::Look { number, turn }),
-        What::Dispatch { most } => Ok(Event::Dispatch { most }),
-        What::Leave { link } => Ok(Event::Leave { link }),
-        What::End(verdict) => asks(alloc, now, 1, verdict_frame(alloc, &verdict)?),
-        What::Deliver => Ok(Event::Deliver { now }),
-        What::Check => Ok(Event::Check { now }),
-        What::Flush => Err(Fail::from("no event of its own")),
-    }
-}
-
 // What the core says to an event that it answers.
-fn give(alloc: Global, alone: &mut Alone, event: &Event) -> Result<Answer, Fail>
+fn give(alloc: Global, alone: &mut Alone, event: &Event) -> Result<String, Fail>
     requires accepted { (shown : Shown) → Accepts shown event.now }
     requires stays { (shown : Shown) (what : Option ASaid) → moved shown event.now what ≡ shown }
     requires none_out { (shown_of alone.old.core).out ≡ None }
     ensures none_out { (shown_of alone.new.core).out ≡ None }
 {
+    let mut words = String::new(alloc);
     let said = alone.call(alloc, event)?;
-    let answer = Answer::of(alloc, &said);
+    let put = put_said(&mut words, &said);
     drop(said);
-    Ok(answer?)
+    put?;
+    Ok(words)
 }
 
 // The same, where it answers it.
-fn told(alloc: Global, alone: &mut Alone, event: &Event) -> Result<Answer, Fail>
+fn told(alloc: Global, alone: &mut Alone, event: &Event) -> Result<String, Fail>
     requires none_out { (shown_of alone.old.core).out ≡ None }
     ensures none_out { (shown_of alone.new.core).out ≡ None }
 {
@@ -81,13 +51,13 @@ fn told(alloc: Global, alone: &mut Alone, event: &Event) -> Result<Answer, Fail>
     give(alloc, alone, event)
 }
 
-/// What the core says to this at this reading of the clock.
-pub(crate) fn tell(alloc: Global, alone: &mut Alone, now: u64, what: What) -> Result<Answer, Fail>
+/// What the core says to this at this reading of the clock, in words.
+pub(crate) fn tell(alloc: Global, alone: &mut Alone, now: u64, what: &What) -> Result<String, Fail>
     requires none_out { (shown_of alone.old.core).out ≡ None }
     ensures none_out { (shown_of alone.new.core).out ≡ None }
 {
     let event = event_of(alloc, now, what)?;
-    let answer = told(alloc, alone, &event);
+    let words = told(alloc, alone, &event);
     drop(event);
-    answer
+    words
 }

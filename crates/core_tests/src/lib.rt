@@ -1,32 +1,14 @@
-//! The core over a disk in memory: worked events with their answers, and events that look like chance beside what was sent.
+//! The core over a disk in memory: what no client sees, and one answer to each kind of event.
 #![tactic(auto)]
 
 #[cfg(test)]
 mod answers;
 #[cfg(test)]
-mod asked;
-#[cfg(test)]
-mod chance_tests;
-#[cfg(test)]
 mod check_tests;
 #[cfg(test)]
-mod delay_tests;
+mod event_tests;
 #[cfg(test)]
-mod dice;
-#[cfg(test)]
-mod frames;
-#[cfg(test)]
-mod group_tests;
-#[cfg(test)]
-mod half_tests;
-#[cfg(test)]
-mod ledger;
-#[cfg(test)]
-mod pull_tests;
-#[cfg(test)]
-mod query_tests;
-#[cfg(test)]
-mod sequences;
+mod events;
 #[cfg(test)]
 mod stage;
 #[cfg(test)]

@@ -1,25 +1,24 @@
 //! The core over a disk in memory, and tables of what happens to it.
 
-ghost use Rattle.std.specs.Prelude.{◌≡◌, None, IfOk, OnOk};
+ghost use Rattle.std.specs.Prelude.{◌≡◌, None, IfOk};
 ghost use Rattle.mq_outside.specs.MemDiskState.{state_of};
-ghost use Rattle.log_model.specs.Log.{IsSegmentSize};
 ghost use Rattle.segment_files.specs.Turn.{IsInside};
 ghost use Rattle.core_log.specs.Shows.{shown_of};
 
 use crate::answers::tell;
-use crate::asked::What;
-use crate::words::Answer;
+use crate::events::What;
 use broker_core::Alone;
 use broker_events::Setup;
 use group_flush::Flusher;
 use log_opening::{Opened, open_log};
 use mq_outside::{Disk, MemDisk, Room};
 use std::alloc::Global;
+use std::process::Abort;
 use std::test::Fail;
 use worker_turns::flush_turn;
 
 /// The broker's host is 127.0.0.1:10911, segments have 1 GiB, and replies wait for the disk.
-pub(crate) const SETUP: Setup = Setup {
+const SETUP: Setup = Setup {
     segment: 1 << 30,
     host: [127, 0, 0, 1, 0, 0, 42, 159],
     sync: true,
@@ -27,6 +26,9 @@ pub(crate) const SETUP: Setup = Setup {
 
 /// The file of the log's first segment.
 const FIRST_FILE: &str = "commitlog/00000000000000000000";
+
+/// A reading of the clock, what happens, and what is said to that, in words.
+pub(crate) type Row = (u64, What, &'static str);
 
 /// The core, and what its flush turns need.
 #[derive(Drop)]
@@ -50,79 +52,52 @@ fn disk_with(alloc: Global, log: &[u8], fails: &[u64]) -> Result<MemDisk, Fail> 
     Ok(disk)
 }
 
-// The core over the log of this disk, and its flusher.
-fn open(alloc: Global, disk: &mut MemDisk, setup: Setup) -> Result<Opened, Fail>
-    requires { IsSegmentSize setup.segment }
-    ensures none_out { IfOk result (λ it. (shown_of it.core).out ≡ None) }
-    ensures inside { IfOk result (λ it. IsInside it.flusher.file.base it.flusher.file.offset (state_of disk.new)) }
-{
-    match open_log(alloc, disk, setup) {
-        Ok(opened) => Ok(opened),
-        Err(_) => Err(Fail::from("the store is not opened")),
-    }
-}
-
 /// The core over a log with these bytes in its first segment. The calls of its disk with these numbers fail.
-pub(crate) fn begin(alloc: Global, setup: Setup, log: &[u8], fails: &[u64]) -> Result<Stage, Fail>
-    requires { IsSegmentSize setup.segment }
+pub(crate) fn begin(alloc: Global, log: &[u8], fails: &[u64]) -> Result<Stage, Fail>
     ensures none_out { IfOk result (λ it. (shown_of it.alone.core).out ≡ None) }
     ensures inside { IfOk result (λ it. IsInside it.flusher.file.base it.flusher.file.offset (state_of it.disk)) }
 {
     let mut disk = disk_with(alloc, log, fails)?;
-    let Opened { core, flusher } = open(alloc, &mut disk, setup)?;
-    Ok(Stage {
-        alone: Alone::new(core),
-        flusher,
-        disk,
-    })
-}
-
-// The first segment of the log is cut to so many bytes, where it has more.
-fn cut(disk: &mut MemDisk, left: u64) -> Result<(), Fail> {
-    let Ok(len) = disk.len(FIRST_FILE) else {
-        return Err(Fail::from("not read"));
-    };
-    if left < len && disk.cut(FIRST_FILE, left).is_err() {
-        return Err(Fail::from("not cut"));
+    match open_log(alloc, &mut disk, SETUP) {
+        Ok(Opened { core, flusher }) => Ok(Stage {
+            alone: Alone::new(core),
+            flusher,
+            disk,
+        }),
+        Err(_) => Err(Fail::from("the store is not opened")),
     }
-    Ok(())
 }
 
-/// The core is gone with all that isn't on the disk, where at most so many bytes of the first segment are left, and its log is
-/// opened again.
-pub(crate) fn reopen(alloc: Global, stage: &mut Stage, setup: Setup, left: u64) -> Result<(), Fail>
-    requires { IsSegmentSize setup.segment }
-    ensures none_out { OnOk result ((shown_of stage.new.alone.core).out ≡ None) }
-    ensures inside { OnOk result (IsInside stage.new.flusher.file.base stage.new.flusher.file.offset (state_of stage.new.disk)) }
-{
-    cut(&mut stage.disk, left)?;
-    let Opened { core, flusher } = open(alloc, &mut stage.disk, setup)?;
-    stage.alone = Alone::new(core);
-    stage.flusher = flusher;
-    Ok(())
-}
-
-// A flush turn, and how it ended.
-fn flush(alloc: Global, stage: &mut Stage) -> Result<Answer, Fail>
+// What is said to this at this reading of the clock.
+fn play(alloc: Global, stage: &mut Stage, now: u64, what: &What) -> Result<String, Fail>
     requires none_out { (shown_of stage.old.alone.core).out ≡ None }
     requires inside { IsInside stage.old.flusher.file.base stage.old.flusher.file.offset (state_of stage.old.disk) }
     ensures none_out { (shown_of stage.new.alone.core).out ≡ None }
     ensures inside { IsInside stage.new.flusher.file.base stage.new.flusher.file.offset (state_of stage.new.disk) }
 {
-    let end = flush_turn(alloc, &mut stage.alone, &mut stage.flusher, &mut stage.disk);
-    let words = format!(in alloc; "{end:?}")?;
-    Ok(Answer::new(alloc, words))
+    if let What::Flush = what {
+        let end = flush_turn(alloc, &mut stage.alone, &mut stage.flusher, &mut stage.disk);
+        return Ok(format!(in alloc; "{end:?}")?);
+    }
+    tell(alloc, &mut stage.alone, now, what)
 }
 
-/// What is said to this at this reading of the clock.
-pub(crate) fn play(alloc: Global, stage: &mut Stage, now: u64, what: What) -> Result<Answer, Fail>
-    requires none_out { (shown_of stage.old.alone.core).out ≡ None }
-    requires inside { IsInside stage.old.flusher.file.base stage.old.flusher.file.offset (state_of stage.old.disk) }
-    ensures none_out { (shown_of stage.new.alone.core).out ≡ None }
-    ensures inside { IsInside stage.new.flusher.file.base stage.new.flusher.file.offset (state_of stage.new.disk) }
-{
-    match what {
-        What::Flush => flush(alloc, stage),
-        _ => tell(alloc, &mut stage.alone, now, what),
+/// Goes through a table, from an empty store on. The calls of its disk with these numbers fail.
+pub(crate) fn follow(
+    rt: &impl Abort,
+    alloc: Global,
+    fails: &[u64],
+    rows: &[Row],
+) -> Result<(), Fail> {
+    let mut stage = begin(alloc, b"", fails)?;
+    for row in rows {
+        let words = play(alloc, &mut stage, row.0, &row.1)?;
+        assert!(rt;
+            words.as_str() == row.2,
+            "{}: {words}, not {}",
+            row.0,
+            row.2
+        );
     }
+    Ok(())
 }

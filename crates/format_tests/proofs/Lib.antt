@@ -1,2 +1,1 @@
-pub mod HalfLemmas
 pub mod SealLemmas

@@ -2,8 +2,6 @@
 #![tactic(auto)]
 
 #[cfg(test)]
-mod ask_tests;
-#[cfg(test)]
 mod byte_tests;
 #[cfg(test)]
 mod config_tests;

@@ -1,4 +1,4 @@
-//! The documented reply, a refusal, and bodies that are read or can't be.
+//! The documented reply, and bodies that are read or can't be.
 
 ghost use Rattle.std.specs.Prelude.{◌≡◌, ◌+◌, ◌<◌, ◌≤◌, ◌^◌, IfOk};
 ghost use Rattle.reply_fields.specs.Slices.{slice_len, body_len};
@@ -7,7 +7,6 @@ use mq_bytes::{LogFile, Rows, Text};
 use mq_outside::{Disk, DiskFault, Frozen, MemDisk, MemReader, Room};
 use remoting_frame::{Fields, Form};
 use reply_fields::{Reply, Slice, StoredRange};
-use request_fields::RequestFault;
 use std::alloc::{AllocError, Global};
 use std::test::Fail;
 
@@ -16,11 +15,6 @@ const MAX_OFFSET: [u8; 42] = [
     0, 0, 0, 0x26, 1, 0, 0, 0x22, 0, 0, 7, 0, 0, 0, 0, 0, 5, 0, 0, 0, 1, 0, 0, 0, 0, 0, 0, 0, 0x0D,
     0, 6, 0x6F, 0x66, 0x66, 0x73, 0x65, 0x74, 0, 0, 0, 1, 0x31,
 ];
-
-// The frame that refuses the unknown code 999.
-const REFUSAL: &[u8] =
-    b"\0\0\0\x85\0\0\0\x81{\"code\":3,\"extFields\":{},\"flag\":1,\"language\":\"OTHER\",\"opaque\":7,\"remark\":\"code 999\",\
-\"serializeTypeCurrentRPC\":\"JSON\",\"version\":0}";
 
 // The offset 1, as a reply tells it.
 #[tactic(auto, using(reply_fields::proofs::ReplyLemmas::one_in_order))]
@@ -81,17 +75,6 @@ fn the_documented_reply_is_written(rt: HostRuntime) -> Result<(), Fail> {
     let done = reply.write(rt.alloc(), Form::Binary, 5, &mut reader, &mut out);
     assert!(rt; done.is_ok());
     assert!(rt; out.as_slice() == MAX_OFFSET.as_slice());
-    Ok(())
-}
-
-#[test]
-fn an_unknown_code_is_refused_by_its_number(rt: HostRuntime) -> Result<(), Fail> {
-    let mut reader = MemReader::new(Vec::new(rt.alloc()))?;
-    let mut out = Vec::new(rt.alloc());
-    let reply = Reply::of_fault(rt.alloc(), &RequestFault::Unsupported(999))?;
-    let done = reply.write(rt.alloc(), Form::Json, 7, &mut reader, &mut out);
-    assert!(rt; done.is_ok());
-    assert!(rt; out.as_slice() == REFUSAL);
     Ok(())
 }
 
