@@ -5,16 +5,20 @@ Most runs have a clock that stands still until a check sets it, so that store ti
 read by code of its own. At last keys are queried while producers go on. Each check prints its name; the first that fails ends it.
 """
 import os
+import random
+import socket
+import subprocess
 import sys
 import time
 
 from clocked import FIRST, Clock, Pipe, Serve, answers, is_clock_taken
 from killed_broker import Broker, until
 from mq_client import Admin, Connection, Producer
-from wire import SYSTEM_TOPICS, check, frame, properties, pulled, records, send
+from wire import PROGRAM, SYSTEM_TOPICS, check, frame, properties, pulled, records, send
 
 FOUND = {"indexLastUpdatePhyoffset": "0", "indexLastUpdateTimestamp": "0"}
 PRODUCERS, EACH, KEYS = 4, 1000, 40
+MANY, ASKED = 1000000, 400
 
 
 def query(opaque, key, topic="T", most=32, begin=0, end=9000, binary=False, without=()):
@@ -205,3 +209,36 @@ def _(folder):
             wanted = [body for body in log if body % KEYS == key][-64:]
             until(lambda: [int(one.body) for one in admin.query("T", f"k{key}", most=64)] == wanted, f"k{key} finds others")
     print(f"    {len(taken)} queries beside them, {1000 * max(taken):.0f} ms at most; {time.time() - began:.1f} s in all")
+
+
+def fill(broker, count):
+    """Sends so many messages of which each has a key of its own, and waits for the reply to the last: nobody waits for the others'."""
+    names = {"binary": True, "short": True}
+    one, last = keyed(0, b"m00000000", "k00000000", flag=2, **names), keyed(0, b"last", "last", **names)
+    with socket.create_connection(("127.0.0.1", broker.port), 60) as link:
+        for first in range(0, count, 1000):
+            link.sendall(b"".join(one.replace(b"00000000", b"%08d" % number) for number in range(first, first + 1000)))
+        link.sendall(last)
+        assert link.recv(1), "the link ended"
+
+
+@check(f"among the keys of {MANY:,} messages each query finds the message of its key, while a producer goes on; and the tables are sound")
+def _(folder):
+    chance, began = random.Random(7), time.time()
+    with Broker(folder) as broker, Connection(broker.address, timeout=60) as connection:
+        fill(broker, MANY)
+        filled, admin, producer = time.time() - began, Admin(connection), Producer(Connection(broker.address, timeout=60))
+        until(lambda: len(admin.query("T", "last")) == 1, "the last message isn't found")
+        before = time.time()
+        for number in range(ASKED):
+            beside = producer.send_async("T", b"beside", keys=f"beside{number}")
+            key = chance.randrange(MANY)
+            assert [one.body for one in admin.query("T", f"k{key:08d}")] == [b"m%08d" % key], key
+            assert admin.query("T", f"k{MANY + number:08d}") == []
+            beside.result(60)
+        taken = time.time() - before
+        producer.close()
+    said = subprocess.run([PROGRAM, "verify"], cwd=folder, stdin=subprocess.DEVNULL, capture_output=True, timeout=300)
+    lines = said.stdout.decode().splitlines()
+    assert said.returncode == 0 and lines[0].split()[:2] == ["records", str(MANY + 1 + ASKED)] and lines[1:] == ["equal"], said
+    print(f"    sent in {filled:.0f} s; {2 * ASKED} queries and {ASKED} sends beside them in {taken:.1f} s")

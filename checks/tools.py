@@ -18,7 +18,8 @@ from wire import PROGRAM, all_replies, check, log_files, properties, records, re
 SMALL = ("pipe", "--segment", "4096")
 FIRST = "commitlog/" + "0" * 20
 TOOLS = ("dump", "verify")
-MOST_MEMORY = 32 << 20  # bytes that a tool may take, over a log of any size
+MOST_MEMORY = 32 << 20  # bytes that a tool may take, over a log of any size; `verify` may take tables of its records too
+A_RECORD = 160
 
 # Runs the arguments, and prints the status, the most memory and how many bytes were read. A process of its own, since the memory of
 # whoever starts a program counts as the program's.
@@ -48,6 +49,11 @@ def end_of(found):
     return found[-1]["place"] + found[-1]["size"] if found else 0
 
 
+def sound_of(found):
+    """What `verify` writes of these records."""
+    return f"records {len(found)} end {end_of(found)}\nequal\n"
+
+
 def everything(folder):
     """The bytes of each file of a store."""
     return {os.path.join(at, name): open(os.path.join(at, name), "rb").read() for at, _, names in os.walk(folder) for name in names}
@@ -57,7 +63,7 @@ def want_sound(folder, found, *words):
     """Both tools tell these records, with status 0 and no word on standard error, and leave the store as it is."""
     before = everything(folder)
     assert call(folder, "dump", *words) == (0, lines_of(found), "")
-    assert call(folder, "verify", *words) == (0, f"records {len(found)} end {end_of(found)}\n", "")
+    assert call(folder, "verify", *words) == (0, sound_of(found), "")
     assert everything(folder) == before
 
 
@@ -72,11 +78,11 @@ def change(folder, file, at, byte):
         log.write(bytes([byte]))
 
 
-@check("one record is one line, and verify tells how many there are and where they end")
+@check("one record is one line, and verify tells how many there are and where they end, and that tables of them equal them")
 def _(folder):
     fill(folder, 1)
     assert call(folder, "dump") == (0, "0 T 0 0 108\n", "")
-    assert call(folder, "verify") == (0, "records 1 end 108\n", "")
+    assert call(folder, "verify") == (0, "records 1 end 108\nequal\n", "")
 
 
 @check("the lines are those of all records: plain, delayed and half messages, and what settles these, over many segments")
@@ -176,7 +182,7 @@ def _(folder):
 
 @check("a folder that is absent becomes a store without records, of the default sizes")
 def _(folder):
-    for tool, text in (("dump", ""), ("verify", "records 0 end 0\n")):
+    for tool, text in (("dump", ""), ("verify", "records 0 end 0\nequal\n")):
         assert call(folder, tool, "--store", tool) == (0, text, "")
         assert open(f"{folder}/{tool}/config/format").read() == "mq_broker 1 1073741824 65536 262144\n"
         assert sorted(os.listdir(f"{folder}/{tool}")) == ["config", "lock"]
@@ -216,10 +222,10 @@ def record_bytes(place, number, body):
     return front + b"%08X\x02" % zlib.crc32(front + b"00000000\x02")
 
 
-@check("a store of any size is read in bounded memory, and each byte of its log once")
+@check("a store of any size is read in bounded memory: each byte of its log once by dump, and twice by verify, which has tables of it")
 def _(folder):
     count, body = 100000, b"x" * 150
-    assert call(folder, "verify") == (0, "records 0 end 0\n", "")
+    assert call(folder, "verify") == (0, "records 0 end 0\nequal\n", "")
     os.mkdir(folder + "/store/commitlog")
     with open(os.path.join(folder, "store", FIRST), "wb") as log:
         for k in range(count):
@@ -227,9 +233,9 @@ def _(folder):
     found = records(folder)
     assert len(found) == count
     size = sum(len(data) for _, data in log_files(folder))
-    for tool, text in (("dump", lines_of(found)), ("verify", f"records {count} end {end_of(found)}\n")):
+    for tool, text, most, times in (("dump", lines_of(found), MOST_MEMORY, 1), ("verify", sound_of(found), MOST_MEMORY + count * A_RECORD, 2)):
         with open(folder + "/out", "wb") as out:
             done = subprocess.run([sys.executable, "-SEc", MEASURED, PROGRAM, tool], cwd=folder, stdout=out, stderr=subprocess.PIPE, check=True)
         status, memory, read = map(int, done.stderr.split())
         assert status == 0 and open(folder + "/out").read() == text
-        assert memory < MOST_MEMORY and read < 1.05 * size, (tool, memory, read, size)
+        assert memory < most and read < (times + 0.05) * size, (tool, memory, read, size)

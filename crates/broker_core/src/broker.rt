@@ -23,6 +23,9 @@ use broker_events::{Event, Said, Setup};
 use client_tables::Topics;
 use core_log::{Counts, Loaded, Parts};
 use group_tables::Groups;
+use half_records::Halves;
+use key_view::KeyView;
+use level_records::Levels;
 use mq_outside::FrozenRanges;
 use queue_view::QueueView;
 use std::alloc::{AllocError, Global};
@@ -83,6 +86,27 @@ impl Core {
         ensures { result.now ≡ self.now.queues }
     {
         &self.parts.queues
+    }
+
+    /// The table of keys.
+    pub fn keys(&self) -> &KeyView
+        ensures { result.now ≡ self.now.keys }
+    {
+        &self.parts.keys
+    }
+
+    /// The half messages.
+    pub fn halves(&self) -> &Halves
+        ensures { result.now ≡ self.now.halves }
+    {
+        &self.parts.halves
+    }
+
+    /// The delayed messages.
+    pub fn levels(&self) -> &Levels
+        ensures { result.now ≡ self.now.levels }
+    {
+        &self.parts.levels
     }
 
     /// How many records there are.

@@ -1,4 +1,3 @@
+pub mod EncodedLemmas
+pub mod EqualLemmas
 pub mod Own
-pub mod PullLemmas
-pub mod QueueLemmas
-pub mod UnitLemmas

@@ -1,1 +1,1 @@
-pub mod Queues
+pub mod Equal

@@ -1,9 +1,6 @@
-//! Does a core say of its queues what its log says? Each function looks at the whole log, and at all of a table.
+//! Does a core have in its tables what its log says? All of a table is looked at, and each record of the log once.
 #![tactic(auto)]
 
 mod comparison;
-mod queues;
-mod units;
 
 pub use comparison::compare;
-pub use queues::are_queues_of;

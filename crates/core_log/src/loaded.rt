@@ -202,6 +202,34 @@ impl Loaded {
         Ok(())
     }
 
+    /// The tables of queues.
+    pub fn queues(&self) -> &QueueView
+        ensures { result.now ≡ self.now.queues }
+    {
+        &self.queues
+    }
+
+    /// The table of keys.
+    pub fn keys(&self) -> &KeyView
+        ensures { result.now ≡ self.now.keys }
+    {
+        &self.keys
+    }
+
+    /// The half messages.
+    pub fn halves(&self) -> &Halves
+        ensures { result.now ≡ self.now.halves }
+    {
+        &self.halves
+    }
+
+    /// The delayed messages.
+    pub fn levels(&self) -> &Levels
+        ensures { result.now ≡ self.now.levels }
+    {
+        &self.levels
+    }
+
     // The offset after the last record of a queue.
     fn end_of(&self, topic: &str, queue: u32) -> u64
         ensures { (saved : List TopicRow) (records : List Entry) (kept : List OffsetRow) → IsLoadedWith saved records kept self.entry.now

@@ -175,6 +175,7 @@ impl DelayView {
     pub fn progress(&self, level: u8) -> u64
         requires low { 1 ≤ level }
         requires high { level ≤ 18 }
+        ensures all { length self.now ≡ 18 }
         ensures level { (l : Level) → slice_get self.now (level - 1) ≡ Some l → result ≡ l.copied }
         ensures records { (log : Log) (d : ℕ) → AreLevelsOf log d self.now → result ≡ progress_of log level }
     {

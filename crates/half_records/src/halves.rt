@@ -48,6 +48,13 @@ impl Halves {
         }
     }
 
+    /// The table of what became of each.
+    pub fn table(&self) -> &HalfView
+        ensures { result.now ≡ self.now.view }
+    {
+        &self.view
+    }
+
     // ---- what is known
 
     /// The queue offset of the next half message.

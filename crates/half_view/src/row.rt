@@ -3,7 +3,7 @@
 use log_model::OriginState;
 
 /// A half message. What became of it, when it is due and its renewals are told of an origin, and mean nothing of a renewal.
-#[derive(Clone, Copy)]
+#[derive(Clone, Copy, PartialEq, Eq)]
 pub struct HalfRow {
     /// Where its record stands.
     pub place: u64,

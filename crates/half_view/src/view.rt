@@ -1,7 +1,7 @@
 //! The table of the half messages. A half message is a row; a record that settles an origin, or a renewal of it, changes its
 //! row. All is told of the whole log: what is appended counts at once.
 
-ghost use Rattle.std.specs.Prelude.{◌≡◌, ◌<◌, ◌≤◌, ◌+◌, ◌∷◌, [], ◌^◌, ℕ, OnOk, Some, None, true, false, find, option_map, IfSome, IsSome};
+ghost use Rattle.std.specs.Prelude.{◌≡◌, ◌↔◌, ◌<◌, ◌≤◌, ◌+◌, ◌∷◌, [], ◌^◌, ℕ, OnOk, Some, None, true, false, find, option_map, IfSome, IsSome, IsTrue};
 ghost use Rattle.std.specs.List.Sorted.{IsNonDecreasingBy};
 ghost use Rattle.record_codec.specs.Entry.{Entry};
 ghost use Rattle.log_model.specs.Admissible.{half_topic, number_at};
@@ -77,6 +77,13 @@ impl HalfView {
             → result ≡ queue_max log half_topic 0 }
     {
         self.low + self.halves.len() as u64
+    }
+
+    /// Whether the other table has the same half messages.
+    pub fn is_same(&self, other: &HalfView) -> bool
+        ensures { IsTrue result ↔ ((self.now.low ≡ other.now.low) × (self.now.halves ≡ other.now.halves)) }
+    {
+        self.low == other.low && self.halves.as_slice() == other.halves.as_slice()
     }
 
     /// Makes room for a half message more. Nothing else changes, at `Err` either.

@@ -1,6 +1,7 @@
 //! A row of the table, in 24 bytes: a key of a record, and how far behind it the row before it in its chain stands.
 
-ghost use Rattle.std.specs.Prelude.{◌≡◌, ◌<◌, ◌-◌, ◌^◌, min};
+ghost use Rattle.std.specs.Prelude.{◌≡◌, ◌↔◌, ◌<◌, ◌-◌, ◌^◌, min, IsTrue};
+ghost use Rattle.key_view.specs.Rooms.{entry_of};
 
 use chunks::Keyed;
 
@@ -20,6 +21,13 @@ impl Keyed for KeyRow {
     fn key(&self) -> u64 {
         self.place
     }
+}
+
+// Whether the row is that of this key.
+pub(crate) fn is_key(row: &KeyRow, hash: u32, place: u64, store: u64) -> bool
+    ensures { IsTrue result ↔ (entry_of row.now ≡ record { hash = hash; place = place; store = store }) }
+{
+    row.hash == hash && row.place == place && row.store == store
 }
 
 // How far the row with number `number` stands behind the row `before`. The table has fewer rows than the greatest distance.

@@ -1,8 +1,8 @@
 //! The table of the keys. A key is added when its record is appended, and found by queries that end behind its record, so
 //! that dispatch does nothing here.
 
-ghost use Rattle.std.specs.Prelude.{◌≡◌, ◌<◌, ◌≤◌, ◌+◌, ◌-◌, ◌++◌, ◌∷◌, [], ◌^◌, ℕ, List, map};
-ghost use Rattle.std.specs.Prelude.{filter, reverse, length, drop, nat_le, OnOk, IfOk};
+ghost use Rattle.std.specs.Prelude.{◌≡◌, ◌↔◌, ◌<◌, ◌≤◌, ◌+◌, ◌-◌, ◌++◌, ◌∷◌, [], ◌^◌, ℕ, List, map};
+ghost use Rattle.std.specs.Prelude.{filter, reverse, length, drop, slice_get, nat_le, Some, OnOk, IfOk, IsTrue};
 ghost use Rattle.std.specs.List.Sorted.{IsNonDecreasingBy};
 ghost use Rattle.record_codec.specs.Entry.{Entry};
 ghost use Rattle.log_model.specs.Bases.{Base};
@@ -13,7 +13,7 @@ ghost use Rattle.key_view.specs.Rooms.{newest_in};
 
 use crate::keys::RecordKeys;
 use crate::places::{Sought, asked, put};
-use crate::row::{KeyRow, distance};
+use crate::row::{KeyRow, distance, is_key};
 use crate::rows::KeyRows;
 use crate::slots::{grow, newest, set_newest};
 use std::alloc::{AllocError, Global};
@@ -113,6 +113,16 @@ impl KeyView {
         ensures { result ≡ length self.now.entries }
     {
         self.rows.len()
+    }
+
+    /// Whether the key at this index is this one, in the order in which they were added. The time is in milliseconds.
+    pub fn is_at(&self, index: usize, hash: u32, place: u64, store: u64) -> bool
+        ensures { IsTrue result ↔ (slice_get self.now.entries index ≡ Some (record { hash = hash; place = place; store = store })) }
+    {
+        if index >= self.rows.len() {
+            return false;
+        }
+        is_key(&self.rows.at(index), hash, place, store)
     }
 
     /// The places of the newest records that have a key of this hash, were stored from `from` to `to`, in milliseconds, and

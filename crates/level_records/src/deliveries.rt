@@ -41,7 +41,7 @@ fn level_before_dash(text: &str) -> Option<u8>
 }
 
 /// The level whose message this record delivers, if it is a delivery.
-pub(crate) fn delivered_level(view: &View<'_>) -> Option<u8>
+pub fn delivered_level(view: &View<'_>) -> Option<u8>
     ensures within { IfSome result (λ level. (1 ≤ level) × (level ≤ 18)) }
     ensures copy { IfHas (codes "DELAY_FROM") view.now IsDelayFrom → is_delayed view.now ≡ false
         → IfSome result (λ level. IsCopyOf level view.now) }

@@ -46,6 +46,13 @@ impl Levels {
         })
     }
 
+    /// The table of the levels.
+    pub fn table(&self) -> &DelayView
+        ensures { result.now ≡ self.now.view }
+    {
+        &self.view
+    }
+
     /// The lowest level that is due, and the number of its next message.
     pub fn due(&self, now: u64) -> Option<(u8, u64)>
         ensures { (log : Log) (d : ℕ) → HasLevels log d self.now

@@ -6,4 +6,5 @@ mod levels;
 mod lines;
 mod waiting;
 
+pub use deliveries::delivered_level;
 pub use levels::Levels;

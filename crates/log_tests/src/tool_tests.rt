@@ -97,7 +97,7 @@ fn dump_tells_each_record_and_verify_how_many(rt: HostRuntime) -> Result<(), Fai
             &two,
             &[],
             0,
-            b"records 2 end 216\n"
+            b"records 2 end 216\nequal\n"
         )?
     );
     Ok(())
@@ -115,7 +115,7 @@ fn a_torn_record_is_not_told(rt: HostRuntime) -> Result<(), Fail> {
             first,
             &[],
             0,
-            b"records 1 end 108\n"
+            b"records 1 end 108\nequal\n"
         )?
     );
     Ok(())

@@ -1,7 +1,7 @@
 //! The table of one queue: the units that stand, each with its store time, and how many of them consumers see. A unit is
 //! added when its record is appended, and seen when the record is dispatched.
 
-ghost use Rattle.std.specs.Prelude.{◌≡◌, ◌<◌, ◌≤◌, ◌+◌, ◌^◌, length, take, IfOk, OnOk};
+ghost use Rattle.std.specs.Prelude.{◌≡◌, ◌↔◌, ◌<◌, ◌≤◌, ◌+◌, ◌^◌, length, take, slice_get, Some, IfOk, OnOk, IsTrue};
 ghost use Rattle.std.specs.List.Sorted.{IsNonDecreasingBy};
 ghost use Rattle.queue_view.specs.Tables.{max_of, added_of, empty_table, with_room, with_unit, with_next_seen, cut_at};
 ghost use Rattle.queue_view.specs.Searches.{first_from, store_in};
@@ -127,6 +127,17 @@ impl QueueTable {
         ensures { result ≡ added_of self.now }
     {
         self.low + self.units.len() as u64
+    }
+
+    // Whether the unit at this index is this one, of a record that was stored at this time.
+    pub(crate) fn is_at(&self, index: usize, unit: Unit, store: u64) -> bool
+        ensures { IsTrue result ↔ (slice_get self.now.units index ≡ Some (record { unit = unit; store = store })) }
+    {
+        if index >= self.units.len() {
+            return false;
+        }
+        let stored = self.units.at(index);
+        stored.unit == unit && stored.store == store
     }
 
     // Removes the units below this offset.

@@ -1,8 +1,8 @@
 //! The tables of all queues. A unit is added when its record is appended, and seen by consumers when the record is
 //! dispatched; the number of a table stays the same, so that neither looks a text up.
 
-ghost use Rattle.std.specs.Prelude.{◌≡◌, ◌<◌, ◌≤◌, ◌+◌, ◌-◌, ◌++◌, ◌∷◌, [], ◌^◌, ℕ, List, length, take, drop, slice_get, slice_set};
-ghost use Rattle.std.specs.Prelude.{Some, None, IfOk, OnOk, OnErr};
+ghost use Rattle.std.specs.Prelude.{◌≡◌, ◌↔◌, ◌<◌, ◌≤◌, ◌+◌, ◌-◌, ◌++◌, ◌∷◌, [], ◌^◌, ℕ, List, length, take, drop, slice_get, slice_set};
+ghost use Rattle.std.specs.Prelude.{Some, None, IfOk, OnOk, OnErr, IsTrue};
 ghost use Rattle.std.specs.List.Sorted.{IsNonDecreasingBy};
 ghost use Rattle.queue_view.specs.Tables.{Table, number_of, max_of, added_of, empty_table, with_room, with_unit, with_next_seen, cut_at};
 ghost use Rattle.queue_view.specs.Searches.{first_from, first_among, store_in};
@@ -225,6 +225,15 @@ impl QueueView {
             → slice_get self.now table ≡ Some t → result ≡ low t.topic t.queue + length (queue_in added t.topic t.queue) }
     {
         self.tables[table as usize].added()
+    }
+
+    /// Whether the unit of a table at this index is this one, of a record that was stored at this time, in milliseconds.
+    pub fn is_at(&self, table: u32, index: usize, unit: Unit, store: u64) -> bool
+        requires { table < length self.now }
+        ensures { (t : Table) → slice_get self.now table ≡ Some t
+            → (IsTrue result ↔ (slice_get t.units index ≡ Some (record { unit = unit; store = store }))) }
+    {
+        self.tables[table as usize].is_at(index, unit, store)
     }
 
     /// The offset of the first unit that consumers see whose record was stored at this time, in milliseconds, or later; else

@@ -1,5 +1,5 @@
 -- What was written of a log, by how its reading ended.
-use Rattle.std.proofs.Common.{◌≡◌, ◌≢◌, ◌⊎◌, ◌∙◌, ⊎_elim, inl, inr, ℕ, ◌+◌, List, [], ◌++◌, length, true, false, Err, sym, ap, subst, zero-add, arith}
+use Rattle.std.proofs.Common.{◌≡◌, ◌≢◌, ◌⊎◌, ◌∙◌, ⊎_elim, inl, inr, ℕ, List, [], ◌++◌, length, true, false, Err, sym, ap, subst, arith}
 use Rattle.mq_outside.specs.Counts.{Rises}
 use Rattle.mq_outside.specs.declared.stream.Sink.{Ghosts}
 use Rattle.record_codec.specs.Entry.{Entry}
@@ -128,20 +128,20 @@ counts_broken {K = K} it S start now sink status disk disk_then same failed know
 -- ---- `verify`
 
 -- the text that was written is that of the log
-verified_text : (S : Geometry) (records : List Entry) (count end : ℕ) → count ≡ 0 + length records → end ≡ end_of S.base records
+verified_text : (S : Geometry) (records : List Entry) (count end : ℕ) → count ≡ length records → end ≡ end_of S.base records
     → verify_text count end ≡ text_of tools.Verify S records
 verified_text S records count end counted ends =
-    ap (λ (n : ℕ). verify_text n end) (counted ∙ zero-add (length records)) ∙ ap (λ (n : ℕ). verify_text (length records) n) ends
+    ap (λ (n : ℕ). verify_text n end) counted ∙ ap (λ (n : ℕ). verify_text (length records) n) ends
 
 pub verified_all : {K : Type 0} (it : Ghosts K) (S : Geometry) (first sink : K) (records : List Entry) (count end : ℕ)
-    → count ≡ 0 + length records → end ≡ end_of S.base records → TookAll (seen_of it first sink) (verify_text count end)
+    → count ≡ length records → end ≡ end_of S.base records → TookAll (seen_of it first sink) (verify_text count end)
     → TookAll (seen_of it first sink) (text_of tools.Verify S records)
 verified_all it S first sink records count end counted ends took =
     subst (λ (l : List ℕ). TookAll (seen_of it first sink) l) (verified_text S records count end counted ends) took
 
 -- the whole text was written, or the sink failed, or memory ran out
 pub verified : {K : Type 0} (it : Ghosts K) (S : Geometry) (first sink : K) (status : Status) (records : List Entry) (count end : ℕ)
-    → IsWellFormed S records → count ≡ 0 + length records → end ≡ end_of S.base records
+    → IsWellFormed S records → count ≡ length records → end ≡ end_of S.base records
     → (status.code ≡ 0 → TookAll (seen_of it first sink) (verify_text count end))
     → (status.code ≡ 4 → Failed (seen_of it first sink) (verify_text count end)) → (status.code ≡ 7 → sink ≡ first)
     → (status.code ≡ 0) ⊎ ((status.code ≡ 4) ⊎ (status.code ≡ 7)) → Reports tools.Verify S status (seen_of it first sink)

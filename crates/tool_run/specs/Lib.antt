@@ -1,4 +1,5 @@
 pub mod Asked
+pub mod Sounds
 pub mod Texts
 pub mod Tools
 pub mod Writes

@@ -17,9 +17,10 @@ record_line r = digits_of r.offset ++ (32 ∷ (r.topic ++ (32 ∷ (digits_of r.q
 abbrev pub dump_text : List Entry → List ℕ
 dump_text records = flat_map record_line records
 
--- the text of `verify`: how many records there are, and the place where the last one ends
+-- the text of `verify`: how many records there are, and the place where the last one ends; and that tables of them equal them
 abbrev pub verify_text : ℕ → ℕ → List ℕ
-verify_text records end = codes "records " ++ (digits_of records ++ (codes " end " ++ (digits_of end ++ (10 ∷ []))))
+verify_text records end =
+    codes "records " ++ (digits_of records ++ (codes " end " ++ (digits_of end ++ (10 ∷ (codes "equal" ++ (10 ∷ []))))))
 
 -- the text that a tool writes of a log with these records
 abbrev pub text_of : Tool → Geometry → List Entry → List ℕ

@@ -3,13 +3,15 @@
 #![tactic(auto)]
 
 mod asked;
+mod beside;
 mod dump;
 mod ends;
 mod lines;
+mod loading;
 mod ran;
 mod reading;
 mod run;
-mod tally;
+mod sound;
 mod texts;
 
 pub use asked::asked_tool;

@@ -1,4 +1,4 @@
-//! The log's files are read once, as recovery reads them, and a tool writes of them what it has to.
+//! The log's files are read as recovery reads them, once by `dump` and twice by `verify`, and a tool writes of them what it has to.
 
 ghost use Rattle.std.specs.Prelude.{◌≡◌};
 ghost use Rattle.mq_outside.specs.Disk.{Rests};
@@ -13,7 +13,7 @@ use crate::dump::Dump;
 use crate::ends::{end_broken, end_damaged, end_failed, end_sound, end_whole};
 use crate::lines::Lines;
 use crate::ran::ToolRan;
-use crate::tally::Tally;
+use crate::sound::verified;
 use log_model::Base;
 use log_recovery::{RecoverFault, read_kept};
 use mq_outside::{Disk, Sink};
@@ -49,7 +49,8 @@ fn dump_log<K: Sink + Drop, D: Disk>(
     }
 }
 
-/// Writes how many records recovery keeps of the log's files, and where they end. Nothing of the disk is changed.
+/// Writes how many records recovery keeps of the log's files, and where they end, once they were compared with the tables that a
+/// broker would have of them. Nothing of the disk is changed.
 fn verify_log<K: Sink + Drop, D: Disk>(
     alloc: Global,
     segment: u32,
@@ -66,11 +67,9 @@ fn verify_log<K: Sink + Drop, D: Disk>(
     ensures causes { CountsReport result.status (K.faults sink) (K.faults result.sink) (D.faults disk.old) (D.faults disk.new) }
     ensures table { FitsTable result.status }
 {
-    let base = Base::none(alloc);
     let lines = Lines::new(alloc, sink);
-    let mut tally = Tally { records: 0 };
-    match read_kept(alloc, disk, segment, &base, &mut tally) {
-        Ok(end) => end_sound(alloc, lines, tally.records, end),
+    match verified(alloc, segment, disk) {
+        Ok(sound) => end_sound(alloc, lines, sound.records, sound.end),
         Err(RecoverFault::Damaged(place, name)) => end_damaged(alloc, lines, place, name),
         Err(RecoverFault::Failed) => end_failed(alloc, lines),
         Err(RecoverFault::Memory) => end_broken(alloc, lines),

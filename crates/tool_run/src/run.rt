@@ -19,8 +19,8 @@ use std::alloc::Global;
 use store_open::{AskedSizes, Status, Tool, open_format, read_tool_words};
 
 /// Runs a tool over a store, whose words are those of the command line. `dump` writes a line for each record, in the order of
-/// the log; `verify` how many records there are and where the last one ends. Nothing of the store is changed, but that a store
-/// without files gets its format. The sink comes back.
+/// the log; `verify` how many records there are and where the last one ends, and then that the tables that a broker would have of
+/// them equal them. Nothing of the store is changed, but that a store without files gets its format. The sink comes back.
 pub fn run_tool<K: Sink + Drop, D: Disk, P: Keep>(
     alloc: Global,
     tool: Tool,

@@ -31,7 +31,7 @@ pub(crate) fn push_record(view: &View<'_>, out: &mut Vec<u8>) -> Result<(), Allo
     Ok(())
 }
 
-/// Appends the line of a sound log: how many records it has, and the place where the last one ends.
+/// Appends the lines of a sound log: how many records it has, and the place where the last one ends; and that its tables equal it.
 pub(crate) fn push_sound(records: u64, end: u64, out: &mut Vec<u8>) -> Result<(), AllocError>
     ensures { OnOk result (out.new.items ≡ out.old.items ++ verify_text records end) }
 {
@@ -39,6 +39,8 @@ pub(crate) fn push_sound(records: u64, end: u64, out: &mut Vec<u8>) -> Result<()
     write_number(records, out)?;
     out.extend_from_slice(b" end ")?;
     write_number(end, out)?;
+    out.push(b'\n')?;
+    out.extend_from_slice(b"equal")?;
     out.push(b'\n')?;
     Ok(())
 }
