@@ -34,6 +34,7 @@ module _ (status : Status) (old new : ServeFaults) where
   loops_cause : (code : ℕ) (end : LoopEnd) → StatusTellsLoops code status end → BlamesWorld end old.world new.world → (status.code ≡ code → Causes status old new)
       → Causes status old new
   loops_cause code loops.Done tells blames done = done tells
+  loops_cause code loops.Stopped tells blames done = seven_causes tells
   loops_cause code loops.Clock (inl ten) blames done = inr (inr (ten.0, inl (ten.1, blames)))
   loops_cause code loops.Clock (inr seven) blames done = seven_causes seven
   loops_cause code loops.Door (inl ten) blames done = inr (inr (ten.0, inr (inr (ten.1, inl blames))))
@@ -101,6 +102,7 @@ shut_blames status old new (inr seven) named rises = inl seven
 pub making_blames : (status : Status) (end : LoopEnd) (old mid new : WorldFaults) → StatusTellsMaking status end → mid.ready ≡ old.ready → BlamesMaking end mid new
     → BlamesDoor status old new
 making_blames status loops.Done old mid new tells same blames = absurd blames
+making_blames status loops.Stopped old mid new tells same blames = absurd blames
 making_blames status loops.Clock old mid new tells same blames = absurd blames
 making_blames status loops.Door old mid new tells same blames = absurd blames
 making_blames status loops.Poll old mid new (inl ten) same blames = inr (ten.0, ten.1, inr (inl (subst (λ (n : ℕ × ℕ). Rises n.0 new.ready.0) same blames)))
@@ -109,6 +111,7 @@ making_blames status loops.Memory old mid new tells same blames = inl tells
 
 pub making_tells : (status : Status) (end : LoopEnd) → StatusTellsMaking status end → TellsDevice status (codes "door")
 making_tells status loops.Done tells = tells
+making_tells status loops.Stopped tells = tells
 making_tells status loops.Clock tells = tells
 making_tells status loops.Door tells = tells
 making_tells status loops.Poll tells = tells

@@ -1,7 +1,7 @@
 -- Which status tells what.
-use Rattle.std.proofs.Common.{◌≡◌, ◌≢◌, ◌⊎◌, inl, inr, refl, sym, subst, ◌∙◌, arith, ℕ, List, Option, Some, None, IfSome, Result, Ok, Err}
+use Rattle.std.proofs.Common.{◌≡◌, ◌≢◌, ◌⊎◌, ⊎_elim, inl, inr, refl, sym, subst, ◌∙◌, arith, ℕ, List, Option, Some, None, IfSome, Result, Ok, Err}
 use Rattle.std.specs.Prelude.{codes, IfNone}
-use Rattle.mq_outside.specs.Counts.{CountsDiskFault}
+use Rattle.mq_outside.specs.Counts.{CountsDiskFault, Rises}
 use Rattle.mq_outside.specs.Files.{Files, Same}
 use Rattle.mq_outside.specs.Disk.{DiskState, Moves}
 use Rattle.mq_outside.specs.declared.faults.DiskFault.{DiskFault}
@@ -18,12 +18,13 @@ use Rattle.worker_turns.specs.declared.flush.FlushEnd.{FlushEnd}
 use Rattle.worker_turns.specs.declared.flush.FlushEnd.TheVariants as flush
 use Rattle.event_loops.specs.declared.event_loop.LoopEnd.{LoopEnd}
 use Rattle.event_loops.specs.declared.event_loop.LoopEnd.TheVariants as loops
-use Rattle.store_open.specs.Openings.{FORMAT, AreSizesOf, OpeningCause, PutsOnly, store_told}
+use Rattle.store_open.specs.Openings.{FORMAT, AreSizesOf, OpeningCause, PutsOnly, StoreTold, store_told}
 use Rattle.store_open.specs.ServeWords.{IsServeCommand}
 use Rattle.store_open.specs.declared.format.Sizes.{Sizes}
 use Rattle.store_open.specs.declared.serve_words.ServeCommand.{ServeCommand}
 use Rattle.store_open.specs.declared.status.Status.{Status}
-use Rattle.serve_threads.specs.Causes.{WorldFaults, counts_of}
+use Rattle.event_loops.specs.Doors.{GaveAll}
+use Rattle.serve_threads.specs.Causes.{ServeFaults, WorldFaults, counts_of}
 use Rattle.exit_status.specs.Statuses.{TellsDevice, StatusKept, StatusTellsFault, StatusTellsConfig}
 use Rattle.exit_status.proofs.KeepLemmas.{bad_before}
 use Rattle.broker_serve.specs.Statuses.{StatusTellsLoops, StatusTellsEnd, AllWell, StatusLeft}
@@ -39,6 +40,7 @@ device_told status name (inr seven) zero = omega (arith, seven, zero)
 -- with status 0 the loops ended of themselves
 ended_well : (code : ℕ) (status : Status) (end : LoopEnd) → StatusTellsLoops code status end → status.code ≡ 0 → (end ≡ loops.Done) × (code ≡ 0)
 ended_well code status loops.Done tells zero = (refl, sym tells ∙ zero)
+ended_well code status loops.Stopped tells zero = absurd (omega (arith, tells, zero))
 ended_well code status loops.Clock tells zero = absurd (device_told status (codes "clock") tells zero)
 ended_well code status loops.Door tells zero = absurd (device_told status (codes "door") tells zero)
 ended_well code status loops.Poll tells zero = absurd (device_told status (codes "door") tells zero)
@@ -66,6 +68,13 @@ zero_kept status end last (Ok done) tells zero = refl
 zero_kept status end last (Err device.Memory) tells zero = absurd (omega (arith, tells, zero))
 zero_kept status end last (Err device.Failed) (inl tells) zero = absurd (device_told status (codes "keep") tells.1 zero)
 zero_kept status end last (Err device.Failed) (inr tells) zero = absurd (tells.1 zero)
+
+-- and the loops ended of themselves
+pub zero_done : (status : Status) (end : LoopEnd) (last : FlushEnd) (kept : Result (Unit {0}) DiskFault) → StatusLeft status end last kept → status.code ≡ 0 → end ≡ loops.Done
+zero_done status end last (Ok done) tells zero = (all_well status end last tells zero).0
+zero_done status end last (Err device.Memory) tells zero = absurd (omega (arith, tells, zero))
+zero_done status end last (Err device.Failed) (inl tells) zero = absurd (device_told status (codes "keep") tells.1 zero)
+zero_done status end last (Err device.Failed) (inr tells) zero = absurd (tells.1 zero)
 
 -- ---- no links were served
 
@@ -158,3 +167,41 @@ module _ (words : List (List ℕ)) (command : ServeCommand) (sizes : Sizes) (tel
             (subst (λ (n : ℕ). Unserved (IsDamagedFor command (store_told tells disk.reads keeps keep.reads)) status d_opened d_then n k_then) same_keep
             (before_opening status d_opened d_then k_opened k_then is)))),
       )
+
+-- ---- how many links came
+
+-- what is said of links that were served
+pub some_of : {X : Type 0} (P : X → Type 0) (left : Option X) (core : X) → left ≡ Some core → P core → IfSome left P
+some_of {X} P left core is so = subst (λ (o : Option X). IfSome o P) (sym is) so
+
+-- the same bounds, and the same count at first
+pub came_from : {X : Type 0} (left : Option X) (zero : Type 0) (asked most : Option ℕ) (old was new : ℕ) → most ≡ asked → was ≡ old
+    → IfSome left (λ core. zero → GaveAll most was new) → IfSome left (λ core. zero → GaveAll asked old new)
+came_from None zero asked most old was new same_most same_count came = tt
+came_from (Some core) zero asked most old was new same_most same_count came = λ is.
+    subst (λ (n : ℕ). GaveAll asked n new) same_count (subst (λ (m : Option ℕ). GaveAll m was new) same_most (came is))
+
+not_shut : (status : Status) (disk disk_then : ℕ) → ShutOut status disk disk_then → status.code ≡ 0 → ⊥
+not_shut status disk disk_then (inl five) zero = omega (arith, five.0, zero)
+not_shut status disk disk_then (inr told) zero = device_told status (codes "door") told zero
+
+-- where no links were served the status isn't 0
+not_zero : (words : List (List ℕ)) (store : StoreTold) (status : Status) (old new : ServeFaults) → TellsWhy words store status old new → status.code ≡ 0 → ⊥
+not_zero words store status old new (inl one) zero = omega (arith, one, zero)
+not_zero words store status old new (inr why) zero =
+    ⊎_elim (λ nine. omega (arith, nine, zero))
+    (λ rest. ⊎_elim (λ six. omega (arith, six, zero))
+    (λ un. ⊎_elim (λ (keep : (status.code ≡ 10) × (status.name ≡ codes "keep") × Rises old.keep new.keep). omega (arith, keep.0, zero))
+    (λ shut. ⊎_elim (λ damaged. omega (arith, damaged.0, zero)) (λ out. not_shut status old.disk new.disk out zero) shut) un) rest) why.2
+
+pub none_zero : {X : Type 0} (left : Option X) (words : List (List ℕ)) (store : StoreTold) (status : Status) (old new : ServeFaults) → left ≡ None
+    → IfNone left (TellsWhy words store status old new) → status.code ≡ 0 → ⊥
+none_zero None words store status old new none why = not_zero words store status old new why
+none_zero (Some core) words store status old new none why = absurd (cc none)
+
+-- with status 0 links were served, and as many came as the words ask for
+pub all_came : {X : Type 0} (left : Option X) (words : List (List ℕ)) (store : StoreTold) (status : Status) (old new : ServeFaults) (command : ServeCommand) (gave gave_then : ℕ)
+    → IsServeCommand words command → IfNone left (TellsWhy words store status old new) → IfSome left (λ core. status.code ≡ 0 → GaveAll command.connections gave gave_then) → status.code ≡ 0
+    → (asked : ServeCommand) × IsServeCommand words asked × GaveAll asked.connections gave gave_then
+all_came None words store status old new command gave gave_then fits why came zero = absurd (not_zero words store status old new why zero)
+all_came (Some core) words store status old new command gave gave_then fits why came zero = (command, fits, came zero)

@@ -33,6 +33,7 @@ Causes status old new =
 abbrev pub StatusTellsMaking : Status → LoopEnd → Type 0
 StatusTellsMaking status loops.Memory = status.code ≡ 7
 StatusTellsMaking status loops.Done = TellsDevice status (codes "door")
+StatusTellsMaking status loops.Stopped = TellsDevice status (codes "door")
 StatusTellsMaking status loops.Clock = TellsDevice status (codes "door")
 StatusTellsMaking status loops.Door = TellsDevice status (codes "door")
 StatusTellsMaking status loops.Poll = TellsDevice status (codes "door")

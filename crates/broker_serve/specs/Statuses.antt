@@ -24,6 +24,7 @@ use Rattle.exit_status.specs.Statuses.{TellsDevice}
 -- the status tells why the loops ended, and this is its code where they ended of themselves
 abbrev pub StatusTellsLoops : ℕ → Status → LoopEnd → Type 0
 StatusTellsLoops code status loops.Done = status.code ≡ code
+StatusTellsLoops code status loops.Stopped = status.code ≡ 7
 StatusTellsLoops code status loops.Clock = TellsDevice status (codes "clock")
 StatusTellsLoops code status loops.Door = TellsDevice status (codes "door")
 StatusTellsLoops code status loops.Poll = TellsDevice status (codes "door")

@@ -19,8 +19,9 @@ ghost use Rattle.config_store.specs.Texts.{IsKeptTopic};
 ghost use Rattle.group_tables.specs.Offsets.{IsOffset};
 ghost use Rattle.log_opening.specs.Opens.{saved_as};
 ghost use Rattle.worker_turns.specs.Acts.{view_of};
+ghost use Rattle.event_loops.specs.Doors.{GaveAll};
 ghost use Rattle.serve_threads.specs.Kept.{keep_over};
-ghost use Rattle.serve_threads.specs.Served.{AreLoops, views_of};
+ghost use Rattle.serve_threads.specs.Served.{AreLoops, clocks_over, readings_of, views_of};
 ghost use Rattle.serve_threads.specs.Causes.{HasCauses, ServeFaults as TheFaults, counts_of, world_faults};
 ghost use Rattle.broker_serve.specs.Causes.{BlamesDoor, Causes};
 ghost use Rattle.broker_serve.specs.Serves.{EndsOver, HasServed, IsAlike, PutsAllAlong, ServesLog, ServesStore};
@@ -90,7 +91,10 @@ fn port_of(command: &ServeCommand) -> u16 {
 }
 
 // How many links the words let in.
-fn bounds_of(command: &ServeCommand) -> Bounds {
+fn bounds_of(command: &ServeCommand) -> Bounds
+    ensures open { result.open ≡ command.now.links }
+    ensures most { result.most ≡ command.now.connections }
+{
     Bounds {
         open: command.links,
         most: command.connections,
@@ -133,6 +137,7 @@ fn ended_of<P: Ready + Drop, K: Clock + Drop, D: Disk + Drop, E: Keep + Drop>(
     ensures tells { StatusLeft result.status served.end served.last served.kept }
     ensures core { result.core ≡ Some served.core }
     ensures keep { result.store.keep ≡ served.keep }
+    ensures world { result.world ≡ served.world }
     ensures alike { IsAlike (view_of D.tells D.state D.faults D.syncs) served.disk result.store.disk }
     ensures cause { (before : TheFaults) → HasCauses served.end served.last served.kept before
         (counts_of (D.faults served.disk) (E.faults served.keep) (world_faults P.faults P.Door.faults K.faults served.world))
@@ -181,10 +186,14 @@ where
     requires inside { D.tells → IsInside devices.flusher.file.base devices.flusher.file.offset (D.state devices.disk) }
     ensures status { (result.status.code ≢ 1) × (result.status.code ≢ 6) × FitsTable result.status }
     ensures why { IfNone result.core (result.status.code ≡ 7) }
-    ensures ends { EndsOver (views_of P.Link.tells D.Reader.gives (view_of D.tells D.state D.faults D.syncs))
+    ensures ends { EndsOver (views_of P.Link.tells D.Reader.gives
+        (clocks_over K.tells (readings_of K.readings loops.world.clocks) (readings_of K.readings result.world.clocks))
+        (view_of D.tells D.state D.faults D.syncs))
         (record { core = core; flusher = devices.flusher }) result.core (run_over result.status devices.disk result.store.disk
         (keep_over E.tells (E.state devices.keep) (E.state result.store.keep))) }
     ensures outside { D.tells → StaysOutside (D.state devices.disk) (D.state result.store.disk) }
+    ensures came { IfSome result.core (λ core. result.status.code ≡ 0
+        → GaveAll loops.bounds.most (P.Door.gave loops.world.door) (P.Door.gave result.world.door)) }
     ensures cause { Causes result.status
         (counts_of (D.faults devices.disk) (E.faults devices.keep) (world_faults P.faults P.Door.faults K.faults loops.world))
         (counts_of (D.faults result.store.disk) (E.faults result.store.keep) (world_faults P.faults P.Door.faults K.faults result.world)) }
@@ -229,10 +238,14 @@ where
     requires inside { D.tells → IsInside opened.flusher.file.base opened.flusher.file.offset (D.state store.disk) }
     ensures status { (result.status.code ≢ 1) × (result.status.code ≢ 6) × FitsTable result.status }
     ensures why { IfNone result.core (ShutOut result.status (D.faults store.disk) (D.faults result.store.disk)) }
-    ensures ends { EndsOver (views_of P.Link.tells D.Reader.gives (view_of D.tells D.state D.faults D.syncs)) opened
+    ensures ends { EndsOver (views_of P.Link.tells D.Reader.gives
+        (clocks_over K.tells (readings_of K.readings loops.world.clocks) (readings_of K.readings result.world.clocks))
+        (view_of D.tells D.state D.faults D.syncs)) opened
         result.core (run_over result.status store.disk result.store.disk
         (keep_over E.tells (E.state store.keep) (E.state result.store.keep))) }
     ensures outside { D.tells → StaysOutside (D.state store.disk) (D.state result.store.disk) }
+    ensures came { IfSome result.core (λ core. result.status.code ≡ 0
+        → GaveAll loops.bounds.most (P.Door.gave loops.world.door) (P.Door.gave result.world.door)) }
     ensures cause { Causes result.status
         (counts_of (D.faults store.disk) (E.faults store.keep) (world_faults P.faults P.Door.faults K.faults loops.world))
         (counts_of (D.faults result.store.disk) (E.faults result.store.keep) (world_faults P.faults P.Door.faults K.faults result.world)) }
@@ -267,6 +280,9 @@ fn open_loops<P: Ready + Drop, K: Clock + Drop>(
     ensures loops { IfOk result (λ it. AreLoops it.first it.second) }
     ensures counts { IfOk result (λ it. world_faults P.faults P.Door.faults K.faults it.world
         ≡ world_faults P.faults P.Door.faults K.faults world) }
+    ensures clocks { IfOk result (λ it. it.world.clocks ≡ world.clocks) }
+    ensures most { IfOk result (λ it. it.bounds.most ≡ command.now.connections) }
+    ensures gave { IfOk result (λ it. P.Door.gave it.world.door ≡ P.Door.gave world.door) }
     ensures status { IfErr result (λ it. (it.0.code ≢ 1) × (it.0.code ≢ 6) × FitsTable it.0) }
     ensures tells { IfErr result (λ it. TellsDevice it.0 (codes "door")) }
     ensures cause { IfErr result (λ it. BlamesDoor it.0 (world_faults P.faults P.Door.faults K.faults world)
@@ -303,10 +319,14 @@ where
     requires inside { D.tells → IsInside opened.flusher.file.base opened.flusher.file.offset (D.state store.disk) }
     ensures status { (result.status.code ≢ 1) × (result.status.code ≢ 6) × FitsTable result.status }
     ensures why { IfNone result.core (ShutOut result.status (D.faults store.disk) (D.faults result.store.disk)) }
-    ensures ends { EndsOver (views_of P.Link.tells D.Reader.gives (view_of D.tells D.state D.faults D.syncs)) opened
+    ensures ends { EndsOver (views_of P.Link.tells D.Reader.gives
+        (clocks_over K.tells (readings_of K.readings world.clocks) (readings_of K.readings result.world.clocks))
+        (view_of D.tells D.state D.faults D.syncs)) opened
         result.core (run_over result.status store.disk result.store.disk
         (keep_over E.tells (E.state store.keep) (E.state result.store.keep))) }
     ensures outside { D.tells → StaysOutside (D.state store.disk) (D.state result.store.disk) }
+    ensures came { IfSome result.core (λ core. result.status.code ≡ 0
+        → GaveAll command.now.connections (P.Door.gave world.door) (P.Door.gave result.world.door)) }
     ensures cause { Causes result.status
         (counts_of (D.faults store.disk) (E.faults store.keep) (world_faults P.faults P.Door.faults K.faults world))
         (counts_of (D.faults result.store.disk) (E.faults result.store.keep) (world_faults P.faults P.Door.faults K.faults result.world)) }
@@ -345,11 +365,15 @@ where
     ensures status { (result.status.code ≢ 1) × (result.status.code ≢ 6) × FitsTable result.status }
     ensures why { IfNone result.core (Unopened (IsDamagedLog D.tells segment (D.state store.disk).reads) result.status
         (D.faults store.disk) (D.faults result.store.disk)) }
-    ensures served { ServesLog (views_of P.Link.tells D.Reader.gives (view_of D.tells D.state D.faults D.syncs))
+    ensures served { ServesLog (views_of P.Link.tells D.Reader.gives
+        (clocks_over K.tells (readings_of K.readings world.clocks) (readings_of K.readings result.world.clocks))
+        (view_of D.tells D.state D.faults D.syncs))
         (setup_by command.now segment) (saved_as config.offsets.items config.topics.items) result.core
         (run_over result.status store.disk result.store.disk
         (keep_over E.tells (E.state store.keep) (E.state result.store.keep))) }
     ensures outside { D.tells → StaysOutside (D.state store.disk) (D.state result.store.disk) }
+    ensures came { IfSome result.core (λ core. result.status.code ≡ 0
+        → GaveAll command.now.connections (P.Door.gave world.door) (P.Door.gave result.world.door)) }
     ensures cause { Causes result.status
         (counts_of (D.faults store.disk) (E.faults store.keep) (world_faults P.faults P.Door.faults K.faults world))
         (counts_of (D.faults result.store.disk) (E.faults result.store.keep) (world_faults P.faults P.Door.faults K.faults result.world)) }
@@ -390,10 +414,14 @@ where
     ensures why { IfNone result.core (UnservedBy
         (IsDamagedIn segment (store_told D.tells (D.state store.disk).reads E.tells (E.state store.keep).reads)) result.status
         (D.faults store.disk) (D.faults result.store.disk) (E.faults store.keep) (E.faults result.store.keep)) }
-    ensures served { ServesStore (views_of P.Link.tells D.Reader.gives (view_of D.tells D.state D.faults D.syncs))
+    ensures served { ServesStore (views_of P.Link.tells D.Reader.gives
+        (clocks_over K.tells (readings_of K.readings world.clocks) (readings_of K.readings result.world.clocks))
+        (view_of D.tells D.state D.faults D.syncs))
         (setup_by command.now segment) result.core (run_over result.status store.disk result.store.disk
         (keep_over E.tells (E.state store.keep) (E.state result.store.keep))) }
     ensures outside { D.tells → StaysOutside (D.state store.disk) (D.state result.store.disk) }
+    ensures came { IfSome result.core (λ core. result.status.code ≡ 0
+        → GaveAll command.now.connections (P.Door.gave world.door) (P.Door.gave result.world.door)) }
     ensures cause { Causes result.status
         (counts_of (D.faults store.disk) (E.faults store.keep) (world_faults P.faults P.Door.faults K.faults world))
         (counts_of (D.faults result.store.disk) (E.faults result.store.keep) (world_faults P.faults P.Door.faults K.faults result.world)) }
@@ -439,13 +467,16 @@ where
     ensures idle { result.status.code ≡ 1 → (result.store ≡ store) × (result.world ≡ world) }
 
     // Where links were served, they were served by the core of the log with what the kept files had. The core that is left stands
-    // for one history of steps since, each of which is the flusher's, one link's or the keeper's. The disk stores the log of a state
+    // for one history of steps since, each of which is the flusher's, one link's or the keeper's. A loop gives the requests of each of
+    // its passes to the broker at the reading that its clock gave for this pass. The disk stores the log of a state
     // that this core represents, and the kept files have texts of states of this history. From the given disk to the one that comes
     // back there is nothing but the opening, this history, and readers that are lent.
     ensures served { IfSome result.core (λ core. (command : ACommand) × (sizes : TheSizes) × (IsServeCommand (texts_of words.now) command
         × IsOpened command.sizes sizes
         (store_told D.tells (D.state store.disk).reads E.tells (E.state store.keep).reads) (E.state result.store.keep))
-        × HasServed (views_of P.Link.tells D.Reader.gives (view_of D.tells D.state D.faults D.syncs))
+        × HasServed (views_of P.Link.tells D.Reader.gives
+        (clocks_over K.tells (readings_of K.readings world.clocks) (readings_of K.readings result.world.clocks))
+        (view_of D.tells D.state D.faults D.syncs))
         (setup_by command sizes.segment) (run_over result.status store.disk result.store.disk
         (keep_over E.tells (E.state store.keep) (E.state result.store.keep)))
         (λ start history. PutsAllAlong (own_format ((E.state store.keep).reads FORMAT) command.sizes) start history
@@ -477,6 +508,10 @@ where
         → (E.state result.store.keep).reads FORMAT ≡ Some text }
     ensures kept { E.tells → (name : List ℕ) → name ≢ FORMAT → name ≢ OFFSETS → name ≢ TOPICS
         → (E.state result.store.keep).reads name ≡ (E.state store.keep).reads name }
+
+    // With status 0 the door gave as many links as the words ask for.
+    ensures came { result.status.code ≡ 0 → (command : ACommand) × IsServeCommand (texts_of words.now) command
+        × GaveAll command.connections (P.Door.gave world.door) (P.Door.gave result.world.door) }
 
     // The status has a place and a name only where the table names one. It blames a device only where the count of this one rose.
     ensures table { FitsTable result.status }

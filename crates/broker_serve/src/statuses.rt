@@ -29,13 +29,14 @@ pub(crate) fn status_of_making(alloc: Global, end: LoopEnd) -> Status
 {
     match end {
         LoopEnd::Memory => Status::plain(alloc, 7),
-        LoopEnd::Done | LoopEnd::Clock | LoopEnd::Door | LoopEnd::Poll => Status::named(
-            alloc, 10, "door",
-        ),
+        LoopEnd::Done | LoopEnd::Stopped | LoopEnd::Clock | LoopEnd::Door | LoopEnd::Poll => {
+            Status::named(alloc, 10, "door")
+        }
     }
 }
 
-// The status of why the loops ended, with this code where they ended of themselves.
+// The status of why the loops ended, with this code where they ended of themselves. Loops that were all stopped by others, which no
+// clause excludes, are told as want of memory.
 fn status_of_loops(alloc: Global, end: LoopEnd, code: u8) -> Status
     requires { (code ≢ 1) × (code ≢ 6) }
     ensures tells { StatusTellsLoops code result end }
@@ -45,7 +46,7 @@ fn status_of_loops(alloc: Global, end: LoopEnd, code: u8) -> Status
         LoopEnd::Done => Status::plain(alloc, code),
         LoopEnd::Clock => Status::named(alloc, 10, "clock"),
         LoopEnd::Door | LoopEnd::Poll => Status::named(alloc, 10, "door"),
-        LoopEnd::Memory => Status::plain(alloc, 7),
+        LoopEnd::Stopped | LoopEnd::Memory => Status::plain(alloc, 7),
     }
 }
 

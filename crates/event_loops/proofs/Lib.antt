@@ -1,2 +1,4 @@
 pub mod Counting
+pub mod Entering
+pub mod Timing
 pub mod Told

@@ -1,5 +1,5 @@
 -- How acts go together, and what they keep of a loop's links.
-use Rattle.std.proofs.Common.{◌≡◌, ◌≢◌, ◌⊎◌, ⊎_elim, inl, inr, ℕ, zero, suc, ◌<◌, ◌≤◌, ◌==◌, List, [], ◌∷◌, ◌++◌, set, cond, filter, Bool, true, false, Option, Some, None, refl, sym, ap, ◌∙◌, subst, arith, append_assoc, append-nil}
+use Rattle.std.proofs.Common.{◌≡◌, ◌≢◌, ◌⊎◌, ⊎_elim, inl, inr, ℕ, zero, suc, ◌<◌, ◌≤◌, ◌==◌, List, [], ◌∷◌, ◌++◌, set, cond, Bool, true, false, Option, Some, None, refl, sym, ap, ◌∙◌, subst, arith, append_assoc, append-nil}
 use Rattle.std.specs.Prelude.{slice_get}
 use Rattle.std.proofs.lemmas.Bool.{cases_Bool}
 use Rattle.std.proofs.lemmas.Bool.Decides.{Decides-eqb}
@@ -448,11 +448,11 @@ module _ {L : Type 0} (view : LinkView L) (gives : Giving) where
     none_asked x o asks none = subst (λ (w : Option (Numbered L)). LeadsWith makes x x asks (λ acts. Acts view gives w acts w)) (sym none)
         (record { acts = []; leads = refl; wrote = some_none asks; so = (refl, refl) })
 
-    acts_lead : (x y z : C) (first rest : List Act) → Makes makes x (steps_of first) y → Makes makes y (steps_of rest) z → Makes makes x (steps_of (first ++ rest)) z
+    pub acts_lead : (x y z : C) (first rest : List Act) → Makes makes x (steps_of first) y → Makes makes y (steps_of rest) z → Makes makes x (steps_of (first ++ rest)) z
     acts_lead x y z first rest h k =
         subst (λ (l : Made). Makes makes x l z) (sym (steps_append first rest)) (makes_append makes x (steps_of first) y (steps_of rest) z h k)
 
-    acts_write : (first rest : List Act) (asks more : List AskParts) → AreSome (asks_of first) asks → AreSome (asks_of rest) more
+    pub acts_write : (first rest : List Act) (asks more : List AskParts) → AreSome (asks_of first) asks → AreSome (asks_of rest) more
         → AreSome (asks_of (first ++ rest)) (asks ++ more)
     acts_write first rest asks more h k =
         subst (λ (l : List AskParts). AreSome l (asks ++ more)) (sym (asks_append first rest)) (some_append (asks_of first) asks (asks_of rest) more h k)

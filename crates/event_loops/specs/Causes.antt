@@ -5,7 +5,7 @@ use Rattle.mq_outside.specs.declared.faults.DiskFault.{DiskFault}
 use Rattle.mq_outside.specs.declared.faults.DiskFault.TheVariants as device
 use Rattle.event_loops.specs.declared.entrance.Entrance.{Entrance}
 use Rattle.event_loops.specs.declared.event_loop.LoopEnd.{LoopEnd}
-use Rattle.event_loops.specs.declared.event_loop.LoopEnd.TheVariants.{Done, Clock, Door, Poll, Memory}
+use Rattle.event_loops.specs.declared.event_loop.LoopEnd.TheVariants.{Done, Stopped, Clock, Door, Poll, Memory}
 use Rattle.event_loops.specs.declared.outside.Outside.{Outside}
 
 -- how often what a loop asks has failed: its readiness, its clock, and the door, if it has it
@@ -49,6 +49,7 @@ pub record Grow (old new : LoopFaults) : Type 0 where
 -- a loop that ends so blames nothing, or what it blames failed
 abbrev pub Blames : LoopEnd → LoopFaults → LoopFaults → Type 0
 Blames Done old new = Unit {0}
+Blames Stopped old new = Unit {0}
 Blames Clock old new = Rises old.clock new.clock
 Blames Door old new = RisesAt old.door new.door
 Blames Poll old new = Rises old.ready new.ready
@@ -59,10 +60,19 @@ pub record CountsEnd (end : LoopEnd) (old new : LoopFaults) : Type 0 where
   pub grow : Grow old new
   pub blames : Blames end old new
 
--- no count falls, and where this ends the loop, what is blamed failed
+-- the loop ended by a fault
+abbrev pub IsFault : LoopEnd → Type 0
+IsFault Done = ⊥
+IsFault Stopped = ⊥
+IsFault Clock = Unit {0}
+IsFault Door = Unit {0}
+IsFault Poll = Unit {0}
+IsFault Memory = Unit {0}
+
+-- no count falls, and where this ends the loop, it is a fault, and what is blamed failed
 abbrev pub CountsLoop : {A : Type 0} → Result A LoopEnd → LoopFaults → LoopFaults → Type 0
 CountsLoop (Ok done) old new = Grow old new
-CountsLoop (Err end) old new = CountsEnd end old new
+CountsLoop (Err end) old new = CountsEnd end old new × IsFault end
 
 -- ---- one device
 
@@ -77,6 +87,7 @@ CountsPoll (Ok done) old new = new ≡ old
 CountsPoll (Err Poll) old new = Rises old new
 CountsPoll (Err Memory) old new = new ≡ old
 CountsPoll (Err Done) old new = ⊥
+CountsPoll (Err Stopped) old new = ⊥
 CountsPoll (Err Clock) old new = ⊥
 CountsPoll (Err Door) old new = ⊥
 

@@ -1,6 +1,8 @@
 //! The door, which one loop has: it numbers the links in the order in which they come.
 
+ghost use Rattle.std.specs.Prelude.{◌≡◌, true};
 ghost use Rattle.event_loops.specs.Causes.{CountsDoor};
+ghost use Rattle.event_loops.specs.Doors.{AllCame, KeepsEntrance};
 
 use crate::event_loop::LoopEnd;
 use crate::shared::NewLink;
@@ -25,7 +27,9 @@ pub struct Entrance<P: Ready> {
 
 impl<P: Ready> Entrance<P> {
     // Whether no further link is let in.
-    pub(crate) fn is_done(&self) -> bool {
+    pub(crate) fn is_done(&self) -> bool
+        ensures { result ≡ true → AllCame self.now.bounds.most self.now.came }
+    {
         match self.bounds.most {
             Some(most) => self.came >= most,
             None => self.came == u32::MAX,
@@ -34,6 +38,7 @@ impl<P: Ready> Entrance<P> {
 
     // The next link at the door, with its number.
     pub(crate) fn accept(&mut self) -> Result<Option<NewLink<P::Link>>, LoopEnd>
+        ensures keeps { KeepsEntrance P.Door.gave self.old self.new }
         ensures cause { CountsDoor result (P.Door.faults self.old.door) (P.Door.faults self.new.door) }
     {
         match self.door.accept() {

@@ -1,10 +1,13 @@
 //! A loop: it waits until one of its links may have something to say or a check-back for one has come, serves what came on all of
 //! them, and sends what is due.
 
-ghost use Rattle.std.specs.Prelude.{◌≡◌, ◌<◌, ◌^◌, [], IfOk, vec_len};
+ghost use Rattle.std.specs.Prelude.{◌≡◌, ◌<◌, ◌^◌, [], true, IfOk, vec_len};
+ghost use Rattle.link_service.specs.Clocks.{at_reading, unasked};
 ghost use Rattle.event_loops.specs.Causes.{CountsEnd, CountsLoop, Grow, loop_faults};
+ghost use Rattle.event_loops.specs.Doors.{AtDoor, IsDoorDone, KeepsDoor};
 ghost use Rattle.event_loops.specs.Takings.{LeadsTaking};
 ghost use Rattle.event_loops.specs.Tales.{GoesOn, LeadsBy, link_view};
+ghost use Rattle.event_loops.specs.Timing.{GoesTimed, clock_over};
 
 use crate::asks::{Picked, Takes};
 use crate::links::Links;
@@ -30,6 +33,8 @@ const ASKS_MAX: usize = 1024;
 pub enum LoopEnd {
     /// The door takes no further link, and all links have ended.
     Done,
+    /// Another loop had a fault.
+    Stopped,
     /// The clock failed.
     Clock,
     /// The door failed.
@@ -96,6 +101,8 @@ impl<P: Ready + Drop> EventLoop<P> {
         new: NewLink<P::Link>,
     ) -> bool
         ensures went { GoesOn (link_view P.Link.tells P.Link.given P.Link.taken) R.gives self.old.links [] self.new.links }
+        ensures clock { outside.new.clock ≡ outside.old.clock }
+        ensures entrance { outside.new.entrance ≡ outside.old.entrance }
         ensures grow { Grow (loop_faults P.faults P.Door.faults K.faults outside.old)
             (loop_faults P.faults P.Door.faults K.faults outside.new) }
     {
@@ -124,6 +131,8 @@ impl<P: Ready + Drop> EventLoop<P> {
         new: NewLink<P::Link>,
     )
         ensures went { GoesOn (link_view P.Link.tells P.Link.given P.Link.taken) R.gives self.old.links [] self.new.links }
+        ensures clock { outside.new.clock ≡ outside.old.clock }
+        ensures entrance { outside.new.entrance ≡ outside.old.entrance }
         ensures grow { Grow (loop_faults P.faults P.Door.faults K.faults outside.old)
             (loop_faults P.faults P.Door.faults K.faults outside.new) }
     {
@@ -150,6 +159,8 @@ impl<P: Ready + Drop> EventLoop<P> {
         outside: &mut Outside<P, K>,
     ) -> Result<Option<NewLink<P::Link>>, LoopEnd>
         ensures links { self.new.links ≡ self.old.links }
+        ensures clock { outside.new.clock ≡ outside.old.clock }
+        ensures door { KeepsDoor P.Door.gave outside.old.entrance outside.new.entrance }
         ensures cause { CountsLoop result (loop_faults P.faults P.Door.faults K.faults outside.old)
             (loop_faults P.faults P.Door.faults K.faults outside.new) }
     {
@@ -173,6 +184,8 @@ impl<P: Ready + Drop> EventLoop<P> {
         outside: &mut Outside<P, K>,
     ) -> Result<(), LoopEnd>
         ensures went { GoesOn (link_view P.Link.tells P.Link.given P.Link.taken) R.gives self.old.links [] self.new.links }
+        ensures clock { outside.new.clock ≡ outside.old.clock }
+        ensures door { KeepsDoor P.Door.gave outside.old.entrance outside.new.entrance }
         ensures cause { CountsLoop result (loop_faults P.faults P.Door.faults K.faults outside.old)
             (loop_faults P.faults P.Door.faults K.faults outside.new) }
     {
@@ -194,6 +207,8 @@ impl<P: Ready + Drop> EventLoop<P> {
         outside: &mut Outside<P, K>,
     ) -> Result<(), LoopEnd>
         ensures went { GoesOn (link_view P.Link.tells P.Link.given P.Link.taken) R.gives self.old.links [] self.new.links }
+        ensures clock { outside.new.clock ≡ outside.old.clock }
+        ensures door { KeepsDoor P.Door.gave outside.old.entrance outside.new.entrance }
         ensures cause { CountsLoop result (loop_faults P.faults P.Door.faults K.faults outside.old)
             (loop_faults P.faults P.Door.faults K.faults outside.new) }
     {
@@ -212,6 +227,8 @@ impl<P: Ready + Drop> EventLoop<P> {
         outside: &mut Outside<P, K>,
     ) -> bool
         ensures went { GoesOn (link_view P.Link.tells P.Link.given P.Link.taken) R.gives self.old.links [] self.new.links }
+        ensures clock { outside.new.clock ≡ outside.old.clock }
+        ensures entrance { outside.new.entrance ≡ outside.old.entrance }
         ensures grow { Grow (loop_faults P.faults P.Door.faults K.faults outside.old)
             (loop_faults P.faults P.Door.faults K.faults outside.new) }
     {
@@ -272,7 +289,7 @@ impl<P: Ready + Drop> EventLoop<P> {
         calls: &mut C,
         reader: &mut R,
     ) -> bool
-        ensures { LeadsTaking C.makes A.takes calls.old calls.new asks.old asks.new
+        ensures { LeadsTaking (unasked C.makes) A.takes calls.old calls.new asks.old asks.new
             (λ acts. GoesOn (link_view P.Link.tells P.Link.given P.Link.taken) R.gives self.old.links acts self.new.links) }
     {
         for _ in 0..ASKS_MAX {
@@ -294,7 +311,7 @@ impl<P: Ready + Drop> EventLoop<P> {
         failed: Option<u64>,
     )
         requires { now < 2 ^ 62 }
-        ensures went { LeadsBy C.makes calls.old calls.new
+        ensures went { LeadsBy (at_reading now C.makes) calls.old calls.new
             (λ acts. GoesOn (link_view P.Link.tells P.Link.given P.Link.taken) R.gives self.old.links acts self.new.links) }
     {
         let buffer = self.buffer.as_mut_slice();
@@ -333,7 +350,9 @@ impl<P: Ready + Drop> EventLoop<P> {
         &self,
         around: &Around<'_, W, P>,
         outside: &Outside<P, K>,
-    ) -> bool {
+    ) -> bool
+        ensures { result ≡ true → IsDoorDone outside.now.entrance }
+    {
         if let Some(entrance) = &outside.entrance {
             return entrance.is_done();
         }
@@ -351,7 +370,9 @@ impl<P: Ready + Drop> EventLoop<P> {
         &self,
         around: &Around<'_, W, P>,
         outside: &Outside<P, K>,
-    ) -> bool {
+    ) -> bool
+        ensures { result ≡ true → IsDoorDone outside.now.entrance }
+    {
         self.links.is_empty() && self.is_last(around, outside)
     }
 
@@ -362,6 +383,8 @@ impl<P: Ready + Drop> EventLoop<P> {
         timeout: Option<u64>,
     ) -> Result<(), LoopEnd>
         ensures links { self.new.links ≡ self.old.links }
+        ensures clock { outside.new.clock ≡ outside.old.clock }
+        ensures entrance { outside.new.entrance ≡ outside.old.entrance }
         ensures cause { CountsLoop result (loop_faults P.faults P.Door.faults K.faults outside.old)
             (loop_faults P.faults P.Door.faults K.faults outside.new) }
     {
@@ -377,6 +400,8 @@ impl<P: Ready + Drop> EventLoop<P> {
         timeout: Option<u64>,
     ) -> Result<bool, LoopEnd>
         ensures went { GoesOn (link_view P.Link.tells P.Link.given P.Link.taken) R.gives self.old.links [] self.new.links }
+        ensures clock { outside.new.clock ≡ outside.old.clock }
+        ensures door { KeepsDoor P.Door.gave outside.old.entrance outside.new.entrance }
         ensures cause { CountsLoop result (loop_faults P.faults P.Door.faults K.faults outside.old)
             (loop_faults P.faults P.Door.faults K.faults outside.new) }
     {
@@ -398,7 +423,9 @@ impl<P: Ready + Drop> EventLoop<P> {
         timeout: Option<u64>,
     ) -> Result<Option<u64>, LoopEnd>
         ensures went { LeadsTaking C.makes A.takes calls.old calls.new asks.old asks.new
-            (λ acts. GoesOn (link_view P.Link.tells P.Link.given P.Link.taken) R.gives self.old.links acts self.new.links) }
+            (λ acts. GoesTimed (link_view P.Link.tells P.Link.given P.Link.taken) R.gives
+            (clock_over K.tells (K.readings outside.old.clock) (K.readings outside.new.clock)) self.old.links acts self.new.links) }
+        ensures door { KeepsDoor P.Door.gave outside.old.entrance outside.new.entrance }
         ensures cause { CountsLoop result (loop_faults P.faults P.Door.faults K.faults outside.old)
             (loop_faults P.faults P.Door.faults K.faults outside.new) }
     {
@@ -410,8 +437,8 @@ impl<P: Ready + Drop> EventLoop<P> {
         Ok(self.timeout(around, more_came || more_asks))
     }
 
-    /// Serves links until the door is done and all of them have ended, or a fault ends it. Meanwhile it writes the check-backs that
-    /// come. Whoever sends one wakes the loop.
+    /// Serves links until the door is done and all of them have ended, or a fault of it or of another loop ends it. Meanwhile it writes
+    /// the check-backs that come. Whoever sends one wakes the loop.
     pub fn run<W: Wait, K: Clock + Drop, A: Takes, C: Calls, R: Reader>(
         &mut self,
         around: &Around<'_, W, P>,
@@ -420,16 +447,23 @@ impl<P: Ready + Drop> EventLoop<P> {
         calls: &mut C,
         reader: &mut R,
     ) -> LoopEnd
-        // Each step is one of a link's pass, or its end. What was written to links are some of the check-backs that were taken.
+        // Each step is one of a link's pass, or its end. The requests of each pass are given to the broker at the reading that the
+        // clock gave for it. What was written to links are some of the check-backs that were taken.
         ensures went { LeadsTaking C.makes A.takes calls.old calls.new asks.old asks.new
-            (λ acts. GoesOn (link_view P.Link.tells P.Link.given P.Link.taken) R.gives self.old.links acts self.new.links) }
+            (λ acts. GoesTimed (link_view P.Link.tells P.Link.given P.Link.taken) R.gives
+            (clock_over K.tells (K.readings outside.old.clock) (K.readings outside.new.clock)) self.old.links acts self.new.links) }
+        // No more links are let in than its door gave. It ends as done only where none is let in any more.
+        ensures door { AtDoor P.Door.gave result outside.old.entrance outside.new.entrance }
         // It ends by a fault only where the count of what it blames rose.
         ensures cause { CountsEnd result (loop_faults P.faults P.Door.faults K.faults outside.old)
             (loop_faults P.faults P.Door.faults K.faults outside.new) }
     {
         let mut timeout = None;
         for _ in around.rt.forever() {
-            if around.shared.is_ending() || self.is_done(around, outside) {
+            if around.shared.is_ending() {
+                return LoopEnd::Stopped;
+            }
+            if self.is_done(around, outside) {
                 return LoopEnd::Done;
             }
             match self.pass(around, outside, asks, calls, reader, timeout) {

@@ -3,6 +3,7 @@
 ghost use Rattle.std.specs.Prelude.{◌≡◌, ◌<◌, ◌^◌, ◌∷◌, [], true, false, slice_get, Option, Some, None, IfSome};
 ghost use Rattle.broker_events.specs.declared.event.Event.TheVariants.{Leave};
 ghost use Rattle.broker_events.specs.declared.said.Said.{Said};
+ghost use Rattle.link_service.specs.Clocks.{at_reading, unasked};
 ghost use Rattle.event_loops.specs.Tales.{Acts, Keeps, LeadsWith, LeadsBy, GoesOn, IsSeenAs, IsLink, IsSlotOf, link_view, loop_of as loop_of_link};
 
 use crate::shared::Shared;
@@ -82,7 +83,7 @@ fn hear_one<L: Link + Drop, C: Calls, R: Reader>(
     failed: Option<u64>,
 ) -> bool
     requires { now < 2 ^ 62 }
-    ensures went { LeadsBy C.makes calls.old calls.new
+    ensures went { LeadsBy (at_reading now C.makes) calls.old calls.new
         (λ acts. Acts (link_view L.tells L.given L.taken) R.gives (Some numbered.old) acts (Some numbered.new)) }
 {
     numbered.linked.hear(alloc, calls, buffer, now, failed)
@@ -98,7 +99,7 @@ fn hear_slot<L: Link + Drop, C: Calls, R: Reader>(
     failed: Option<u64>,
 ) -> bool
     requires { now < 2 ^ 62 }
-    ensures went { LeadsBy C.makes calls.old calls.new
+    ensures went { LeadsBy (at_reading now C.makes) calls.old calls.new
         (λ acts. Acts (link_view L.tells L.given L.taken) R.gives slot.old acts slot.new) }
 {
     match slot {
@@ -117,7 +118,7 @@ fn hear_each<L: Link + Drop, C: Calls, R: Reader>(
     failed: Option<u64>,
 ) -> bool
     requires { now < 2 ^ 62 }
-    ensures went { LeadsBy C.makes calls.old calls.new
+    ensures went { LeadsBy (at_reading now C.makes) calls.old calls.new
         (λ acts. Keeps (link_view L.tells L.given L.taken) R.gives slots.old acts slots.new) }
 {
     let mut any = false;
@@ -141,13 +142,14 @@ fn reply_one<L: Link + Drop, C: Calls, R: Reader>(
     calls: &mut C,
     numbered: &mut Numbered<L>,
     reader: &mut R,
+    flushed: u64,
 ) -> bool
-    ensures replied { result ≡ false → LeadsBy C.makes calls.old calls.new
+    ensures replied { result ≡ false → LeadsBy (unasked C.makes) calls.old calls.new
         (λ acts. Acts (link_view L.tells L.given L.taken) R.gives (Some numbered.old) acts (Some numbered.new)) }
-    ensures left { result ≡ true → LeadsBy C.makes calls.old calls.new
+    ensures left { result ≡ true → LeadsBy (unasked C.makes) calls.old calls.new
         (λ acts. Acts (link_view L.tells L.given L.taken) R.gives (Some numbered.old) acts None) }
 {
-    numbered.linked.reply(alloc, calls, reader);
+    numbered.linked.reply(alloc, calls, reader, flushed);
     if !numbered.linked.has_ended() {
         return false;
     }
@@ -162,21 +164,23 @@ fn reply_slot<L: Link + Drop, C: Calls, R: Reader>(
     calls: &mut C,
     slot: &mut Option<Numbered<L>>,
     reader: &mut R,
+    flushed: u64,
 ) -> bool
-    ensures went { LeadsBy C.makes calls.old calls.new
+    ensures went { LeadsBy (unasked C.makes) calls.old calls.new
         (λ acts. Acts (link_view L.tells L.given L.taken) R.gives slot.old acts slot.new) }
 {
     let Some(numbered) = slot else {
         return false;
     };
-    if !reply_one(alloc, calls, numbered, reader) {
+    if !reply_one(alloc, calls, numbered, reader, flushed) {
         return false;
     }
     *slot = None;
     true
 }
 
-// Sends what is due on each link, and lets go of those that have ended. Answers whether any has.
+// Sends what is due on each link, as far as the last flush turn left it, and lets go of those that have ended. Answers whether any
+// has.
 fn reply_each<L: Link + Drop, C: Calls, R: Reader>(
     alloc: Global,
     shared: &Shared,
@@ -184,13 +188,14 @@ fn reply_each<L: Link + Drop, C: Calls, R: Reader>(
     slots: &mut [Option<Numbered<L>>],
     reader: &mut R,
 ) -> bool
-    ensures went { LeadsBy C.makes calls.old calls.new
+    ensures went { LeadsBy (unasked C.makes) calls.old calls.new
         (λ acts. Keeps (link_view L.tells L.given L.taken) R.gives slots.old acts slots.new) }
 {
     let mut any = false;
+    let flushed = shared.flushed();
     for i in 0..slots.len() {
         let slot = &mut slots[i];
-        if reply_slot(alloc, calls, slot, reader) {
+        if reply_slot(alloc, calls, slot, reader, flushed) {
             shared.link_ended();
             any = true;
         }
@@ -230,7 +235,7 @@ fn ask_one<L: Link + Drop, C: Calls, R: Reader>(
     ask: &Ask,
 )
     requires { ask.now.link ≡ numbered.old.linked.session.talk.link }
-    ensures { LeadsWith C.makes calls.old calls.new (ask.now ∷ [])
+    ensures { LeadsWith (unasked C.makes) calls.old calls.new (ask.now ∷ [])
         (λ acts. Acts (link_view L.tells L.given L.taken) R.gives (Some numbered.old) acts (Some numbered.new)) }
 {
     let _ = numbered.linked.ask(alloc, calls, reader, ask);
@@ -245,7 +250,7 @@ fn ask_slot<L: Link + Drop, C: Calls, R: Reader>(
     ask: &Ask,
 )
     requires { IsLink slot.old ask.now.link }
-    ensures { LeadsWith C.makes calls.old calls.new (ask.now ∷ [])
+    ensures { LeadsWith (unasked C.makes) calls.old calls.new (ask.now ∷ [])
         (λ acts. Acts (link_view L.tells L.given L.taken) R.gives slot.old acts slot.new) }
 {
     match slot {
@@ -353,7 +358,7 @@ impl<L: Link + Drop> Links<L> {
         failed: Option<u64>,
     ) -> bool
         requires { now < 2 ^ 62 }
-        ensures went { LeadsBy C.makes calls.old calls.new
+        ensures went { LeadsBy (at_reading now C.makes) calls.old calls.new
             (λ acts. GoesOn (link_view L.tells L.given L.taken) R.gives self.old acts self.new) }
     {
         hear_each::<L, C, R>(alloc, calls, self.slots.as_mut_slice(), buffer, now, failed)
@@ -367,7 +372,7 @@ impl<L: Link + Drop> Links<L> {
         calls: &mut C,
         reader: &mut R,
     ) -> bool
-        ensures went { LeadsBy C.makes calls.old calls.new
+        ensures went { LeadsBy (unasked C.makes) calls.old calls.new
             (λ acts. GoesOn (link_view L.tells L.given L.taken) R.gives self.old acts self.new) }
     {
         reply_each(alloc, shared, calls, self.slots.as_mut_slice(), reader)
@@ -382,7 +387,7 @@ impl<L: Link + Drop> Links<L> {
         reader: &mut R,
         ask: &Ask,
     )
-        ensures { LeadsWith C.makes calls.old calls.new (ask.now ∷ [])
+        ensures { LeadsWith (unasked C.makes) calls.old calls.new (ask.now ∷ [])
             (λ acts. GoesOn (link_view L.tells L.given L.taken) R.gives self.old acts self.new) }
     {
         let Some(at) = slot_of(self.slots.as_slice(), ask.link) else {

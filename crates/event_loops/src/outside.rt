@@ -1,6 +1,6 @@
 //! What is outside a loop: what tells which of its links are ready, a clock, and the door, which one loop has.
 
-ghost use Rattle.std.specs.Prelude.{◌≡◌, ◌<◌, ◌^◌, IfOk};
+ghost use Rattle.std.specs.Prelude.{◌≡◌, ◌<◌, ◌^◌, ◌++◌, ◌∷◌, [], IfOk, OnErr};
 ghost use Rattle.event_loops.specs.Causes.{CountsLoop, CountsPoll, Grow, end_of_poll, loop_faults};
 
 use crate::entrance::Entrance;
@@ -45,6 +45,9 @@ impl<P: Ready + Drop, K: Clock + Drop> Outside<P, K> {
     // What the clock says.
     pub(crate) fn now(&mut self) -> Result<u64, LoopEnd>
         ensures small { IfOk result (λ now. now < 2 ^ 62) }
+        ensures gave { K.tells → IfOk result (λ now. K.readings self.new.clock ≡ K.readings self.old.clock ++ now ∷ []) }
+        ensures entrance { self.new.entrance ≡ self.old.entrance }
+        ensures still { K.tells → OnErr result (K.readings self.new.clock ≡ K.readings self.old.clock) }
         ensures cause { CountsLoop result (loop_faults P.faults P.Door.faults K.faults self.old)
             (loop_faults P.faults P.Door.faults K.faults self.new) }
     {
@@ -57,6 +60,8 @@ impl<P: Ready + Drop, K: Clock + Drop> Outside<P, K> {
     // Reports the link under this token from now on. Answers whether it does.
     pub(crate) fn register(&mut self, link: &mut P::Link, token: u32) -> bool
         ensures same { link.new ≡ link.old }
+        ensures clock { self.new.clock ≡ self.old.clock }
+        ensures entrance { self.new.entrance ≡ self.old.entrance }
         ensures grow { Grow (loop_faults P.faults P.Door.faults K.faults self.old)
             (loop_faults P.faults P.Door.faults K.faults self.new) }
     {
@@ -69,6 +74,8 @@ impl<P: Ready + Drop, K: Clock + Drop> Outside<P, K> {
         timeout: Option<u64>,
         events: &mut Vec<Event>,
     ) -> Result<(), LoopEnd>
+        ensures clock { self.new.clock ≡ self.old.clock }
+        ensures entrance { self.new.entrance ≡ self.old.entrance }
         ensures cause { CountsLoop result (loop_faults P.faults P.Door.faults K.faults self.old)
             (loop_faults P.faults P.Door.faults K.faults self.new) }
     {

@@ -80,6 +80,8 @@ pub struct Shared {
     bell: Parker,
     // How many flush turns have ended.
     turns: AtomicU64,
+    // A record that isn't below this number waits for another turn. A hint: it is at its maximum where none is known to.
+    flushed: AtomicU64,
     // 1 once the loops are to end, and once they have.
     ending: AtomicU64,
     over: AtomicU64,
@@ -98,6 +100,7 @@ impl Shared {
         Shared {
             bell: Parker::new(),
             turns: AtomicU64::new(0),
+            flushed: AtomicU64::new(u64::MAX),
             ending: AtomicU64::new(0),
             over: AtomicU64::new(0),
             closed: AtomicU64::new(0),
@@ -125,14 +128,22 @@ impl Shared {
         self.turns.load(Ordering::SeqCst)
     }
 
-    /// One more flush turn has ended, and failed where this is the disk's count of faults.
-    pub fn count_turn(&self, failed: Option<u64>) {
+    /// One more flush turn has ended, and failed where this is the disk's count of faults. From now on each record that isn't below
+    /// `flushed` waits for a later one; it is `u64::MAX` where that isn't known, as after a turn that failed.
+    pub fn count_turn(&self, failed: Option<u64>, flushed: u64) {
         let word = match failed {
             Some(count) => count.saturating_add(1),
             None => 0,
         };
         self.failed.store(word, Ordering::SeqCst);
+        self.flushed.store(flushed, Ordering::SeqCst);
+        // Last: a loop that knows of the turn knows how it ended.
         self.turns.fetch_add(1, Ordering::SeqCst);
+    }
+
+    /// A record that isn't below this number waits for a flush turn that has not ended yet. Before the first one none is known to.
+    pub fn flushed(&self) -> u64 {
+        self.flushed.load(Ordering::SeqCst)
     }
 
     /// The disk's count of faults, where the last turn failed.

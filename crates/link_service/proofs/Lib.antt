@@ -1,3 +1,4 @@
 pub mod OfLink
+pub mod Timing
 pub mod Transcribing
 pub mod Went

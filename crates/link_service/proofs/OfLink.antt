@@ -1,11 +1,10 @@
 -- Each step of a link's passes is a request of the link, or a look.
-use Rattle.std.proofs.Common.{◌≡◌, ◌⊎◌, ⊎_elim, inl, inr, ℕ, List, [], ◌∷◌, ◌++◌, Bool, true, false, Option, Some, None, Result, Ok, Err, refl, sym, ap, ◌∙◌, subst}
+use Rattle.std.proofs.Common.{◌≡◌, ⊎_elim, inl, inr, ℕ, List, [], ◌∷◌, ◌++◌, Bool, true, false, Option, Some, None, Result, Ok, Err, refl, sym, ap, subst}
 use Rattle.mq_outside.specs.Readings.{Giving}
 use Rattle.reply_fields.specs.Parts.{ReplyParts, AskParts}
-use Rattle.session.specs.Asking.{AreFor}
-use Rattle.session.specs.Serving.{Made, IsAsked, IsAnswered, Rests, ServesNext}
+use Rattle.session.specs.Serving.{Made, IsAsked, IsAnswered, ServesNext}
 use Rattle.session.specs.Settling.{IsDueAfter, IsNotYet, Waits, LooksFor, Settles, IsSettled, IsBroken, Stops}
-use Rattle.session.specs.Sessions.{Call, fed, served, gave_up, settled, sent, asked, made_in, made_of, asks_in, asks_of}
+use Rattle.session.specs.Sessions.{Call, fed, served, gave_up, settled, sent, asked, made_in, made_of}
 use Rattle.session.specs.declared.heard.Heard.{Heard}
 use Rattle.session.specs.declared.owed.Applied.{Applied}
 use Rattle.session.specs.declared.owed.Awaits.{Awaits}
@@ -16,7 +15,7 @@ use Rattle.session.specs.declared.serving.Step.{Step}
 use Rattle.session.specs.declared.serving.Step.TheVariants as steps
 use Rattle.session.specs.declared.session.Session.{Session}
 use Rattle.session.specs.declared.talk.Talk.{Talk}
-use Rattle.link_service.specs.Transcripts.{Seen, IsOfLink, AreOfLink, IsCallOf, AreCallsOf, WentOnWith}
+use Rattle.link_service.specs.Transcripts.{Seen, AreOfLink, IsCallOf, AreCallsOf, WentOnWith}
 
 of_append : (link : ℕ) (xs ys : Made) → AreOfLink link xs → AreOfLink link ys → AreOfLink link (xs ++ ys)
 of_append link [] ys are more = more

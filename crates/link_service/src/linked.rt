@@ -5,6 +5,7 @@
 
 ghost use Rattle.std.specs.Prelude.{◌≡◌, ◌<◌, ◌^◌, [], false, true, IfOk};
 ghost use Rattle.session.specs.Serving.{Leads};
+ghost use Rattle.link_service.specs.Clocks.{at_reading, unasked};
 ghost use Rattle.link_service.specs.Transcripts.{WentOn, WentOnWith, WentOnUnread, IsFresh, if_asked, seen_of};
 
 use broker_events::Calls;
@@ -135,7 +136,7 @@ impl<L: Link + Drop> Linked<L> {
     fn serve_once<C: Calls>(&mut self, alloc: Global, calls: &mut C, now: u64) -> Result<Step, Halt>
         requires now { now < 2 ^ 62 }
         requires whole { self.old.broken ≡ false }
-        ensures went { Leads C.makes calls.old calls.new
+        ensures went { Leads (at_reading now C.makes) calls.old calls.new
             (λ made. WentOnUnread L.tells (seen_of L.given L.taken self.old) made (seen_of L.given L.taken self.new)) }
         ensures whole { IfOk result (λ step. self.new.broken ≡ false) }
     {
@@ -152,7 +153,7 @@ impl<L: Link + Drop> Linked<L> {
     fn serve<C: Calls>(&mut self, alloc: Global, calls: &mut C, now: u64) -> bool
         requires now { now < 2 ^ 62 }
         requires whole { self.old.broken ≡ false }
-        ensures went { Leads C.makes calls.old calls.new
+        ensures went { Leads (at_reading now C.makes) calls.old calls.new
             (λ made. WentOnUnread L.tells (seen_of L.given L.taken self.old) made (seen_of L.given L.taken self.new)) }
     {
         let mut any = false;
@@ -198,7 +199,7 @@ impl<L: Link + Drop> Linked<L> {
         failed: Option<u64>,
     ) -> bool
         requires { now < 2 ^ 62 }
-        ensures went { Leads C.makes calls.old calls.new
+        ensures went { Leads (at_reading now C.makes) calls.old calls.new
             (λ made. WentOnUnread L.tells (seen_of L.given L.taken self.old) made (seen_of L.given L.taken self.new)) }
     {
         if self.broken {
@@ -219,7 +220,7 @@ impl<L: Link + Drop> Linked<L> {
     // Writes the replies that are due.
     fn settle<C: Calls, R: Reader>(&mut self, alloc: Global, calls: &mut C, reader: &mut R)
         requires whole { self.old.broken ≡ false }
-        ensures went { Leads C.makes calls.old calls.new
+        ensures went { Leads (unasked C.makes) calls.old calls.new
             (λ made. WentOn L.tells R.gives (seen_of L.given L.taken self.old) made (seen_of L.given L.taken self.new)) }
         ensures talk { self.new.session.talk ≡ self.old.session.talk }
     {
@@ -227,6 +228,24 @@ impl<L: Link + Drop> Linked<L> {
             Ok(()) => {}
             Err(_) => self.broken = true,
         }
+    }
+
+    // The same, unless the first reply waits for a record that isn't below this number. Each look is a step of the broker.
+    fn settle_below<C: Calls, R: Reader>(
+        &mut self,
+        alloc: Global,
+        calls: &mut C,
+        reader: &mut R,
+        flushed: u64,
+    )
+        requires whole { self.old.broken ≡ false }
+        ensures went { Leads (unasked C.makes) calls.old calls.new
+            (λ made. WentOn L.tells R.gives (seen_of L.given L.taken self.old) made (seen_of L.given L.taken self.new)) }
+    {
+        if !self.session.is_due_below(flushed) {
+            return;
+        }
+        self.settle(alloc, calls, reader);
     }
 
     // Whether something is to be sent, and it takes it.
@@ -260,9 +279,16 @@ impl<L: Link + Drop> Linked<L> {
         }
     }
 
-    /// Writes and sends the replies that are due.
-    pub fn reply<C: Calls, R: Reader>(&mut self, alloc: Global, calls: &mut C, reader: &mut R)
-        ensures went { Leads C.makes calls.old calls.new
+    /// Writes and sends the replies that are due. While the first waits for a record that isn't below `flushed`, none is looked for:
+    /// the caller knows that a look would say that nothing became of it yet, and gives `u64::MAX` where it doesn't.
+    pub fn reply<C: Calls, R: Reader>(
+        &mut self,
+        alloc: Global,
+        calls: &mut C,
+        reader: &mut R,
+        flushed: u64,
+    )
+        ensures went { Leads (unasked C.makes) calls.old calls.new
             (λ made. WentOn L.tells R.gives (seen_of L.given L.taken self.old) made (seen_of L.given L.taken self.new)) }
     {
         self.owes = false;
@@ -270,7 +296,7 @@ impl<L: Link + Drop> Linked<L> {
             if self.broken {
                 return;
             }
-            self.settle(alloc, calls, reader);
+            self.settle_below(alloc, calls, reader, flushed);
             if self.session.unsent().is_empty() {
                 return;
             }
@@ -313,7 +339,7 @@ impl<L: Link + Drop> Linked<L> {
         ask: &Ask,
     ) -> bool
         requires { ask.now.link ≡ self.old.session.talk.link }
-        ensures { Leads C.makes calls.old calls.new
+        ensures { Leads (unasked C.makes) calls.old calls.new
             (λ made. WentOnWith L.tells R.gives (seen_of L.given L.taken self.old) made (if_asked result ask.now)
             (seen_of L.given L.taken self.new)) }
     {

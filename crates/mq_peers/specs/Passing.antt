@@ -1,4 +1,4 @@
--- What passes at a read and at a write of a link.
+-- What passes at a read and at a write of a link, and at a door.
 use Rattle.std.specs.Prelude.{ℕ, List, [], take, Result, Ok, Err, Option, Some, None}
 use Rattle.mq_peers.specs.declared.incoming.Incoming.{Incoming}
 use Rattle.mq_peers.specs.declared.incoming.Incoming.TheVariants.{NotNow, Bytes, End}
@@ -22,3 +22,9 @@ abbrev pub bytes_taken : {E : Type 0} → Result (Option ℕ) E → List ℕ →
 bytes_taken (Ok None) piece = []
 bytes_taken (Ok (Some n)) piece = take n piece
 bytes_taken (Err _) piece = []
+
+-- how many links came in
+abbrev pub links_in : {L E : Type 0} → Result (Option L) E → ℕ
+links_in (Ok None) = 0
+links_in (Ok (Some link)) = 1
+links_in (Err _) = 0

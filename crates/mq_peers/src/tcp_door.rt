@@ -1,6 +1,7 @@
 //! A door over TCP: peers come in by IPv4, links don't wait to gather what they send, and peers that vanish are found.
 
 ghost use Rattle.std.specs.Prelude.{◌≡◌, IfOk, IfSome};
+ghost use Rattle.mq_outside.specs.Counts.{Rises};
 
 use crate::door::Door;
 use crate::keep_alive::set_keep_alive;
@@ -38,6 +39,8 @@ pub struct TcpDoor<R: Net + Drop> {
     // None until it is open.
     pub(crate) listener: Option<TcpListener>,
     faults: u64,
+    // How many links it gave.
+    gave: u64,
 }
 
 // Whom a refusal of `accept` concerns.
@@ -125,6 +128,7 @@ impl<R: Net + Drop> TcpDoor<R> {
             address,
             listener: None,
             faults: 0,
+            gave: 0,
         }
     }
 
@@ -135,12 +139,33 @@ impl<R: Net + Drop> TcpDoor<R> {
             None => None,
         }
     }
+
+    // The next link, if one waits.
+    fn next_link(&self) -> Result<Option<TcpLink>, Failed>
+        ensures faults { IfOk result (λ came. IfSome came (λ link. ⟦<TcpLink as Link>⟧.faults link ≡ 0)) }
+    {
+        match &self.listener {
+            Some(listener) => accept_some(listener),
+            None => Err(Failed),
+        }
+    }
+
+    // Counts a failure.
+    fn fail(&mut self) -> Failed
+        ensures faults { Rises self.old.faults self.new.faults }
+        ensures gave { self.new.gave ≡ self.old.gave }
+    {
+        self.faults = self.faults.saturating_add(1);
+        Failed
+    }
 }
 
 impl<R: Net + Drop> Door for TcpDoor<R> {
     type Link = TcpLink;
 
     ghost faults = { λ s. s.faults };
+
+    ghost gave = { λ s. s.gave };
 
     fn open(&mut self, port: u16) -> Result<(), Failed> {
         let address = SocketAddr::from((self.address, port));
@@ -157,16 +182,17 @@ impl<R: Net + Drop> Door for TcpDoor<R> {
     }
 
     fn accept(&mut self) -> Result<Option<TcpLink>, Failed> {
-        let came = match &self.listener {
-            Some(listener) => accept_some(listener),
-            None => Err(Failed),
+        // It counts no further.
+        let Some(gave) = self.gave.checked_add(1) else {
+            return Err(self.fail());
         };
-        match came {
-            Ok(link) => Ok(link),
-            Err(Failed) => {
-                self.faults = self.faults.saturating_add(1);
-                Err(Failed)
+        match self.next_link() {
+            Ok(Some(link)) => {
+                self.gave = gave;
+                Ok(Some(link))
             }
+            Ok(None) => Ok(None),
+            Err(Failed) => Err(self.fail()),
         }
     }
 }

@@ -15,6 +15,7 @@ use Rattle.store_open.specs.declared.serve_words.ServeCommand.{ServeCommand}
 use Rattle.store_open.specs.declared.status.Status.{Status}
 use Rattle.broker_run.specs.Promise as pipe
 use Rattle.broker_run.specs.Promise.{AllFaults, Call, EndsWell, IsQuiet, KeepSeen, Seen, before, behind}
+use Rattle.event_loops.specs.Doors.{GaveAll}
 use Rattle.serve_threads.specs.Kept.{KeepOver}
 use Rattle.serve_threads.specs.Served.{Views}
 use Rattle.serve_threads.specs.Causes.{ServeFaults}
@@ -50,13 +51,15 @@ pub record Pipes {D : Type 0} (words : List (List ℕ)) (status : Status) (seen 
 
 -- ---- links
 
--- A run over links: what is seen of it, the disk before it and behind it, the keep, and the core that is left, where links were served.
+-- A run over links: what is seen of it, the disk before it and behind it, the keep, the core that is left, where links were served, and
+-- how many links the door gave before it and behind it.
 pub record ServeSeen (D : Type 0) : Type 1 where
   pub views : Views D
   pub old : D
   pub new : D
   pub keep : KeepOver
   pub core : Option Parts
+  pub gave : ℕ × ℕ
 
 -- What a run over links does: each field is the clause of `run_serve` with its name.
 pub record Serves {D : Type 0} (words : List (List ℕ)) (status : Status) (seen : ServeSeen D) (old new : ServeFaults) : Type 0 where
@@ -81,5 +84,7 @@ pub record Serves {D : Type 0} (words : List (List ℕ)) (status : Status) (seen
   pub stands : seen.keep.tells → (text : List ℕ) → seen.keep.old.reads FORMAT ≡ Some text → seen.keep.new.reads FORMAT ≡ Some text
   pub kept : seen.keep.tells → (name : List ℕ) → name ≢ FORMAT → name ≢ OFFSETS → name ≢ TOPICS
       → seen.keep.new.reads name ≡ seen.keep.old.reads name
+  pub came : status.code ≡ 0 → (command : ServeCommand) × IsServeCommand words command
+      × GaveAll command.connections seen.gave.0 seen.gave.1
   pub table : FitsTable status
   pub cause : Causes status old new

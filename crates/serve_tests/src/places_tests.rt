@@ -4,15 +4,15 @@ use spine::FlushWaits;
 use std::sync::Wait;
 
 // How many turns with a record of each place have ended. The places are those of the records 0, 8, 16 and so on.
-fn ended<R: Wait>(rt: &R, waits: &FlushWaits) -> [u64; 8] {
-    std::array::from_fn(|place| waits.place_of(place as u64 * 8).ended(rt))
+fn ended(waits: &FlushWaits) -> [u64; 8] {
+    std::array::from_fn(|place| waits.place_of(place as u64 * 8).ended())
 }
 
 // The same once a turn of so many records from this number on has ended.
 fn ended_by<R: Wait>(rt: &R, from: u64, count: u64) -> [u64; 8] {
     let waits = FlushWaits::new();
     waits.wake(rt, from, count);
-    let ended = ended(rt, &waits);
+    let ended = ended(&waits);
     drop(waits);
     ended
 }
@@ -22,7 +22,7 @@ fn ended_by_two<R: Wait>(rt: &R) -> [u64; 8] {
     let waits = FlushWaits::new();
     waits.wake(rt, 8, 8);
     waits.wake_all(rt);
-    let ended = ended(rt, &waits);
+    let ended = ended(&waits);
     drop(waits);
     ended
 }

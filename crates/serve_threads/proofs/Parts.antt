@@ -11,7 +11,8 @@ use Rattle.session.specs.Serving.{Made, Leads}
 use Rattle.reply_fields.specs.Parts.{AskParts}
 use Rattle.ask_ways.specs.Ways.{taken_by}
 use Rattle.ask_ways.specs.declared.ends.Receiver.{Receiver}
-use Rattle.event_loops.specs.Tales.{steps_of, asks_of, made_for, asks_for, AreSome, loop_of, IsTale, IsAnsweredInOrder, LinkView, loop_numbers, LeadsWith, GoesOn}
+use Rattle.event_loops.specs.Tales.{steps_of, asks_of, made_for, asks_for, AreSome, loop_of, IsTale, IsAnsweredInOrder, LinkView, loop_numbers, LeadsWith}
+use Rattle.event_loops.specs.Timing.{ClockOver, GoesTimed}
 use Rattle.event_loops.specs.declared.links.Links.{Links}
 use Rattle.event_loops.proofs.Told.{told_none}
 use Rattle.story_lock.specs.declared.chronicle.Chronicle.{Ghosts}
@@ -31,7 +32,7 @@ use Rattle.worker_turns.specs.Acts as acts
 use Rattle.worker_turns.specs.Acts.{Acted, DiskView, Place, place_of, change_of}
 use Rattle.serve_threads.specs.Kept.{SeesAll}
 use Rattle.serve_threads.specs.Asking.{HasTaken, IsFrontOf}
-use Rattle.serve_threads.specs.Served.{FlushesTo, Write, AreAnsweredFrom, Worked, AreLooks, IsMerged, Meets, Cuts, AreCut, AreMet, ByThread, HasMade, IsMadeBy, Views, by_thread}
+use Rattle.serve_threads.specs.Served.{FlushesTo, Write, WorksFrom, Worked, first_clock, second_clock, AreLooks, IsMerged, Meets, Cuts, AreCut, AreMet, ByThread, HasMade, IsMadeBy, Views, by_thread}
 use Rattle.serve_threads.proofs.Asking.{got_more, front_some}
 use Rattle.serve_threads.proofs.Keeping.{SeesAt, starts_then}
 use Rattle.serve_threads.proofs.Keys.{cut_numbers}
@@ -44,39 +45,44 @@ use Rattle.serve_threads.proofs.SharedStory.{leads_on}
 pub answered : {L C : Type 0} (view : LinkView L) (gives : Giving) (makes : Steps C) (number : ℕ) (x y : C) (before after : Receiver AskParts) (old new : Links L)
     → ((link : ℕ) (made : Made) (asks : List AskParts) → IsTale view.tells gives link made asks → IsAnsweredInOrder view.tells gives link made asks)
     → (old.loops ≡ 2) × (old.number ≡ number) × (old.slots.items ≡ []) → taken_by before ≡ [] → (taken : List AskParts) → HasTaken before taken after
-    → LeadsWith makes x y taken (λ acts. GoesOn view gives old acts new) → Worked makes view.tells gives number x y before after
-answered {L} view gives makes number x y before after old new law begins none taken took went =
-    let told = went.so.keeps [] (told_none view gives (loop_numbers old) old.slots.items begins.2) in
-    let loops : new.loops ≡ 2 = went.so.same.0 ∙ begins.0 in
-    let is : new.number ≡ number = went.so.same.1 ∙ begins.1 in
+    → (clock : ClockOver) → LeadsWith makes x y taken (λ acts. GoesTimed view gives clock old acts new) → Worked makes view.tells gives clock number x y before after
+answered {L} view gives makes number x y before after old new law begins none taken took clock went =
+    let told = went.so.went.keeps [] (told_none view gives (loop_numbers old) old.slots.items begins.2) in
+    let loops : new.loops ≡ 2 = went.so.went.same.0 ∙ begins.0 in
+    let is : new.number ≡ number = went.so.went.same.1 ∙ begins.1 in
     let all : taken ≡ taken_by after = sym (took.all ∙ ap (λ (l : List AskParts). l ++ taken) none) in
     record {
       leads = record {
         made = steps_of went.acts;
         leads = went.leads;
-        so = (
-          asks_of went.acts,
-          subst (λ (l : List AskParts). AreSome (asks_of went.acts) l) all went.wrote,
-          record {
-            acts = went.acts;
-            all = refl;
-            asked = refl;
-            each = λ link. ⊎_elim (λ no. inl no)
-                (λ some. inr (subst (λ (n : ℕ). loop_of n link ≡ number) loops (some.0 ∙ is), law link (made_for link went.acts) (asks_for link went.acts) some.1)) (told.each link);
-          },
-        );
+        so = record {
+          answered = (
+            asks_of went.acts,
+            subst (λ (l : List AskParts). AreSome (asks_of went.acts) l) all went.wrote,
+            record {
+              acts = went.acts;
+              all = refl;
+              asked = refl;
+              each = λ link. ⊎_elim (λ no. inl no)
+                  (λ some. inr (subst (λ (n : ℕ). loop_of n link ≡ number) loops (some.0 ∙ is), law link (made_for link went.acts) (asks_for link went.acts) some.1)) (told.each link);
+            },
+          );
+          timed = went.so.timed;
+        };
       };
       same = took.same;
     }
 
 -- it took the first of what was put on its way
-pub took_first : {C : Type 0} (makes : Steps C) (tells : Type 0) (gives : Giving) (number : ℕ) (x y : C) (taken put : List AskParts) → IsFrontOf taken put
-    → Leads makes x y (AreAnsweredFrom tells gives number taken) → Leads makes x y (AreAnsweredFrom tells gives number put)
-took_first makes tells gives number x y taken put front went = record {
-  made = went.made;
-  leads = went.leads;
-  so = (went.so.0, front_some went.so.0 taken put went.so.1 front, went.so.2);
-}
+pub took_first : {C : Type 0} (makes : Steps C) (tells : Type 0) (gives : Giving) (clock : ClockOver) (number : ℕ) (x y : C) (taken put : List AskParts) → IsFrontOf taken put
+    → Leads makes x y (WorksFrom tells gives clock number taken) → Leads makes x y (WorksFrom tells gives clock number put)
+took_first makes tells gives clock number x y taken put front went =
+    let was = went.so.answered in
+    record {
+      made = went.made;
+      leads = went.leads;
+      so = record { answered = (was.0, front_some was.0 taken put was.1 front, was.2); timed = went.so.timed };
+    }
 
 -- ---- entries at places
 
@@ -187,7 +193,8 @@ module _ {chronicle : Ghosts Shared Event (Option Said)} where
 
   module _ {D : Type 0} (views : Views D) where
     met : (put : List AskParts × List AskParts) (p : Place D) (file : LastFile) (disk : D) (whole k a b e kt at bt et new : Pass Shared Event (Option Said) chronicle) → mine_of whole ≡ [] → numbers_of whole ≡ 0 ∷ 1 ∷ 2 ∷ 3 ∷ []
-        → Cuts whole k a b e → GainsTurns views.disk (FlushesTo put) k p kt (place_of file disk) → Gains a (AreAnsweredFrom views.links views.gives 0 put.0) at → Gains b (AreAnsweredFrom views.links views.gives 1 put.1) bt
+        → Cuts whole k a b e → GainsTurns views.disk (FlushesTo put) k p kt (place_of file disk) → Gains a (WorksFrom views.links views.gives (first_clock views.clocks) 0 put.0) at
+        → Gains b (WorksFrom views.links views.gives (second_clock views.clocks) 1 put.1) bt
         → Gains e AreLooks et → Meets kt at bt et new → HasMade views p new disk
     met put p file disk whole k a b e kt at bt et new none numbers cuts turns one two three meets =
         let early = joined kt at meets.early meets.first in
@@ -238,7 +245,8 @@ module _ {chronicle : Ghosts Shared Event (Option Said)} where
           flusher = turns.so;
           file = file;
           write = turns.write;
-          links = (one.so, two.so);
+          links = (one.so.answered, two.so.answered);
+          timed = (one.so.timed, two.so.timed);
           keeper = three.so;
           seats = λ k less. subst (λ (l : List ℕ). 0 < times k l) (sym all) (each_of_four k less);
         }
@@ -247,13 +255,13 @@ module _ {chronicle : Ghosts Shared Event (Option Said)} where
     pub made_of : {C : Type 0} (pass_of : C → Option (Pass Shared Event (Option Said) chronicle)) (put : List AskParts × List AskParts) (p : Place D) (file : LastFile) (disk : D) (story : Story Shared Event (Option Said))
         (whole new : Pass Shared Event (Option Said) chronicle) (k a b e kt at bt et : C) → mine_of whole ≡ [] → numbers_of whole ≡ 0 ∷ 1 ∷ 2 ∷ 3 ∷ []
         → AreCut story whole (by_thread (pass_of k) (pass_of a) (pass_of b) (pass_of e)) → AreMet (by_thread (pass_of kt) (pass_of at) (pass_of bt) (pass_of et)) new
-        → Acted (StepsBy pass_of) views.disk (FlushesTo put) (change_of k p kt (place_of file disk)) → Leads (StepsBy pass_of) a at (AreAnsweredFrom views.links views.gives 0 put.0)
-        → Leads (StepsBy pass_of) b bt (AreAnsweredFrom views.links views.gives 1 put.1) → Leads (StepsBy pass_of) e et AreLooks → HasMade views p new disk
+        → Acted (StepsBy pass_of) views.disk (FlushesTo put) (change_of k p kt (place_of file disk)) → Leads (StepsBy pass_of) a at (WorksFrom views.links views.gives (first_clock views.clocks) 0 put.0)
+        → Leads (StepsBy pass_of) b bt (WorksFrom views.links views.gives (second_clock views.clocks) 1 put.1) → Leads (StepsBy pass_of) e et AreLooks → HasMade views p new disk
     made_of pass_of put p file disk story whole new k a b e kt at bt et none numbers cut are acted first second looks =
         met put p file disk whole cut.turns cut.first cut.second cut.looks are.turns are.first are.second are.looks new none numbers cut.cuts
         (gains_turns pass_of views.disk (FlushesTo put) k kt p (place_of file disk) cut.turns are.turns cut.are.0 are.are.0 acted)
-        (gains pass_of (AreAnsweredFrom views.links views.gives 0 put.0) a at cut.first are.first cut.are.1 are.are.1 first)
-        (gains pass_of (AreAnsweredFrom views.links views.gives 1 put.1) b bt cut.second are.second cut.are.2 are.are.2 second)
+        (gains pass_of (WorksFrom views.links views.gives (first_clock views.clocks) 0 put.0) a at cut.first are.first cut.are.1 are.are.1 first)
+        (gains pass_of (WorksFrom views.links views.gives (second_clock views.clocks) 1 put.1) b bt cut.second are.second cut.are.2 are.are.2 second)
         (gains pass_of AreLooks e et cut.looks are.looks cut.are.3 are.are.3 looks) are.meets
 
     merged_of : {p : Place D} {disk : D} (pass : Pass Shared Event (Option Said) chronicle) (history : Made) (made : HasMade views p pass disk) → seen_by pass ≡ history → IsDistinct (mine_of pass)
@@ -288,6 +296,7 @@ module _ {chronicle : Ghosts Shared Event (Option Said)} where
           merged = merged;
           flusher = made.flusher;
           links = made.links;
+          timed = made.timed;
           keeper = made.keeper;
           write = made.write;
           leads = leads_on views.disk views.links views.gives made.put (change_of (start_of story).core old core (place_of made.file disk)) history made.turns made.first made.second made.looks

@@ -94,8 +94,8 @@ pub record HasTaken (old : Receiver AskParts) (taken : List AskParts) (new : Rec
 pub taken_none : (end : Receiver AskParts) → HasTaken end [] end
 taken_none end = record { all = sym (append-nil (taken_by end)); same = λ sender is. is }
 
-pub taken_more : (old : Receiver AskParts) (first : List AskParts) (mid : Receiver AskParts) (rest : List AskParts) (new : Receiver AskParts)
-    → HasTaken old first mid → HasTaken mid rest new → HasTaken old (first ++ rest) new
+pub taken_more : (old : Receiver AskParts) (first : List AskParts) (mid : Receiver AskParts) (rest : List AskParts)
+    (new : Receiver AskParts) → HasTaken old first mid → HasTaken mid rest new → HasTaken old (first ++ rest) new
 taken_more old first mid rest new h k = record {
   all = k.all ∙ ap (λ (l : List AskParts). l ++ rest) h.all ∙ append_assoc (taken_by old) first rest;
   same = λ sender is. k.same sender (h.same sender is);

@@ -5,7 +5,7 @@ use Rattle.mq_outside.specs.declared.faults.DiskFault.{DiskFault}
 use Rattle.mq_outside.specs.declared.faults.DiskFault.TheVariants as device
 use Rattle.event_loops.specs.Causes.{LoopFaults}
 use Rattle.event_loops.specs.declared.event_loop.LoopEnd.{LoopEnd}
-use Rattle.event_loops.specs.declared.event_loop.LoopEnd.TheVariants.{Done, Clock, Door, Poll, Memory}
+use Rattle.event_loops.specs.declared.event_loop.LoopEnd.TheVariants.{Done, Stopped, Clock, Door, Poll, Memory}
 use Rattle.worker_turns.specs.declared.flush.FlushEnd.{FlushEnd}
 use Rattle.worker_turns.specs.declared.flush.FlushEnd.TheVariants as flush
 use Rattle.serve_threads.specs.declared.world.World.{World}
@@ -31,6 +31,7 @@ OneRises old new = Rises old.0 new.0 ⊎ Rises old.1 new.1
 -- loops that end so blame nothing, or what they blame failed
 abbrev pub BlamesWorld : LoopEnd → WorldFaults → WorldFaults → Type 0
 BlamesWorld Done old new = Unit {0}
+BlamesWorld Stopped old new = Unit {0}
 BlamesWorld Clock old new = OneRises old.clocks new.clocks
 BlamesWorld Door old new = Rises old.door new.door
 BlamesWorld Poll old new = OneRises old.ready new.ready
@@ -71,6 +72,7 @@ pub record HasCauses (end : LoopEnd) (last : FlushEnd) (kept : Result (Unit {0})
 -- Loops that couldn't be made for this end: what tells the first one which of its links are ready failed, or there was no memory.
 abbrev pub BlamesMaking : LoopEnd → WorldFaults → WorldFaults → Type 0
 BlamesMaking Done old new = ⊥
+BlamesMaking Stopped old new = ⊥
 BlamesMaking Clock old new = ⊥
 BlamesMaking Door old new = ⊥
 BlamesMaking Poll old new = Rises old.ready.0 new.ready.0
@@ -94,6 +96,7 @@ abbrev pub HasDoor : Option ℕ → Type 0
 HasDoor None = ⊥
 HasDoor (Some count) = Unit {0}
 
--- the first of two ends that is a fault
-abbrev pub IsFirstFault : LoopEnd → LoopEnd → LoopEnd → Type 0
-IsFirstFault first second end = ((first ≡ Done) × (end ≡ second)) ⊎ (end ≡ first)
+-- The end of both loops is that of one of them. Where they ended of themselves both did.
+pub record IsFirstFault (first second end : LoopEnd) : Type 0 where
+  pub one : (end ≡ second) ⊎ (end ≡ first)
+  pub done : end ≡ Done → (first ≡ Done) × (second ≡ Done)

@@ -1,6 +1,7 @@
 -- What the flusher does besides flush turns: it looks when something is next due, delivers messages, checks half messages, and looks
 -- what became of the records of checks.
-use Rattle.std.specs.Prelude.{◌≡◌, ◌⊎◌, ◌<◌, ℕ, ◌++◌, List, [], ◌∷◌, length, map, min, is_some, Option, Some, None, IfSome}
+use Rattle.std.specs.Prelude.{◌≡◌, ◌⊎◌, ◌<◌, ℕ, ◌++◌, List, [], ◌∷◌, length, map, min}
+use Rattle.std.specs.Prelude.{is_some, Option, Some, None, IfSome}
 use Rattle.log_model.specs.Delays.{due_delayed}
 use Rattle.delay_view.specs.Levels.{has_come}
 use Rattle.broker_model.specs.Appended.{due_origin}
@@ -18,7 +19,8 @@ use Rattle.worker_turns.specs.Delays.{delivery, DeliversNone}
 
 -- in the core a delivery delivers from this time on, and none does before it
 abbrev pub IsNextDelivery : Parts → Option ℕ → Type 0
-IsNextDelivery core next = (s : State) (now : ℕ) → Represents core s → has_come now next ≡ is_some (due_delayed s.log s.dispatched now)
+IsNextDelivery core next = (s : State) (now : ℕ) → Represents core s
+    → has_come now next ≡ is_some (due_delayed s.log s.dispatched now)
 
 -- in the core no check checks anything before this time
 abbrev pub IsNextCheck : Parts → Option ℕ → Type 0
@@ -51,7 +53,8 @@ FoundNone (Some what) = DeliversNone what
 
 -- behind these deliveries one more event delivered nothing; or they are as many as are made at once
 abbrev pub EndsAt : ℕ → ℕ → List (Event × Option Said) → Type 0
-EndsAt now count last = ((what : Option Said) × FoundNone what × (last ≡ (Deliver now, what) ∷ [])) ⊎ ((count ≡ most_at_once) × (last ≡ []))
+EndsAt now count last = ((what : Option Said) × FoundNone what × (last ≡ (Deliver now, what) ∷ []))
+    ⊎ ((count ≡ most_at_once) × (last ≡ []))
 
 -- so many messages were delivered at this reading
 pub record DeliversSome {C : Type 0} (makes : Steps C) (now : ℕ) (x : C) (count : ℕ) (y : C) : Type 0 where
@@ -65,7 +68,8 @@ pub record DeliversSome {C : Type 0} (makes : Steps C) (now : ℕ) (x : C) (coun
 
 -- the event delivers a message, checks a half message, or looks
 abbrev pub IsOfDuties : Event → Type 0
-IsOfDuties event = ((now : ℕ) × (event ≡ Deliver now)) ⊎ ((now : ℕ) × (event ≡ Check now)) ⊎ ((number : ℕ) × (event ≡ Look number 0))
+IsOfDuties event = ((now : ℕ) × (event ≡ Deliver now)) ⊎ ((now : ℕ) × (event ≡ Check now))
+    ⊎ ((number : ℕ) × (event ≡ Look number 0))
 
 -- each of these does
 abbrev pub AreOfDuties : List (Event × Option Said) → Type 0

@@ -20,6 +20,7 @@ use Rattle.ask_ways.specs.declared.ends.Sender.{Sender}
 use Rattle.ask_ways.specs.declared.ends.Receiver.{Receiver}
 use Rattle.session.specs.Serving.{Made, Leads}
 use Rattle.event_loops.specs.Tales.{Act, steps_of, asks_of, made_for, asks_for, AreSome, DidNothing, loop_of, IsAnsweredInOrder}
+use Rattle.event_loops.specs.Timing.{ClockOver, IsTimed, clock_over}
 use Rattle.event_loops.specs.declared.event_loop.EventLoop.{EventLoop}
 use Rattle.spine.specs.declared.shared.Shared.{Shared}
 use Rattle.worker_turns.specs.Turns.{Steps}
@@ -40,14 +41,35 @@ use Rattle.serve_threads.specs.Asking.{HandsOut, Asking, Asks}
 use Rattle.serve_threads.specs.Deliveries.{IsOfDuties}
 use Rattle.serve_threads.specs.Kept.{KeepOver, PutsAlong}
 
--- how a run sees its links, what its readers give, and its disk
+-- the clocks of both loops over a run: that they tell what they gave, and what that was before the run and behind it
+pub record ClocksOver : Type 1 where
+  pub tells : Type 0
+  pub old : List ℕ × List ℕ
+  pub new : List ℕ × List ℕ
+
+abbrev pub clocks_over : Type 0 → List ℕ × List ℕ → List ℕ × List ℕ → ClocksOver
+clocks_over tells old new = record { tells = tells; old = old; new = new }
+
+-- what two clocks gave so far
+abbrev pub readings_of : {K : Type 0} → (K → List ℕ) → K × K → List ℕ × List ℕ
+readings_of readings clocks = (readings clocks.0, readings clocks.1)
+
+-- each of them
+abbrev pub first_clock : ClocksOver → ClockOver
+first_clock clocks = clock_over clocks.tells clocks.old.0 clocks.new.0
+
+abbrev pub second_clock : ClocksOver → ClockOver
+second_clock clocks = clock_over clocks.tells clocks.old.1 clocks.new.1
+
+-- how a run sees its links, what its readers give, the clocks of its loops, and its disk
 pub record Views (D : Type 0) : Type 1 where
   pub links : Type 0
   pub gives : Giving
+  pub clocks : ClocksOver
   pub disk : DiskView D
 
-abbrev pub views_of : {D : Type 0} → Type 0 → Giving → DiskView D → Views D
-views_of links gives disk = record { links = links; gives = gives; disk = disk }
+abbrev pub views_of : {D : Type 0} → Type 0 → Giving → ClocksOver → DiskView D → Views D
+views_of links gives clocks disk = record { links = links; gives = gives; clocks = clocks; disk = disk }
 
 -- ---- the loops
 
@@ -70,8 +92,8 @@ AreLoops first second = IsLoop 0 first × IsLoop 1 second
 -- the event is one of the flusher's: it takes a batch, tells how a flush turn ended, lets consumers see what is flushed, delivers a
 -- delayed message, checks a half message, or looks
 abbrev pub IsOfFlusher : Event → Type 0
-IsOfFlusher event = (event ≡ Take) ⊎ ((receipt : Receipt) × (event ≡ Flushed receipt)) ⊎ ((count : ℕ) × (event ≡ FlushFailed count))
-    ⊎ ((most : ℕ) × (event ≡ Dispatch most)) ⊎ IsOfDuties event
+IsOfFlusher event = (event ≡ Take) ⊎ ((receipt : Receipt) × (event ≡ Flushed receipt))
+    ⊎ ((count : ℕ) × (event ≡ FlushFailed count)) ⊎ ((most : ℕ) × (event ≡ Dispatch most)) ⊎ IsOfDuties event
 
 -- all of these are the flusher's
 abbrev pub AreOfFlusher : Made → Type 0
@@ -136,10 +158,20 @@ pub record AreAnswered (tells : Type 0) (gives : Giving) (number : ℕ) (steps :
 abbrev pub AreAnsweredFrom : Type 0 → Giving → ℕ → List AskParts → Made → Type 0
 AreAnsweredFrom tells gives number put steps = (asks : List AskParts) × AreSome asks put × AreAnswered tells gives number steps asks
 
--- what one of two loops did, which took check-backs at this end of a way: nothing else was made, and it is the end of the same way
-pub record Worked {C : Type 0} (makes : Steps C) (tells : Type 0) (gives : Giving) (number : ℕ) (x y : C) (old new : Receiver AskParts)
+-- The same in passes, one for each reading that the clock of the loop gave, which gave its requests to the broker at that reading.
+pub record WorksFrom (tells : Type 0) (gives : Giving) (clock : ClockOver) (number : ℕ) (put : List AskParts) (steps : Made)
     : Type 0 where
-  pub leads : Leads makes x y (AreAnsweredFrom tells gives number (taken_by new))
+  pub answered : AreAnsweredFrom tells gives number put steps
+  pub timed : IsTimed clock steps
+
+-- what both loops made, each in passes that its clock timed
+abbrev pub AreTimed : ClocksOver → Made → Made → Type 0
+AreTimed clocks first second = IsTimed (first_clock clocks) first × IsTimed (second_clock clocks) second
+
+-- what one of two loops did, which took check-backs at this end of a way: nothing else was made, and it is the end of the same way
+pub record Worked {C : Type 0} (makes : Steps C) (tells : Type 0) (gives : Giving) (clock : ClockOver) (number : ℕ) (x y : C)
+    (old new : Receiver AskParts) : Type 0 where
+  pub leads : Leads makes x y (WorksFrom tells gives clock number (taken_by new))
   pub same : (sender : Sender AskParts) → ArePair sender old → ArePair sender new
 
 -- ---- the keeper
@@ -198,7 +230,8 @@ module _ {chronicle : Ghosts Shared Event (Option Said)} where
     pub first : Pass Shared Event (Option Said) chronicle
     pub second : Pass Shared Event (Option Said) chronicle
     pub looks : Pass Shared Event (Option Said) chronicle
-    pub are : (passes.flusher ≡ Some turns) × (passes.first ≡ Some first) × (passes.second ≡ Some second) × (passes.keeper ≡ Some looks)
+    pub are : (passes.flusher ≡ Some turns) × (passes.first ≡ Some first) × (passes.second ≡ Some second)
+        × (passes.keeper ≡ Some looks)
     pub of : IsPassOf story turns × IsPassOf story first × IsPassOf story second × IsPassOf story looks
     pub cuts : Cuts whole turns first second looks
 
@@ -209,7 +242,8 @@ module _ {chronicle : Ghosts Shared Event (Option Said)} where
     pub first : Pass Shared Event (Option Said) chronicle
     pub second : Pass Shared Event (Option Said) chronicle
     pub looks : Pass Shared Event (Option Said) chronicle
-    pub are : (passes.flusher ≡ Some turns) × (passes.first ≡ Some first) × (passes.second ≡ Some second) × (passes.keeper ≡ Some looks)
+    pub are : (passes.flusher ≡ Some turns) × (passes.first ≡ Some first) × (passes.second ≡ Some second)
+        × (passes.keeper ≡ Some looks)
     pub meets : Meets turns first second looks new
 
   -- The pass has each seat number of four, and its entries are the flusher's, those of the two loops and the keeper's. What the
@@ -233,6 +267,7 @@ module _ {chronicle : Ghosts Shared Event (Option Said)} where
     pub file : LastFile
     pub write : Write views.disk turns old (place_of file disk)
     pub links : AreAnsweredFrom views.links views.gives 0 put.0 first × AreAnsweredFrom views.links views.gives 1 put.1 second
+    pub timed : AreTimed views.clocks first second
     pub keeper : AreLooks looks
     pub seats : (k : ℕ) → k < 4 → 0 < times k (numbers_of pass)
 
@@ -251,8 +286,9 @@ pub record LeadsOn {D : Type 0} (view : DiskView D) (history : Made) (change : C
       → Keeps s reached (stories.turns_of story) (view.state change.place.disk) (growing_at view change.place_then)
 
 -- Of this history, which leads from the first core to the second: the entries are the flusher's, whose turns wrote what was pending,
--- what the loops made for each link, and the looks of the keeper. Each check-back that a loop wrote is one that the flusher handed out
--- for its loop, and was written to the link that it names.
+-- what the loops made for each link, and the looks of the keeper. A loop gave the requests of each pass to the broker at the reading
+-- that its clock gave for this pass. Each check-back that a loop wrote is one that the flusher handed out for its loop, and was
+-- written to the link that it names.
 pub record IsMadeBy {D : Type 0} (views : Views D) (history : Made) (change : Change Parts (Place D)) : Type 0 where
   pub turns : List acts.Act
   pub first : Made
@@ -262,6 +298,7 @@ pub record IsMadeBy {D : Type 0} (views : Views D) (history : Made) (change : Ch
   pub merged : IsMerged history (acts.steps_of turns) first second looks
   pub flusher : FlushesTo put turns
   pub links : AreAnsweredFrom views.links views.gives 0 put.0 first × AreAnsweredFrom views.links views.gives 1 put.1 second
+  pub timed : AreTimed views.clocks first second
   pub keeper : AreLooks looks
   pub write : Write views.disk turns change.place change.place_then
   pub leads : (s : State) → Represents change.calls s → LeadsOn views.disk history change s

@@ -23,15 +23,15 @@ use std::alloc::Global;
 use std::sync::Wait;
 use worker_turns::{FlushEnd, dispatch_turn, flush_turn};
 
-// Lets consumers see what is flushed.
-fn show<C: Calls>(alloc: Global, calls: &mut C)
+// Lets consumers see what is flushed. Answers how many records they see.
+fn show<C: Calls>(alloc: Global, calls: &mut C) -> u64
     requires key { C.has_key calls.old }
     requires none_out { (C.shown calls.old).out ≡ None }
     ensures key { C.has_key calls.new }
     ensures none_out { (C.shown calls.new).out ≡ None }
     ensures made { IsDispatch C.makes calls.old calls.new }
 {
-    let _ = dispatch_turn(alloc, calls, u32::MAX);
+    dispatch_turn(alloc, calls, u32::MAX)
 }
 
 // Whether nothing was pending.
@@ -41,12 +41,22 @@ fn is_idle(end: FlushEnd) -> bool
     matches!(end, FlushEnd::Idle)
 }
 
-// Tells the loops that wait for a turn that one has ended like this.
-fn tell<P: Ready>(shared: &Shared, ports: &[Port<P>], end: FlushEnd) {
-    shared.count_turn(match end {
+// The number below which all records are flushed, where consumers see so many behind a turn that ended like this. Where it left its
+// batch pending, any record may have been held by it.
+fn flushed_by(end: FlushEnd, seen: u64) -> u64 {
+    match end {
+        FlushEnd::Idle | FlushEnd::Done => seen,
+        FlushEnd::Failed(_) | FlushEnd::Misplaced | FlushEnd::Memory => u64::MAX,
+    }
+}
+
+// Tells the loops that wait for a turn that one has ended like this, behind which consumers see so many records.
+fn tell<P: Ready>(shared: &Shared, ports: &[Port<P>], end: FlushEnd, seen: u64) {
+    let failed = match end {
         FlushEnd::Failed(count) => Some(count),
         FlushEnd::Idle | FlushEnd::Done | FlushEnd::Misplaced | FlushEnd::Memory => None,
-    });
+    };
+    shared.count_turn(failed, flushed_by(end, seen));
     for port in ports {
         port.turn_ended();
     }
@@ -81,8 +91,8 @@ fn flush_all<W: Wait, C: Calls, D: Disk, P: Ready>(
         if is_idle(end) {
             return end;
         }
-        show(alloc, calls);
-        tell(shared, ports, end);
+        let seen = show(alloc, calls);
+        tell(shared, ports, end, seen);
         if end != FlushEnd::Done {
             return end;
         }

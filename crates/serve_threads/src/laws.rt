@@ -16,9 +16,10 @@ use mq_peers::Link;
 /// A history of flush turns, of what two loops made for their links, and of looks is a story of the model and the disk: from a state
 /// that the first core represented it leads to one that the second represents, and the disk stores the log as it did before.
 pub fn a_shared_history_is_a_story<D: Disk, L: Link, R: Reader>()
-    ensures { (change : Change Parts (Place D)) (history first second looks : Made) (turns : List Act) (put : List AskParts × List AskParts)
-        → Stands change.calls history change.calls_then → IsMerged history (steps_of turns) first second looks
+    ensures { (change : Change Parts (Place D)) (history first second looks : Made) (turns : List Act)
+        (put : List AskParts × List AskParts) → Stands change.calls history change.calls_then
+        → IsMerged history (steps_of turns) first second looks
         → AreAnsweredFrom L.tells R.gives 0 put.0 first × AreAnsweredFrom L.tells R.gives 1 put.1 second → AreLooks looks
-        → Write (view_of D.tells D.state D.faults D.syncs) turns change.place change.place_then → (s : State) → Represents change.calls s
-        → LeadsOn (view_of D.tells D.state D.faults D.syncs) history change s }
+        → Write (view_of D.tells D.state D.faults D.syncs) turns change.place change.place_then
+        → (s : State) → Represents change.calls s → LeadsOn (view_of D.tells D.state D.faults D.syncs) history change s }
 {}

@@ -63,6 +63,9 @@ impl<P: Ready + Drop, K: Clock + Drop> Loops<P, K> {
         ensures loops { IfOk result (λ it. AreLoops it.first it.second) }
         ensures counts { IfOk result (λ it. world_faults P.faults P.Door.faults K.faults it.world
             ≡ world_faults P.faults P.Door.faults K.faults world) }
+        ensures clocks { IfOk result (λ it. it.world.clocks ≡ world.clocks) }
+        ensures door { IfOk result (λ it. it.world.door ≡ world.door) }
+        ensures bounds { IfOk result (λ it. it.bounds ≡ bounds) }
         ensures cause { IfErr result (λ it. BlamesMaking it.0 (world_faults P.faults P.Door.faults K.faults world)
             (world_faults P.faults P.Door.faults K.faults it.1)) }
     {

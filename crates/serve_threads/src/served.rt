@@ -1,6 +1,6 @@
 //! The broker over many links, from the core that is opened to the core that is left.
 
-ghost use Rattle.std.specs.Prelude.{◌≡◌, ◌≤◌, ℕ, [], ◌∷◌, Some, None, IfSome, IfOk, IfErr};
+ghost use Rattle.std.specs.Prelude.{◌≡◌, ◌≤◌, ℕ, List, [], ◌∷◌, Some, None, IfSome, IfOk, IfErr};
 ghost use Rattle.log_model.specs.Stored.{StaysOutside};
 ghost use Rattle.segment_files.specs.Turn.{IsInside};
 ghost use Rattle.segment_files.specs.declared.last_file.LastFile.{LastFile};
@@ -9,10 +9,13 @@ ghost use Rattle.story_lock.specs.Passes.{IsPassOf, HasSeat, HasKey, start_of, s
 ghost use Rattle.spine.specs.Seen.{shown_by};
 ghost use Rattle.worker_turns.specs.Acts.{Place, change_of, place_of, view_of};
 ghost use Rattle.event_loops.specs.Causes.{door_faults, loop_faults};
+ghost use Rattle.event_loops.specs.Doors.{GaveAll};
+ghost use Rattle.event_loops.specs.declared.event_loop.LoopEnd.TheVariants.{Done};
 ghost use Rattle.ask_ways.specs.Ways.{ArePair, put_by, taken_by};
 ghost use Rattle.serve_threads.specs.Asking.{HasNoneAsked, IsFrontOf};
 ghost use Rattle.serve_threads.specs.Kept.{PutsAlong, keep_over};
-ghost use Rattle.serve_threads.specs.Served.{AreLoops, AreCut, AreMet, Meets, HasMade, IsLeft, by_thread, views_of};
+ghost use Rattle.serve_threads.specs.Served.{AreLoops, AreCut, AreMet, Meets, HasMade, IsLeft, by_thread};
+ghost use Rattle.serve_threads.specs.Served.{clocks_over, readings_of, views_of};
 ghost use Rattle.serve_threads.specs.Causes.{BlamesDisk, BlamesKeep, BlamesWorld, HasCauses, HasDoor, IsFirstFault};
 ghost use Rattle.serve_threads.specs.Causes.{both_faults, counts_of, world_faults};
 
@@ -57,14 +60,15 @@ pub struct Served<
     pub world: World<P, K>,
 }
 
-// The first of two ends that is a fault.
+// The first of two ends that is a fault, and where none is, but one loop was stopped, that.
 fn first_fault(first: LoopEnd, second: LoopEnd) -> LoopEnd
     ensures { IsFirstFault first second result }
 {
-    if first == LoopEnd::Done {
-        second
-    } else {
-        first
+    match (first, second) {
+        (LoopEnd::Done, _) => second,
+        (LoopEnd::Stopped, LoopEnd::Done) => first,
+        (LoopEnd::Stopped, _) => second,
+        _ => first,
     }
 }
 
@@ -220,6 +224,9 @@ fn gather<
     ensures counts { world_faults P.faults P.Door.faults K.faults result.world ≡ both_faults
         (loop_faults P.faults P.Door.faults K.faults ran.entry.first.outside)
         (loop_faults P.faults P.Door.faults K.faults ran.entry.second.outside) }
+    ensures door { IfSome ran.entry.first.outside.entrance (λ e. result.world.door ≡ e.door) }
+    ensures clocks { (result.world.clocks.0 ≡ ran.entry.first.outside.clock)
+        × (result.world.clocks.1 ≡ ran.entry.second.outside.clock) }
 {
     let Ran {
         flushing,
@@ -285,10 +292,14 @@ where
     requires inside { D.tells → IsInside devices.flusher.file.base devices.flusher.file.offset (D.state devices.disk) }
     ensures outside { D.tells → StaysOutside (D.state devices.disk) (D.state result.disk) }
     ensures of { IsPassOf spine.now.story result.pass }
-    ensures made { HasMade (views_of P.Link.tells R.gives (view_of D.tells D.state D.faults D.syncs))
+    ensures made { HasMade (views_of P.Link.tells R.gives
+        (clocks_over K.tells (readings_of K.readings (outsides.0.clock, outsides.1.clock)) (readings_of K.readings result.world.clocks))
+        (view_of D.tells D.state D.faults D.syncs))
         (place_of devices.flusher.file devices.disk) result.pass result.disk }
     ensures kept { E.tells → PutsAlong (start_of spine.now.story).core (seen_by result.pass)
         (E.state devices.keep) (E.state result.keep) }
+    ensures came { result.end ≡ Done → IfSome outsides.0.entrance (λ e. e.came ≡ 0
+        → GaveAll e.bounds.most (P.Door.gave e.door) (P.Door.gave result.world.door)) }
     ensures cause { BlamesWorld result.end (both_faults (loop_faults P.faults P.Door.faults K.faults outsides.0)
         (loop_faults P.faults P.Door.faults K.faults outsides.1)) (world_faults P.faults P.Door.faults K.faults result.world) }
     ensures disk_cause { BlamesDisk result.last (D.faults devices.disk) (D.faults result.disk) }
@@ -357,10 +368,12 @@ fn close<
     requires of { IsPassOf spine.story left.pass }
     requires seats { seats_in spine.story ≡ 4 }
     ensures disk { result.disk ≡ left.disk }
-    ensures left { (place : Place D) (before : E)
-        → HasMade (views_of P.Link.tells R.gives (view_of D.tells D.state D.faults D.syncs)) place left.pass left.disk
+    ensures left { (place : Place D) (before : E) (given : List ℕ × List ℕ)
+        → HasMade (views_of P.Link.tells R.gives (clocks_over K.tells given (readings_of K.readings left.world.clocks))
+        (view_of D.tells D.state D.faults D.syncs)) place left.pass left.disk
         → (E.tells → PutsAlong (start_of spine.story).core (seen_by left.pass) (E.state before) (E.state left.keep))
-        → (file : LastFile) × IsLeft (views_of P.Link.tells R.gives (view_of D.tells D.state D.faults D.syncs))
+        → (file : LastFile) × IsLeft (views_of P.Link.tells R.gives
+        (clocks_over K.tells given (readings_of K.readings left.world.clocks)) (view_of D.tells D.state D.faults D.syncs))
         (change_of (start_of spine.story).core place result.core (place_of file result.disk))
         (keep_over E.tells (E.state before) (E.state result.keep)) result.kept }
     ensures ends { (result.end ≡ left.end) × (result.last ≡ left.last) × (result.world ≡ left.world) }
@@ -410,11 +423,17 @@ where
     requires loops { AreLoops loops.first loops.second }
     requires none_out { (shown_of core).out ≡ None }
     requires inside { D.tells → IsInside devices.flusher.file.base devices.flusher.file.offset (D.state devices.disk) }
-    ensures left { IfOk result (λ it. (file : LastFile) × IsLeft (views_of P.Link.tells R.gives (view_of D.tells D.state D.faults D.syncs))
+    ensures left { IfOk result (λ it. (file : LastFile) × IsLeft (views_of P.Link.tells R.gives
+        (clocks_over K.tells (readings_of K.readings loops.world.clocks) (readings_of K.readings it.world.clocks))
+        (view_of D.tells D.state D.faults D.syncs))
         (change_of core (place_of devices.flusher.file devices.disk) it.core (place_of file it.disk))
         (keep_over E.tells (E.state devices.keep) (E.state it.keep)) it.kept) }
     ensures outside { D.tells → IfOk result (λ it. StaysOutside (D.state devices.disk) (D.state it.disk)) }
     ensures err { IfErr result (λ back. (back.devices ≡ devices) × (back.world ≡ loops.world)) }
+
+    // Where the loops ended of themselves the door gave as many links as the bounds ask for.
+    ensures came { IfOk result (λ it. it.end ≡ Done
+        → GaveAll loops.bounds.most (P.Door.gave loops.world.door) (P.Door.gave it.world.door)) }
 
     // A fault that is told is one of a device whose count rose.
     ensures cause { IfOk result (λ it. HasCauses it.end it.last it.kept

@@ -6,6 +6,8 @@ ghost use Rattle.log_model.specs.Stored.{StaysOutside};
 ghost use Rattle.segment_files.specs.Turn.{IsInside};
 ghost use Rattle.worker_turns.specs.Acts.{Acted, place_of, view_of, change_of};
 ghost use Rattle.event_loops.specs.Causes.{CountsEnd, loop_faults};
+ghost use Rattle.event_loops.specs.Doors.{AtDoor};
+ghost use Rattle.event_loops.specs.Timing.{clock_over};
 ghost use Rattle.serve_threads.specs.Kept.{KeepsUp, keep_over};
 ghost use Rattle.ask_ways.specs.Ways.{taken_by};
 ghost use Rattle.serve_threads.specs.Asking.{AreSameWays, HasNoneAsked, put_of};
@@ -52,7 +54,10 @@ impl<P: Ready + Drop, K: Clock + Drop, C: Calls + Drop, R: Reader + Drop> Worker
     // Runs the loop to its end.
     fn run<W: Wait>(self, around: &Around<'_, W, P>) -> Worker<P, K, C, R>
         ensures answered { (number : ℕ) → IsLoop number self.event_loop → taken_by self.asks.way ≡ []
-            → Worked C.makes P.Link.tells R.gives number self.calls result.calls self.asks.way result.asks.way }
+            → Worked C.makes P.Link.tells R.gives
+            (clock_over K.tells (K.readings self.outside.clock) (K.readings result.outside.clock)) number self.calls result.calls
+            self.asks.way result.asks.way }
+        ensures door { AtDoor P.Door.gave result.end self.outside.entrance result.outside.entrance }
         ensures cause { CountsEnd result.end (loop_faults P.faults P.Door.faults K.faults self.outside)
             (loop_faults P.faults P.Door.faults K.faults result.outside) }
     {
@@ -179,8 +184,13 @@ fn run_loops<
 ) -> (Worker<P, K, C, R>, Worker<P, K, C, R>)
     requires first { Begins 0 first.event_loop first.asks.way }
     requires second { Begins 1 second.event_loop second.asks.way }
-    ensures first { Worked C.makes P.Link.tells R.gives 0 first.calls result.0.calls first.asks.way result.0.asks.way }
-    ensures second { Worked C.makes P.Link.tells R.gives 1 second.calls result.1.calls second.asks.way result.1.asks.way }
+    ensures first { Worked C.makes P.Link.tells R.gives
+        (clock_over K.tells (K.readings first.outside.clock) (K.readings result.0.outside.clock)) 0 first.calls result.0.calls
+        first.asks.way result.0.asks.way }
+    ensures second { Worked C.makes P.Link.tells R.gives
+        (clock_over K.tells (K.readings second.outside.clock) (K.readings result.1.outside.clock)) 1 second.calls result.1.calls
+        second.asks.way result.1.asks.way }
+    ensures first_door { AtDoor P.Door.gave result.0.end first.outside.entrance result.0.outside.entrance }
     ensures first_cause { CountsEnd result.0.end (loop_faults P.faults P.Door.faults K.faults first.outside)
         (loop_faults P.faults P.Door.faults K.faults result.0.outside) }
     ensures second_cause { CountsEnd result.1.end (loop_faults P.faults P.Door.faults K.faults second.outside)
@@ -191,14 +201,19 @@ fn run_loops<
         move || -> Worker<P, K, C, R>
             requires { IsSend P.Link.row × IsSend P.Door.row × IsSend P.Waker.row × IsSync P.Waker.row × IsSend K.row
                 × Begins 0 first.event_loop first.asks.way }
-            ensures answered { Worked C.makes P.Link.tells R.gives 0 first.calls result.calls first.asks.way result.asks.way }
+            ensures answered { Worked C.makes P.Link.tells R.gives
+                (clock_over K.tells (K.readings first.outside.clock) (K.readings result.outside.clock)) 0 first.calls result.calls
+                first.asks.way result.asks.way }
+            ensures door { AtDoor P.Door.gave result.end first.outside.entrance result.outside.entrance }
             ensures cause { CountsEnd result.end (loop_faults P.faults P.Door.faults K.faults first.outside)
                 (loop_faults P.faults P.Door.faults K.faults result.outside) }
         { first.run(around) },
         move || -> Worker<P, K, C, R>
             requires { IsSend P.Link.row × IsSend P.Door.row × IsSend P.Waker.row × IsSync P.Waker.row × IsSend K.row
                 × Begins 1 second.event_loop second.asks.way }
-            ensures answered { Worked C.makes P.Link.tells R.gives 1 second.calls result.calls second.asks.way result.asks.way }
+            ensures answered { Worked C.makes P.Link.tells R.gives
+                (clock_over K.tells (K.readings second.outside.clock) (K.readings result.outside.clock)) 1 second.calls result.calls
+                second.asks.way result.asks.way }
             ensures cause { CountsEnd result.end (loop_faults P.faults P.Door.faults K.faults second.outside)
                 (loop_faults P.faults P.Door.faults K.faults result.outside) }
         { second.run(around) },
@@ -225,8 +240,13 @@ fn run_kept<
     requires loops { Begins 0 first.event_loop first.asks.way × Begins 1 second.event_loop second.asks.way }
     ensures kept { KeepsUp C.sees (keep_over E.tells (E.state keeping.keep) (E.state result.0.keep)) keeping.calls result.0.calls }
     ensures keep_grows { E.faults keeping.keep ≤ E.faults result.0.keep }
-    ensures first { Worked C.makes P.Link.tells R.gives 0 first.calls result.1.0.calls first.asks.way result.1.0.asks.way }
-    ensures second { Worked C.makes P.Link.tells R.gives 1 second.calls result.1.1.calls second.asks.way result.1.1.asks.way }
+    ensures first { Worked C.makes P.Link.tells R.gives
+        (clock_over K.tells (K.readings first.outside.clock) (K.readings result.1.0.outside.clock)) 0 first.calls result.1.0.calls
+        first.asks.way result.1.0.asks.way }
+    ensures second { Worked C.makes P.Link.tells R.gives
+        (clock_over K.tells (K.readings second.outside.clock) (K.readings result.1.1.outside.clock)) 1 second.calls result.1.1.calls
+        second.asks.way result.1.1.asks.way }
+    ensures first_door { AtDoor P.Door.gave result.1.0.end first.outside.entrance result.1.0.outside.entrance }
     ensures first_cause { CountsEnd result.1.0.end (loop_faults P.faults P.Door.faults K.faults first.outside)
         (loop_faults P.faults P.Door.faults K.faults result.1.0.outside) }
     ensures second_cause { CountsEnd result.1.1.end (loop_faults P.faults P.Door.faults K.faults second.outside)
@@ -244,8 +264,13 @@ fn run_kept<
             requires { IsSync W.row × IsSend P.row × IsSync P.row × IsSend P.Link.row × IsSend P.Door.row × IsSend P.Waker.row
                 × IsSync P.Waker.row × IsSend K.row × IsSend C.row × IsSend R.row
                 × Begins 0 first.event_loop first.asks.way × Begins 1 second.event_loop second.asks.way }
-            ensures first { Worked C.makes P.Link.tells R.gives 0 first.calls result.0.calls first.asks.way result.0.asks.way }
-            ensures second { Worked C.makes P.Link.tells R.gives 1 second.calls result.1.calls second.asks.way result.1.asks.way }
+            ensures first { Worked C.makes P.Link.tells R.gives
+                (clock_over K.tells (K.readings first.outside.clock) (K.readings result.0.outside.clock)) 0 first.calls result.0.calls
+                first.asks.way result.0.asks.way }
+            ensures second { Worked C.makes P.Link.tells R.gives
+                (clock_over K.tells (K.readings second.outside.clock) (K.readings result.1.outside.clock)) 1 second.calls result.1.calls
+                second.asks.way result.1.asks.way }
+            ensures first_door { AtDoor P.Door.gave result.0.end first.outside.entrance result.0.outside.entrance }
             ensures first_cause { CountsEnd result.0.end (loop_faults P.faults P.Door.faults K.faults first.outside)
                 (loop_faults P.faults P.Door.faults K.faults result.0.outside) }
             ensures second_cause { CountsEnd result.1.end (loop_faults P.faults P.Door.faults K.faults second.outside)
@@ -300,8 +325,13 @@ where
     ensures ways { AreSameWays flushing.ways result.flushing.ways }
     ensures kept { KeepsUp C.sees (keep_over E.tells (E.state keeping.keep) (E.state result.keeping.keep)) keeping.calls
         result.keeping.calls }
-    ensures first { Worked C.makes P.Link.tells R.gives 0 first.calls result.first.calls first.asks.way result.first.asks.way }
-    ensures second { Worked C.makes P.Link.tells R.gives 1 second.calls result.second.calls second.asks.way result.second.asks.way }
+    ensures first { Worked C.makes P.Link.tells R.gives
+        (clock_over K.tells (K.readings first.outside.clock) (K.readings result.first.outside.clock)) 0 first.calls result.first.calls
+        first.asks.way result.first.asks.way }
+    ensures second { Worked C.makes P.Link.tells R.gives
+        (clock_over K.tells (K.readings second.outside.clock) (K.readings result.second.outside.clock)) 1 second.calls result.second.calls
+        second.asks.way result.second.asks.way }
+    ensures first_door { AtDoor P.Door.gave result.first.end first.outside.entrance result.first.outside.entrance }
     ensures first_cause { CountsEnd result.first.end (loop_faults P.faults P.Door.faults K.faults first.outside)
         (loop_faults P.faults P.Door.faults K.faults result.first.outside) }
     ensures second_cause { CountsEnd result.second.end (loop_faults P.faults P.Door.faults K.faults second.outside)
@@ -328,8 +358,13 @@ where
                 × Begins 0 first.event_loop first.asks.way × Begins 1 second.event_loop second.asks.way }
             ensures kept { KeepsUp C.sees (keep_over E.tells (E.state keeping.keep) (E.state result.0.keep)) keeping.calls result.0.calls }
             ensures keep_grows { E.faults keeping.keep ≤ E.faults result.0.keep }
-            ensures first { Worked C.makes P.Link.tells R.gives 0 first.calls result.1.0.calls first.asks.way result.1.0.asks.way }
-            ensures second { Worked C.makes P.Link.tells R.gives 1 second.calls result.1.1.calls second.asks.way result.1.1.asks.way }
+            ensures first { Worked C.makes P.Link.tells R.gives
+                (clock_over K.tells (K.readings first.outside.clock) (K.readings result.1.0.outside.clock)) 0 first.calls result.1.0.calls
+                first.asks.way result.1.0.asks.way }
+            ensures second { Worked C.makes P.Link.tells R.gives
+                (clock_over K.tells (K.readings second.outside.clock) (K.readings result.1.1.outside.clock)) 1 second.calls result.1.1.calls
+                second.asks.way result.1.1.asks.way }
+            ensures first_door { AtDoor P.Door.gave result.1.0.end first.outside.entrance result.1.0.outside.entrance }
             ensures first_cause { CountsEnd result.1.0.end (loop_faults P.faults P.Door.faults K.faults first.outside)
                 (loop_faults P.faults P.Door.faults K.faults result.1.0.outside) }
             ensures second_cause { CountsEnd result.1.1.end (loop_faults P.faults P.Door.faults K.faults second.outside)

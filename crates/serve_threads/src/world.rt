@@ -1,6 +1,6 @@
 //! What is around the loops, as a run takes it and gives it back.
 
-ghost use Rattle.std.specs.Prelude.{◌≡◌, None};
+ghost use Rattle.std.specs.Prelude.{◌≡◌, None, IfSome};
 ghost use Rattle.event_loops.specs.Causes.{door_faults, loop_faults};
 ghost use Rattle.serve_threads.specs.Causes.{HasDoor, both_faults, world_faults};
 
@@ -23,6 +23,8 @@ impl<P: Ready + Drop, K: Clock + Drop> World<P, K> {
     pub(crate) fn part(self, bounds: Bounds) -> (Outside<P, K>, Outside<P, K>, K)
         ensures counts { both_faults (loop_faults P.faults P.Door.faults K.faults result.0)
             (loop_faults P.faults P.Door.faults K.faults result.1) ≡ world_faults P.faults P.Door.faults K.faults self }
+        ensures entrance { IfSome result.0.entrance (λ e. (e.door ≡ self.door) × (e.bounds ≡ bounds) × (e.came ≡ 0)) }
+        ensures clocks { (result.0.clock ≡ self.clocks.0) × (result.1.clock ≡ self.clocks.1) }
         ensures door { HasDoor (door_faults P.Door.faults result.0.entrance) × (door_faults P.Door.faults result.1.entrance ≡ None) }
     {
         let World {
@@ -54,6 +56,8 @@ impl<P: Ready + Drop, K: Clock + Drop> World<P, K> {
         requires door { HasDoor (door_faults P.Door.faults first.entrance) }
         ensures counts { world_faults P.faults P.Door.faults K.faults result ≡ both_faults
             (loop_faults P.faults P.Door.faults K.faults first) (loop_faults P.faults P.Door.faults K.faults second) }
+        ensures door { IfSome first.entrance (λ e. result.door ≡ e.door) }
+        ensures clocks { (result.clocks.0 ≡ first.clock) × (result.clocks.1 ≡ second.clock) }
     {
         let Outside {
             ready,

@@ -1,5 +1,5 @@
 -- How what is owed leaves: the replies that are due, in the order of their requests, and their bytes.
-use Rattle.std.specs.Prelude.{◌≡◌, ◌⊎◌, ◌-◌, ◌≤◌, ◌++◌, ◌||◌, ℕ, List, [], ◌∷◌, length, drop, nat_le, Bool, false, is_some}
+use Rattle.std.specs.Prelude.{◌≡◌, ◌⊎◌, ◌-◌, ◌≤◌, ◌++◌, ◌||◌, ℕ, List, [], ◌∷◌, length, drop, nat_le, nat_lt, Bool, true, false, is_some}
 use Rattle.std.specs.Prelude.{Option, Some, None, Result, Ok, Err}
 use Rattle.std.specs.Bool.{MatchBool}
 use Rattle.std.specs.declared.alloc.AllocError.{AllocError}
@@ -142,6 +142,16 @@ unsent_of session = drop session.sent session.out.items
 abbrev pub front_awaits : List Owed → Bool
 front_awaits [] = false
 front_awaits (owed ∷ more) = is_some owed.awaits
+
+-- the first reply waits for no record, or for one below this number
+abbrev pub is_below : Option Awaits → ℕ → Bool
+is_below None flushed = true
+is_below (Some awaits) flushed = nat_lt awaits.number flushed
+
+-- a reply is owed, and the first one waits for no record, or for one below this number
+abbrev pub front_is_below : List Owed → ℕ → Bool
+front_is_below [] flushed = false
+front_is_below (owed ∷ more) flushed = is_below owed.awaits flushed
 
 -- a request waits for room, or the first reply for its record
 abbrev pub awaits_of : Session → Bool

@@ -4,6 +4,7 @@ ghost use Rattle.std.specs.Prelude.{◌≡◌, ◌≢◌, ◌<◌, drop, length,
 ghost use Rattle.broker_events.specs.declared.said.Awaited.TheVariants.{NotYet};
 ghost use Rattle.session.specs.Serving.{Leads, KeepsOut};
 ghost use Rattle.session.specs.Settling.{Became, IsDueAt, TakesDue, GivesDue, SettlesAll, IsPut, awaits_of, is_loaded_of, unsent_of};
+ghost use Rattle.session.specs.Settling.{front_is_below, is_below as is_below_of};
 
 use crate::caller::Caller;
 use crate::owed::{Awaits, look, not_flushed, write_reply};
@@ -37,6 +38,16 @@ fn due(alloc: Global, reply: Reply, awaited: Awaited) -> Result<Reply, AllocErro
     match awaited {
         Awaited::Failed { count } => not_flushed(alloc, reply, count),
         Awaited::Flushed | Awaited::NotYet => Ok(reply),
+    }
+}
+
+// Whether a reply waits for no record, or for one below this number.
+fn is_below(awaits: Option<Awaits>, flushed: u64) -> bool
+    ensures { result ≡ is_below_of awaits flushed }
+{
+    match awaits {
+        None => true,
+        Some(awaits) => awaits.number < flushed,
     }
 }
 
@@ -142,6 +153,16 @@ impl Session {
         }
         match self.owed.front() {
             Some(owed) => owed.awaits.is_some(),
+            None => false,
+        }
+    }
+
+    /// Whether a reply is owed, and the first one waits for no record, or for one below this number.
+    pub fn is_due_below(&self, flushed: u64) -> bool
+        ensures { result ≡ front_is_below self.now.owed.items flushed }
+    {
+        match self.owed.front() {
+            Some(owed) => is_below(owed.awaits, flushed),
             None => false,
         }
     }

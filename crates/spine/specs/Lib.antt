@@ -1,4 +1,5 @@
 pub mod Awaits
+pub mod Boxed
 pub mod Entries
 pub mod Owner
 pub mod Stands

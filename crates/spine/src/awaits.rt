@@ -48,7 +48,7 @@ fn look_until<C: Calls, R: Wait>(
     ensures told { result ≢ NotYet }
 {
     for _ in rt.forever() {
-        let ended = place.ended(rt);
+        let ended = place.ended();
         match look_once(alloc, calls, number, turn) {
             Awaited::NotYet => place.wait_past(rt, ended),
             told => return told,

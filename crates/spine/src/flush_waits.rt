@@ -3,6 +3,7 @@
 //! Records are in groups of eight by their numbers, and the groups take the places in turn. So the end of a turn wakes those
 //! who wait for one of its records, or for one that stands close behind them. Nothing is claimed of who sleeps or wakes.
 
+use std::sync::atomic::{AtomicU64, Ordering};
 use std::sync::{Condvar, Mutex, Wait};
 
 const PLACES: usize = 8;
@@ -12,37 +13,48 @@ const GROUP: u64 = 8;
 /// One place.
 #[derive(Drop)]
 pub struct WaitPlace {
-    // How many turns with a record of this place have ended.
-    ended: Mutex<u64>,
+    // How many turns with a record of this place have ended, up to overflow.
+    ended: AtomicU64,
+    // How many callers sleep or are about to. Where there are none, the end of a turn takes no lock.
+    sleepers: AtomicU64,
+    gate: Mutex<()>,
     ends: Condvar,
 }
 
 impl WaitPlace {
     fn new() -> WaitPlace {
         WaitPlace {
-            ended: Mutex::new(0),
+            ended: AtomicU64::new(0),
+            sleepers: AtomicU64::new(0),
+            gate: Mutex::new(()),
             ends: Condvar::new(),
         }
     }
 
     /// How many turns with a record of this place have ended. A caller remembers it before it looks, so that no end falls
     /// between its look and its sleep.
-    pub fn ended<R: Wait>(&self, rt: &R) -> u64 {
-        *self.ended.lock(rt)
+    pub fn ended(&self) -> u64 {
+        self.ended.load(Ordering::SeqCst)
     }
 
     /// Sleeps while so many have ended.
     pub fn wait_past<R: Wait>(&self, rt: &R, seen: u64) {
-        let ended = self
+        // Counted before it looks at the ends: a turn that ends meanwhile sees the sleeper, or is seen by it.
+        self.sleepers.fetch_add(1, Ordering::SeqCst);
+        let gate = self
             .ends
-            .wait_while(rt, self.ended.lock(rt), |ended| *ended == seen);
-        drop(ended);
+            .wait_while(rt, self.gate.lock(rt), |_| self.ended() == seen);
+        drop(gate);
+        self.sleepers.fetch_sub(1, Ordering::SeqCst);
     }
 
     fn wake<R: Wait>(&self, rt: &R) {
-        let mut ended = self.ended.lock(rt);
-        *ended = ended.wrapping_add(1);
-        drop(ended);
+        self.ended.fetch_add(1, Ordering::SeqCst);
+        if self.sleepers.load(Ordering::SeqCst) == 0 {
+            return;
+        }
+        // Who has looked at the ends and not slept yet has the gate.
+        drop(self.gate.lock(rt));
         self.ends.notify_all();
     }
 }

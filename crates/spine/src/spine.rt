@@ -35,7 +35,11 @@ impl Spine {
         ensures numbers { IfOk result (λ r. (numbers_of r.1 ≡ numbers_below seats) × (length (numbers_of r.1) ≡ seats)) }
         ensures err { IfErr result (λ e. e.0 ≡ core) }
     {
-        match Story::new(alloc, Shared { core }, seats) {
+        let shared = match Shared::new(alloc, core) {
+            Ok(shared) => shared,
+            Err(refused) => return Err(refused),
+        };
+        match Story::new(alloc, shared, seats) {
             Ok((story, pass)) => Ok((
                 Spine {
                     story,
@@ -43,10 +47,7 @@ impl Spine {
                 },
                 pass,
             )),
-            Err((shared, fault)) => {
-                let Shared { core } = shared;
-                Err((core, fault))
-            }
+            Err((shared, fault)) => Err((shared.into_core(), fault)),
         }
     }
 
@@ -71,8 +72,7 @@ impl Spine {
         ensures { (history : List (AnEvent × Option ASaid)) × StandsFor self.story pass history result }
     {
         let Spine { story, waits: _ } = self;
-        let Shared { core } = story.close(rt, pass);
-        core
+        story.close(rt, pass).into_core()
     }
 
     // Wakes those whose record was held by the flush turn that this event ends, if it ends one.

@@ -10,7 +10,7 @@ use Rattle.exit_status.proofs.KeepLemmas.{refused_by}
 use Rattle.broker_serve.specs.Statuses.{IsDamagedFor, TellsWhy}
 use Rattle.broker_serve.specs.Unserved.{ServesNobody}
 use Rattle.broker_serve.proofs.Serving.{run_served, run_unserved, store_others}
-use Rattle.broker_serve.proofs.Telling.{why_unserved, why_then, not_formed, tells_why}
+use Rattle.broker_serve.proofs.Telling.{all_came, none_zero, why_unserved, why_then, not_formed, tells_why}
 use Rattle.serve_threads.specs.Causes.{counts_of, world_faults}
 use Rattle.broker_serve.proofs.Causing.{causes_from, causes_unserved, opening_causes, threads_cause, words_cause}
 use Rattle.broker_serve.proofs.run.run_serve.Goals as goal
@@ -150,3 +150,43 @@ returns-in-Err-open_format-clause-cause g c =
 pub returns-in-Ok-open_format-clause-cause : goal.returns-in-Ok-open_format-clause-cause
 returns-in-Ok-open_format-clause-cause g c =
     causes_from c.serve_store.result.status _ _ _ _ _ _ _ c.in-Ok-open_format.ensures.disk_still c.in-Ok-open_format.ensures.keep_still refl c.serve_store.ensures.cause
+
+-- ---- how many links came
+
+pub returns-in-Err-clause-came : goal.returns-in-Err-clause-came
+returns-in-Err-clause-came g c = λ zero.
+    let before = c.args.store in
+    let ended = c.unserved.result in
+    let told = store_told g.D.Disk.tells (g.D.Disk.state before.disk).reads g.E.Keep.tells (g.E.Keep.state before.keep).reads in
+    let counts = world_faults g.P.Ready.faults g.P.Door.Door.faults g.K.Clock.faults in
+    absurd (none_zero ended.core (texts_of c.args.words.now) told ended.status (counts_of (g.D.Disk.faults before.disk) (g.E.Keep.faults before.keep) (counts c.args.world))
+    (counts_of (g.D.Disk.faults ended.store.disk) (g.E.Keep.faults ended.store.keep) (counts ended.world)) c.unserved.ensures.core (returns-in-Err-clause-why g c) zero)
+
+pub returns-then-not-can_start_threads-clause-came : goal.returns-then-not-can_start_threads-clause-came
+returns-then-not-can_start_threads-clause-came g c = λ zero.
+    let before = c.args.store in
+    let ended = c.unserved-then-not-can_start_threads.result in
+    let told = store_told g.D.Disk.tells (g.D.Disk.state before.disk).reads g.E.Keep.tells (g.E.Keep.state before.keep).reads in
+    let counts = world_faults g.P.Ready.faults g.P.Door.Door.faults g.K.Clock.faults in
+    absurd (none_zero ended.core (texts_of c.args.words.now) told ended.status (counts_of (g.D.Disk.faults before.disk) (g.E.Keep.faults before.keep) (counts c.args.world))
+    (counts_of (g.D.Disk.faults ended.store.disk) (g.E.Keep.faults ended.store.keep) (counts ended.world)) c.unserved-then-not-can_start_threads.ensures.core (returns-then-not-can_start_threads-clause-why g c) zero)
+
+pub returns-in-Err-open_format-clause-came : goal.returns-in-Err-open_format-clause-came
+returns-in-Err-open_format-clause-came g c = λ zero.
+    let before = c.args.store in
+    let ended = c.unserved-in-Err-open_format.result in
+    let told = store_told g.D.Disk.tells (g.D.Disk.state before.disk).reads g.E.Keep.tells (g.E.Keep.state before.keep).reads in
+    let counts = world_faults g.P.Ready.faults g.P.Door.Door.faults g.K.Clock.faults in
+    absurd (none_zero ended.core (texts_of c.args.words.now) told ended.status (counts_of (g.D.Disk.faults before.disk) (g.E.Keep.faults before.keep) (counts c.args.world))
+    (counts_of (g.D.Disk.faults ended.store.disk) (g.E.Keep.faults ended.store.keep) (counts ended.world)) c.unserved-in-Err-open_format.ensures.core (returns-in-Err-open_format-clause-why g c) zero)
+
+pub returns-in-Ok-open_format-clause-came : goal.returns-in-Ok-open_format-clause-came
+returns-in-Ok-open_format-clause-came g c =
+    let before = c.args.store in
+    let ended = c.serve_store.result in
+    let told = store_told g.D.Disk.tells (g.D.Disk.state before.disk).reads g.E.Keep.tells (g.E.Keep.state before.keep).reads in
+    let counts = world_faults g.P.Ready.faults g.P.Door.Door.faults g.K.Clock.faults in
+    let gave = g.P.Door.Door.gave in
+    all_came ended.core (texts_of c.args.words.now) told ended.status (counts_of (g.D.Disk.faults before.disk) (g.E.Keep.faults before.keep) (counts c.args.world))
+    (counts_of (g.D.Disk.faults ended.store.disk) (g.E.Keep.faults ended.store.keep) (counts ended.world)) c.in-Ok.command (gave c.args.world.door) (gave ended.world.door)
+    c.in-Ok.ensures.fits (returns-in-Ok-open_format-clause-why g c) c.serve_store.ensures.came

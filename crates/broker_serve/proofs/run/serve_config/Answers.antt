@@ -9,7 +9,7 @@ use Rattle.exit_status.proofs.LogLemmas.{leaves_flushed, unrecovered}
 use Rattle.broker_serve.specs.Statuses.{IsDamagedLog, Unopened}
 use Rattle.broker_serve.specs.Unserved.{LeavesLog}
 use Rattle.broker_serve.proofs.Serving.{log_unserved, log_served_with}
-use Rattle.broker_serve.proofs.Telling.{why_unserved, why_then, not_recovered, shut_out}
+use Rattle.broker_serve.proofs.Telling.{none_of, why_unserved, why_then, not_recovered, shut_out}
 use Rattle.serve_threads.specs.Causes.{world_faults}
 use Rattle.broker_serve.proofs.Causing.{causes_from, causes_unserved, log_causes}
 use Rattle.broker_serve.proofs.run.serve_config.Goals as goal
@@ -62,3 +62,6 @@ returns-in-Err-clause-cause g c =
 
 pub returns-clause-cause : goal.returns-clause-cause
 returns-clause-cause g c = causes_from c.serve_log.result.status _ _ _ _ _ _ _ c.in-Ok.ensures.cause refl refl c.serve_log.ensures.cause
+
+pub returns-in-Err-clause-came : goal.returns-in-Err-clause-came
+returns-in-Err-clause-came g c = none_of _ _ c.unserved.ensures.core

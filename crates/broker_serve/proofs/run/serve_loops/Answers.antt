@@ -7,7 +7,7 @@ use Rattle.exit_status.proofs.LogLemmas.{stays_rests}
 use Rattle.broker_serve.specs.Statuses.{ShutOut}
 use Rattle.broker_serve.proofs.Serving.{ends_unserved, ends_lent}
 use Rattle.broker_serve.proofs.Storing.{inside_rests}
-use Rattle.broker_serve.proofs.Telling.{why_unserved, why_then, no_reader, out_of_memory}
+use Rattle.broker_serve.proofs.Telling.{none_of, why_unserved, why_then, no_reader, out_of_memory}
 use Rattle.serve_threads.specs.Causes.{world_faults}
 use Rattle.broker_serve.proofs.Causing.{causes_from, causes_unserved, reader_causes}
 use Rattle.broker_serve.proofs.run.serve_loops.Goals as goal
@@ -48,3 +48,6 @@ returns-in-Err-clause-cause g c =
 
 pub returns-in-Ok-clause-cause : goal.returns-in-Ok-clause-cause
 returns-in-Ok-clause-cause g c = causes_from c.serve_open.result.status _ _ _ _ _ _ _ c.in-Ok.ensures.cause refl refl c.serve_open.ensures.cause
+
+pub returns-in-Err-clause-came : goal.returns-in-Err-clause-came
+returns-in-Err-clause-came g c = none_of _ _ c.unserved.ensures.core

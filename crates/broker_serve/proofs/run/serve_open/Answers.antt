@@ -1,4 +1,4 @@
-use Rattle.std.proofs.Common.{◌≡◌, ◌∙◌, sym, ap, subst}
+use Rattle.std.proofs.Common.{◌≡◌, ◌∙◌, ℕ, List, sym, ap, subst}
 use Rattle.mq_outside.specs.Disk.{Rests}
 use Rattle.mq_outside.proofs.Moments.{rests_start}
 use Rattle.log_model.specs.Stored.{IsOutside, StaysOutside}
@@ -6,9 +6,10 @@ use Rattle.log_model.proofs.OutsideLemmas.{outside_then}
 use Rattle.worker_turns.specs.Acts.{change_of, place_of, view_of}
 use Rattle.exit_status.proofs.LogLemmas.{stays_rests}
 use Rattle.serve_threads.specs.Kept.{keep_over}
-use Rattle.serve_threads.specs.Served.{IsLeft, views_of}
+use Rattle.serve_threads.specs.Served.{IsLeft, clocks_over, readings_of, views_of}
 use Rattle.broker_serve.proofs.Serving.{ends_unserved, ends_served}
-use Rattle.broker_serve.proofs.Telling.{why_unserved, why_served}
+use Rattle.event_loops.specs.Doors.{GaveAll}
+use Rattle.broker_serve.proofs.Telling.{none_of, some_of, why_unserved, why_served, zero_done}
 use Rattle.broker_serve.proofs.Causing.{causes_seven}
 use Rattle.broker_serve.proofs.run.serve_open.Goals as goal
 
@@ -29,11 +30,16 @@ returns-in-Err-clause-outside g c = λ tells.
 pub returns-in-Ok-clause-ends : goal.returns-in-Ok-clause-ends
 returns-in-Ok-clause-ends g c =
     let served = c.in-Ok.served in
-    let views = views_of g.P.Link.Link.tells g.D.Reader.Reader.gives (view_of g.D.Disk.tells g.D.Disk.state g.D.Disk.faults g.D.Disk.syncs) in
+    let readings = g.K.Clock.readings in
+    let views = λ (now : List ℕ × List ℕ).
+    views_of g.P.Link.Link.tells g.D.Reader.Reader.gives (clocks_over g.K.Clock.tells (readings_of readings c.args.loops.world.clocks) now)
+    (view_of g.D.Disk.tells g.D.Disk.state g.D.Disk.faults g.D.Disk.syncs) in
     let ended = place_of c.in-Ok.ensures.left.0 served.disk in
-    ends_served views (record { core = c.args.core; flusher = c.args.devices.flusher }) _ _ _ served.end served.last _ ended c.ended_of.ensures.core c.ended_of.ensures.tells c.ended_of.ensures.alike
-    (subst (λ k. IsLeft views (change_of c.args.core (place_of c.args.devices.flusher.file c.args.devices.disk) served.core ended)
-    (keep_over g.E.Keep.tells (g.E.Keep.state c.args.devices.keep) (g.E.Keep.state k)) served.kept) (sym c.ended_of.ensures.keep) c.in-Ok.ensures.left.1)
+    ends_served (views (readings_of readings c.ended_of.result.world.clocks)) (record { core = c.args.core; flusher = c.args.devices.flusher }) _ _ _ served.end served.last _ ended c.ended_of.ensures.core c.ended_of.ensures.tells c.ended_of.ensures.alike
+    (subst (λ w. IsLeft (views (readings_of readings w.clocks)) (change_of c.args.core (place_of c.args.devices.flusher.file c.args.devices.disk) served.core ended)
+    (keep_over g.E.Keep.tells (g.E.Keep.state c.args.devices.keep) (g.E.Keep.state c.ended_of.result.store.keep)) served.kept) (sym c.ended_of.ensures.world)
+    (subst (λ k. IsLeft (views (readings_of readings served.world.clocks)) (change_of c.args.core (place_of c.args.devices.flusher.file c.args.devices.disk) served.core ended)
+    (keep_over g.E.Keep.tells (g.E.Keep.state c.args.devices.keep) (g.E.Keep.state k)) served.kept) (sym c.ended_of.ensures.keep) c.in-Ok.ensures.left.1))
 
 pub returns-in-Ok-clause-outside : goal.returns-in-Ok-clause-outside
 returns-in-Ok-clause-outside g c = λ tells. outside_then (c.in-Ok.ensures.outside tells) (stays_rests IsOutside _ _ (c.ended_of.ensures.alike.rests tells))
@@ -50,3 +56,13 @@ returns-in-Err-clause-cause g c = causes_seven c.plain.result c.unserved.result.
 
 pub returns-in-Ok-clause-cause : goal.returns-in-Ok-clause-cause
 returns-in-Ok-clause-cause g c = c.ended_of.ensures.cause _ c.in-Ok.ensures.cause
+
+pub returns-in-Err-clause-came : goal.returns-in-Err-clause-came
+returns-in-Err-clause-came g c = none_of _ _ c.unserved.ensures.core
+
+pub returns-in-Ok-clause-came : goal.returns-in-Ok-clause-came
+returns-in-Ok-clause-came g c =
+    let gave = g.P.Door.Door.gave in
+    let loops = c.args.loops in
+    some_of _ _ _ c.ended_of.ensures.core (λ zero. subst (λ w. GaveAll loops.bounds.most (gave loops.world.door) (gave w.door)) (sym c.ended_of.ensures.world)
+    (c.in-Ok.ensures.came (zero_done c.ended_of.result.status _ _ _ c.ended_of.ensures.tells zero)))

@@ -10,7 +10,7 @@ use Rattle.exit_status.proofs.KeepLemmas.{misread}
 use Rattle.broker_serve.specs.Statuses.{IsDamagedIn, Unserved}
 use Rattle.broker_serve.specs.Unserved.{LeavesLog}
 use Rattle.broker_serve.proofs.Serving.{store_unserved, store_served}
-use Rattle.broker_serve.proofs.Telling.{why_unserved, why_then, not_loaded, not_opened}
+use Rattle.broker_serve.proofs.Telling.{none_of, why_unserved, why_then, not_loaded, not_opened}
 use Rattle.serve_threads.specs.Causes.{world_faults}
 use Rattle.broker_serve.proofs.Causing.{causes_from, causes_unserved, config_causes}
 use Rattle.broker_serve.proofs.run.serve_store.Goals as goal
@@ -51,3 +51,6 @@ returns-in-Err-clause-cause g c =
 
 pub returns-in-Ok-clause-cause : goal.returns-in-Ok-clause-cause
 returns-in-Ok-clause-cause g c = causes_from c.serve_config.result.status _ _ _ _ _ _ _ refl c.in-Ok.ensures.cause refl c.serve_config.ensures.cause
+
+pub returns-in-Err-clause-came : goal.returns-in-Err-clause-came
+returns-in-Err-clause-came g c = none_of _ _ c.unserved.ensures.core

@@ -1,8 +1,9 @@
 use Rattle.std.proofs.Common.{refl}
+use Rattle.link_service.specs.Clocks.{unasked}
 use Rattle.event_loops.specs.Tales.{link_view}
 use Rattle.event_loops.proofs.Told.{one_asked}
 use Rattle.event_loops.proofs.links.ask_one.Goals as goal
 
 pub returns : goal.returns
-returns g c = one_asked (link_view g.L.Link.tells g.L.Link.given g.L.Link.taken) g.R.Reader.gives g.C.Calls.makes _ _
+returns g c = one_asked (link_view g.L.Link.tells g.L.Link.given g.L.Link.taken) g.R.Reader.gives (unasked g.C.Calls.makes) _ _
     c.args.numbered.now (record { number = c.args.numbered.now.number; linked = c.ask.new.self }) c.args.ask.now c.ask.result refl c.ask.ensures

@@ -1,10 +1,11 @@
 use Rattle.std.proofs.Common.{refl}
+use Rattle.link_service.specs.Clocks.{at_reading}
 use Rattle.event_loops.specs.Tales.{link_view}
 use Rattle.event_loops.proofs.Told.{one_heard}
 use Rattle.event_loops.proofs.links.hear_one.Goals as goal
 
 pub returns : goal.returns
 returns g c = record {
-  went = one_heard (link_view g.L.Link.tells g.L.Link.given g.L.Link.taken) g.R.Reader.gives g.C.Calls.makes _ _
+  went = one_heard (link_view g.L.Link.tells g.L.Link.given g.L.Link.taken) g.R.Reader.gives (at_reading c.args.now g.C.Calls.makes) _ _
       c.args.numbered.now (record { number = c.args.numbered.now.number; linked = c.hear.new.self }) refl c.hear.ensures.went;
 }

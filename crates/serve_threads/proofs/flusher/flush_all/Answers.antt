@@ -34,20 +34,20 @@ returns-then-ne-clause-acted g c =
     turns_then g.C.Calls.makes _ _ _ _ _ _ _ c.loop.invariant.acted
     (shown_turns g.C.Calls.makes _ c.flush_turn-end.result _ _ _ _ _ c.flush_turn-end.ensures.ended
     (λ none. let rests = c.flush_turn-end.ensures.rests none in λ i. place_of ((rests.0 i).file) (rests.1 i)) c.flush_turn-end.ensures.placed c.flush_turn-end.ensures.cause
-    c.show.ensures.made)
+    c.show-seen.ensures.made)
 
 pub loop-preserved : goal.loop-preserved
 loop-preserved g c = record {
   next = tt;
   finite = tt;
-  key = c.show.ensures.key;
-  none_out = c.show.ensures.none_out;
+  key = c.show-seen.ensures.key;
+  none_out = c.show-seen.ensures.none_out;
   inside = c.flush_turn-end.ensures.inside;
   outside = λ tells. outside_then (c.loop.invariant.outside tells) (c.flush_turn-end.ensures.outside tells);
   acted = turns_then g.C.Calls.makes _ _ _ _ _ _ _ c.loop.invariant.acted
       (shown_turns g.C.Calls.makes _ c.flush_turn-end.result _ _ _ _ _ c.flush_turn-end.ensures.ended
       (λ none. let rests = c.flush_turn-end.ensures.rests none in λ i. place_of ((rests.0 i).file) (rests.1 i)) c.flush_turn-end.ensures.placed c.flush_turn-end.ensures.cause
-      c.show.ensures.made);
+      c.show-seen.ensures.made);
   grow = omega (arith, c.loop.invariant.grow, turn_grows c.flush_turn-end.result _ _ c.flush_turn-end.ensures.cause);
 }
 

@@ -1,4 +1,4 @@
-use Rattle.std.proofs.Common.{sym, subst}
+use Rattle.std.proofs.Common.{◌≡◌, ◌∙◌, IfSome, ap, sym, subst}
 use Rattle.ask_ways.specs.Ways.{ArePair, put_by, taken_by}
 use Rattle.serve_threads.specs.Asking.{IsFrontOf}
 use Rattle.serve_threads.specs.declared.asks.LoopAsks.{LoopAsks}
@@ -56,3 +56,13 @@ returns-clause-fronts g c =
       subst (λ (end : LoopAsks). IsFrontOf (taken_by end.way) (put_by ways.first)) c.left_of-first_pass.ensures.asks c.compare.ensures.first,
       subst (λ (end : LoopAsks). IsFrontOf (taken_by end.way) (put_by ways.second)) c.left_of-second_pass.ensures.asks c.compare.ensures.second,
     )
+
+pub returns-clause-clocks : goal.returns-clause-clocks
+returns-clause-clocks g c = (
+  c.join.ensures.clocks.0 ∙ ap (λ o. o.clock) c.left_of-first_pass.ensures.outside,
+  c.join.ensures.clocks.1 ∙ ap (λ o. o.clock) c.left_of-second_pass.ensures.outside,
+)
+
+pub returns-clause-door : goal.returns-clause-door
+returns-clause-door g c =
+    subst (λ o. IfSome o.entrance (λ e. c.join.result.door ≡ e.door)) c.left_of-first_pass.ensures.outside c.join.ensures.door

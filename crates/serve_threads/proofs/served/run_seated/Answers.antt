@@ -1,15 +1,15 @@
-use Rattle.std.proofs.Common.{◌≤◌, sym, subst}
+use Rattle.std.proofs.Common.{◌≤◌, ℕ, List, sym, subst}
 use Rattle.log_model.specs.Stored.{StaysOutside}
 use Rattle.worker_turns.specs.Acts.{place_of, view_of}
 use Rattle.story_lock.specs.Passes.{seen_by, start_of}
 use Rattle.spine.specs.declared.spine.Spine.{Spine}
 use Rattle.serve_threads.specs.Kept.{PutsAlong}
 use Rattle.serve_threads.specs.Asking.{put_of}
-use Rattle.serve_threads.specs.Served.{FlushesTo, HasMade, views_of}
+use Rattle.serve_threads.specs.Served.{FlushesTo, HasMade, clocks_over, readings_of, views_of}
 use Rattle.serve_threads.proofs.Keeping.{keeps_along, puts_longer}
 use Rattle.serve_threads.proofs.Parts.{looks_of, made_of, met_last, stays_acting, stays_leading, took_first}
 use Rattle.serve_threads.specs.Causes.{BlamesDisk}
-use Rattle.serve_threads.proofs.Counting.{door_stays, loops_blame}
+use Rattle.serve_threads.proofs.Counting.{door_stays, gave_all, loops_blame}
 use Rattle.serve_threads.proofs.served.run_seated.Goals as goal
 
 pub gather-requires-clause-turns : goal.gather-requires-clause-turns
@@ -40,14 +40,20 @@ returns-clause-outside g c = λ tells.
 
 pub returns-clause-made : goal.returns-clause-made
 returns-clause-made g c =
-    let views = views_of g.P.Link.Link.tells g.R.Reader.gives (view_of g.D.Disk.tells g.D.Disk.state g.D.Disk.faults g.D.Disk.syncs) in
     let ran = c.run_all-ran in
     let kept = ran.ensures.kept in
-    subst (λ d. HasMade views (place_of c.args.devices.flusher.file c.args.devices.disk) c.gather.result.pass d) (sym c.gather.ensures.disk)
-    (made_of views (λ z. z.pass) (put_of ran.result.flushing.ways) (place_of c.args.devices.flusher.file c.args.devices.disk) ran.result.flushing.flusher.file ran.result.flushing.disk c.args.spine.now.story c.args.pass c.gather.result.pass _ _ _ _ _ _ _ _
+    let readings = g.K.Clock.readings in
+    let given = readings_of readings (c.args.outsides.0.clock, c.args.outsides.1.clock) in
+    let views = λ (now : List ℕ × List ℕ).
+    views_of g.P.Link.Link.tells g.R.Reader.gives (clocks_over g.K.Clock.tells given now) (view_of g.D.Disk.tells g.D.Disk.state g.D.Disk.faults g.D.Disk.syncs) in
+    let place = place_of c.args.devices.flusher.file c.args.devices.disk in
+    let clocks = c.gather.ensures.clocks in
+    subst (λ (now : List ℕ × List ℕ). HasMade (views now) place c.gather.result.pass c.gather.result.disk) (λ i. (readings (sym clocks.0 i), readings (sym clocks.1 i)))
+    (subst (λ d. HasMade (views (readings ran.result.first.outside.clock, readings ran.result.second.outside.clock)) place c.gather.result.pass d) (sym c.gather.ensures.disk)
+    (made_of (views (readings ran.result.first.outside.clock, readings ran.result.second.outside.clock)) (λ z. z.pass) (put_of ran.result.flushing.ways) (place_of c.args.devices.flusher.file c.args.devices.disk) ran.result.flushing.flusher.file ran.result.flushing.disk c.args.spine.now.story c.args.pass c.gather.result.pass _ _ _ _ _ _ _ _
     c.requires.first.1 c.requires.numbers c.seats_of-key.ensures.cut c.gather.ensures.met ran.ensures.acted
-    (took_first _ _ _ 0 _ _ _ _ c.gather.ensures.fronts.0 ran.ensures.first.leads) (took_first _ _ _ 1 _ _ _ _ c.gather.ensures.fronts.1 ran.ensures.second.leads)
-    (looks_of (λ z. z.pass) (λ z. z.spine.now) (λ (v : Spine). start_of v.story) _ kept.cores _ kept.seen))
+    (took_first _ _ _ _ 0 _ _ _ _ c.gather.ensures.fronts.0 ran.ensures.first.leads) (took_first _ _ _ _ 1 _ _ _ _ c.gather.ensures.fronts.1 ran.ensures.second.leads)
+    (looks_of (λ z. z.pass) (λ z. z.spine.now) (λ (v : Spine). start_of v.story) _ kept.cores _ kept.seen)))
 
 pub returns-clause-kept : goal.returns-clause-kept
 returns-clause-kept g c = λ told.
@@ -81,3 +87,9 @@ gather-requires-clause-pairs g c κs within =
       ran.ways.first c.run_all-ran.result.first.asks.way (ran.first.same c.args.ways.sends.first c.requires.pairs.0),
       ran.ways.second c.run_all-ran.result.second.asks.way (ran.second.same c.args.ways.sends.second c.requires.pairs.1),
     )
+
+pub returns-clause-came : goal.returns-clause-came
+returns-clause-came g c = λ done.
+    let both = c.gather.ensures.end.done done in
+    let door = c.run_all-ran.ensures.first_door in
+    gave_all g.P.Door.Door.gave c.args.outsides.0.entrance c.run_all-ran.result.first.outside.entrance c.gather.result.world.door door.keeps (door.done both.0) c.gather.ensures.door

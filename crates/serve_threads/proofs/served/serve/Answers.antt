@@ -1,10 +1,12 @@
-use Rattle.std.proofs.Common.{sym, subst}
+use Rattle.std.proofs.Common.{◌∙◌, ℕ, List, sym, subst}
+use Rattle.event_loops.specs.Doors.{GaveAll}
+use Rattle.serve_threads.proofs.Counting.{came_from}
 use Rattle.log_model.specs.Stored.{StaysOutside}
 use Rattle.core_log.specs.declared.parts.Parts.{Parts}
 use Rattle.worker_turns.specs.Acts.{change_of, place_of, view_of}
 use Rattle.segment_files.specs.declared.last_file.LastFile.{LastFile}
 use Rattle.serve_threads.specs.Kept.{keep_over}
-use Rattle.serve_threads.specs.Served.{IsLeft, views_of}
+use Rattle.serve_threads.specs.Served.{HasMade, IsLeft, clocks_over, readings_of, views_of}
 use Rattle.event_loops.specs.declared.event_loop.LoopEnd.{LoopEnd}
 use Rattle.worker_turns.specs.declared.flush.FlushEnd.{FlushEnd}
 use Rattle.serve_threads.specs.Causes.{WorldFaults, BlamesDisk, BlamesWorld, world_faults}
@@ -15,10 +17,20 @@ returns-clause-left g c =
     let devices = c.args.devices in
     let place = place_of devices.flusher.file devices.disk in
     let left = c.run_seated-left.ensures in
-    let views = views_of g.P.Link.Link.tells g.R.Reader.gives (view_of g.D.Disk.tells g.D.Disk.state g.D.Disk.faults g.D.Disk.syncs) in
+    let readings = g.K.Clock.readings in
+    let views = λ (was now : List ℕ × List ℕ).
+    views_of g.P.Link.Link.tells g.R.Reader.gives (clocks_over g.K.Clock.tells was now) (view_of g.D.Disk.tells g.D.Disk.state g.D.Disk.faults g.D.Disk.syncs) in
+    let was = readings_of readings c.args.loops.world.clocks in
+    let now = readings_of readings c.run_seated-left.result.world.clocks in
+    let parts = c.part.ensures.clocks in
     let keep = keep_over g.E.Keep.tells (g.E.Keep.state devices.keep) (g.E.Keep.state c.close.result.keep) in
-    subst (λ (core : Parts). (file : LastFile) × IsLeft views (change_of core place c.close.result.core (place_of file c.close.result.disk)) keep c.close.result.kept) c.in-Ok-open.ensures.spine.0
-    (c.close.ensures.left place devices.keep left.made left.kept)
+    let made : HasMade (views was now) place c.run_seated-left.result.pass c.run_seated-left.result.disk =
+    subst (λ (given : List ℕ × List ℕ). HasMade (views given now) place c.run_seated-left.result.pass c.run_seated-left.result.disk)
+    (λ i. (readings (parts.0 i), readings (parts.1 i))) left.made in
+    subst (λ w. (file : LastFile) × IsLeft (views was (readings_of readings w.clocks)) (change_of c.args.core place c.close.result.core (place_of file c.close.result.disk)) keep
+    c.close.result.kept) (sym c.close.ensures.ends.2)
+    (subst (λ (core : Parts). (file : LastFile) × IsLeft (views was now) (change_of core place c.close.result.core (place_of file c.close.result.disk)) keep c.close.result.kept)
+    c.in-Ok-open.ensures.spine.0 (c.close.ensures.left place devices.keep was made left.kept))
 
 pub returns-clause-outside : goal.returns-clause-outside
 returns-clause-outside g c = λ tells.
@@ -37,3 +49,12 @@ returns-clause-cause g c =
           (subst (λ (e : FlushEnd). BlamesDisk e (g.D.Disk.faults c.args.devices.disk) (g.D.Disk.faults left.result.disk)) (sym ends.1) left.ensures.disk_cause);
       keep = c.close.ensures.cause _ left.ensures.keep_grows;
     }
+
+pub returns-clause-came : goal.returns-clause-came
+returns-clause-came g c = λ done.
+    let ends = c.close.ensures.ends in
+    let gave = g.P.Door.Door.gave in
+    let world = c.args.loops.world in
+    subst (λ w. GaveAll c.args.loops.bounds.most (gave world.door) (gave w.door)) (sym ends.2)
+    (came_from g.P.Door.Door.faults gave world.door c.args.loops.bounds c.part.result.0.entrance c.run_seated-left.result.world.door c.part.ensures.door.0 c.part.ensures.entrance
+    (c.run_seated-left.ensures.came (sym ends.0 ∙ done)))
