@@ -68,11 +68,11 @@ step_as : (s : State) (e : Event) (what : Option Said) (new : Parts) (made : Mak
 step_as s e what new made = record { answer = made.answer; says = made.says; step = made.step }
 
 ok_turned : (it : Stored) (behind : ℕ) (batch : Batch) (receipt : Receipt) (old new : Growing) → HasTurned {E = FlushFault} it behind batch (Ok receipt) old new → HasTurned {E = ℕ} it behind batch (Ok receipt) old new
-ok_turned it behind batch receipt old new turned = record { any_moment = turned.any_moment; fault = turned.fault; flushed = turned.flushed; exact = turned.exact }
+ok_turned it behind batch receipt old new turned = record { any_moment = turned.any_moment; fault = turned.fault; flushed = turned.flushed; exact = turned.exact; ahead = turned.ahead }
 
 err_turned : (it : Stored) (behind : ℕ) (batch : Batch) (count : ℕ) (old new : Growing) → HasTurned {E = FlushFault} it behind batch (Err (record { count = count })) old new
     → HasTurned {E = ℕ} it behind batch (Err count) old new
-err_turned it behind batch count old new turned = record { any_moment = turned.any_moment; fault = turned.fault; flushed = turned.flushed; exact = turned.exact }
+err_turned it behind batch count old new turned = record { any_moment = turned.any_moment; fault = turned.fault; flushed = turned.flushed; exact = turned.exact; ahead = turned.ahead }
 
 ok_placed : (it : Stored) (batch : Batch) (receipt : Receipt) (new : LastFile) → PlacesOn {E = FlushFault} it batch (Ok receipt) new → PlacesOn {E = ℕ} it batch (Ok receipt) new
 ok_placed it batch receipt new places = record { ok = places.ok; err = places.err }
@@ -182,8 +182,8 @@ module _ {D : Type 0} (view : DiskView D) where
         reached = it.0;
         represents = it.1;
         steps = subst (λ (l : List (Event × Option Said)). Reaches s l it.0) (steps_same acts) (story_reaches view.tells (growing_at view) s it.0 (map happening_of acts) p q it.2);
-        keeps = λ told first. subst (λ (l : List FlushTurn). Keeps s it.0 l (view.state p.disk) (growing_at view q)) (turns_same acts)
-            (keeps_story view.tells (growing_at view) told s s it.0 [] (map happening_of acts) (view.state p.disk) p q it.1.state.log low (keeps_start s (growing_at view p) first) it.2);
+        keeps = λ told first. subst (λ (l : List FlushTurn). Keeps s it.0 l (growing_at view p) (growing_at view q)) (turns_same acts)
+            (keeps_story view.tells (growing_at view) told s s it.0 [] (map happening_of acts) (growing_at view p) p q it.1.state.log low (keeps_start s (growing_at view p) first) it.2);
         places = λ here. placed_story view.tells (growing_at view) s it.0 (map happening_of acts) p q it.1.state.log low here it.2;
         written = λ here. acts_written acts s x y p q are here happened;
       }

@@ -15,7 +15,7 @@ use Rattle.log_model.specs.declared.batch.Receipt.{Receipt}
 use Rattle.log_model.proofs.Places.{well_formed_take}
 use Rattle.log_model.specs.Store.{KeepsIfHonest, StoresLog}
 use Rattle.log_model.proofs.StoredLemmas.{first_keeps, has_less, keeps_more, keeps_then, keeps_turn}
-use Rattle.segment_files.specs.Turn.{IsReady, CanTurn, HasTurned, Growing}
+use Rattle.segment_files.specs.Turn.{IsReady, CanTurn, HasTurned, Growing, zeros_behind}
 use Rattle.segment_files.proofs.Ready.{ready_more, ready_first_records, fault_ready}
 use Rattle.broker_model.specs.State.{State, next_batch}
 use Rattle.broker_model.specs.Events as events
@@ -145,7 +145,7 @@ exact_grown s t before turns disk grows within exact =
 
 -- ---- before the first happening
 
-pub keeps_start : (s : State) (p : Growing) → IsOpenFor s p → Keeps s s [] p.disk p
+pub keeps_start : (s : State) (p : Growing) → IsOpenFor s p → Keeps s s [] p p
 keeps_start s p first = record {
   grows = grows_none s;
   flushed = omega arith;
@@ -157,26 +157,28 @@ keeps_start s p first = record {
         has_less (geometry_of s) s.log.records (flushed_in s) (flushed_in s + 0) files (omega arith) here;
   };
   order = omega arith;
-  exact = tt;
+  exact = λ none. tt;
+  ahead = refl;
   still_open = first;
 }
 
 -- ---- a step
 
 -- the log grew, and nothing was flushed
-keeps_grown : (s t u : State) (turns : List FlushTurn) (p : DiskState) (q : Growing) → IsLawful u.setup.segment u.log → Grows t u → u.flushed ≡ t.flushed → Keeps s t turns p q → Keeps s u turns p q
+keeps_grown : (s t u : State) (turns : List FlushTurn) (p q : Growing) → IsLawful u.setup.segment u.log → Grows t u → u.flushed ≡ t.flushed → Keeps s t turns p q → Keeps s u turns p q
 keeps_grown s t u turns p q lawful grows same so_far =
     let within : flushed_in t ≤ length t.log.records = so_far.still_open.ready.writes.stores.within in
     let flushed : flushed_in u ≡ flushed_in t = omega (arith, same, ap (λ (l : Log). l.base.records) grows.log) in
     record {
       grows = grows_then s t u so_far.grows grows;
       flushed = flushed ∙ so_far.flushed;
-      kept = kept_grown t u (λ m. flushed_in s + turned_by turns m) p q.disk grows so_far.kept;
+      kept = kept_grown t u (λ m. flushed_in s + turned_by turns m) p.disk q.disk grows so_far.kept;
       order = so_far.order;
-      exact = exact_grown t u (flushed_in s) turns q.disk grows (omega (arith, so_far.flushed, within)) so_far.exact;
+      exact = λ none. exact_grown t u (flushed_in s) turns q.disk grows (omega (arith, so_far.flushed, within)) (so_far.exact none);
+      ahead = so_far.ahead;
       still_open = record {
         behind = so_far.still_open.behind;
-        few = omega (arith, so_far.still_open.few, next_longer t u grows same within);
+        few = λ none. omega (arith, so_far.still_open.few none, next_longer t u grows same within);
         ready = ready_grown t u so_far.still_open.behind (flushed_in t) q lawful grows flushed so_far.still_open.ready;
       };
     }
@@ -197,57 +199,62 @@ kept_as S log least less old new fewer kept = record {
 }
 
 -- a turn that ended Ok, from the state in which its batch was taken to the one in which it is flushed
-keeps_ended : (s t u : State) (turns : List FlushTurn) (batch : Batch) (receipt : Receipt) (moment : ℕ) (p : DiskState) (q r : Growing) → IsLawful u.setup.segment u.log
-    → (so_far : Keeps s t turns p q) → Moves t u receipt.count → receipt.count ≡ batch.count → t.log.base.records ≤ t.flushed → so_far.still_open.behind ≤ length batch.bytes → moment ≡ r.disk.moment
+keeps_ended : (s t u : State) (turns : List FlushTurn) (batch : Batch) (receipt : Receipt) (moment : ℕ) (p q r : Growing) → IsLawful u.setup.segment u.log
+    → (so_far : Keeps s t turns p q) → Moves t u receipt.count → receipt.count ≡ batch.count → t.log.base.records ≤ t.flushed
+    → (q.file.ahead ≡ 0 → so_far.still_open.behind ≤ length batch.bytes) → moment ≡ r.disk.moment
     → HasTurned {E = ℕ} (log_in t) so_far.still_open.behind batch (Ok receipt) q r → Keeps s u (turns ++ flush_turn receipt.count moment ∷ []) p r
 keeps_ended s t u turns batch receipt moment p q r lawful so_far moves count low few ended turned =
     let S : Geometry = geometry_of t in
     let log : List Entry = t.log.records in
     let n : ℕ = flushed_in s + turned_in turns in
-    let rest : ℕ = so_far.still_open.behind - length batch.bytes in
+    let rest : ℕ = max (so_far.still_open.behind - length batch.bytes) (zeros_behind q.file) in
     let then : Stored = with_flushed batch.count (log_in t) in
     let within : flushed_in t + batch.count ≤ length log = turned.flushed.writes.stores.within in
     let flushed : flushed_in u ≡ flushed_in t + batch.count = omega (arith, moves.flushed, count, low, ap (λ (l : Log). l.base.records) moves.grows.log) in
     let here = subst (λ (k : ℕ). EachImage (HasFirst S log (k + batch.count)) r.disk) so_far.flushed (ready_first_records then rest r.file r.disk turned.flushed) in
     let during = subst (λ (k : ℕ). KeepsAtLeast S log (λ m. k) q.disk r.disk) so_far.flushed (kept_of_log (log_in t) q.disk r.disk turned.any_moment) in
     let last : FlushTurn = flush_turn batch.count r.disk.moment in
-    let kept = keeps_turn S log (flushed_in s) batch.count turns p q.disk r.disk so_far.kept during here in
+    let kept = keeps_turn S log (flushed_in s) batch.count turns p.disk q.disk r.disk so_far.kept during here in
     let later : q.disk.moment ≤ r.disk.moment = turned.any_moment.continues.later in
-    let exact = exact_push S log (flushed_in s) turns last r.disk (exact_later S log (flushed_in s) p.moment turns q.disk r.disk turned.any_moment.continues so_far.order so_far.exact)
-    (λ files image. subst (λ (k : ℕ). AreSegmentFiles S (take (k + batch.count) log) files) so_far.flushed ((turned.exact few).at files image)) in
+    let no_zeros : p.file.ahead ≡ 0 → q.file.ahead ≡ 0 = λ none. so_far.ahead ∙ none in
+    let exact = λ (none : p.file.ahead ≡ 0).
+    exact_push S log (flushed_in s) turns last r.disk (exact_later S log (flushed_in s) p.disk.moment turns q.disk r.disk turned.any_moment.continues so_far.order (so_far.exact none))
+    (λ files image. subst (λ (k : ℕ). AreSegmentFiles S (take (k + batch.count) log) files) so_far.flushed ((turned.exact (no_zeros none) (few (no_zeros none))).at files image)) in
     let total : flushed_in s + turned_in (turns ++ last ∷ []) ≤ length log = omega (arith, within, so_far.flushed, turned_push turns last) in
     subst (λ (turn : FlushTurn). Keeps s u (turns ++ turn ∷ []) p r) (λ i. flush_turn (sym count i) (sym ended i)) (record {
       grows = grows_then s t u so_far.grows moves.grows;
       flushed = omega (arith, flushed, so_far.flushed, turned_push turns last);
-      kept = kept_grown t u (λ m. flushed_in s + turned_by (turns ++ last ∷ []) m) p r.disk moves.grows kept;
-      order = order_push p.moment q.disk.moment turns last later so_far.order;
-      exact = exact_grown t u (flushed_in s) (turns ++ last ∷ []) r.disk moves.grows total exact;
+      kept = kept_grown t u (λ m. flushed_in s + turned_by (turns ++ last ∷ []) m) p.disk r.disk moves.grows kept;
+      order = order_push p.disk.moment q.disk.moment turns last later so_far.order;
+      exact = λ none. exact_grown t u (flushed_in s) (turns ++ last ∷ []) r.disk moves.grows total (exact none);
+      ahead = turned.ahead ∙ so_far.ahead;
       still_open = record {
         behind = rest;
-        few = omega (arith, few);
+        few = λ none. let was : q.file.ahead ≡ 0 = sym turned.ahead ∙ none in omega (arith, few was, was);
         ready = ready_grown t u rest (flushed_in t + batch.count) r lawful moves.grows flushed turned.flushed;
       };
     })
 
 -- a turn that failed, before anything else is told
-keeps_broken : (s t : State) (turns : List FlushTurn) (batch : Batch) (count : ℕ) (p : DiskState) (q r : Growing) → (so_far : Keeps s t turns p q)
+keeps_broken : (s t : State) (turns : List FlushTurn) (batch : Batch) (count : ℕ) (p q r : Growing) → (so_far : Keeps s t turns p q)
     → batch.bytes ≡ layouts (next_batch t) → CanTurn (log_in t) so_far.still_open.behind batch q
     → HasTurned {E = ℕ} (log_in t) so_far.still_open.behind batch (Err count) q r → Keeps s t turns p r
 keeps_broken s t turns batch count p q r so_far bytes can turned =
     let S : Geometry = geometry_of t in
-    let most : ℕ = max so_far.still_open.behind (length batch.bytes) in
+    let most : ℕ = max so_far.still_open.behind (length batch.bytes + zeros_behind q.file) in
     let during = kept_as S t.log.records (λ m. flushed_in t) (λ m. flushed_in s + turned_by turns m) q.disk r.disk (λ m. omega (arith, so_far.flushed, turned_most turns m))
     (kept_of_log (log_in t) q.disk r.disk turned.any_moment) in
     let later : q.disk.moment ≤ r.disk.moment = turned.any_moment.continues.later in
     record {
       grows = so_far.grows;
       flushed = so_far.flushed;
-      kept = keeps_then S t.log.records (λ m. flushed_in s + turned_by turns m) p q.disk r.disk so_far.kept during;
-      order = order_on p.moment q.disk.moment r.disk.moment turns later so_far.order;
-      exact = exact_later S t.log.records (flushed_in s) p.moment turns q.disk r.disk turned.any_moment.continues so_far.order so_far.exact;
+      kept = keeps_then S t.log.records (λ m. flushed_in s + turned_by turns m) p.disk q.disk r.disk so_far.kept during;
+      order = order_on p.disk.moment q.disk.moment r.disk.moment turns later so_far.order;
+      exact = λ none. exact_later S t.log.records (flushed_in s) p.disk.moment turns q.disk r.disk turned.any_moment.continues so_far.order (so_far.exact none);
+      ahead = turned.ahead ∙ so_far.ahead;
       still_open = record {
         behind = most;
-        few = omega (arith, so_far.still_open.few, ap (λ (bs : List ℕ). length bs) bytes);
+        few = λ none. let was : q.file.ahead ≡ 0 = sym turned.ahead ∙ none in omega (arith, so_far.still_open.few was, was, ap (λ (bs : List ℕ). length bs) bytes);
         ready = fault_ready (log_in t) so_far.still_open.behind most batch q r can turned.fault;
       };
     }
@@ -255,7 +262,7 @@ keeps_broken s t turns batch count p q r so_far bytes can turned =
 -- ---- a whole story
 
 module _ {P : Type 0} (tells : Type 0) (at : P → Growing) where
-  keeps_happening : tells → (s t u : State) (turns : List FlushTurn) (it : Happening) (p : DiskState) (q r : P) → IsLawful u.setup.segment u.log → t.log.base.records ≤ t.flushed
+  keeps_happening : tells → (s t u : State) (turns : List FlushTurn) (it : Happening) (p : Growing) (q r : P) → IsLawful u.setup.segment u.log → t.log.base.records ≤ t.flushed
       → Keeps s t turns p (at q) → Happens tells at it (span_of t q u r) → Keeps s u (turns ++ turns_in it) p (at r)
   keeps_happening told s t u turns (Stepped e what) p q r lawful low so_far it =
       let moves = step_moves e what t u q r it in
@@ -263,7 +270,7 @@ module _ {P : Type 0} (tells : Type 0) (at : P → Growing) where
       subst (λ (place : P). Keeps s u (turns ++ []) p (at place)) (sym it.still) (subst (λ (l : List FlushTurn). Keeps s u l p (at q)) (sym (append-nil turns)) kept)
   keeps_happening told s t u turns (Ended turn receipt moment) p q r lawful low so_far it =
       let batch = step_takes t it.out turn.batch low it.taken in
-      let few : so_far.still_open.behind ≤ length turn.batch.bytes = omega (arith, so_far.still_open.few, ap (λ (bs : List ℕ). length bs) batch.1) in
+      let few : (at q).file.ahead ≡ 0 → so_far.still_open.behind ≤ length turn.batch.bytes = λ none. omega (arith, so_far.still_open.few none, ap (λ (bs : List ℕ). length bs) batch.1) in
       keeps_ended s t u turns turn.batch receipt moment p (at q) (at r) lawful so_far (ended_moves tells at turn receipt moment t u q r it) it.is.count low few it.ended
       (it.wrote told (log_in t) so_far.still_open.behind (record { ready = so_far.still_open.ready; next = batch.0 }))
   keeps_happening told s t u turns (Broke turn count) p q r lawful low so_far it =
@@ -273,7 +280,7 @@ module _ {P : Type 0} (tells : Type 0) (at : P → Growing) where
       let missed = keeps_broken s t turns turn.batch count p (at q) (at r) so_far batch.1 can (it.wrote told (log_in t) so_far.still_open.behind can) in
       subst (λ (l : List FlushTurn). Keeps s u l p (at r)) (sym (append-nil turns)) (keeps_grown s t u turns p (at r) lawful moves.grows (omega (arith, moves.flushed)) missed)
 
-  pub keeps_story : tells → (s t u : State) (turns : List FlushTurn) (story : List Happening) (p : DiskState) (q r : P) → IsLawful u.setup.segment u.log → t.log.base.records ≤ t.flushed
+  pub keeps_story : tells → (s t u : State) (turns : List FlushTurn) (story : List Happening) (p : Growing) (q r : P) → IsLawful u.setup.segment u.log → t.log.base.records ≤ t.flushed
       → Keeps s t turns p (at q) → Story tells at story (span_of t q u r) → Keeps s u (turns ++ turns_of story) p (at r)
   keeps_story told s t u turns [] p q r lawful low so_far happened =
       subst (λ (place : P). Keeps s u (turns ++ []) p (at place)) (sym happened.1) (subst (λ (w : State). Keeps s w (turns ++ []) p (at q)) (sym happened.0)
@@ -300,10 +307,10 @@ module _ {P : Type 0} (tells : Type 0) (at : P → Growing) where
 
 -- ---- what is kept, of honest files
 
-pub keeps_recovers : (s t : State) (turns : List FlushTurn) (old : DiskState) (new : Growing) → IsLawful t.setup.segment t.log → Keeps s t turns old new
-    → (m : ℕ) (files : Files) → old.moment ≤ m → m ≤ new.disk.moment → new.disk.image_at m files → KeepsIfHonest (geometry_of t) t.log.records (flushed_in s + turned_by turns m) files
+pub keeps_recovers : (s t : State) (turns : List FlushTurn) (old new : Growing) → IsLawful t.setup.segment t.log → Keeps s t turns old new
+    → (m : ℕ) (files : Files) → old.disk.moment ≤ m → m ≤ new.disk.moment → new.disk.image_at m files → KeepsIfHonest (geometry_of t) t.log.records (flushed_in s + turned_by turns m) files
 keeps_recovers s t turns old new lawful kept m files low high image =
     first_keeps (geometry_of t) t.log.records (flushed_in s + turned_by turns m) files lawful (kept.kept.each m files low high image)
 
-pub keeps_stores : (s t : State) (turns : List FlushTurn) (old : DiskState) (new : Growing) → Keeps s t turns old new → StoresLog (geometry_of t) t.log.records (flushed_in t) new.disk
+pub keeps_stores : (s t : State) (turns : List FlushTurn) (old new : Growing) → Keeps s t turns old new → StoresLog (geometry_of t) t.log.records (flushed_in t) new.disk
 keeps_stores s t turns old new kept = record { shape = kept.still_open.ready.shape; reach = kept.still_open.ready.reach; at = kept.still_open.ready.writes.stores }

@@ -25,11 +25,11 @@ geometry_of s = geometry s.setup.segment s.log.base
 abbrev pub log_in : State → Stored
 log_in s = stored (geometry_of s) s.log.records (flushed_in s)
 
--- The disk stores the state's log, with its flushed number, and is open for the next batch. No more bytes stand behind the flushed
--- records than the next batch has.
+-- The disk stores the state's log, with its flushed number, and is open for the next batch. Where no zeros are written ahead, no more
+-- bytes stand behind the flushed records than the next batch has.
 pub record IsOpenFor (s : State) (at : Growing) : Type 0 where
   pub behind : ℕ
-  pub few : behind ≤ length (layouts (next_batch s))
+  pub few : at.file.ahead ≡ 0 → behind ≤ length (layouts (next_batch s))
   pub ready : IsReady (log_in s) behind at
 
 -- The next bytes go where the state's next batch is written, whatever the disk tells: to the end of the flushed records, or to the
@@ -60,12 +60,13 @@ AreExact S log before (turn ∷ turns) disk =
     × AreExact S log (before + turn.count) turns disk
 
 -- From old to new the broker went from the first state to the second, and these turns ended Ok. The log grew; the turns flushed what
--- is flushed now; at each moment a crash leaves the log's first records, at least those that were flushed by then, and at the moment
--- of a turn's end exactly these. The disk stores the second state's log as it did the first one's.
-pub record Keeps (s t : State) (turns : List FlushTurn) (old : DiskState) (new : Growing) : Type 0 where
+-- is flushed now; at each moment a crash leaves the log's first records, at least those that were flushed by then, and where no zeros
+-- are written ahead, at the moment of a turn's end exactly these. The disk stores the second state's log as it did the first one's.
+pub record Keeps (s t : State) (turns : List FlushTurn) (old new : Growing) : Type 0 where
   pub grows : Grows s t
   pub flushed : flushed_in t ≡ flushed_in s + turned_in turns
-  pub kept : KeepsAtLeast (geometry_of t) t.log.records (λ m. flushed_in s + turned_by turns m) old new.disk
-  pub order : AreInOrder old.moment turns new.disk.moment
-  pub exact : AreExact (geometry_of t) t.log.records (flushed_in s) turns new.disk
+  pub kept : KeepsAtLeast (geometry_of t) t.log.records (λ m. flushed_in s + turned_by turns m) old.disk new.disk
+  pub order : AreInOrder old.disk.moment turns new.disk.moment
+  pub exact : old.file.ahead ≡ 0 → AreExact (geometry_of t) t.log.records (flushed_in s) turns new.disk
+  pub ahead : new.file.ahead ≡ old.file.ahead
   pub still_open : IsOpenFor t new

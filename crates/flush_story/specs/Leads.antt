@@ -20,7 +20,7 @@ pub record LeadsTo {D : Type 0} (view : DiskView D) (acts : List Act) (s : State
   pub reached : State
   pub represents : Represents y.core reached
   pub steps : Reaches s (steps_of acts) reached
-  pub keeps : view.tells → IsOpenFor s (growing_at view old) → Keeps s reached (turns_of acts) (view.state old.disk) (growing_at view new)
+  pub keeps : view.tells → IsOpenFor s (growing_at view old) → Keeps s reached (turns_of acts) (growing_at view old) (growing_at view new)
   pub places : IsPlacedFor s old.file → IsPlacedFor reached new.file
   pub written : IsPlacedFor s old.file → HasUnwritten acts → ⊥
 

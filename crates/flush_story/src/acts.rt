@@ -12,7 +12,7 @@ use mq_outside::Disk;
 
 /// From each state that a core represents the acts of its caller lead to a state that it represents then, and the disk stores that
 /// state's log, with its flushed number, where it did so before. At each moment between a crash leaves what was flushed by then, and
-/// at the end of each turn that ended Ok exactly that.
+/// at the end of each turn that ended Ok exactly that, if no zeros are written ahead.
 pub fn acts_keep_the_log<D: Disk>(old: &D, new: &D)
     ensures { (s : State) (x y : Alone) (acts : List Act) (file file_then : LastFile) → Represents x.core s
         → Acts alone (view_of D.tells D.state D.faults D.syncs) acts

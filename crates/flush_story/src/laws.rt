@@ -38,13 +38,13 @@ pub fn a_story_is_a_run<D: Disk>(old: &D, new: &D)
 
 /// Where a disk stores a broker's log with its flushed number, and is open for the next batch, it does so behind every story. At each
 /// moment of it a crash leaves the first records of the log, at least those that were flushed by then, and recovery keeps these of
-/// honest files; at the moment at which a turn ended a crash leaves exactly the files of what was flushed.
+/// honest files; at the moment at which a turn ended a crash leaves exactly the files of what was flushed, if no zeros are written ahead.
 pub fn a_story_keeps_the_log<D: Disk>(old: &D, new: &D)
     ensures keeps { D.tells → (s t : State) (file file_then : LastFile) (story : List Happening) → s.log.base.records ≤ s.flushed
         → IsLawful t.setup.segment t.log → IsOpenFor s (growing file (D.state old.now))
         → Story D.tells (λ (place : LastFile × D). growing place.0 (D.state place.1)) story
         (span_of s (file, old.now) t (file_then, new.now))
-        → Keeps s t (turns_of story) (D.state old.now) (growing file_then (D.state new.now)) }
+        → Keeps s t (turns_of story) (growing file (D.state old.now)) (growing file_then (D.state new.now)) }
     ensures recovers { D.tells → (s t : State) (file file_then : LastFile) (story : List Happening) → s.log.base.records ≤ s.flushed
         → IsLawful t.setup.segment t.log → IsOpenFor s (growing file (D.state old.now))
         → Story D.tells (λ (place : LastFile × D). growing place.0 (D.state place.1)) story

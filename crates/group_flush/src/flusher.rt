@@ -36,6 +36,16 @@ impl Flusher {
         Flusher { file }
     }
 
+    /// The same flusher, but it writes zeros behind the batches, in segments of so many bytes.
+    pub fn with_zeros(self, segment: u32) -> Flusher
+        ensures place { (result.file.base ≡ self.file.base) × (result.file.offset ≡ self.file.offset) }
+        ensures ahead { result.file.ahead ≡ segment }
+    {
+        Flusher {
+            file: self.file.with_zeros(segment),
+        }
+    }
+
     /// Whether the next turn writes the batch from its place on.
     pub fn goes_to(&self, batch: &Batch) -> bool
         ensures yes { result ≡ true → GoesToPlace self.now.file batch.now }

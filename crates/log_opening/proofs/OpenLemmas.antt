@@ -24,14 +24,20 @@ use Rattle.log_recovery.specs.declared.fault.RecoverFault.TheVariants.{Damaged, 
 use Rattle.log_recovery.proofs.OursLemmas.{rests_images, rests_outside}
 use Rattle.segment_files.specs.Turn.{GoesToEnd, IsReady, growing}
 use Rattle.segment_files.specs.declared.last_file.LastFile.{LastFile}
-use Rattle.segment_files.proofs.Ready.{stored_ready}
+use Rattle.segment_files.proofs.Ready.{stored_ready, ready_ahead}
 use Rattle.broker_events.specs.declared.event.Setup.{Setup}
+use Rattle.broker_model.specs.Run.{opened}
+use Rattle.broker_model.specs.State.{Saved}
 use Rattle.broker_model.specs.Tables.{OffsetRow, TopicRow}
 use Rattle.core_log.specs.Loads.{IsLoadedFrom, IsLoadedWith, MayOpen, whole_log}
+use Rattle.core_log.specs.Represents.{Represents, setup_of}
+use Rattle.core_log.specs.Shows.{shown_of}
 use Rattle.core_log.specs.declared.loaded.Loaded.{Loaded}
+use Rattle.core_log.specs.declared.parts.Parts.{Parts}
 use Rattle.log_opening.specs.declared.loading.LoadedLog.{LoadedLog}
+use Rattle.log_opening.specs.declared.opening.Opened.{Opened}
 use Rattle.log_opening.specs.Freezes.{HasUpTo, ArePieces}
-use Rattle.log_opening.specs.Opens.{saved_as, IsKeptLog, IsOurLog, CanOpen}
+use Rattle.log_opening.specs.Opens.{saved_as, IsKeptLog, IsOurLog, CanOpen, OpensWith, OpensLogWith, OpensKeptWith, OpensOursWith}
 use Rattle.log_opening.proofs.LogLemmas.{stored_has_kept, covered_told, covered_none}
 
 pub no_rows : (rows : List OffsetRow) → length rows ≡ 0 → rows ≡ []
@@ -143,9 +149,9 @@ base_number S records end file some is placed =
     ap (λ (n : ℕ). n / S) base ∙ div-mul-add (end / S) S 0 some
 
 -- behind a log that is stored, and nothing stands behind that
-pub ready_for_turns : (S : ℕ) (records : List Entry) (number : ℕ) (file : LastFile) (old new : DiskState) → number ≡ length records → GoesToEnd (stored (whole S) records (length records)) file
+pub ready_for_turns : (S : ℕ) (records : List Entry) (number : ℕ) (file : LastFile) (old new : DiskState) → number ≡ length records → GoesToEnd (stored (whole S) records (length records)) file → file.ahead ≡ 0
     → StoresAt (whole S) records number (shape_of (whole S) records) (used (shape_of (whole S) records)) old → Rests old new → IsReady (stored (whole S) records number) 0 (growing file new)
-ready_for_turns S records number file old new is placed stores rests =
+ready_for_turns S records number file old new is placed none stores rests =
     let reach : ℕ = used (shape_of (whole S) records) in
     let all : take number records ≡ records = take_all number records (omega (arith, is)) in
     let place = placed_log (whole S) records stores.well_formed in
@@ -159,5 +165,35 @@ ready_for_turns S records number file old new is placed stores rests =
       laid = stores.laid;
       each = record { at = λ files image. stores.each.at files (rests_images old new rests files image) };
     }) in
-    subst (λ (n : ℕ). IsReady (stored (whole S) records number) n (growing file new)) (let none : reach - file.offset ≡ 0 = omega (arith, offset) in none)
-    (stored_ready (stored (whole S) records number) reach file new to_end (omega (arith, room)) again)
+    subst (λ (n : ℕ). IsReady (stored (whole S) records number) n (growing file new)) (let no_more : reach - file.offset ≡ 0 = omega (arith, offset) in no_more)
+    (stored_ready (stored (whole S) records number) reach file new to_end (omega (arith, none)) (omega (arith, room)) again)
+
+-- ---- zeros ahead
+
+-- the same file but for where zeros are written ahead
+zeros_opens : (setup : Setup) (saved : Saved) (records : List Entry) (it other : Opened) → other.core ≡ it.core → other.flusher.file.base ≡ it.flusher.file.base
+    → other.flusher.file.offset ≡ it.flusher.file.offset → OpensWith setup saved records it → OpensWith setup saved records other
+zeros_opens setup saved records it other same base offset opens = record {
+  lawful = opens.lawful;
+  represents = subst (λ (core : Parts). Represents core (opened (setup_of setup) (whole_log records) saved)) (sym same) opens.represents;
+  shown = ap shown_of same ∙ opens.shown;
+  placed = record { base = base ∙ opens.placed.base; offset = offset ∙ opens.placed.offset };
+}
+
+module _ (setup : Setup) (saved : Saved) (it other : Opened) (same : other.core ≡ it.core) (base : other.flusher.file.base ≡ it.flusher.file.base)
+    (offset : other.flusher.file.offset ≡ it.flusher.file.offset) where
+  pub zeros_over : OpensLogWith setup saved it → OpensLogWith setup saved other
+  zeros_over over = record { records = over.records; opens = zeros_opens setup saved over.records it other same base offset over.opens }
+
+  pub zeros_kept : (files : Files) → OpensKeptWith setup saved files it → OpensKeptWith setup saved files other
+  zeros_kept files kept = record { records = kept.records; keeps = kept.keeps; opens = zeros_opens setup saved kept.records it other same base offset kept.opens }
+
+  pub zeros_ours : (log : List Entry) (flushed : ℕ) (disk : DiskState) → other.flusher.file.ahead ≡ setup.segment → OpensOursWith setup saved log flushed disk it
+      → OpensOursWith setup saved log flushed disk other
+  zeros_ours log flushed disk ahead ours = record {
+    number = ours.number;
+    low = ours.low;
+    high = ours.high;
+    opens = zeros_opens setup saved (take ours.number log) it other same base offset ours.opens;
+    ready = ready_ahead (stored (whole setup.segment) (take ours.number log) ours.number) 0 it.flusher.file other.flusher.file disk base offset (omega (arith, ahead)) ours.ready;
+  }

@@ -2,6 +2,7 @@
 
 ghost use Rattle.std.specs.Prelude.{◌≡◌, ◌+◌, ◌/◌, ◌≤◌, List, ℕ, All, IfOk};
 ghost use Rattle.mq_outside.specs.Disk.{Rests};
+ghost use Rattle.mq_outside.specs.Files.{Files};
 ghost use Rattle.record_codec.specs.Entry.{Entry};
 ghost use Rattle.log_model.specs.Bases.{whole};
 ghost use Rattle.log_model.specs.Log.{IsSegmentSize};
@@ -9,6 +10,7 @@ ghost use Rattle.log_model.specs.Store.{IsDamagedAt, IsHonest, StoresLog};
 ghost use Rattle.log_model.specs.Stored.{StaysOutside};
 ghost use Rattle.log_recovery.specs.Recovered.{StaysFlushed, OnDamage, CountsRecoverFault};
 ghost use Rattle.segment_files.specs.Turn.{IsInside};
+ghost use Rattle.broker_model.specs.State.{Saved};
 ghost use Rattle.broker_model.specs.Tables.{OffsetRow, TopicRow};
 ghost use Rattle.group_tables.specs.Offsets.{IsOffset};
 ghost use Rattle.config_store.specs.Texts.{IsKeptTopic};
@@ -36,13 +38,33 @@ pub struct Opened {
     pub flusher: Flusher,
 }
 
+impl Opened {
+    /// The same over this disk, but the flusher writes zeros ahead in the log's files, which have segments of so many bytes.
+    pub fn with_zeros<D: Disk>(self, segment: u32, disk: &D) -> Opened
+        ensures core { result.core ≡ self.core }
+        ensures place { (result.flusher.file.base ≡ self.flusher.file.base) × (result.flusher.file.offset ≡ self.flusher.file.offset) }
+        ensures over { (setup : Setup) (saved : Saved) → OpensLogWith setup saved self → OpensLogWith setup saved result }
+        ensures kept { (setup : Setup) (saved : Saved) (files : Files) → OpensKeptWith setup saved files self
+            → OpensKeptWith setup saved files result }
+        ensures ours { (setup : Setup) (saved : Saved) (log : List Entry) (flushed : ℕ) → segment ≡ setup.segment
+            → OpensOursWith setup saved log flushed (D.state disk.now) self → OpensOursWith setup saved log flushed (D.state disk.now) result }
+    {
+        let Opened { core, flusher } = self;
+        Opened {
+            core,
+            flusher: flusher.with_zeros(segment),
+        }
+    }
+}
+
 // The core and the flusher of a log that was loaded, which these pieces cover.
 fn open_loaded(alloc: Global, setup: Setup, log: LoadedLog, pieces: FrozenRanges) -> Opened
     requires size { IsSegmentSize setup.segment }
     requires some { (offsets : List OffsetRow) × (topics : List TopicRow) × (records : List Entry)
         × CanOpen setup offsets topics records log pieces }
-    ensures { (offsets : List OffsetRow) (topics : List TopicRow) (records : List Entry)
+    ensures opens { (offsets : List OffsetRow) (topics : List TopicRow) (records : List Entry)
         → CanOpen setup offsets topics records log pieces → OpensWith setup (saved_as offsets topics) records result }
+    ensures ahead { result.flusher.file.ahead ≡ 0 }
 {
     let file = LastFile::at(setup.segment, log.end);
     let core = Core::open(alloc, setup, log.loaded, pieces);
@@ -71,6 +93,7 @@ pub fn open_log_with<D: Disk>(
     ensures represents { IfOk result (OpensLogWith setup (saved_as offsets.now topics.now)) }
     ensures kept { D.tells → IfOk result (OpensKeptWith setup (saved_as offsets.now topics.now) (D.state disk.old).reads) }
     ensures inside { D.tells → IfOk result (λ it. IsInside it.flusher.file.base it.flusher.file.offset (D.state disk.new)) }
+    ensures ahead { IfOk result (λ it. it.flusher.file.ahead ≡ 0) }
     ensures damaged { D.tells → OnDamage result (IsDamagedAt (whole setup.segment) (D.state disk.old).reads) }
     ensures untouched { D.tells → OnDamage result (λ place name. Rests (D.state disk.old) (D.state disk.new)) }
 
@@ -112,6 +135,7 @@ pub fn open_log<D: Disk>(alloc: Global, disk: &mut D, setup: Setup) -> Result<Op
     ensures represents { IfOk result (OpensLog setup) }
     ensures kept { D.tells → IfOk result (OpensKept setup (D.state disk.old).reads) }
     ensures inside { D.tells → IfOk result (λ it. IsInside it.flusher.file.base it.flusher.file.offset (D.state disk.new)) }
+    ensures ahead { IfOk result (λ it. it.flusher.file.ahead ≡ 0) }
     ensures damaged { D.tells → OnDamage result (IsDamagedAt (whole setup.segment) (D.state disk.old).reads) }
     ensures untouched { D.tells → OnDamage result (λ place name. Rests (D.state disk.old) (D.state disk.new)) }
     ensures ours { D.tells → (log : List Entry) (flushed : ℕ) → StoresLog (whole setup.segment) log flushed (D.state disk.old)

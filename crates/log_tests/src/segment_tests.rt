@@ -123,3 +123,29 @@ fn a_batch_that_opens_a_segment_stands_whole_whichever_call_failed_first(
     }
     Ok(())
 }
+
+#[test]
+fn zeros_stand_behind_a_batch_unless_the_disk_failed_at_them(rt: HostRuntime) -> Result<(), Fail> {
+    let mut first = [0; 4096];
+    first[..3178].fill(b'a');
+    first[3178..3186].copy_from_slice(b"\x00\x00\x03\x96\xCB\xD4\x31\x94");
+    let mut second = [0; 4096];
+    second[..4].copy_from_slice(b"next");
+    for fail in 0..=9 {
+        let mut fails = Vec::new(rt.alloc());
+        fails.push(fail)?;
+        let mut disk = MemDisk::new(rt.alloc(), Vec::new(rt.alloc()), ROOM, fails)?;
+        let mut file = LastFile::at(4096, 0).with_zeros(4096);
+        write_again(rt.alloc(), &mut file, &mut disk, false)?;
+        write_again(rt.alloc(), &mut file, &mut disk, true)?;
+        assert!(rt;
+            disk.fault_count() == u64::from(fail > 0),
+            "each listed call is made"
+        );
+        assert!(rt; disk.bytes(LogFile::of(0).as_str()) == Some(first.as_slice()));
+        // The eighth call writes the zeros behind the second batch.
+        let end = if fail == 8 { 4 } else { 4096 };
+        assert!(rt; disk.bytes(LogFile::of(4096).as_str()) == Some(&second[..end]));
+    }
+    Ok(())
+}

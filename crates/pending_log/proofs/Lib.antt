@@ -5,5 +5,6 @@ pub mod FindLemmas
 pub mod LookLemmas
 pub mod PendingLemmas
 pub mod TakeLemmas
+pub mod WholeLemmas
 pub mod RowLemmas
 pub mod RemovalLemmas

@@ -2,7 +2,7 @@
 //! `Pending -> Out [take]`, `Out -> Flushed [flushed]`, `Out -> Pending [failed]`. No call writes or syncs: a batch goes to
 //! the disk between `take` and the call that ends the turn.
 
-ghost use Rattle.std.specs.Prelude.{◌≡◌, ◌↔◌, ◌<◌, ◌≤◌, ◌+◌, ◌*◌, ◌^◌, ◌∷◌, [], List, length, nat_lt, if◌then◌else◌};
+ghost use Rattle.std.specs.Prelude.{◌≡◌, ◌↔◌, ◌<◌, ◌≤◌, ◌+◌, ◌-◌, ◌*◌, ◌^◌, ◌∷◌, [], List, length, nat_lt, if◌then◌else◌};
 ghost use Rattle.std.specs.Prelude.{IsSome, IsNone, IfSome, IfOk, OnOk, OnErr, is_some};
 ghost use Rattle.record_codec.specs.Drafts.{entry_of, draft_size, IsEncodable};
 ghost use Rattle.record_codec.specs.Layout.{IsRecord};
@@ -11,12 +11,14 @@ ghost use Rattle.log_model.specs.Numbered.{Log, IsLawful, count_of, place_end, w
 ghost use Rattle.pending_log.specs.Parts.{PendingPart, appended, new_part};
 ghost use Rattle.pending_log.specs.Pending.{IsPendingOf, IsMarkOf, IsGrownFrom, IsNextBatch, IsNextTurn, HasTaken, IsIdle};
 ghost use Rattle.pending_log.specs.Pending.{IsReceiptOf, after_flushed, after_failed};
+ghost use Rattle.pending_log.specs.Extents.{IsExtent};
 ghost use Rattle.pending_log.specs.Rows.{AreRowsOf};
 ghost use Rattle.pending_log.specs.Looks.{Turn, this, AreInOrder, KeepsLast, looked, kept_look};
 ghost use Rattle.pending_log.specs.declared.turn.Look.TheVariants.{Flushed};
 
 use crate::batch::{blank_between, share};
 use crate::buffer::Buffer;
+use crate::extent::Extent;
 use crate::rows::Rows;
 use crate::turn::{FailedTurn, Look, Out, look_at};
 use bytes::Bytes;
@@ -171,14 +173,33 @@ impl Pending {
         self.end = mark.end;
     }
 
-    // The turn that comes next: the pending records that lie in the segment of the first.
-    fn next_turn(&self, alloc: Global, rows: &Rows) -> Result<Out, AllocError>
+    // How far the pending records lie in the segment of the first. Where the last one does, none between them is looked at.
+    fn extent(&self, rows: &Rows) -> Extent
         requires some { (log : Log) × IsLawful self.now.segment log × IsPendingOf log self.now × AreRowsOf log rows.now }
         requires pending { self.now.flushed < self.now.count }
-        ensures { IfOk result (λ out. (log : Log) → IsLawful self.now.segment log → IsPendingOf log self.now → AreRowsOf log rows.now
-            → IsNextTurn log self.now out) }
+        ensures { IsExtent self.now.segment rows.now.items (self.now.flushed - rows.now.first) result }
     {
-        let extent = rows.extent(self.segment, self.flushed);
+        let segment = u64::from(self.segment);
+        let first = rows.at(self.flushed);
+        let last = rows.at(self.count - 1);
+        if first.place / segment != last.place / segment {
+            return rows.extent(self.segment, self.flushed);
+        }
+        Extent {
+            count: (self.count - self.flushed) as usize,
+            bytes: self.buffer.len(),
+        }
+    }
+
+    // The turn that comes next: the pending records that lie in the segment of the first. All stay pending, at `Err` too.
+    fn next_turn(&mut self, alloc: Global, rows: &Rows) -> Result<Out, AllocError>
+        requires some { (log : Log) × IsLawful self.old.segment log × IsPendingOf log self.old × AreRowsOf log rows.now }
+        requires pending { self.old.flushed < self.old.count }
+        ensures next { IfOk result (λ out. (log : Log) → IsLawful self.old.segment log → IsPendingOf log self.old
+            → AreRowsOf log rows.now → IsNextTurn log self.old out) }
+        ensures same { self.new ≡ self.old }
+    {
+        let extent = self.extent(rows);
         let count = extent.count as u64;
         let first = rows.at(self.flushed);
         let last = rows.at(self.flushed + count - 1);

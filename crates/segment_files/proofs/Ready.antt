@@ -22,7 +22,7 @@ use Rattle.log_model.proofs.Places.{placed_log, placed_number, placed_offset, we
 use Rattle.log_model.proofs.StoreLemmas.{laid_room}
 use Rattle.segment_files.specs.Turn.{IsInside, WritesAt, GoesOn, Growing, growing, IsReady, CanTurn, IsLaidFor, NextOpens, GoesToEnd, GoesToNext, IsPlaced, GoesToPlace, IsOpened, is_due, opens_segment, shape_behind, unless_opened, base_behind, syncs_of}
 use Rattle.segment_files.specs.declared.last_file.LastFile.{LastFile}
-use Rattle.segment_files.proofs.Turns.{used_batch}
+use Rattle.segment_files.proofs.Turns.{used_batch, writes_moved}
 
 -- the segments of the flushed records
 abbrev laid_of : Stored → Shape
@@ -130,6 +130,7 @@ pub record Starts (it : Stored) (behind : ℕ) (batch : Batch) (at : Growing) : 
   pub reach : ℕ
   pub writes : WritesAt it shape reach at.file.base at.file.offset at.disk
   pub goes : Goes it batch at.file shape
+  pub ahead : at.file.ahead ≤ it.geometry.size
   pub short : unless_opened (opens_segment at.file batch) reach ≤ unless_opened (opens_segment at.file batch) at.file.offset + behind
 
 opened_short : (due : Bool) (reach offset behind : ℕ) → (due ≡ false → reach ≤ offset + behind) → unless_opened due reach ≤ unless_opened due offset + behind
@@ -145,6 +146,7 @@ starts it behind batch at can =
       reach = ready.reach;
       writes = ready.writes;
       goes = where_to;
+      ahead = ready.ahead;
       short = opened_short (opens_segment at.file batch) ready.reach at.file.offset behind (λ stays. ⊎_elim
           (λ (low : ready.reach ≤ at.file.offset + behind). low)
           (λ (opens : (ready.shape ≡ laid_of it) × NextOpens it). let full : false ≡ true = sym stays ∙ where_to.opens opens.0 opens.1 in absurd (cc))
@@ -179,6 +181,7 @@ ready_more it more behind at well ready =
           (λ (at_end : ready.shape ≡ laid_of it). inl (at_end ∙ sym same))
           (λ (at_next : (ready.shape ≡ opened (laid_of it)) × NextOpens it). inr (at_next.0 ∙ ap opened (sym same), next_more it more within at_next.1))
           ready.laid;
+      ahead = ready.ahead;
       short = ⊎_elim
           (λ (low : ready.reach ≤ at.file.offset + behind). inl low)
           (λ (opens : (ready.shape ≡ laid_of it) × NextOpens it). inr (opens.0 ∙ sym same, next_more it more within opens.1))
@@ -194,24 +197,30 @@ ready_turns it behind at ready more next well is = record { ready = ready_more i
 
 -- after a fault before the blank was synced
 pub ready_first : {it : Stored} {behind : ℕ} {batch : Batch} {old : Growing} (most reach : ℕ) (new : Growing) (start : Starts it behind batch old)
-    → WritesAt it start.shape reach new.file.base new.file.offset new.disk → opens_segment old.file batch ≡ true → IsReady it most new
-ready_first most reach new start writes due =
+    → WritesAt it start.shape reach new.file.base new.file.offset new.disk → new.file.ahead ≡ old.file.ahead → opens_segment old.file batch ≡ true → IsReady it most new
+ready_first most reach new start writes same due =
     let here = start.goes.due due in
-    record { shape = start.shape; reach = reach; writes = writes; laid = inl here.0; short = inr here }
+    record { shape = start.shape; reach = reach; writes = writes; laid = inl here.0; ahead = omega (arith, same, start.ahead); short = inr here }
 
 -- after a fault behind it
 pub ready_second : {it : Stored} {behind : ℕ} {batch : Batch} {old : Growing} (most reach : ℕ) (new : Growing) (start : Starts it behind batch old)
-    → WritesAt it (shape_behind (opens_segment old.file batch) start.shape) reach new.file.base new.file.offset new.disk
+    → WritesAt it (shape_behind (opens_segment old.file batch) start.shape) reach new.file.base new.file.offset new.disk → new.file.ahead ≡ old.file.ahead
     → reach ≤ new.file.offset + most → IsReady it most new
-ready_second {batch = batch} {old = old} most reach new start writes low =
-    record { shape = shape_behind (opens_segment old.file batch) start.shape; reach = reach; writes = writes; laid = start.goes.laid; short = inl low }
+ready_second {batch = batch} {old = old} most reach new start writes same low = record {
+  shape = shape_behind (opens_segment old.file batch) start.shape;
+  reach = reach;
+  writes = writes;
+  laid = start.goes.laid;
+  ahead = omega (arith, same, start.ahead);
+  short = inl low;
+}
 
 -- after Ok
-pub ready_flushed : (it : Stored) (behind : ℕ) (batch : Batch) (reach : ℕ) (new : Growing)
-    → WritesAt (with_flushed batch.count it) (shape_of it.geometry (take (it.flushed + batch.count) it.log)) reach new.file.base new.file.offset new.disk
-    → reach ≤ new.file.offset + (behind - length batch.bytes) → IsReady (with_flushed batch.count it) (behind - length batch.bytes) new
-ready_flushed it behind batch reach new writes low =
-    record { shape = laid_of (with_flushed batch.count it); reach = reach; writes = writes; laid = inl refl; short = inl low }
+pub ready_flushed : (it : Stored) (count rest reach : ℕ) (new : Growing)
+    → WritesAt (with_flushed count it) (shape_of it.geometry (take (it.flushed + count) it.log)) reach new.file.base new.file.offset new.disk → new.file.ahead ≤ it.geometry.size
+    → reach ≤ new.file.offset + rest → IsReady (with_flushed count it) rest new
+ready_flushed it count rest reach new writes ahead low =
+    record { shape = laid_of (with_flushed count it); reach = reach; writes = writes; laid = inl refl; ahead = ahead; short = inl low }
 
 -- an Ok has synced the blank, if one is due, and the batch
 pub synced_both : (due : Bool) (first next last : ℕ) → (due ≡ true → Counted 1 first next) → (due ≡ false → next ≡ first) → Counted 1 next last → Counted (syncs_of due) first last
@@ -240,7 +249,20 @@ ready_as it behind file old new stays ready = record {
     low = ready.writes.low;
   };
   laid = ready.laid;
+  ahead = ready.ahead;
   short = ready.short;
+}
+
+-- the same file, but how far zeros are written ahead
+pub ready_ahead : (it : Stored) (behind : ℕ) (file other : LastFile) (disk : DiskState) → other.base ≡ file.base → other.offset ≡ file.offset → other.ahead ≤ it.geometry.size
+    → IsReady it behind (growing file disk) → IsReady it behind (growing other disk)
+ready_ahead it behind file other disk same same_offset ahead ready = record {
+  shape = ready.shape;
+  reach = ready.reach;
+  writes = writes_moved ready.writes same same_offset;
+  laid = ready.laid;
+  ahead = ahead;
+  short = subst (λ (n : ℕ). (ready.reach ≤ n + behind) ⊎ ((ready.shape ≡ laid_of it) × NextOpens it)) (sym same_offset) ready.short;
 }
 
 -- ---- where the next bytes go
@@ -348,13 +370,14 @@ goes_to_place it batch file well is placed =
 
 -- ---- from a stored log
 
-pub stored_ready : (it : Stored) (reach : ℕ) (file : LastFile) (disk : DiskState) → GoesToEnd it file → reach ≤ it.geometry.size → StoresAt it.geometry it.log it.flushed (laid_of it) reach disk
-    → IsReady it (reach - file.offset) (growing file disk)
-stored_ready it reach file disk to_end low stores = record {
+pub stored_ready : (it : Stored) (reach : ℕ) (file : LastFile) (disk : DiskState) → GoesToEnd it file → file.ahead ≤ it.geometry.size → reach ≤ it.geometry.size
+    → StoresAt it.geometry it.log it.flushed (laid_of it) reach disk → IsReady it (reach - file.offset) (growing file disk)
+stored_ready it reach file disk to_end ahead low stores = record {
   shape = laid_of it;
   reach = reach;
   writes = record { stores = stores; place = end_at it file stores.well_formed to_end; low = low };
   laid = inl refl;
+  ahead = ahead;
   short = inl (omega arith);
 }
 

@@ -19,7 +19,8 @@ use Rattle.log_model.proofs.Places.{placed_log, well_formed_take}
 use Rattle.log_model.proofs.Steps.{each_torn, each_more, each_has, stands_more, length-blank_of}
 use Rattle.log_model.proofs.StoreLemmas.{laid_room, stores_named, stores_still, stores_batch, stores_opened, stores_exact}
 use Rattle.log_model.specs.Stored.{HasRecords, stored}
-use Rattle.segment_files.specs.Turn.{IsInside, WritesAt, IsBehind}
+use Rattle.segment_files.specs.Turn.{IsInside, WritesAt, IsBehind, zeros_to}
+use Rattle.segment_files.specs.declared.last_file.LastFile.{LastFile}
 
 -- ---- what holds at each moment
 
@@ -92,31 +93,40 @@ used_batch {S = S} {log = log} {flushed = flushed} {count = count} {shape = shap
     flat_map-append layout shape.last records ∙ ap (λ (l : List ℕ). layouts shape.last ++ l) (sym is.bytes) in
     ap used is.rule ∙ ap length all ∙ length-append (layouts shape.last) batch
 
--- a batch leaves room for a blank
-pub batch_low : {S : Geometry} {log : List Entry} {flushed count : ℕ} {shape : Shape} {batch : List ℕ} {reach file_base offset : ℕ} {disk : DiskState}
-    → WritesAt (stored S log flushed) shape reach file_base offset disk → IsBatch S log flushed count shape batch → max reach (offset + length batch) ≤ S.size
-batch_low {S = S} {log = log} {flushed = flushed} {count = count} {shape = shape} {batch = batch} writes is =
-    omega (arith, laid_room S log (flushed + count) (shape_of S (take (flushed + count) log)) writes.stores.well_formed (inl refl), used_batch is, writes.place.end, writes.low)
+-- a batch leaves room for a blank, and the zeros behind it end with the segment
+pub batch_low : {S : Geometry} {log : List Entry} {flushed count : ℕ} {shape : Shape} {batch : List ℕ} {reach file_base offset : ℕ} {disk : DiskState} (file : LastFile)
+    → WritesAt (stored S log flushed) shape reach file_base offset disk → IsBatch S log flushed count shape batch → file.ahead ≤ S.size → max reach (zeros_to file (offset + length batch)) ≤ S.size
+batch_low {S = S} {log = log} {flushed = flushed} {count = count} {shape = shape} {batch = batch} {reach = reach} {offset = offset} file writes is low =
+    let end : offset + length batch ≤ S.size =
+    omega (arith, laid_room S log (flushed + count) (shape_of S (take (flushed + count) log)) writes.stores.well_formed (inl refl), used_batch is, writes.place.end) in
+    omega (arith, end, low, writes.low)
 
-pub write_stands : {S : Geometry} {log : List Entry} {flushed : ℕ} {shape : Shape} {reach file_base offset n : ℕ} {old new : DiskState} {name : List ℕ} (m : ℕ)
-    → WritesAt (stored S log flushed) shape reach file_base offset old → name ≡ log_file file_base → n ≡ m → Moves (At name (Torn offset n)) old new
-    → Throughout old new (Stands S shape (max reach (offset + m)))
-write_stands {S = S} {log = log} {flushed = flushed} {shape = shape} {reach = reach} {offset = offset} {n = n} {old = old} {new = new} m writes named same moves =
+pub write_stands : {S : Geometry} {log : List Entry} {flushed : ℕ} {shape : Shape} {reach file_base offset n : ℕ} {old new : DiskState} {name : List ℕ} (most : ℕ)
+    → WritesAt (stored S log flushed) shape reach file_base offset old → name ≡ log_file file_base → offset + n ≤ most → Moves (At name (Torn offset n)) old new
+    → Throughout old new (Stands S shape (max reach most))
+write_stands {S = S} {log = log} {flushed = flushed} {shape = shape} {reach = reach} {offset = offset} {n = n} {old = old} {new = new} most writes named low moves =
     let is_named = stores_named S log flushed shape reach old writes.stores in
-    subst (λ (k : ℕ). Throughout old new (Stands S shape (max reach (offset + k)))) same (goes_on (at_start _ (Stands S shape (max reach (offset + n))) (each_more offset n writes.stores.each)) moves (each_torn is_named named writes.place moves writes.stores.each))
+    let to_end = goes_on (at_start _ (Stands S shape (max reach (offset + n))) (each_more offset n writes.stores.each)) moves (each_torn is_named named writes.place moves writes.stores.each) in
+    weaker to_end (λ files stands. stands_more S shape (max reach (offset + n)) (max reach most) files (omega (arith, low)) stands)
+
+-- an offset behind the one that the next bytes go to
+pub behind_end : {S : Geometry} {log : List Entry} {flushed : ℕ} {shape : Shape} {reach file_base offset end : ℕ} {disk : DiskState} {name : List ℕ}
+    → WritesAt (stored S log flushed) shape reach file_base offset disk → name ≡ log_file file_base → offset ≤ end → IsBehind S shape name end
+behind_end writes named low =
+    let here = end_behind writes named in
+    record { some = here.some; low = here.low; named = here.named; behind = omega (arith, here.behind, low) }
 
 -- a batch that was written and synced is flushed
-pub writes_batch : {S : Geometry} {log : List Entry} {flushed count : ℕ} {shape : Shape} {reach file_base offset : ℕ} {old new : DiskState} {batch : List ℕ}
-    → WritesAt (stored S log flushed) shape reach file_base offset old → IsBatch S log flushed count shape batch
-    → EachImage (HasPiece file_base offset batch) new → EachImage (Stands S shape (max reach (offset + length batch))) new
-    → WritesAt (stored S log (flushed + count)) (shape_of S (take (flushed + count) log)) (max reach (offset + length batch)) file_base (offset + length batch) new
-writes_batch {S = S} {log = log} {flushed = flushed} {count = count} {shape = shape} {reach = reach} {offset = offset} {new = new} {batch = batch} writes is has still =
-    let more : ℕ = max reach (offset + length batch) in
-    let stores = stores_batch S log flushed count shape more batch new writes.stores.well_formed is (each_has writes.place has still) in
+pub writes_batch : {S : Geometry} {log : List Entry} {flushed count : ℕ} {shape : Shape} {reach most file_base offset : ℕ} {old new : DiskState} {batch : List ℕ}
+    → WritesAt (stored S log flushed) shape reach file_base offset old → IsBatch S log flushed count shape batch → most ≤ S.size
+    → EachImage (HasPiece file_base offset batch) new → EachImage (Stands S shape most) new
+    → WritesAt (stored S log (flushed + count)) (shape_of S (take (flushed + count) log)) most file_base (offset + length batch) new
+writes_batch {S = S} {log = log} {flushed = flushed} {count = count} {shape = shape} {most = most} {new = new} {batch = batch} writes is low has still =
+    let stores = stores_batch S log flushed count shape most batch new writes.stores.well_formed is (each_has writes.place has still) in
     record {
-      stores = subst (λ (s : Shape). StoresAt S log (flushed + count) s more new) (sym is.rule) stores;
+      stores = subst (λ (s : Shape). StoresAt S log (flushed + count) s most new) (sym is.rule) stores;
       place = record { last = writes.place.last ∙ ap (segment_start S) (sym is.rule); end = omega (arith, used_batch is, writes.place.end) };
-      low = batch_low writes is;
+      low = low;
     }
 
 -- the same by equal numbers
@@ -124,6 +134,12 @@ pub writes_moved : {S : Geometry} {log : List Entry} {flushed : ℕ} {shape : Sh
     → WritesAt (stored S log flushed) shape reach b o disk → now_b ≡ b → now_o ≡ o → WritesAt (stored S log flushed) shape reach now_b now_o disk
 writes_moved {S = S} {log = log} {flushed = flushed} {shape = shape} {reach = reach} {b = b} {now_o = now_o} {disk = disk} writes same same_offset =
     subst (λ (k : ℕ). WritesAt (stored S log flushed) shape reach k now_o disk) (sym same) (subst (λ (k : ℕ). WritesAt (stored S log flushed) shape reach b k disk) (sym same_offset) writes)
+
+pub has_moved : {b o now_b now_o : ℕ} {piece now_piece : List ℕ} {disk : DiskState} → now_b ≡ b → now_o ≡ o → piece ≡ now_piece → EachImage (HasPiece b o piece) disk
+    → EachImage (HasPiece now_b now_o now_piece) disk
+has_moved {o = o} {now_b = now_b} {now_o = now_o} {piece = piece} {disk = disk} same same_offset is each =
+    subst (λ (l : List ℕ). EachImage (HasPiece now_b now_o l) disk) is (subst (λ (k : ℕ). EachImage (HasPiece now_b k piece) disk) (sym same_offset)
+    (subst (λ (k : ℕ). EachImage (HasPiece k o piece) disk) (sym same) each))
 
 -- ---- where the next bytes go
 
@@ -152,20 +168,13 @@ writes_from S log flushed reach end file_base offset disk stores low ends first 
     }
 
 -- where nothing longer was written, the files are exactly those of the flushed records
-pub writes_exact : {S : Geometry} {log : List Entry} {flushed reach file_base offset : ℕ} {disk : DiskState} → reach ≤ offset
-    → WritesAt (stored S log flushed) (shape_of S (take flushed log)) (max reach offset) file_base offset disk → EachImage (AreSegmentFiles S (take flushed log)) disk
-writes_exact {S = S} {log = log} {flushed = flushed} {reach = reach} {offset = offset} {disk = disk} low writes =
+pub writes_exact : {S : Geometry} {log : List Entry} {flushed most file_base offset : ℕ} {disk : DiskState} → most ≡ offset
+    → WritesAt (stored S log flushed) (shape_of S (take flushed log)) most file_base offset disk → EachImage (AreSegmentFiles S (take flushed log)) disk
+writes_exact {S = S} {log = log} {flushed = flushed} {disk = disk} same writes =
     let shape : Shape = shape_of S (take flushed log) in
-    let end : max reach offset ≡ used shape = omega (arith, low, writes.place.end) in
-    stores_exact S log flushed shape disk (subst (λ (r : ℕ). StoresAt S log flushed shape r disk) end writes.stores)
+    stores_exact S log flushed shape disk (subst (λ (r : ℕ). StoresAt S log flushed shape r disk) (same ∙ writes.place.end) writes.stores)
 
 -- what holds anyway holds of a fault
 pub on_err : {A E : Type 0} {P : Type 0} (result : Result A E) → P → OnErr result P
 on_err (Ok value) holds = tt
 on_err (Err fault) holds = holds
-
--- up to the offset that the next bytes go to
-pub writes_to : {S : Geometry} {log : List Entry} {flushed : ℕ} {shape : Shape} {end b o : ℕ} {disk : DiskState} (r now : ℕ)
-    → WritesAt (stored S log flushed) shape (max r end) b o disk → now ≡ end → WritesAt (stored S log flushed) shape (max r now) b o disk
-writes_to {S = S} {log = log} {flushed = flushed} {shape = shape} {b = b} {o = o} {disk = disk} r now writes same =
-    subst (λ (k : ℕ). WritesAt (stored S log flushed) shape (max r k) b o disk) (sym same) writes

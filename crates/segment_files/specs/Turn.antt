@@ -1,8 +1,9 @@
 -- What a flush turn starts from, what it is given, and what it leaves.
-use Rattle.std.specs.Prelude.{◌≡◌, ◌≢◌, ◌⊎◌, ℕ, ◌+◌, ◌-◌, ◌*◌, ◌/◌, ◌%◌, ◌^◌, ◌<◌, ◌≤◌, ◌++◌, max, replicate, nat_le, List, take, length}
-use Rattle.std.specs.Prelude.{slice_get, Option, Some, None, Bool, true, false, Result, IfOk, IfSome, OnOk, OnErr, if◌then◌else◌}
+use Rattle.std.specs.Prelude.{◌≡◌, ◌≢◌, ◌⊎◌, ℕ, ◌+◌, ◌-◌, ◌*◌, ◌/◌, ◌%◌, ◌^◌, ◌<◌, ◌≤◌, ◌++◌, max, min, replicate, nat_le, List}
+use Rattle.std.specs.Prelude.{take, length, slice_get, Option, Some, None, Bool, true, false, Result, IfOk, IfSome, OnOk, OnErr}
+use Rattle.std.specs.Prelude.{if◌then◌else◌}
 use Rattle.mq_bytes.specs.Names.{log_file}
-use Rattle.mq_outside.specs.Files.{bytes_of}
+use Rattle.mq_outside.specs.Files.{bytes_of, overwritten}
 use Rattle.mq_outside.specs.Disk.{DiskState, EachImage}
 use Rattle.record_codec.specs.Entry.{Entry}
 use Rattle.record_codec.specs.Blanks.{blank_front}
@@ -39,6 +40,22 @@ pub record IsBehind (S : Geometry) (shape : Shape) (name : List ℕ) (offset : �
   pub low : segment_start S shape < 2 ^ 64
   pub named : name ≡ last_name S shape
   pub behind : used shape ≤ offset
+
+-- ---- zeros ahead
+
+-- so many zeros were written at this offset of the file; a fresh range that ended there is fresh together with them
+pub record HasZeros (name : List ℕ) (at n : ℕ) (old new : DiskState) : Type 0 where
+  pub bytes : bytes_of new.reads name ≡ overwritten at (replicate n 0) (bytes_of old.reads name)
+  pub fresh : (from before : ℕ) → from + before ≡ at → old.fresh name from before → new.fresh name from (before + n)
+
+-- The batch ends at this offset. Zeros are written behind it up to here at most: so many bytes, and in a file that has any written
+-- ahead not past the end of a segment.
+abbrev pub zeros_to : LastFile → ℕ → ℕ
+zeros_to file end = max end (min (end + 2 ^ 18) file.ahead)
+
+-- how many zeros may stand behind a batch
+abbrev pub zeros_behind : LastFile → ℕ
+zeros_behind file = min (2 ^ 18) file.ahead
 
 -- ---- what is to be written
 
@@ -100,12 +117,13 @@ IsLaidFor it shape = (shape ≡ shape_of it.geometry (flushed_of it)) ⊎ ((shap
     × NextOpens it)
 
 -- The log is open for batches: the disk stores it, and the next bytes go behind its flushed records, or to a new segment that the
--- next record opens. At most so many bytes stand behind the place of the next record.
+-- next record opens. At most so many bytes stand behind the place of the next record. No zeros are written past a segment's end.
 pub record IsReady (it : Stored) (behind : ℕ) (at : Growing) : Type 0 where
   pub shape : Shape
   pub reach : ℕ
   pub writes : WritesAt it shape reach at.file.base at.file.offset at.disk
   pub laid : IsLaidFor it shape
+  pub ahead : at.file.ahead ≤ it.geometry.size
   pub short : (reach ≤ at.file.offset + behind) ⊎ ((shape ≡ shape_of it.geometry (flushed_of it)) × NextOpens it)
 
 -- a turn can be made: the log is open for batches, and this one has its records from the flushed number on
@@ -115,15 +133,17 @@ pub record CanTurn (it : Stored) (behind : ℕ) (batch : Batch) (at : Growing) :
 
 -- What a turn did. At each moment of it a crash leaves the records that were flushed before, and behind them arbitrary bytes.
 -- After a fault a turn can be made with each batch that comes next in this log, or in it with more appended. After Ok the batch
--- is flushed, and where nothing longer stood behind the records, every crash leaves exactly the log's files.
+-- is flushed. Where no zeros are written ahead, and nothing longer stood behind the records, every crash leaves exactly the log's
+-- files then.
 pub record HasTurned {E : Type 0} (it : Stored) (behind : ℕ) (batch : Batch) (result : Result Receipt E) (old new : Growing) : Type 0 where
   pub any_moment : KeepsAtLeast it.geometry (flushed_of it) (λ m. it.flushed) old.disk new.disk
   pub fault : OnErr result ((more : List Entry) (next : Batch) → IsWellFormed it.geometry (it.log ++ more)
       → IsBatchOf it.geometry (it.log ++ more) it.flushed next
-      → CanTurn (with_more more it) (max behind (length batch.bytes)) next new)
-  pub flushed : OnOk result (IsReady (with_flushed batch.count it) (behind - length batch.bytes) new)
-  pub exact : behind ≤ length batch.bytes → OnOk result (EachImage (AreSegmentFiles it.geometry (flushed_of (with_flushed batch.count it)))
-      new.disk)
+      → CanTurn (with_more more it) (max behind (length batch.bytes + zeros_behind old.file)) next new)
+  pub flushed : OnOk result (IsReady (with_flushed batch.count it) (max (behind - length batch.bytes) (zeros_behind old.file)) new)
+  pub exact : old.file.ahead ≡ 0 → behind ≤ length batch.bytes
+      → OnOk result (EachImage (AreSegmentFiles it.geometry (flushed_of (with_flushed batch.count it))) new.disk)
+  pub ahead : new.file.ahead ≡ old.file.ahead
 
 -- ---- where the next bytes go, whatever the disk tells
 

@@ -16,7 +16,7 @@ use mq_outside::Disk;
 
 /// A log that was recovered, or made, is open for batches where it ends, and the next bytes go inside its file.
 pub fn a_stored_log_is_ready<D: Disk>(file: &LastFile, disk: &D)
-    ensures ready { (it : Stored) (reach : ℕ) → GoesToEnd it file.now → reach ≤ it.geometry.size
+    ensures ready { (it : Stored) (reach : ℕ) → GoesToEnd it file.now → file.now.ahead ≤ it.geometry.size → reach ≤ it.geometry.size
         → StoresAt it.geometry it.log it.flushed (shape_of it.geometry (flushed_of it)) reach (D.state disk.now)
         → IsReady it (reach - file.now.offset) (growing file.now (D.state disk.now)) }
     ensures inside { D.tells → (it : Stored) (behind : ℕ) → IsReady it behind (growing file.now (D.state disk.now))

@@ -5,6 +5,7 @@ mod blank;
 mod last_file;
 mod laws;
 mod read;
+mod zeros;
 
 pub use last_file::LastFile;
 pub use laws::{

@@ -55,7 +55,7 @@ returns-clause-represents g c =
     let some = can_some g.D.Disk.tells c.args.setup c.args.offsets.now c.args.topics.now (g.D.Disk.state c.args.disk.now).reads files c.in-Ok-load_log.log c.in-Ok-with_offsets.log c.in-Ok-freeze_log.pieces
     c.in-Ok-load_log.ensures.loaded c.in-Ok-load_log.ensures.kept (λ records is. c.in-Ok-with_offsets.ensures.loaded c.args.topics.now records is) c.in-Ok-with_offsets.ensures.ends
     (c.in-Ok-freeze_log.ensures.pieces files (λ tells. refl)) in
-    record { records = some.0; opens = c.open_loaded.ensures c.args.offsets.now c.args.topics.now some.0 some.1 }
+    record { records = some.0; opens = c.open_loaded.ensures.opens c.args.offsets.now c.args.topics.now some.0 some.1 }
 
 pub returns-clause-kept : goal.returns-clause-kept
 returns-clause-kept g c = λ tells.
@@ -64,7 +64,7 @@ returns-clause-kept g c = λ tells.
     record {
       records = found.records;
       keeps = found.keeps;
-      opens = c.open_loaded.ensures c.args.offsets.now c.args.topics.now found.records (can_told g.D.Disk.tells c.args.setup c.args.offsets.now c.args.topics.now found.records files c.in-Ok-with_offsets.log c.in-Ok-freeze_log.pieces tells found.keeps.well_formed
+      opens = c.open_loaded.ensures.opens c.args.offsets.now c.args.topics.now found.records (can_told g.D.Disk.tells c.args.setup c.args.offsets.now c.args.topics.now found.records files c.in-Ok-with_offsets.log c.in-Ok-freeze_log.pieces tells found.keeps.well_formed
           (c.in-Ok-with_offsets.ensures.loaded c.args.topics.now found.records found.loaded) (c.in-Ok-with_offsets.ensures.ends ∙ found.ends) found.has
           (c.in-Ok-freeze_log.ensures.pieces files (λ told. refl)));
     }
@@ -74,7 +74,7 @@ returns-clause-inside g c = λ tells.
     let files : Files = (g.D.Disk.state c.load_log.new.disk).reads in
     let found = c.in-Ok-load_log.ensures.kept tells in
     let file = c.open_loaded.result.flusher.file in
-    let opens = c.open_loaded.ensures c.args.offsets.now c.args.topics.now found.records (can_told g.D.Disk.tells c.args.setup c.args.offsets.now c.args.topics.now found.records files c.in-Ok-with_offsets.log c.in-Ok-freeze_log.pieces tells found.keeps.well_formed
+    let opens = c.open_loaded.ensures.opens c.args.offsets.now c.args.topics.now found.records (can_told g.D.Disk.tells c.args.setup c.args.offsets.now c.args.topics.now found.records files c.in-Ok-with_offsets.log c.in-Ok-freeze_log.pieces tells found.keeps.well_formed
     (c.in-Ok-with_offsets.ensures.loaded c.args.topics.now found.records found.loaded) (c.in-Ok-with_offsets.ensures.ends ∙ found.ends) found.has
     (c.in-Ok-freeze_log.ensures.pieces files (λ told. refl))) in
     subst (λ (f : Files). file.offset ≤ length (bytes_of f (log_file file.base))) (sym (c.freeze_log.ensures.rests tells).same)
@@ -86,7 +86,7 @@ returns-clause-ours g c = λ tells log flushed stores honest.
     let files : Files = (g.D.Disk.state c.load_log.new.disk).reads in
     let found = c.in-Ok-load_log.ensures.ours tells log flushed stores honest in
     let records : List Entry = take found.number log in
-    let opens = c.open_loaded.ensures c.args.offsets.now c.args.topics.now records (can_told g.D.Disk.tells c.args.setup c.args.offsets.now c.args.topics.now records files c.in-Ok-with_offsets.log c.in-Ok-freeze_log.pieces tells found.stores.well_formed
+    let opens = c.open_loaded.ensures.opens c.args.offsets.now c.args.topics.now records (can_told g.D.Disk.tells c.args.setup c.args.offsets.now c.args.topics.now records files c.in-Ok-with_offsets.log c.in-Ok-freeze_log.pieces tells found.stores.well_formed
     (c.in-Ok-with_offsets.ensures.loaded c.args.topics.now records found.loaded) (c.in-Ok-with_offsets.ensures.ends ∙ found.ends) found.has
     (c.in-Ok-freeze_log.ensures.pieces files (λ told. refl))) in
     record {
@@ -95,7 +95,7 @@ returns-clause-ours g c = λ tells log flushed stores honest.
       high = found.high;
       opens = opens;
       ready = ready_for_turns c.args.setup.segment records found.number c.open_loaded.result.flusher.file (g.D.Disk.state c.load_log.new.disk) (g.D.Disk.state c.freeze_log.new.disk)
-          (sym (length-take-le found.number log found.high)) opens.placed found.stores (c.freeze_log.ensures.rests tells);
+          (sym (length-take-le found.number log found.high)) opens.placed c.open_loaded.ensures.ahead found.stores (c.freeze_log.ensures.rests tells);
     }
 
 pub returns-clause-flushed : goal.returns-clause-flushed
@@ -110,6 +110,6 @@ returns-clause-syncs g c =
     let some = can_some g.D.Disk.tells c.args.setup c.args.offsets.now c.args.topics.now (g.D.Disk.state c.args.disk.now).reads files c.in-Ok-load_log.log c.in-Ok-with_offsets.log c.in-Ok-freeze_log.pieces
     c.in-Ok-load_log.ensures.loaded c.in-Ok-load_log.ensures.kept (λ records is. c.in-Ok-with_offsets.ensures.loaded c.args.topics.now records is) c.in-Ok-with_offsets.ensures.ends
     (c.in-Ok-freeze_log.ensures.pieces files (λ tells. refl)) in
-    let opens = c.open_loaded.ensures c.args.offsets.now c.args.topics.now some.0 some.1 in
+    let opens = c.open_loaded.ensures.opens c.args.offsets.now c.args.topics.now some.0 some.1 in
     let number = base_number c.args.setup.segment some.0 c.in-Ok-with_offsets.log.end c.open_loaded.result.flusher.file (omega (arith, c.requires.size.low)) some.1.ends opens.placed in
     omega (arith, number, c.load_log.ensures.syncs, c.freeze_log.ensures.syncs)

@@ -1,25 +1,11 @@
-use Rattle.std.proofs.Common.{ap, sym, subst, arith, ◌+◌, ◌<◌}
+use Rattle.std.proofs.Common.{ap, sym, subst, arith, ◌+◌, ◌-◌, ◌<◌}
 use Rattle.log_model.specs.Numbered.{IsLawful}
 use Rattle.pending_log.specs.Parts.{PendingPart, part_of}
 use Rattle.pending_log.specs.declared.turn.Out.{Out}
+use Rattle.pending_log.specs.Extents.{IsExtent}
 use Rattle.pending_log.specs.Pending.{IsPendingOf, IsNextTurn}
-use Rattle.pending_log.proofs.TakeLemmas.{rows_end, pending_short, is_taken, first_ordered, last_low, next_turn}
+use Rattle.pending_log.proofs.TakeLemmas.{rows_end, is_taken, first_ordered, last_low, next_turn}
 use Rattle.pending_log.proofs.pending.Pending.next_turn.Goals as goal
-
-pub extent-extent-requires-clause-within : goal.extent-extent-requires-clause-within
-extent-extent-requires-clause-within c =
-    let end = rows_end c.requires.some.0 c.args.rows.now c.requires.some.3 in
-    let count = c.requires.some.2.count in
-    let pending = subst (λ (q : PendingPart). q.flushed < c.args.self.now.count) (sym c.self.view_is) c.requires.pending in
-    omega (arith, end, count, pending)
-
-pub extent-extent-requires-clause-short : goal.extent-extent-requires-clause-short
-extent-extent-requires-clause-short c =
-    let i = c.self.inside in
-    let p : PendingPart = part_of i in
-    let sum = pending_short c.requires.some.0 p c.args.rows.now (subst (λ (q : PendingPart). IsPendingOf c.requires.some.0 q) (sym c.self.view_is) c.requires.some.2) c.requires.some.3 in
-    let short = c.self.invariant.short in
-    omega (arith, sum, short)
 
 pub at-first-requires-clause-within : goal.at-first-requires-clause-within
 at-first-requires-clause-within c =
@@ -34,7 +20,8 @@ overflow_add-self-inside c =
     let p : PendingPart = part_of i in
     let are = subst (λ (q : PendingPart). IsPendingOf c.requires.some.0 q) (sym c.self.view_is) c.requires.some.2 in
     let pending = subst (λ (q : PendingPart). q.flushed < q.count) (sym c.self.view_is) c.requires.pending in
-    let taken = is_taken c.requires.some.0 p c.args.rows.now c.extent-extent.result are c.requires.some.3 pending c.extent-extent.ensures in
+    let is = subst (λ (q : PendingPart). IsExtent q.segment c.args.rows.now.items (q.flushed - c.args.rows.now.first) c.extent-extent.result) (sym c.self.view_is) c.extent-extent.ensures in
+    let taken = is_taken c.requires.some.0 p c.args.rows.now c.extent-extent.result are c.requires.some.3 pending is in
     let within = taken.within in let count = are.count in let kept = are.kept in
     let few = c.self.invariant.few in let low = c.self.invariant.low in
     omega (arith, within, count, kept, few, low)
@@ -45,7 +32,8 @@ at-last-requires-clause-within c =
     let p : PendingPart = part_of i in
     let are = subst (λ (q : PendingPart). IsPendingOf c.requires.some.0 q) (sym c.self.view_is) c.requires.some.2 in
     let pending = subst (λ (q : PendingPart). q.flushed < q.count) (sym c.self.view_is) c.requires.pending in
-    let taken = is_taken c.requires.some.0 p c.args.rows.now c.extent-extent.result are c.requires.some.3 pending c.extent-extent.ensures in
+    let is = subst (λ (q : PendingPart). IsExtent q.segment c.args.rows.now.items (q.flushed - c.args.rows.now.first) c.extent-extent.result) (sym c.self.view_is) c.extent-extent.ensures in
+    let taken = is_taken c.requires.some.0 p c.args.rows.now c.extent-extent.result are c.requires.some.3 pending is in
     let within = taken.within in let some = taken.some in let kept = are.kept in
     let end = rows_end c.requires.some.0 c.args.rows.now c.requires.some.3 in
     omega (arith, within, some, kept, end)
@@ -56,7 +44,8 @@ front-requires c =
     let p : PendingPart = part_of i in
     let are = subst (λ (q : PendingPart). IsPendingOf c.requires.some.0 q) (sym c.self.view_is) c.requires.some.2 in
     let pending = subst (λ (q : PendingPart). q.flushed < q.count) (sym c.self.view_is) c.requires.pending in
-    let taken = is_taken c.requires.some.0 p c.args.rows.now c.extent-extent.result are c.requires.some.3 pending c.extent-extent.ensures in
+    let is = subst (λ (q : PendingPart). IsExtent q.segment c.args.rows.now.items (q.flushed - c.args.rows.now.first) c.extent-extent.result) (sym c.self.view_is) c.extent-extent.ensures in
+    let taken = is_taken c.requires.some.0 p c.args.rows.now c.extent-extent.result are c.requires.some.3 pending is in
     taken.short
 
 pub blank_between-requires-clause-ordered : goal.blank_between-requires-clause-ordered
@@ -85,22 +74,24 @@ overflow_add-result c =
     let are = subst (λ (q : PendingPart). IsPendingOf c.requires.some.0 q) (sym c.self.view_is) c.requires.some.2 in
     let lawful = subst (λ (q : PendingPart). IsLawful q.segment c.requires.some.0) (sym c.self.view_is) c.requires.some.1 in
     let pending = subst (λ (q : PendingPart). q.flushed < q.count) (sym c.self.view_is) c.requires.pending in
-    let taken = is_taken c.requires.some.0 p c.args.rows.now c.extent-extent.result are c.requires.some.3 pending c.extent-extent.ensures in
+    let is = subst (λ (q : PendingPart). IsExtent q.segment c.args.rows.now.items (q.flushed - c.args.rows.now.first) c.extent-extent.result) (sym c.self.view_is) c.extent-extent.ensures in
+    let taken = is_taken c.requires.some.0 p c.args.rows.now c.extent-extent.result are c.requires.some.3 pending is in
     let low = last_low c.requires.some.0 p c.args.rows.now c.extent-extent.result.count c.at-last.result lawful are c.requires.some.3 taken.some c.at-last.ensures in
     let size = c.from.ensures in
     omega (arith, low, size)
 
-pub returns : goal.returns
-returns c log lawful are of =
+pub returns-clause-next : goal.returns-clause-next
+returns-clause-next c log lawful are of =
     let i = c.self.inside in
     let p : PendingPart = part_of i in
     let here = subst (λ (q : PendingPart). IsPendingOf log q) (sym c.self.view_is) are in
     let pending = subst (λ (q : PendingPart). q.flushed < q.count) (sym c.self.view_is) c.requires.pending in
+    let is = subst (λ (q : PendingPart). IsExtent q.segment c.args.rows.now.items (q.flushed - c.args.rows.now.first) c.extent-extent.result) (sym c.self.view_is) c.extent-extent.ensures in
     let turn : Out = record {
       batch = record { from = i.flushed; count = c.extent-extent.result.count; place = c.at-first.result.place; blank = c.blank_between.result; bytes = c.in_ok-bytes.bytes };
       held = i.count;
       end = c.at-last.result.place + c.from.result;
     } in
     subst (λ (q : PendingPart). IsNextTurn log q turn) c.self.view_is
-    (next_turn log p c.args.rows.now c.extent-extent.result c.at-first.result c.at-last.result c.blank_between.result c.in_ok-bytes.bytes turn.end here of pending c.extent-extent.ensures c.at-first.ensures c.at-last.ensures
-    c.blank_between.ensures c.in_ok-bytes.ensures (ap (λ n. c.at-last.result.place + n) c.from.ensures))
+    (next_turn log p c.args.rows.now c.extent-extent.result c.at-first.result c.at-last.result c.blank_between.result c.in_ok-bytes.bytes turn.end here of pending is c.at-first.ensures c.at-last.ensures
+    c.blank_between.ensures c.in_ok-bytes.ensures.front (ap (λ n. c.at-last.result.place + n) c.from.ensures))

@@ -1,5 +1,5 @@
-use Rattle.std.proofs.Common.{◌∙◌, ◌≤◌, sym, subst, arith, List, ℕ, length}
-use Rattle.mq_outside.specs.Files.{bytes_of}
+use Rattle.std.proofs.Common.{◌∙◌, ◌≤◌, ap, sym, subst, arith, List, ℕ, length}
+use Rattle.mq_outside.specs.Files.{bytes_in, bytes_of}
 use Rattle.mq_outside.proofs.Moments.{at_end}
 use Rattle.log_model.proofs.OutsideLemmas.{in_folder, outside_same}
 use Rattle.log_model.specs.Segments.{blank_of}
@@ -43,7 +43,7 @@ returns-clause-opened g c tells S log flushed shape reach writes is fills next =
     let inside : c.args.self.now.offset ≤ length (bytes_of (g.D.Disk.state c.args.disk.now).reads c.as_str-name.result.now) =
     subst (λ (l : List ℕ). c.args.self.now.offset ≤ length (bytes_of (g.D.Disk.state c.args.disk.now).reads l)) (sym named) (c.requires.inside tells) in
     let durable = c.in_ok-sync.ensures.durable tells c.args.self.now.offset (length (blank_of c.args.size)) (c.in_ok-write_blank.ensures.fresh tells) in
-    let has = each_piece (g.D.Disk.state c.args.disk.now) c.args.self.now.base named inside (c.in_ok-write_blank.ensures.written tells) synced durable in
+    let has = each_piece (g.D.Disk.state c.args.disk.now) c.args.self.now.base named inside (ap bytes_in (c.in_ok-write_blank.ensures.written tells)) synced durable in
     writes_opened writes is fills next has (at_end (same_on written synced))
 
 pub returns-clause-still : goal.returns-clause-still

@@ -1,8 +1,8 @@
-use Rattle.std.proofs.Common.{arith, rules, inr, ◌∙◌}
+use Rattle.std.proofs.Common.{◌≤◌, arith, rules, inr, ◌∙◌}
 use Rattle.mq_outside.proofs.Moments.{chained}
 use Rattle.log_model.proofs.OutsideLemmas.{outside_then}
 use Rattle.log_model.proofs.StoredLemmas.{keeps_flushed}
-use Rattle.segment_files.proofs.Turns.{on_err, writes_exact, writes_moved, writes_to}
+use Rattle.segment_files.proofs.Turns.{on_err, writes_exact, writes_moved}
 use Rattle.segment_files.proofs.Ready.{starts, ready_turns, ready_first, ready_second, ready_flushed, places_on, synced_both}
 use Rattle.segment_files.specs.Turn.{IsOpened}
 use Rattle.segment_files.proofs.last_file.LastFile.write_batch.Goals as goal
@@ -15,9 +15,10 @@ returns-in_err-open_next-clause-turned g c tells it behind can =
     let still = writes_moved (c.open_next.ensures.still tells it.geometry it.log it.flushed _ _ start.writes start.goes.goes_on.opens) stays.0 stays.1 in
     record {
       any_moment = keeps_flushed it.log it.flushed start.writes.stores.within quiet;
-      fault = on_err _ (ready_turns it _ _ (ready_first _ _ _ start still c.in_err-open_next.ensures.due));
+      fault = on_err _ (ready_turns it _ _ (ready_first _ _ _ start still c.open_next.ensures.ahead c.in_err-open_next.ensures.due));
       flushed = search rules;
-      exact = λ low. search rules;
+      exact = λ none low. search rules;
+      ahead = c.open_next.ensures.ahead;
     }
 
 pub returns-in_err-piece-clause-turned : goal.returns-in_err-piece-clause-turned
@@ -26,12 +27,16 @@ returns-in_err-piece-clause-turned g c tells it behind can =
     let opened = c.in_ok-open_next.ensures.opened tells it.geometry it.log it.flushed _ _ start.writes start.goes.goes_on.opens in
     let quiet = chained (c.open_next.ensures.any_moment tells it.geometry it.log it.flushed _ _ start.writes start.goes.goes_on.opens)
     (c.store.ensures.any_moment tells it.geometry it.log it.flushed _ _ _ opened start.goes.goes_on.records) in
-    let still = writes_moved (c.store.ensures.still tells it.geometry it.log it.flushed _ _ _ opened start.goes.goes_on.records) c.store.ensures.base c.in_err-piece.ensures.stays in
+    let same = c.store.ensures.ahead ∙ c.open_next.ensures.ahead in
+    let ahead : c.open_next.new.self.ahead ≤ it.geometry.size = omega (arith, c.open_next.ensures.ahead, start.ahead) in
+    let still = writes_moved (c.store.ensures.still tells it.geometry it.log it.flushed _ _ _ opened start.goes.goes_on.records ahead) c.store.ensures.base c.in_err-piece.ensures.stays in
     record {
       any_moment = keeps_flushed it.log it.flushed start.writes.stores.within quiet;
-      fault = on_err _ (ready_turns it _ _ (ready_second _ _ _ start still (omega (arith, start.short, c.in_ok-open_next.ensures.moved.1, c.in_err-piece.ensures.stays))));
+      fault = on_err _ (ready_turns it _ _ (ready_second _ _ _ start still same
+          (omega (arith, start.short, c.open_next.ensures.ahead, c.in_ok-open_next.ensures.moved.1, c.in_err-piece.ensures.stays))));
       flushed = search rules;
-      exact = λ low. search rules;
+      exact = λ none low. search rules;
+      ahead = same;
     }
 
 pub returns-clause-turned : goal.returns-clause-turned
@@ -40,12 +45,17 @@ returns-clause-turned g c tells it behind can =
     let opened = c.in_ok-open_next.ensures.opened tells it.geometry it.log it.flushed _ _ start.writes start.goes.goes_on.opens in
     let quiet = chained (c.open_next.ensures.any_moment tells it.geometry it.log it.flushed _ _ start.writes start.goes.goes_on.opens)
     (c.store.ensures.any_moment tells it.geometry it.log it.flushed _ _ _ opened start.goes.goes_on.records) in
-    let stored = writes_to _ _ (c.in_ok-piece.ensures.flushed tells it.geometry it.log it.flushed _ _ _ opened start.goes.goes_on.records) c.in_ok-piece.ensures.moved in
+    let same = c.store.ensures.ahead ∙ c.open_next.ensures.ahead in
+    let ahead : c.open_next.new.self.ahead ≤ it.geometry.size = omega (arith, c.open_next.ensures.ahead, start.ahead) in
+    let stored = c.in_ok-piece.ensures.flushed tells it.geometry it.log it.flushed _ _ _ opened start.goes.goes_on.records ahead in
     record {
       any_moment = keeps_flushed it.log it.flushed start.writes.stores.within quiet;
       fault = tt;
-      flushed = ready_flushed it behind c.args.batch _ _ stored (omega (arith, start.short, c.in_ok-open_next.ensures.moved.1, c.in_ok-piece.ensures.moved));
-      exact = λ low. writes_exact (omega (arith, low, start.short, c.in_ok-open_next.ensures.moved.1, c.in_ok-piece.ensures.moved)) stored;
+      flushed = ready_flushed it c.args.batch.count _ _ _ stored (omega (arith, same, start.ahead))
+          (omega (arith, start.short, c.open_next.ensures.ahead, c.in_ok-open_next.ensures.moved.1, c.in_ok-piece.ensures.moved));
+      exact = λ none low. writes_exact
+          (omega (arith, none, low, start.short, c.open_next.ensures.ahead, c.in_ok-open_next.ensures.moved.1, c.in_ok-piece.ensures.moved)) stored;
+      ahead = same;
     }
 
 pub returns-in_err-piece-clause-outside : goal.returns-in_err-piece-clause-outside
