@@ -72,7 +72,7 @@ ran_happened sides (Err (Stopped stop)) frames x y old new ran = ran.happened
 -- ---- the reader is given back
 
 -- a call that changes nothing, behind acts
-keeps_same : (s u : State) (turns : List FlushTurn) (p : DiskState) (r : Growing) (disk : DiskState) → Moves Same r.disk disk → Keeps s u turns p r → Keeps s u turns p (growing r.file disk)
+keeps_same : (s u : State) (turns : List FlushTurn) (p r : Growing) (disk : DiskState) → Moves Same r.disk disk → Keeps s u turns p r → Keeps s u turns p (growing r.file disk)
 keeps_same s u turns p r disk moves kept =
     let S = geometry_of u in
     let first = ready_first_records (log_in u) kept.still_open.behind r.file r.disk kept.still_open.ready in
@@ -81,10 +81,11 @@ keeps_same s u turns p r disk moves kept =
     record {
       grows = kept.grows;
       flushed = kept.flushed;
-      kept = keeps_then S u.log.records (λ m. flushed_in s + turned_by turns m) p r.disk disk kept.kept
+      kept = keeps_then S u.log.records (λ m. flushed_in s + turned_by turns m) p.disk r.disk disk kept.kept
           (kept_as S u.log.records (λ m. flushed_in u) (λ m. flushed_in s + turned_by turns m) r.disk disk (λ m. omega (arith, kept.flushed, turned_most turns m)) during);
-      order = order_on p.moment r.disk.moment disk.moment turns moves.later kept.order;
-      exact = exact_later S u.log.records (flushed_in s) p.moment turns r.disk disk during.continues kept.order kept.exact;
+      order = order_on p.disk.moment r.disk.moment disk.moment turns moves.later kept.order;
+      exact = λ none. exact_later S u.log.records (flushed_in s) p.disk.moment turns r.disk disk during.continues kept.order (kept.exact none);
+      ahead = kept.ahead;
       still_open = record {
         behind = kept.still_open.behind;
         few = kept.still_open.few;
@@ -118,19 +119,19 @@ ready_exact setup log at ready =
           (stands_exact S ready.shape files (stands_more S ready.shape ready.reach (used ready.shape) files low (ready.writes.stores.each.at files image)));
     }
 
-keeps_after : (setup : Setup) (saved : Saved) (log : List Entry) (acts : List Act) (u : State) (p : DiskState) (r : Growing) → EachImage (AreSegmentFiles (whole setup.segment) log) p
-    → Keeps (opened_over setup saved log).now u (turns_of acts) p r → KeepsAfter setup log acts u p r.disk
-keeps_after setup saved log acts u p r opened kept =
+keeps_after : (setup : Setup) (saved : Saved) (log : List Entry) (acts : List Act) (u : State) (p r : Growing) → p.file.ahead ≡ 0
+    → EachImage (AreSegmentFiles (whole setup.segment) log) p.disk → Keeps (opened_over setup saved log).now u (turns_of acts) p r → KeepsAfter setup log acts u p.disk r.disk
+keeps_after setup saved log acts u p r none opened kept =
     let s = (opened_over setup saved log).now in
     let all : flushed_in s ≡ length log = omega arith in
     let S : geometry_of u ≡ whole setup.segment = λ i. geometry ((kept.grows.setup i).segment) ((kept.grows.log i).base) in
     record {
-      kept = subst (λ (n : ℕ). KeepsAtLeast (whole setup.segment) u.log.records (λ m. n + turned_by (turns_of acts) m) p r.disk) all
-          (subst (λ (G : Geometry). KeepsAtLeast G u.log.records (λ m. flushed_in s + turned_by (turns_of acts) m) p r.disk) S kept.kept);
+      kept = subst (λ (n : ℕ). KeepsAtLeast (whole setup.segment) u.log.records (λ m. n + turned_by (turns_of acts) m) p.disk r.disk) all
+          (subst (λ (G : Geometry). KeepsAtLeast G u.log.records (λ m. flushed_in s + turned_by (turns_of acts) m) p.disk r.disk) S kept.kept);
       opened = opened;
       order = kept.order;
       exact = subst (λ (n : ℕ). AreExact (whole setup.segment) u.log.records n (turns_of acts) r.disk) all
-          (subst (λ (G : Geometry). AreExact G u.log.records (flushed_in s) (turns_of acts) r.disk) S kept.exact);
+          (subst (λ (G : Geometry). AreExact G u.log.records (flushed_in s) (turns_of acts) r.disk) S (kept.exact none));
       stores = subst (λ (n : ℕ). StoresLog (whole setup.segment) u.log.records n r.disk) (kept.flushed ∙ ap (λ (n : ℕ). n + turned_in (turns_of acts)) all)
           (subst (λ (G : Geometry). StoresLog G u.log.records (flushed_in u) r.disk) S
           (record { shape = kept.still_open.ready.shape; reach = kept.still_open.ready.reach; at = kept.still_open.ready.writes.stores }));
@@ -140,7 +141,7 @@ keeps_after setup saved log acts u p r opened kept =
 open_for : (setup : Setup) (saved : Saved) (log : List Entry) (at : Growing) → IsReady (stored (whole setup.segment) log (length log)) 0 at → IsOpenFor (opened_over setup saved log).now at
 open_for setup saved log at ready =
     let none : length log ≡ flushed_in (opened_over setup saved log).now = omega arith in
-    record { behind = 0; few = omega arith; ready = subst (λ (n : ℕ). IsReady (stored (whole setup.segment) log n) 0 at) none ready }
+    record { behind = 0; few = λ no_zeros. omega arith; ready = subst (λ (n : ℕ). IsReady (stored (whole setup.segment) log n) 0 at) none ready }
 
 pub run_from : {D : Type 0} (it : Opened) (ended : Ended) (seen : Seen D) (setup : Setup) (saved : Saved) (log : List Entry) (x y : Alone) (reads : ℕ) → OpensWith setup saved log it → x.core ≡ it.core
     → ServesToEnd (sides_for seen) ended seen.source x (point_of (place_of it.flusher.file seen.old) reads seen.taken seen.readings) (ending_of y seen.new seen.taken_then seen.readings_then)
@@ -174,9 +175,9 @@ run_from {D = D} it ended seen setup saved log x y reads opens same served =
       reached = led.reached;
       runs = record { moves = moves.0; boot = moves.1; are = moves.2; run = moves.3; reached_is = moves.4 };
       done = (
-        λ told ready. keeps_after setup saved log acts led.reached (before seen) (growing served.final.file (behind seen))
+        λ told none ready. keeps_after setup saved log acts led.reached (growing it.flusher.file (before seen)) (growing served.final.file (behind seen)) none
             (ready_exact setup log (growing it.flusher.file (before seen)) ready)
-            (keeps_same s led.reached (turns_of acts) (before seen) (growing_at seen.disk served.final) (behind seen) (served.back told)
+            (keeps_same s led.reached (turns_of acts) (growing it.flusher.file (before seen)) (growing_at seen.disk served.final) (behind seen) (served.back told)
             (led.keeps told (open_for setup saved log (growing it.flusher.file (before seen)) ready))),
         led.represents,
       );
@@ -331,9 +332,9 @@ module _ {D : Type 0} (it : Opened) (status : Status) (seen : Seen D) (disk : D)
         (served.runs setup saved opens.records opens.opens);
   }
 
-  pub keeps_on : seen.disk.tells → (log : List Entry) (flushed : ℕ) → OpensOursWith setup saved log flushed (seen.disk.state disk) it → Throughout (before seen) (seen.disk.state disk) (Leaves (whole setup.segment) log flushed)
+  pub keeps_on : seen.disk.tells → it.flusher.file.ahead ≡ 0 → (log : List Entry) (flushed : ℕ) → OpensOursWith setup saved log flushed (seen.disk.state disk) it → Throughout (before seen) (seen.disk.state disk) (Leaves (whole setup.segment) log flushed)
       → KeepsOn setup saved (stored (whole setup.segment) log flushed) (ended_as served.ended served.last) seen kept
-  keeps_on told log flushed opens leaves =
+  keeps_on told none log flushed opens leaves =
       let opening = take opens.number log in
       let long : opens.number ≡ length opening = omega (arith, opens.high, length-take opens.number log) in
       record {
@@ -344,7 +345,7 @@ module _ {D : Type 0} (it : Opened) (status : Status) (seen : Seen D) (disk : D)
             (λ acts reached. Survives (stored (whole setup.segment) log flushed) opening (turns_of acts) reached.log.records (before seen) (behind seen) × kept reached)
             (λ acts reached done. (
               survives setup log flushed opening acts reached (before seen) (seen.disk.state disk) (behind seen) leaves
-                  (done.0 told (subst (λ (n : ℕ). IsReady (stored (whole setup.segment) opening n) 0 (growing it.flusher.file (seen.disk.state disk))) long opens.ready)),
+                  (done.0 told none (subst (λ (n : ℕ). IsReady (stored (whole setup.segment) opening n) 0 (growing it.flusher.file (seen.disk.state disk))) long opens.ready)),
               as_well reached done.1,
             ))
             (served.runs setup saved opening opens.opens);

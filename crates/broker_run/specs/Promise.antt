@@ -333,10 +333,10 @@ pub record KeepsAfter (setup : Setup) (log : List Entry) (acts : List Act) (reac
   pub exact : AreExact (whole setup.segment) reached.log.records (length log) (turns_of acts) new
   pub stores : StoresLog (whole setup.segment) reached.log.records (length log + turned_in (turns_of acts)) new
 
--- what such a run leaves of the disk, where all of the log was flushed
+-- what such a run leaves of the disk, where all of the log was flushed and no zeros are written ahead
 abbrev pub LeavesDisk : {D : Type 0} → Opened → Seen D → Setup → List Entry → List Act → State → Type 0
 LeavesDisk it seen setup log acts reached =
-    seen.disk.tells → IsReady (stored (whole setup.segment) log (length log)) 0 (growing it.flusher.file (before seen))
+    seen.disk.tells → it.flusher.file.ahead ≡ 0 → IsReady (stored (whole setup.segment) log (length log)) 0 (growing it.flusher.file (before seen))
     → KeepsAfter setup log acts reached (before seen) (behind seen)
 
 -- The requests were served from each log over which this was opened, and then the kept files were replaced.

@@ -96,7 +96,7 @@ open_for : (setup : Setup) (saved : Saved) (records : List Entry) (at : Growing)
     → IsOpenFor (first_state setup saved records) at
 open_for setup saved records at ready =
     let none : length records ≡ flushed_in (first_state setup saved records) = omega arith in
-    record { behind = 0; few = omega arith; ready = subst (λ (n : ℕ). IsReady (stored (whole setup.segment) records n) 0 at) none ready }
+    record { behind = 0; few = λ no_zeros. omega arith; ready = subst (λ (n : ℕ). IsReady (stored (whole setup.segment) records n) 0 at) none ready }
 
 -- what the turns of a history flushed is stored, and stays where the disk is given back
 pub stores_opened : {D : Type 0} (views : Views D) (start : Parts) (file : LastFile) (began : D) (history : Made) (core : Parts) (ended : Place D) (new : DiskState)
@@ -117,7 +117,7 @@ stores_opened views start file began history core ended new made told back setup
       flushed = omega (arith, kept.flushed, all);
       stores = back (whole setup.segment) leads.reached.log.records (flushed_in leads.reached)
           (subst (λ (G : Geometry). StoresLog G leads.reached.log.records (flushed_in leads.reached) (views.disk.state ended.disk)) S
-          (keeps_stores s leads.reached (stories.turns_of leads.story) (views.disk.state began) (growing ended.file (views.disk.state ended.disk)) kept));
+          (keeps_stores s leads.reached (stories.turns_of leads.story) (growing file (views.disk.state began)) (growing ended.file (views.disk.state ended.disk)) kept));
     }
 
 -- a log of ours that was opened is stored

@@ -1,6 +1,6 @@
 -- Which status tells what.
 use Rattle.std.proofs.Common.{◌≡◌, ◌≢◌, ◌⊎◌, ⊎_elim, inl, inr, refl, sym, subst, ◌∙◌, arith, ℕ, List, Option, Some, None, IfSome, Result, Ok, Err}
-use Rattle.std.specs.Prelude.{codes, IfNone}
+use Rattle.std.specs.Prelude.{codes, IfNone, IsSome}
 use Rattle.mq_outside.specs.Counts.{CountsDiskFault, Rises}
 use Rattle.mq_outside.specs.Files.{Files, Same}
 use Rattle.mq_outside.specs.Disk.{DiskState, Moves}
@@ -24,7 +24,10 @@ use Rattle.store_open.specs.declared.format.Sizes.{Sizes}
 use Rattle.store_open.specs.declared.serve_words.ServeCommand.{ServeCommand}
 use Rattle.store_open.specs.declared.status.Status.{Status}
 use Rattle.event_loops.specs.Doors.{GaveAll}
+use Rattle.mq_peers.specs.Ended.{LinkEnd}
 use Rattle.serve_threads.specs.Causes.{ServeFaults, WorldFaults, counts_of}
+use Rattle.serve_threads.specs.Links.{LinksOver, AreAllThatCame, links_over, told_in}
+use Rattle.broker_serve.specs.Serves.{AllLinks}
 use Rattle.exit_status.specs.Statuses.{TellsDevice, StatusKept, StatusTellsFault, StatusTellsConfig}
 use Rattle.exit_status.proofs.KeepLemmas.{bad_before}
 use Rattle.broker_serve.specs.Statuses.{StatusTellsLoops, StatusTellsEnd, AllWell, StatusLeft}
@@ -75,6 +78,42 @@ zero_done status end last (Ok done) tells zero = (all_well status end last tells
 zero_done status end last (Err device.Memory) tells zero = absurd (omega (arith, tells, zero))
 zero_done status end last (Err device.Failed) (inl tells) zero = absurd (device_told status (codes "keep") tells.1 zero)
 zero_done status end last (Err device.Failed) (inr tells) zero = absurd (tells.1 zero)
+
+-- ---- the links that have ended
+
+turn_memory : (status : Status) (last : FlushEnd) → StatusTellsEnd status loops.Memory last → status.code ≡ 7
+turn_memory status flush.Idle tells = tells
+turn_memory status flush.Done tells = tells
+turn_memory status (flush.Failed count) tells = tells
+turn_memory status flush.Misplaced tells = tells
+turn_memory status flush.Memory tells = tells
+
+-- where the loops ended for want of memory the status says so
+left_memory : (status : Status) (last : FlushEnd) (kept : Result (Unit {0}) DiskFault) → StatusLeft status loops.Memory last kept → status.code ≡ 7
+left_memory status last (Ok done) tells = turn_memory status last tells
+left_memory status last (Err device.Memory) tells = tells
+left_memory status last (Err device.Failed) (inl tells) = absurd (cc (tells.0.0))
+left_memory status last (Err device.Failed) (inr tells) = turn_memory status last tells.0
+
+told_some : {N : Type 0} (told : Type 0) (ends : Option (N × N)) → IsSome ends → told → told_in told ends
+told_some told None some is = absurd (cc some)
+told_some told (Some ends) some is = is
+
+-- those that the threads told are told, unless the status says that there was no memory
+pub links_left : {N : Type 0} (tells told : Type 0) (entries : N → List LinkEnd) (status : Status) (end : LoopEnd) (last : FlushEnd) (kept : Result (Unit {0}) DiskFault) (old new : ℕ)
+    (ends left : Option (N × N)) → left ≡ ends → StatusLeft status end last kept → (end ≢ loops.Memory → IsSome ends) → AreAllThatCame old new (links_over tells told entries ends)
+    → AllLinks told status (old, new) (links_over tells told entries left)
+links_left tells told entries status end last kept old new ends left same why some all =
+    subst (λ (x : Option _). AllLinks told status (old, new) (links_over tells told entries x)) (sym same)
+    (record {
+      told = λ other is. told_some told ends (some (λ memory. other (left_memory status last kept (subst (λ (e : LoopEnd). StatusLeft status e last kept) memory why)))) is;
+      all = all;
+    })
+
+-- seen from before the door was opened
+pub links_from : {A : Type 0} (left : Option A) (tells : Type 0) (status : Status) (old mid new : ℕ) (links : LinksOver) → mid ≡ old
+    → IfSome left (λ core. AllLinks tells status (mid, new) links) → IfSome left (λ core. AllLinks tells status (old, new) links)
+links_from left tells status old mid new links same all = subst (λ (n : ℕ). IfSome left (λ core. AllLinks tells status (n, new) links)) same all
 
 -- ---- no links were served
 

@@ -29,6 +29,7 @@ use Rattle.log_opening.specs.declared.opening.Opened.{Opened}
 use Rattle.worker_turns.specs.Acts.{DiskView, Place, change_of, place_of}
 use Rattle.spine.specs.Stands.{Stands}
 use Rattle.serve_threads.specs.Kept.{IsTextAlong, KeepOver, PutsAlong}
+use Rattle.serve_threads.specs.Links.{LinksOver, AreAllThatCame}
 use Rattle.serve_threads.specs.Served.{IsLeft, IsMadeBy, Views}
 use Rattle.store_open.specs.Openings.{FORMAT}
 use Rattle.store_open.specs.declared.serve_words.ServeCommand.{ServeCommand}
@@ -95,6 +96,14 @@ abbrev pub StoresOpened : Parts → LastFile → DiskState → Parts → DiskSta
 StoresOpened start file old core new = (setup : Setup) (saved : Saved) (records : List Entry)
     → Represents start (opened (setup_of setup) (whole_log records) saved)
     → IsReady (stored (whole setup.segment) records (length records)) 0 (growing file old) → StoresAfter setup.segment records core new
+
+-- ---- the links
+
+-- Unless the status says that there was no memory, the links that have ended are told, where the ledgers tell. They are all that the door
+-- gave between these two counts of it.
+pub record AllLinks (tells : Type 0) (status : Status) (gave : ℕ × ℕ) (links : LinksOver) : Type 0 where
+  pub told : status.code ≢ 7 → tells → links.told
+  pub all : AreAllThatCame gave.0 gave.1 links
 
 -- ---- a run
 

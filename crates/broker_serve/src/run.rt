@@ -21,10 +21,11 @@ ghost use Rattle.log_opening.specs.Opens.{saved_as};
 ghost use Rattle.worker_turns.specs.Acts.{view_of};
 ghost use Rattle.event_loops.specs.Doors.{GaveAll};
 ghost use Rattle.serve_threads.specs.Kept.{keep_over};
-ghost use Rattle.serve_threads.specs.Served.{AreLoops, clocks_over, readings_of, views_of};
+ghost use Rattle.serve_threads.specs.Links.{AreLoops, links_over};
+ghost use Rattle.serve_threads.specs.Served.{clocks_over, readings_of, views_of};
 ghost use Rattle.serve_threads.specs.Causes.{HasCauses, ServeFaults as TheFaults, counts_of, world_faults};
 ghost use Rattle.broker_serve.specs.Causes.{BlamesDoor, Causes};
-ghost use Rattle.broker_serve.specs.Serves.{EndsOver, HasServed, IsAlike, PutsAllAlong, ServesLog, ServesStore};
+ghost use Rattle.broker_serve.specs.Serves.{AllLinks, EndsOver, HasServed, IsAlike, PutsAllAlong, ServesLog, ServesStore};
 ghost use Rattle.broker_serve.specs.Serves.{run_over, setup_by};
 ghost use Rattle.exit_status.specs.Statuses.{TellsDevice};
 ghost use Rattle.exit_status.specs.Stores.{store_over};
@@ -63,6 +64,8 @@ pub struct Ended<P: Ready + Drop, K: Clock + Drop, D: Disk + Drop, E: Keep + Dro
     pub core: Option<Core>,
     pub store: Store<D, E>,
     pub world: World<P, K>,
+    /// The links that have ended, by the loop that served them, where links were served. None is told where memory ran out.
+    pub ends: Option<(P::Ends, P::Ends)>,
 }
 
 // A run that ended before links were served.
@@ -81,6 +84,7 @@ fn unserved<P: Ready + Drop, K: Clock + Drop, D: Disk + Drop, E: Keep + Drop>(
         core: None,
         store,
         world,
+        ends: None,
     }
 }
 
@@ -138,6 +142,7 @@ fn ended_of<P: Ready + Drop, K: Clock + Drop, D: Disk + Drop, E: Keep + Drop>(
     ensures core { result.core ≡ Some served.core }
     ensures keep { result.store.keep ≡ served.keep }
     ensures world { result.world ≡ served.world }
+    ensures ends { result.ends ≡ served.ends }
     ensures alike { IsAlike (view_of D.tells D.state D.faults D.syncs) served.disk result.store.disk }
     ensures cause { (before : TheFaults) → HasCauses served.end served.last served.kept before
         (counts_of (D.faults served.disk) (E.faults served.keep) (world_faults P.faults P.Door.faults K.faults served.world))
@@ -153,6 +158,7 @@ fn ended_of<P: Ready + Drop, K: Clock + Drop, D: Disk + Drop, E: Keep + Drop>(
         end,
         last,
         world,
+        ends,
     } = served;
     Ended {
         status: status_kept(alloc, last_status(alloc, end, last), kept),
@@ -162,6 +168,7 @@ fn ended_of<P: Ready + Drop, K: Clock + Drop, D: Disk + Drop, E: Keep + Drop>(
             keep,
         },
         world,
+        ends,
     }
 }
 
@@ -181,12 +188,12 @@ fn serve_open<
 ) -> Ended<P, K, D, E>
 where
     D::Reader: Send,
-    requires loops { AreLoops loops.first loops.second }
+    requires loops { AreLoops P.Ends.tells P.Ends.entries loops.first loops.second }
     requires none_out { (shown_of core).out ≡ None }
     requires inside { D.tells → IsInside devices.flusher.file.base devices.flusher.file.offset (D.state devices.disk) }
     ensures status { (result.status.code ≢ 1) × (result.status.code ≢ 6) × FitsTable result.status }
     ensures why { IfNone result.core (result.status.code ≡ 7) }
-    ensures ends { EndsOver (views_of P.Link.tells D.Reader.gives
+    ensures ends { EndsOver (views_of (links_over P.Link.tells P.Ends.tells P.Ends.entries result.ends) D.Reader.gives
         (clocks_over K.tells (readings_of K.readings loops.world.clocks) (readings_of K.readings result.world.clocks))
         (view_of D.tells D.state D.faults D.syncs))
         (record { core = core; flusher = devices.flusher }) result.core (run_over result.status devices.disk result.store.disk
@@ -194,6 +201,8 @@ where
     ensures outside { D.tells → StaysOutside (D.state devices.disk) (D.state result.store.disk) }
     ensures came { IfSome result.core (λ core. result.status.code ≡ 0
         → GaveAll loops.bounds.most (P.Door.gave loops.world.door) (P.Door.gave result.world.door)) }
+    ensures links { IfSome result.core (λ core. AllLinks P.Ends.tells result.status
+        (P.Door.gave loops.world.door, P.Door.gave result.world.door) (links_over P.Link.tells P.Ends.tells P.Ends.entries result.ends)) }
     ensures cause { Causes result.status
         (counts_of (D.faults devices.disk) (E.faults devices.keep) (world_faults P.faults P.Door.faults K.faults loops.world))
         (counts_of (D.faults result.store.disk) (E.faults result.store.keep) (world_faults P.faults P.Door.faults K.faults result.world)) }
@@ -233,12 +242,12 @@ fn serve_loops<
 ) -> Ended<P, K, D, E>
 where
     D::Reader: Send,
-    requires loops { AreLoops loops.first loops.second }
+    requires loops { AreLoops P.Ends.tells P.Ends.entries loops.first loops.second }
     requires none_out { (shown_of opened.core).out ≡ None }
     requires inside { D.tells → IsInside opened.flusher.file.base opened.flusher.file.offset (D.state store.disk) }
     ensures status { (result.status.code ≢ 1) × (result.status.code ≢ 6) × FitsTable result.status }
     ensures why { IfNone result.core (ShutOut result.status (D.faults store.disk) (D.faults result.store.disk)) }
-    ensures ends { EndsOver (views_of P.Link.tells D.Reader.gives
+    ensures ends { EndsOver (views_of (links_over P.Link.tells P.Ends.tells P.Ends.entries result.ends) D.Reader.gives
         (clocks_over K.tells (readings_of K.readings loops.world.clocks) (readings_of K.readings result.world.clocks))
         (view_of D.tells D.state D.faults D.syncs)) opened
         result.core (run_over result.status store.disk result.store.disk
@@ -246,6 +255,8 @@ where
     ensures outside { D.tells → StaysOutside (D.state store.disk) (D.state result.store.disk) }
     ensures came { IfSome result.core (λ core. result.status.code ≡ 0
         → GaveAll loops.bounds.most (P.Door.gave loops.world.door) (P.Door.gave result.world.door)) }
+    ensures links { IfSome result.core (λ core. AllLinks P.Ends.tells result.status
+        (P.Door.gave loops.world.door, P.Door.gave result.world.door) (links_over P.Link.tells P.Ends.tells P.Ends.entries result.ends)) }
     ensures cause { Causes result.status
         (counts_of (D.faults store.disk) (E.faults store.keep) (world_faults P.faults P.Door.faults K.faults loops.world))
         (counts_of (D.faults result.store.disk) (E.faults result.store.keep) (world_faults P.faults P.Door.faults K.faults result.world)) }
@@ -277,7 +288,7 @@ fn open_loops<P: Ready + Drop, K: Clock + Drop>(
     command: &ServeCommand,
     world: World<P, K>,
 ) -> Result<Loops<P, K>, (Status, World<P, K>)>
-    ensures loops { IfOk result (λ it. AreLoops it.first it.second) }
+    ensures loops { IfOk result (λ it. AreLoops P.Ends.tells P.Ends.entries it.first it.second) }
     ensures counts { IfOk result (λ it. world_faults P.faults P.Door.faults K.faults it.world
         ≡ world_faults P.faults P.Door.faults K.faults world) }
     ensures clocks { IfOk result (λ it. it.world.clocks ≡ world.clocks) }
@@ -319,7 +330,7 @@ where
     requires inside { D.tells → IsInside opened.flusher.file.base opened.flusher.file.offset (D.state store.disk) }
     ensures status { (result.status.code ≢ 1) × (result.status.code ≢ 6) × FitsTable result.status }
     ensures why { IfNone result.core (ShutOut result.status (D.faults store.disk) (D.faults result.store.disk)) }
-    ensures ends { EndsOver (views_of P.Link.tells D.Reader.gives
+    ensures ends { EndsOver (views_of (links_over P.Link.tells P.Ends.tells P.Ends.entries result.ends) D.Reader.gives
         (clocks_over K.tells (readings_of K.readings world.clocks) (readings_of K.readings result.world.clocks))
         (view_of D.tells D.state D.faults D.syncs)) opened
         result.core (run_over result.status store.disk result.store.disk
@@ -327,6 +338,8 @@ where
     ensures outside { D.tells → StaysOutside (D.state store.disk) (D.state result.store.disk) }
     ensures came { IfSome result.core (λ core. result.status.code ≡ 0
         → GaveAll command.now.connections (P.Door.gave world.door) (P.Door.gave result.world.door)) }
+    ensures links { IfSome result.core (λ core. AllLinks P.Ends.tells result.status
+        (P.Door.gave world.door, P.Door.gave result.world.door) (links_over P.Link.tells P.Ends.tells P.Ends.entries result.ends)) }
     ensures cause { Causes result.status
         (counts_of (D.faults store.disk) (E.faults store.keep) (world_faults P.faults P.Door.faults K.faults world))
         (counts_of (D.faults result.store.disk) (E.faults result.store.keep) (world_faults P.faults P.Door.faults K.faults result.world)) }
@@ -365,7 +378,7 @@ where
     ensures status { (result.status.code ≢ 1) × (result.status.code ≢ 6) × FitsTable result.status }
     ensures why { IfNone result.core (Unopened (IsDamagedLog D.tells segment (D.state store.disk).reads) result.status
         (D.faults store.disk) (D.faults result.store.disk)) }
-    ensures served { ServesLog (views_of P.Link.tells D.Reader.gives
+    ensures served { ServesLog (views_of (links_over P.Link.tells P.Ends.tells P.Ends.entries result.ends) D.Reader.gives
         (clocks_over K.tells (readings_of K.readings world.clocks) (readings_of K.readings result.world.clocks))
         (view_of D.tells D.state D.faults D.syncs))
         (setup_by command.now segment) (saved_as config.offsets.items config.topics.items) result.core
@@ -374,6 +387,8 @@ where
     ensures outside { D.tells → StaysOutside (D.state store.disk) (D.state result.store.disk) }
     ensures came { IfSome result.core (λ core. result.status.code ≡ 0
         → GaveAll command.now.connections (P.Door.gave world.door) (P.Door.gave result.world.door)) }
+    ensures links { IfSome result.core (λ core. AllLinks P.Ends.tells result.status
+        (P.Door.gave world.door, P.Door.gave result.world.door) (links_over P.Link.tells P.Ends.tells P.Ends.entries result.ends)) }
     ensures cause { Causes result.status
         (counts_of (D.faults store.disk) (E.faults store.keep) (world_faults P.faults P.Door.faults K.faults world))
         (counts_of (D.faults result.store.disk) (E.faults result.store.keep) (world_faults P.faults P.Door.faults K.faults result.world)) }
@@ -388,7 +403,10 @@ where
     let topics = config.topics.as_slice();
     match open_log_with(alloc, &mut disk, setup, offsets, topics) {
         Err(fault) => unserved(Store { disk, keep }, world, status_of_fault(alloc, fault)),
-        Ok(opened) => serve_log(rt, alloc, command, opened, world, Store { disk, keep }),
+        Ok(opened) => {
+            let opened = opened.with_zeros(segment, &disk);
+            serve_log(rt, alloc, command, opened, world, Store { disk, keep })
+        }
     }
 }
 
@@ -414,7 +432,7 @@ where
     ensures why { IfNone result.core (UnservedBy
         (IsDamagedIn segment (store_told D.tells (D.state store.disk).reads E.tells (E.state store.keep).reads)) result.status
         (D.faults store.disk) (D.faults result.store.disk) (E.faults store.keep) (E.faults result.store.keep)) }
-    ensures served { ServesStore (views_of P.Link.tells D.Reader.gives
+    ensures served { ServesStore (views_of (links_over P.Link.tells P.Ends.tells P.Ends.entries result.ends) D.Reader.gives
         (clocks_over K.tells (readings_of K.readings world.clocks) (readings_of K.readings result.world.clocks))
         (view_of D.tells D.state D.faults D.syncs))
         (setup_by command.now segment) result.core (run_over result.status store.disk result.store.disk
@@ -422,6 +440,8 @@ where
     ensures outside { D.tells → StaysOutside (D.state store.disk) (D.state result.store.disk) }
     ensures came { IfSome result.core (λ core. result.status.code ≡ 0
         → GaveAll command.now.connections (P.Door.gave world.door) (P.Door.gave result.world.door)) }
+    ensures links { IfSome result.core (λ core. AllLinks P.Ends.tells result.status
+        (P.Door.gave world.door, P.Door.gave result.world.door) (links_over P.Link.tells P.Ends.tells P.Ends.entries result.ends)) }
     ensures cause { Causes result.status
         (counts_of (D.faults store.disk) (E.faults store.keep) (world_faults P.faults P.Door.faults K.faults world))
         (counts_of (D.faults result.store.disk) (E.faults result.store.keep) (world_faults P.faults P.Door.faults K.faults result.world)) }
@@ -474,7 +494,7 @@ where
     ensures served { IfSome result.core (λ core. (command : ACommand) × (sizes : TheSizes) × (IsServeCommand (texts_of words.now) command
         × IsOpened command.sizes sizes
         (store_told D.tells (D.state store.disk).reads E.tells (E.state store.keep).reads) (E.state result.store.keep))
-        × HasServed (views_of P.Link.tells D.Reader.gives
+        × HasServed (views_of (links_over P.Link.tells P.Ends.tells P.Ends.entries result.ends) D.Reader.gives
         (clocks_over K.tells (readings_of K.readings world.clocks) (readings_of K.readings result.world.clocks))
         (view_of D.tells D.state D.faults D.syncs))
         (setup_by command sizes.segment) (run_over result.status store.disk result.store.disk
@@ -512,6 +532,11 @@ where
     // With status 0 the door gave as many links as the words ask for.
     ensures came { result.status.code ≡ 0 → (command : ACommand) × IsServeCommand (texts_of words.now) command
         × GaveAll command.connections (P.Door.gave world.door) (P.Door.gave result.world.door) }
+
+    // Each link that the door gave had a number of its own, from 1 on, was served by one loop, and is among those that have ended;
+    // with status 7 one may be missing, and then none is told.
+    ensures links { IfSome result.core (λ core. AllLinks P.Ends.tells result.status
+        (P.Door.gave world.door, P.Door.gave result.world.door) (links_over P.Link.tells P.Ends.tells P.Ends.entries result.ends)) }
 
     // The status has a place and a name only where the table names one. It blames a device only where the count of this one rose.
     ensures table { FitsTable result.status }

@@ -7,7 +7,7 @@ use Rattle.session.specs.Serving.{Made}
 use Rattle.link_service.specs.Clocks.{AreAt, at_reading, unasked}
 use Rattle.link_service.proofs.Timing.{made_then, made_whenever}
 use Rattle.event_loops.specs.declared.links.Links.{Links}
-use Rattle.event_loops.specs.Tales.{Act, steps_of, LinkView, LeadsWith, GoesOn}
+use Rattle.event_loops.specs.Tales.{Act, steps_of, LoopView, LeadsWith, GoesOn}
 use Rattle.event_loops.specs.Takings.{LeadsTaking}
 use Rattle.event_loops.specs.Timing.{ArePasses, IsTimedBy, GoesTimed, clock_over}
 use Rattle.event_loops.proofs.Told.{steps_append, goes_on, acts_lead, acts_write}
@@ -53,9 +53,9 @@ module _ {C : Type 0} (makes : Steps C) where
 
     -- ---- passes
 
-    module _ {L : Type 0} (view : LinkView L) (gives : Giving) (told : Type 0) where
+    module _ {L N : Type 0} (view : LoopView L N) (gives : Giving) (told : Type 0) where
       -- a pass by which no step was made, and for which the clock gave no reading
-      pub timed_nothing : ((end : A) → takes end [] end) → (x : C) (old new : Links L) (end : A) (r s : List ℕ) → GoesOn view gives old [] new
+      pub timed_nothing : ((end : A) → takes end [] end) → (x : C) (old new : Links L N) (end : A) (r s : List ℕ) → GoesOn view gives old [] new
           → (told → s ≡ r) → LeadsTaking makes takes x x end end (λ acts. GoesTimed view gives (clock_over told r s) old acts new)
       timed_nothing none x old new end r s went same = record {
         taken = [];
@@ -69,7 +69,7 @@ module _ {C : Type 0} (makes : Steps C) where
       }
 
       -- a pass at this reading
-      pub timed_pass : (now : ℕ) (x y : C) (old new : Links L) (before after : A) (r s : List ℕ)
+      pub timed_pass : (now : ℕ) (x y : C) (old new : Links L N) (before after : A) (r s : List ℕ)
           → LeadsTaking (at_reading now makes) takes x y before after (λ acts. GoesOn view gives old acts new) → (told → s ≡ r ++ now ∷ [])
           → LeadsTaking makes takes x y before after (λ acts. GoesTimed view gives (clock_over told r s) old acts new)
       timed_pass now x y old new before after r s h gave =
@@ -86,8 +86,26 @@ module _ {C : Type 0} (makes : Steps C) where
             };
           }
 
+      -- and then links were let go of
+      pub timed_off : (x y : C) (old mid new : Links L N) (before after : A) (r s : List ℕ)
+          → LeadsTaking makes takes x y before after (λ acts. GoesTimed view gives (clock_over told r s) old acts mid) → GoesOn view gives mid [] new
+          → LeadsTaking makes takes x y before after (λ acts. GoesTimed view gives (clock_over told r s) old acts new)
+      timed_off x y old mid new before after r s h k = record {
+        taken = h.taken;
+        took = h.took;
+        went = record {
+          acts = h.went.acts;
+          leads = h.went.leads;
+          wrote = h.went.wrote;
+          so = record {
+            went = subst (λ (l : List Act). GoesOn view gives old l new) (append-nil h.went.acts) (goes_on view gives old mid new h.went.acts [] h.went.so.went k);
+            timed = h.went.so.timed;
+          };
+        };
+      }
+
       module _ (more : (old : A) (first : List AskParts) (mid : A) (rest : List AskParts) (new : A) → takes old first mid → takes mid rest new → takes old (first ++ rest) new) where
-        pub timed_on : (x y z : C) (old mid new : Links L) (before at after : A) (r s t : List ℕ)
+        pub timed_on : (x y z : C) (old mid new : Links L N) (before at after : A) (r s t : List ℕ)
             → LeadsTaking makes takes x y before at (λ acts. GoesTimed view gives (clock_over told r s) old acts mid)
             → LeadsTaking makes takes y z at after (λ acts. GoesTimed view gives (clock_over told s t) mid acts new)
             → LeadsTaking makes takes x z before after (λ acts. GoesTimed view gives (clock_over told r t) old acts new)
@@ -99,8 +117,8 @@ module _ {C : Type 0} (makes : Steps C) where
               took = more before h.taken at k.taken after h.took k.took;
               went = record {
                 acts = first ++ rest;
-                leads = acts_lead view gives makes x y z first rest h.went.leads k.went.leads;
-                wrote = acts_write view gives makes first rest h.taken k.taken h.went.wrote k.went.wrote;
+                leads = acts_lead view.links gives makes x y z first rest h.went.leads k.went.leads;
+                wrote = acts_write view.links gives makes first rest h.taken k.taken h.went.wrote k.went.wrote;
                 so = record {
                   went = goes_on view gives old mid new first rest h.went.so.went k.went.so.went;
                   timed = λ tells. subst (λ (l : Made). IsTimedBy r l t) (sym (steps_append first rest))

@@ -1,10 +1,11 @@
 -- How acts go together, and what they keep of a loop's links.
-use Rattle.std.proofs.Common.{◌≡◌, ◌≢◌, ◌⊎◌, ⊎_elim, inl, inr, ℕ, zero, suc, ◌<◌, ◌≤◌, ◌==◌, List, [], ◌∷◌, ◌++◌, set, cond, Bool, true, false, Option, Some, None, refl, sym, ap, ◌∙◌, subst, arith, append_assoc, append-nil}
+use Rattle.std.proofs.Common.{◌≡◌, ◌≢◌, ◌⊎◌, ⊎_elim, inl, inr, ℕ, zero, suc, ◌<◌, ◌≤◌, ◌==◌, List, [], ◌∷◌, ◌++◌, length, set, cond, Bool, true, false, Option, Some, None, refl, sym, ap, ◌∙◌, subst, arith, append_assoc, append-nil}
 use Rattle.std.specs.Prelude.{slice_get}
 use Rattle.std.proofs.lemmas.Bool.{cases_Bool}
 use Rattle.std.proofs.lemmas.Bool.Decides.{Decides-eqb}
 use Rattle.std.proofs.lemmas.List.Elements.{filter-append}
 use Rattle.mq_outside.specs.Readings.{Giving}
+use Rattle.mq_peers.specs.Ended.{LinkEnd}
 use Rattle.broker_events.specs.Makes.{Makes}
 use Rattle.broker_events.proofs.Makes.{makes_append}
 use Rattle.broker_events.specs.declared.event.Event.TheVariants.{Leave}
@@ -15,9 +16,11 @@ use Rattle.session.specs.Serving.{Made, Leads}
 use Rattle.link_service.specs.Transcripts.{Seen, WentOnWith, WentOn, WentOnUnread, IsFresh, if_asked}
 use Rattle.link_service.proofs.Went.{went_on, went_read, unread_same}
 use Rattle.event_loops.specs.declared.links.Numbered.{Numbered}
+use Rattle.event_loops.specs.declared.ledger.Ledger.{Ledger}
 use Rattle.event_loops.specs.declared.links.Links.{Links}
 use Rattle.event_loops.specs.Takings.{TakesNone, LeadsTaking}
-use Rattle.event_loops.specs.Tales.{Act, act, steps_of, asks_of, acts_for, made_for, asks_for, DidNothing, IsServed, IsTale, loop_of, LinkView, seen_in, LoopNumbers, loop_numbers, HasNumber, IsTold, Keeps, Acts, AreSome, LeadsWith, LeadsBy, GoesOn, IsSeenAs}
+use Rattle.event_loops.specs.Tales.{Act, act, steps_of, asks_of, acts_for, made_for, asks_for, DidNothing, IsServed, IsTale, loop_of, LinkView, seen_in, LoopNumbers, loop_numbers, HasNumber, IsOwn, IsEndOf, AreEnded, IsTold, Keeps, IsSame, Acts, Leaves, ActsOrLeaves, end_as, end_in, AreSome, LeadsWith, LeadsBy}
+use Rattle.event_loops.specs.Tales.{LoopView, Enters, IsToldOf, GoesOn, IsSeenAs}
 
 -- ---- steps by links
 
@@ -134,6 +137,26 @@ got_front [] (suc j) x at = at
 got_front (y ∷ xs) zero x at = at
 got_front (y ∷ xs) (suc j) x at = got_front xs j x at
 
+got_more : {X : Type 0} (xs more : List X) (k : ℕ) (x : X) → slice_get xs k ≡ Some x → slice_get (xs ++ more) k ≡ Some x
+got_more [] more k x at = let none : None ≡ Some x = at in cc
+got_more (y ∷ xs) more zero x at = at
+got_more (y ∷ xs) more (suc k) x at = got_more xs more k x at
+
+-- what is last, and what is in a list behind which something is put
+got_end : {X : Type 0} (xs : List X) (x : X) → slice_get (xs ++ x ∷ []) (length xs) ≡ Some x
+got_end [] x = refl
+got_end (y ∷ xs) x = got_end xs x
+
+set_last : {X : Type 0} (xs : List X) (x y : X) → set (xs ++ x ∷ []) (length xs) y ≡ xs ++ y ∷ []
+set_last [] x y = refl
+set_last (z ∷ xs) x y = ap (λ (l : List _). z ∷ l) (set_last xs x y)
+
+got_last : {X : Type 0} (xs : List X) (x : X) (k : ℕ) (y : X) → slice_get (xs ++ x ∷ []) k ≡ Some y → (slice_get xs k ≡ Some y) ⊎ ((k ≡ length xs) × (x ≡ y))
+got_last [] x zero y at = let same : x ≡ y = cc in inr (refl, same)
+got_last [] x (suc k) y at = let none : None ≡ Some y = at in cc
+got_last (z ∷ xs) x zero y at = inl at
+got_last (z ∷ xs) x (suc k) y at = ⊎_elim (λ h. inl h) (λ h. inr (ap suc h.0, h.1)) (got_last xs x k y at)
+
 same_in : {X : Type 0} (a b : X) (o : Option X) → o ≡ Some a → o ≡ Some b → a ≡ b
 same_in a b o is at = cc
 
@@ -154,300 +177,552 @@ apart_at links apart i j n m got had same = apart i j n.number (n, got, refl) (m
 module _ {L : Type 0} (view : LinkView L) (gives : Giving) where
   -- ---- one link
 
-  abbrev Served : ℕ → Did → Seen → Type 0
-  Served number did now = IsServed view.tells gives number did.0 did.1 now
+  abbrev Served : Numbered L → Did → Seen → Type 0
+  Served link did now = IsServed view.tells gives link.number link.peer did.0 did.1 now
 
-  abbrev Tale : ℕ → Did → Type 0
-  Tale number did = IsTale view.tells gives number did.0 did.1
+  abbrev Tale : LinkEnd → Did → Type 0
+  Tale it did = IsTale view.tells gives it did.0 did.1
 
-  served_on : (number : ℕ) (did more : Did) (mid new : Seen) → Served number did mid → WentOnWith view.tells gives mid more.0 more.1 new
-      → Served number (joined did more) new
-  served_on number did more mid new is went =
-      record { host = is.host; first = is.first; fresh = is.fresh; went = went_on view.tells gives is.first mid new did.0 more.0 did.1 more.1 is.went went }
+  served_on : (link : Numbered L) (did more : Did) (mid new : Seen) → Served link did mid → WentOnWith view.tells gives mid more.0 more.1 new
+      → Served link (joined did more) new
+  served_on link did more mid new is went =
+      record { first = is.first; fresh = is.fresh; went = went_on view.tells gives is.first mid new did.0 more.0 did.1 more.1 is.went went }
 
-  served_first : (number : ℕ) (host : List ℕ) (new : Seen) → IsFresh view.tells number host new → Served number idle new
-  served_first number host new fresh =
-      record { host = host; first = new; fresh = fresh; went = went_read view.tells gives new [] new (unread_same view.tells new) }
+  served_first : (link : Numbered L) (new : Seen) → IsFresh view.tells link.number link.peer new → Served link idle new
+  served_first link new fresh =
+      record { first = new; fresh = fresh; went = went_read view.tells gives new [] new (unread_same view.tells new) }
 
-  tale_of : (number : ℕ) (did : Did) (now : Seen) → Served number did now → Tale number did
-  tale_of number did now is =
-      record { passes = did.0; end = []; both = sym (append-nil did.0); leaves = tt; now = now; served = is }
+  -- it is served as the same link
+  served_as : (old new : Numbered L) (did : Did) (now : Seen) → IsSame old new → Served old did now → Served new did now
+  served_as old new did now same is =
+      subst (λ (p : List ℕ). IsServed view.tells gives new.number p did.0 did.1 now) (sym same.1)
+      (subst (λ (n : ℕ). IsServed view.tells gives n old.peer did.0 did.1 now) (sym same.0) is)
+
+  -- it is let go of
+  tale_of : (link : Numbered L) (did : Did) (now : Seen) → Served link did now → Tale (end_as link now) did
+  tale_of link did now is = record {
+    passes = did.0;
+    end = [];
+    both = sym (append-nil did.0);
+    leaves = tt;
+    now = now;
+    served = is;
+    given = λ told. refl;
+    taken = λ told. refl;
+  }
 
   -- ---- the acts of one link, at its slot
 
-  module _ (loop : LoopNumbers) (before : List Act) (links : List (Option (Numbered L))) (told : IsTold view gives loop before links)
-      (i : ℕ) where
-    told_after : (old : Numbered L) (new : Option (Numbered L)) (acts : List Act) (grown : Did) → slice_get links i ≡ Some (Some old)
-        → did_for old.number acts ≡ grown → ((k : ℕ) → k ≢ old.number → did_for k acts ≡ idle)
-        → ((n : Numbered L) → new ≡ Some n → (n.number ≡ old.number) × Served old.number (joined (did_for old.number before) grown) (seen_in view n))
-        → Tale old.number (joined (did_for old.number before) grown) → IsTold view gives loop (before ++ acts) (set links i new)
-    told_after old new acts grown at own others is tale =
-        let within = told.within i old at in
-        let apart = apart_at links told.apart in
-        let grows : did_for old.number (before ++ acts) ≡ joined (did_for old.number before) grown =
-        did_append old.number before acts ∙ ap (λ (d : Did). joined (did_for old.number before) d) own in
-        let still : (k : ℕ) → k ≢ old.number → did_for k (before ++ acts) ≡ did_for k before =
-        (λ k other. did_append k before acts ∙ ap (λ (d : Did). joined (did_for k before) d) (others k other) ∙ joined_idle (did_for k before)) in
-        let there : (j : ℕ) (n : Numbered L) → slice_get (set links i new) j ≡ Some (Some n) → ((j ≡ i) × (new ≡ Some n)) ⊎ ((j ≢ i) × (slice_get links j ≡ Some (Some n))) =
-        (λ j n got. ⊎_elim (λ h. inl (h.0, same_in new (Some n) (slice_get (set links i new) j) h.1 got)) (λ h. inr (h.0, sym h.1 ∙ got))
-        (got_set links i j (Some old) new at)) in
-        record {
-          present = λ j n got. ⊎_elim
-              (λ h. let so = is n h.1 in
-              subst (λ (k : ℕ). Served k (did_for k (before ++ acts)) (seen_in view n)) (sym so.0)
-              (subst (λ (d : Did). Served old.number d (seen_in view n)) (sym grows) so.1))
-              (λ h. subst (λ (d : Did). Served n.number d (seen_in view n)) (sym (still n.number (λ same. h.0 (apart j i n old h.1 at same))))
-              (told.present j n h.1)) (there j n got);
-          apart = apart_by (set links i new) (λ j k n m got had same. ⊎_elim
-              (λ h. ⊎_elim (λ g. h.0 ∙ sym g.0)
-              (λ g. h.0 ∙ apart i k old m at g.1 (sym (is n h.1).0 ∙ same)) (there k m had))
-              (λ h. ⊎_elim (λ g. apart j i n old h.1 at (same ∙ (is m g.1).0) ∙ sym g.0)
-              (λ g. apart j k n m h.1 g.1 same) (there k m had)) (there j n got));
-          within = λ j n got. ⊎_elim
-              (λ h. subst (λ (k : ℕ). (k ≤ loop.newest) × (loop_of loop.loops k ≡ loop.number)) (sym (is n h.1).0) within)
-              (λ h. told.within j n h.1) (there j n got);
-          later = λ link above. subst (λ (d : Did). (d.0 ≡ []) × (d.1 ≡ [])) (sym (still link (λ same. omega (arith, within.0, same, above)))) (told.later link above);
-          each = λ link. ⊎_elim
-              (λ (same : (link == old.number) ≡ true). let equal : link ≡ old.number = (Decides-eqb link old.number).0 same in
-              subst (λ (k : ℕ). DidNothing k (before ++ acts) ⊎ ((loop_of loop.loops k ≡ loop.number) × Tale k (did_for k (before ++ acts)))) (sym equal)
-              (inr (within.1, subst (λ (d : Did). Tale old.number d) (sym grows) tale)))
-              (λ (other : (link == old.number) ≡ false).
-              subst (λ (d : Did). ((d.0 ≡ []) × (d.1 ≡ [])) ⊎ ((loop_of loop.loops link ≡ loop.number) × Tale link d))
-              (sym (still link (λ equal. let yes = (Decides-eqb link old.number).1 equal in cc))) (told.each link))
-              (cases_Bool (link == old.number));
-        }
+  module _ (loop : LoopNumbers) (before : List Act) (links : List (Option (Numbered L))) (ended : List LinkEnd)
+      (told : IsTold view gives loop before links ended) (i : ℕ) where
+    -- what is in the slots once this one was written
+    there : (old new : Option (Numbered L)) → slice_get links i ≡ Some old → (j : ℕ) (n : Numbered L) → slice_get (set links i new) j ≡ Some (Some n)
+        → ((j ≡ i) × (new ≡ Some n)) ⊎ ((j ≢ i) × (slice_get links j ≡ Some (Some n)))
+    there old new at j n got =
+        ⊎_elim (λ h. inl (h.0, same_in new (Some n) (slice_get (set links i new) j) h.1 got)) (λ h. inr (h.0, sym h.1 ∙ got)) (got_set links i j old new at)
+
+    -- what is written into it, and what is there still
+    put_in : (old new : Option (Numbered L)) → slice_get links i ≡ Some old → slice_get (set links i new) i ≡ Some new
+    put_in old new at = ⊎_elim (λ h. h.1) (λ h. absurd (h.0 refl)) (got_set links i i old new at)
+
+    still_in : (old new : Option (Numbered L)) → slice_get links i ≡ Some old → (j : ℕ) (n : Numbered L) → j ≢ i → slice_get links j ≡ Some (Some n)
+        → slice_get (set links i new) j ≡ Some (Some n)
+    still_in old new at j n other got = ⊎_elim (λ h. absurd (other h.0)) (λ h. h.1 ∙ got) (got_set links i j old new at)
+
+    module _ (old : Numbered L) (at : slice_get links i ≡ Some (Some old)) (acts : List Act) (grown : Did) (own : did_for old.number acts ≡ grown)
+        (others : (k : ℕ) → k ≢ old.number → did_for k acts ≡ idle) where
+      grows : did_for old.number (before ++ acts) ≡ joined (did_for old.number before) grown
+      grows = did_append old.number before acts ∙ ap (λ (d : Did). joined (did_for old.number before) d) own
+
+      still : (k : ℕ) → k ≢ old.number → did_for k (before ++ acts) ≡ did_for k before
+      still k other =
+          did_append k before acts ∙ ap (λ (d : Did). joined (did_for k before) d) (others k other) ∙ joined_idle (did_for k before)
+
+      -- a link that has ended had another number
+      ended_still : (k : ℕ) (it : LinkEnd) → slice_get ended k ≡ Some it → IsOwn loop it.number × Tale it (did_for it.number (before ++ acts))
+      ended_still k it got =
+          let was = told.ends.each k it got in (
+            was.0,
+            subst (λ (d : Did). Tale it d) (sym (still it.number (λ same. told.ends.gone i k it.number (old, at, sym same) (it, got, refl)))) was.1,
+          )
+
+      ends_kept : (new : Numbered L) → IsSame old new → AreEnded view gives loop (before ++ acts) (set links i (Some new)) (ended ++ [])
+      ends_kept new same =
+          subst (λ (l : List LinkEnd). AreEnded view gives loop (before ++ acts) (set links i (Some new)) l) (sym (append-nil ended))
+          (record {
+            each = ended_still;
+            once = told.ends.once;
+            gone = λ j k link has end. ⊎_elim
+                (λ h. told.ends.gone i k link (old, at, sym same.0 ∙ ap (λ (n : Numbered L). n.number) (same_in new has.0 (Some new) refl h.1) ∙ has.2) end)
+                (λ h. told.ends.gone j k link (has.0, h.1, has.2) end) (there (Some old) (Some new) at j has.0 has.1);
+          })
+
+      -- the link has ended
+      ends_left : (it : LinkEnd) → it.number ≡ old.number → Tale it (joined (did_for old.number before) grown)
+          → AreEnded view gives loop (before ++ acts) (set links i None) (ended ++ it ∷ [])
+      ends_left it is tale = record {
+        each = λ k e got. ⊎_elim (λ was. ended_still k e was)
+            (λ new. subst (λ (x : LinkEnd). IsOwn loop x.number × Tale x (did_for x.number (before ++ acts))) new.1
+            (subst (λ (n : ℕ). IsOwn loop n × Tale it (did_for n (before ++ acts))) (sym is) (told.own i old at, subst (λ (d : Did). Tale it d) (sym grows) tale)))
+            (got_last ended it k e got);
+        once = λ j k link one other. ⊎_elim
+            (λ h. ⊎_elim (λ g. told.ends.once j k link (one.0, h, one.2) (other.0, g, other.2))
+            (λ g. absurd (told.ends.gone i j link (old, at, sym is ∙ ap (λ (x : LinkEnd). x.number) g.1 ∙ other.2) (one.0, h, one.2))) (got_last ended it k other.0 other.1))
+            (λ h. ⊎_elim (λ g. absurd (told.ends.gone i k link (old, at, sym is ∙ ap (λ (x : LinkEnd). x.number) h.1 ∙ one.2) (other.0, g, other.2)))
+            (λ g. h.0 ∙ sym g.0) (got_last ended it k other.0 other.1)) (got_last ended it j one.0 one.1);
+        gone = λ j k link has end. ⊎_elim (λ h. let none : None ≡ Some has.0 = h.1 in absurd (cc))
+            (λ h. ⊎_elim (λ g. told.ends.gone j k link (has.0, h.1, has.2) (end.0, g, end.2))
+            (λ g. h.0 (told.apart j i link (has.0, h.1, has.2) (old, at, sym is ∙ ap (λ (x : LinkEnd). x.number) g.1 ∙ end.2))) (got_last ended it k end.0 end.1))
+            (there (Some old) None at j has.0 has.1);
+      }
+
+      told_after : (new : Option (Numbered L)) (gone : List LinkEnd)
+          → ((n : Numbered L) → new ≡ Some n → IsSame old n × Served n (joined (did_for old.number before) grown) (seen_in view n))
+          → ((j : ℕ) × HasNumber (set links i new) j old.number) ⊎ ((k : ℕ) × IsEndOf (ended ++ gone) k old.number)
+          → AreEnded view gives loop (before ++ acts) (set links i new) (ended ++ gone) → IsTold view gives loop (before ++ acts) (set links i new) (ended ++ gone)
+      told_after new gone is mine ends =
+          let within = told.own i old at in
+          let apart = apart_at links told.apart in
+          record {
+            present = λ j n got. ⊎_elim
+                (λ h. let so = is n h.1 in
+                subst (λ (k : ℕ). Served n (did_for k (before ++ acts)) (seen_in view n)) (sym so.0.0)
+                (subst (λ (d : Did). Served n d (seen_in view n)) (sym grows) so.1))
+                (λ h. subst (λ (d : Did). Served n d (seen_in view n)) (sym (still n.number (λ same. h.0 (apart j i n old h.1 at same))))
+                (told.present j n h.1)) (there (Some old) new at j n got);
+            apart = apart_by (set links i new) (λ j k n m got had same. ⊎_elim
+                (λ h. ⊎_elim (λ g. h.0 ∙ sym g.0)
+                (λ g. h.0 ∙ apart i k old m at g.1 (sym (is n h.1).0.0 ∙ same)) (there (Some old) new at k m had))
+                (λ h. ⊎_elim (λ g. apart j i n old h.1 at (same ∙ (is m g.1).0.0) ∙ sym g.0)
+                (λ g. apart j k n m h.1 g.1 same) (there (Some old) new at k m had)) (there (Some old) new at j n got));
+            own = λ j n got. ⊎_elim (λ h. subst (λ (k : ℕ). IsOwn loop k) (sym (is n h.1).0.0) within) (λ h. told.own j n h.1)
+                (there (Some old) new at j n got);
+            later = λ link above.
+                subst (λ (d : Did). (d.0 ≡ []) × (d.1 ≡ [])) (sym (still link (λ same. omega (arith, within.within, same, above)))) (told.later link above);
+            known = λ link. ⊎_elim
+                (λ (same : (link == old.number) ≡ true). let equal : link ≡ old.number = (Decides-eqb link old.number).0 same in
+                subst (λ (k : ℕ). DidNothing k (before ++ acts) ⊎ (((j : ℕ) × HasNumber (set links i new) j k) ⊎ ((j : ℕ) × IsEndOf (ended ++ gone) j k))) (sym equal) (inr mine))
+                (λ (other : (link == old.number) ≡ false).
+                let differs : link ≢ old.number = (λ equal. let yes = (Decides-eqb link old.number).1 equal in cc) in
+                ⊎_elim (λ none. inl (subst (λ (d : Did). (d.0 ≡ []) × (d.1 ≡ [])) (sym (still link differs)) none))
+                (λ some. inr (⊎_elim
+                (λ h. inl (
+                  h.0,
+                  (
+                    h.1.0,
+                    still_in (Some old) new at h.0 h.1.0 (λ same. differs (sym h.1.2 ∙ ap (λ (n : Numbered L). n.number)
+                        (same_in h.1.0 old (Some h.1.0) refl (same_in (Some h.1.0) (Some old) (slice_get links i) (subst (λ (j : ℕ). slice_get links j ≡ Some (Some h.1.0)) same h.1.1) at)))) h.1.1,
+                    h.1.2,
+                  ),
+                ))
+                (λ h. inr (h.0, (h.1.0, got_more ended gone h.0 h.1.0 h.1.1, h.1.2))) some)) (told.known link))
+                (cases_Bool (link == old.number));
+            ends = ends;
+          }
+
+      -- the link is there still
+      told_on : (new : Numbered L) → IsSame old new → Served old (joined (did_for old.number before) grown) (seen_in view new)
+          → IsTold view gives loop (before ++ acts) (set links i (Some new)) (ended ++ [])
+      told_on new same on =
+          told_after (Some new) []
+          (λ n is. let equal : new ≡ n = cc in
+          subst (λ (m : Numbered L). IsSame old m × Served m (joined (did_for old.number before) grown) (seen_in view m)) equal
+          (same, served_as old new (joined (did_for old.number before) grown) (seen_in view new) same on))
+          (inl (i, (new, put_in (Some old) (Some new) at, same.0))) (ends_kept new same)
+
+      -- it was let go of
+      told_off : (it : LinkEnd) → it.number ≡ old.number → Tale it (joined (did_for old.number before) grown)
+          → IsTold view gives loop (before ++ acts) (set links i None) (ended ++ it ∷ [])
+      told_off it is tale =
+          told_after None (it ∷ []) (λ n some. absurd (cc)) (inr (length ended, (it, got_end ended it, is))) (ends_left it is tale)
 
     -- a slot in which there was none is free still, and nothing else changed
-    told_same : (acts : List Act) → slice_get links i ≡ Some None → acts ≡ [] → IsTold view gives loop (before ++ acts) (set links i None)
+    told_same : (acts : List Act) → slice_get links i ≡ Some None → acts ≡ [] → IsTold view gives loop (before ++ acts) (set links i None) (ended ++ [])
     told_same acts at none =
-        subst (λ (xs : List (Option (Numbered L))). IsTold view gives loop (before ++ acts) xs) (sym (set_same links i None at))
-        (subst (λ (b : List Act). IsTold view gives loop b links) (sym (ap (λ (l : List Act). before ++ l) none ∙ append-nil before)) told)
+        subst (λ (xs : List (Option (Numbered L))). IsTold view gives loop (before ++ acts) xs (ended ++ [])) (sym (set_same links i None at))
+        (subst (λ (b : List Act). IsTold view gives loop b links (ended ++ [])) (sym (ap (λ (l : List Act). before ++ l) none ∙ append-nil before))
+        (subst (λ (l : List LinkEnd). IsTold view gives loop before links l) (sym (append-nil ended)) told))
 
-    -- what a pass did for one link, and maybe its end
+    -- what a pass did for one link
     told_acts : (old new : Option (Numbered L)) (acts : List Act) → slice_get links i ≡ Some old → Acts view gives old acts new
-        → IsTold view gives loop (before ++ acts) (set links i new)
+        → IsTold view gives loop (before ++ acts) (set links i new) (ended ++ [])
     told_acts None new acts at did =
-        subst (λ (x : Option (Numbered L)). IsTold view gives loop (before ++ acts) (set links i x)) (sym did.1) (told_same acts at did.0)
+        subst (λ (x : Option (Numbered L)). IsTold view gives loop (before ++ acts) (set links i x) (ended ++ [])) (sym did.1) (told_same acts at did.0)
+    told_acts (Some old) None acts at did = absurd did
     told_acts (Some old) (Some new) acts at did =
-        let was = told.present i old at in
         let one : Act = record { link = old.number; made = did.0; asks = did.1 } in
-        let on = served_on old.number (did_for old.number before) (did.0, did.1) (seen_in view old) (seen_in view new) was did.3 in
-        subst (λ (a : List Act). IsTold view gives loop (before ++ a) (set links i (Some new))) (sym did.4)
-        (told_after old (Some new) (one ∷ []) (did.0, did.1) at (did_own one) (λ k other. did_other k one other)
-        (λ n is. let equal : new ≡ n = cc in
-        subst (λ (m : Numbered L). (m.number ≡ old.number) × Served old.number (joined (did_for old.number before) (did.0, did.1)) (seen_in view m)) equal (did.2, on))
-        (tale_of old.number (joined (did_for old.number before) (did.0, did.1)) (seen_in view new) on))
-    told_acts (Some old) None acts at did =
-        let was = told.present i old at in
-        let leave : Made = (Leave old.number, did.2) ∷ [] in
+        subst (λ (a : List Act). IsTold view gives loop (before ++ a) (set links i (Some new)) (ended ++ [])) (sym did.4)
+        (told_on old at (one ∷ []) (did.0, did.1) (did_own one) (λ k other. did_other k one other) new did.2
+        (served_on old (did_for old.number before) (did.0, did.1) (seen_in view old) (seen_in view new) (told.present i old at) did.3))
+
+    -- a pass and the end of one link, which was let go of
+    told_leaves : (old last : Numbered L) (acts : List Act) → slice_get links i ≡ Some (Some old) → Leaves view gives old acts last
+        → IsTold view gives loop (before ++ acts) (set links i None) (ended ++ end_as last (seen_in view last) ∷ [])
+    told_leaves old last acts at did =
+        let leave : Made = (Leave old.number, did.1) ∷ [] in
         let pass : Act = act old.number did.0 in
-        let last : Act = act old.number leave in
-        let on = served_on old.number (did_for old.number before) (did.0, []) (seen_in view old) did.1 was did.3 in
-        subst (λ (a : List Act). IsTold view gives loop (before ++ a) (set links i None)) (sym did.4)
-        (told_after old None (pass ∷ last ∷ []) (did.0 ++ leave, []) at
-        (did_append old.number (pass ∷ []) (last ∷ []) ∙ ap (λ (d : Did). joined d (did_for old.number (last ∷ []))) (did_own pass)
-        ∙ ap (λ (d : Did). joined (did.0, []) d) (did_own last))
-        (λ k other. did_append k (pass ∷ []) (last ∷ []) ∙ ap (λ (d : Did). joined d (did_for k (last ∷ []))) (did_other k pass other)
-        ∙ ap (λ (d : Did). joined idle d) (did_other k last other))
-        (λ n is. absurd (cc))
+        let tell : Act = act old.number leave in
+        let on = served_on old (did_for old.number before) (did.0, []) (seen_in view old) (seen_in view last) (told.present i old at) did.3 in
+        subst (λ (a : List Act). IsTold view gives loop (before ++ a) (set links i None) (ended ++ end_as last (seen_in view last) ∷ [])) (sym did.4)
+        (told_off old at (pass ∷ tell ∷ []) (did.0 ++ leave, [])
+        (did_append old.number (pass ∷ []) (tell ∷ []) ∙ ap (λ (d : Did). joined d (did_for old.number (tell ∷ []))) (did_own pass)
+        ∙ ap (λ (d : Did). joined (did.0, []) d) (did_own tell))
+        (λ k other. did_append k (pass ∷ []) (tell ∷ []) ∙ ap (λ (d : Did). joined d (did_for k (tell ∷ []))) (did_other k pass other)
+        ∙ ap (λ (d : Did). joined idle d) (did_other k tell other))
+        (end_as last (seen_in view last)) did.2.0
         (record {
           passes = made_for old.number before ++ did.0;
           end = leave;
           both = sym (append_assoc (made_for old.number before) did.0 leave);
-          leaves = (refl, refl);
-          now = did.1;
-          served = on;
+          leaves = (ap (λ (n : ℕ). Leave n) (sym did.2.0), refl);
+          now = seen_in view last;
+          served = served_as old last (joined (did_for old.number before) (did.0, [])) (seen_in view last) did.2 on;
+          given = λ tells. refl;
+          taken = λ tells. refl;
         }))
+
+    -- either
+    told_acting : (old new : Option (Numbered L)) (acts : List Act) (gone : List LinkEnd) → slice_get links i ≡ Some old
+        → ActsOrLeaves view gives old acts new gone → IsTold view gives loop (before ++ acts) (set links i new) (ended ++ gone)
+    told_acting old (Some new) acts gone at did =
+        subst (λ (l : List LinkEnd). IsTold view gives loop (before ++ acts) (set links i (Some new)) (ended ++ l)) (sym did.1) (told_acts old (Some new) acts at did.0)
+    told_acting None None acts gone at did =
+        subst (λ (l : List LinkEnd). IsTold view gives loop (before ++ acts) (set links i None) (ended ++ l)) (sym did.1) (told_same acts at did.0)
+    told_acting (Some old) None acts gone at did =
+        subst (λ (l : List LinkEnd). IsTold view gives loop (before ++ acts) (set links i None) (ended ++ l)) (sym did.2) (told_leaves old did.0 acts at did.1)
+
+    -- a link was let go of, as it was
+    told_gone : (old : Option (Numbered L)) → slice_get links i ≡ Some old → IsTold view gives loop (before ++ []) (set links i None) (ended ++ end_in view old)
+    told_gone None at = told_same [] at refl
+    told_gone (Some old) at =
+        told_off old at [] idle refl (λ k other. refl) (end_as old (seen_in view old)) refl
+        (subst (λ (d : Did). Tale (end_as old (seen_in view old)) d) (sym (joined_idle (did_for old.number before)))
+        (tale_of old (did_for old.number before) (seen_in view old) (told.present i old at)))
 
     -- a link was reported
     told_seen : (old new : Option (Numbered L)) → slice_get links i ≡ Some old → IsSeenAs view old new
-        → IsTold view gives loop (before ++ []) (set links i new)
+        → IsTold view gives loop (before ++ []) (set links i new) (ended ++ [])
     told_seen None new at seen =
-        subst (λ (x : Option (Numbered L)). IsTold view gives loop (before ++ []) (set links i x)) (sym seen) (told_same [] at refl)
+        subst (λ (x : Option (Numbered L)). IsTold view gives loop (before ++ []) (set links i x) (ended ++ [])) (sym seen) (told_same [] at refl)
     told_seen (Some old) None at seen = absurd seen
     told_seen (Some old) (Some new) at seen =
-        let was = told.present i old at in
-        let all : Did = joined (did_for old.number before) idle in
-        let on : Served old.number all (seen_in view new) =
-        subst (λ (d : Did). Served old.number d (seen_in view new)) (sym (joined_idle (did_for old.number before)))
-        (subst (λ (x : Seen). Served old.number (did_for old.number before) x) (sym seen.1) was) in
-        told_after old (Some new) [] idle at refl (λ k other. refl)
-        (λ n is. let equal : new ≡ n = cc in
-        subst (λ (m : Numbered L). (m.number ≡ old.number) × Served old.number all (seen_in view m)) equal (seen.0, on))
-        (tale_of old.number all (seen_in view new) on)
+        told_on old at [] idle refl (λ k other. refl) new seen.0
+        (subst (λ (d : Did). Served old d (seen_in view new)) (sym (joined_idle (did_for old.number before)))
+        (subst (λ (x : Seen). Served old (did_for old.number before) x) (sym seen.1) (told.present i old at)))
 
-    -- a new link is put into a free slot
-    told_put : (new : Numbered L) (host : List ℕ) → slice_get links i ≡ Some None → loop.newest < new.number → loop_of loop.loops new.number ≡ loop.number
-        → IsFresh view.tells new.number host (seen_in view new) → IsTold view gives (record loop { newest = new.number }) (before ++ []) (set links i (Some new))
-    told_put new host at above falls fresh =
+  -- ---- a new link
+
+  -- what a loop had stays its own
+  own_still : (loop : LoopNumbers) (newest link : ℕ) → loop.newest ≤ newest → IsOwn loop link → IsOwn (record loop { newest = newest }) link
+  own_still loop newest link more is = record { some = is.some; within = omega (arith, is.within, more); falls = is.falls }
+
+  own_new : (loop : LoopNumbers) (link : ℕ) → loop.newest < link → loop_of loop.loops link ≡ loop.number → IsOwn (record loop { newest = link }) link
+  own_new loop link above falls = record { some = omega (arith, above); within = omega arith; falls = falls }
+
+  module _ (loop : LoopNumbers) (before : List Act) (links : List (Option (Numbered L))) (ended : List LinkEnd)
+      (told : IsTold view gives loop before links ended) (new : Numbered L) (above : loop.newest < new.number)
+      (falls : loop_of loop.loops new.number ≡ loop.number) (fresh : IsFresh view.tells new.number new.peer (seen_in view new)) where
+    none_did : did_for new.number before ≡ idle
+    none_did =
         let nothing = told.later new.number above in
-        let none : did_for new.number before ≡ idle =
-        pair_same (made_for new.number before) [] (asks_for new.number before) [] nothing.0 nothing.1 in
+        pair_same (made_for new.number before) [] (asks_for new.number before) [] nothing.0 nothing.1
+
+    new_served : Served new (did_for new.number before) (seen_in view new)
+    new_served = subst (λ (d : Did). Served new d (seen_in view new)) (sym none_did) (served_first new (seen_in view new) fresh)
+
+    -- it is put into a free slot
+    told_put : (i : ℕ) → slice_get links i ≡ Some None
+        → IsTold view gives (record loop { newest = new.number }) (before ++ []) (set links i (Some new)) (ended ++ [])
+    told_put i at =
         let there : (j : ℕ) (n : Numbered L) → slice_get (set links i (Some new)) j ≡ Some (Some n) → ((j ≡ i) × (new ≡ n)) ⊎ ((j ≢ i) × (slice_get links j ≡ Some (Some n))) =
         (λ j n got. ⊎_elim (λ h. inl (h.0, same_in new n (Some new) refl (same_in (Some new) (Some n) (slice_get (set links i (Some new)) j) h.1 got))) (λ h. inr (h.0, sym h.1 ∙ got))
         (got_set links i j None (Some new) at)) in
-        subst (λ (b : List Act). IsTold view gives (record loop { newest = new.number }) b (set links i (Some new))) (sym (append-nil before))
+        subst (λ (b : List Act). IsTold view gives (record loop { newest = new.number }) b (set links i (Some new)) (ended ++ [])) (sym (append-nil before))
+        (subst (λ (l : List LinkEnd). IsTold view gives (record loop { newest = new.number }) before (set links i (Some new)) l) (sym (append-nil ended))
         (record {
           present = λ j n got. ⊎_elim
-              (λ h. subst (λ (m : Numbered L). Served m.number (did_for m.number before) (seen_in view m)) h.1
-              (subst (λ (d : Did). Served new.number d (seen_in view new)) (sym none) (served_first new.number host (seen_in view new) fresh)))
+              (λ h. subst (λ (m : Numbered L). Served m (did_for m.number before) (seen_in view m)) h.1 new_served)
               (λ h. told.present j n h.1) (there j n got);
           apart = apart_by (set links i (Some new)) (λ j k n m got had same. ⊎_elim
               (λ h. ⊎_elim (λ g. h.0 ∙ sym g.0)
-              (λ g. let low = told.within k m g.1 in let is : new.number ≡ m.number = ap (λ (x : Numbered L). x.number) h.1 ∙ same in absurd (omega (arith, low.0, is, above))) (there k m had))
+              (λ g. let low = told.own k m g.1 in let is : new.number ≡ m.number = ap (λ (x : Numbered L). x.number) h.1 ∙ same in absurd (omega (arith, low.within, is, above))) (there k m had))
               (λ h. ⊎_elim
-              (λ g. let low = told.within j n h.1 in let is : new.number ≡ n.number = ap (λ (x : Numbered L). x.number) g.1 ∙ sym same in absurd (omega (arith, low.0, is, above)))
+              (λ g. let low = told.own j n h.1 in let is : new.number ≡ n.number = ap (λ (x : Numbered L). x.number) g.1 ∙ sym same in absurd (omega (arith, low.within, is, above)))
               (λ g. apart_at links told.apart j k n m h.1 g.1 same) (there k m had)) (there j n got));
-          within = λ j n got. ⊎_elim
-              (λ h. subst (λ (m : Numbered L). (m.number ≤ new.number) × (loop_of loop.loops m.number ≡ loop.number)) h.1 (omega arith, falls))
-              (λ h. let low = told.within j n h.1 in (omega (arith, low.0, above), low.1)) (there j n got);
+          own = λ j n got. ⊎_elim
+              (λ h. subst (λ (m : Numbered L). IsOwn (record loop { newest = new.number }) m.number) h.1 (own_new loop new.number above falls))
+              (λ h. own_still loop new.number n.number (omega (arith, above)) (told.own j n h.1)) (there j n got);
           later = λ link past. told.later link (omega (arith, past, above));
-          each = told.each;
+          known = λ link. ⊎_elim (λ none. inl none) (λ some. inr (⊎_elim
+              (λ h. inl (
+                h.0,
+                (
+                  h.1.0,
+                  ⊎_elim (λ g. never_none h.1.0 (slice_get links i) at (subst (λ (j : ℕ). slice_get links j ≡ Some (Some h.1.0)) g.0 h.1.1)) (λ g. g.1 ∙ h.1.1)
+                      (got_set links i h.0 None (Some new) at),
+                  h.1.2,
+                ),
+              ))
+              (λ h. inr h) some)) (told.known link);
+          ends = record {
+            each = λ k it got. let was = told.ends.each k it got in (own_still loop new.number it.number (omega (arith, above)) was.0, was.1);
+            once = told.ends.once;
+            gone = λ j k link has end. ⊎_elim
+                (λ h. let low = (told.ends.each k end.0 end.1).0 in
+                let is : new.number ≡ end.0.number = ap (λ (x : Numbered L). x.number) h.1 ∙ has.2 ∙ sym end.2 in omega (arith, low.within, is, above))
+                (λ h. told.ends.gone j k link (has.0, h.1, has.2) end) (there j has.0 has.1);
+          };
+        }))
+
+    -- it is let go of at once
+    told_refused : IsTold view gives (record loop { newest = new.number }) (before ++ []) links (ended ++ end_as new (seen_in view new) ∷ [])
+    told_refused =
+        let it : LinkEnd = end_as new (seen_in view new) in
+        subst (λ (b : List Act). IsTold view gives (record loop { newest = new.number }) b links (ended ++ it ∷ [])) (sym (append-nil before))
+        (record {
+          present = told.present;
+          apart = told.apart;
+          own = λ j n got. own_still loop new.number n.number (omega (arith, above)) (told.own j n got);
+          later = λ link past. told.later link (omega (arith, past, above));
+          known = λ link. ⊎_elim (λ none. inl none) (λ some. inr (⊎_elim (λ h. inl h) (λ h. inr (h.0, (h.1.0, got_more ended (it ∷ []) h.0 h.1.0 h.1.1, h.1.2))) some)) (told.known link);
+          ends = record {
+            each = λ k e got. ⊎_elim
+                (λ was. let had = told.ends.each k e was in (own_still loop new.number e.number (omega (arith, above)) had.0, had.1))
+                (λ last. subst (λ (x : LinkEnd). IsOwn (record loop { newest = new.number }) x.number × Tale x (did_for x.number before)) last.1
+                (own_new loop new.number above falls, tale_of new (did_for new.number before) (seen_in view new) new_served)) (got_last ended it k e got);
+            once = λ j k link one other. ⊎_elim
+                (λ h. ⊎_elim (λ g. told.ends.once j k link (one.0, h, one.2) (other.0, g, other.2))
+                (λ g. let low = (told.ends.each j one.0 h).0 in let is : new.number ≡ one.0.number = ap (λ (x : LinkEnd). x.number) g.1 ∙ other.2 ∙ sym one.2 in absurd (omega (arith, low.within, is, above)))
+                (got_last ended it k other.0 other.1))
+                (λ h. ⊎_elim
+                (λ g. let low = (told.ends.each k other.0 g).0 in let is : new.number ≡ other.0.number = ap (λ (x : LinkEnd). x.number) h.1 ∙ one.2 ∙ sym other.2 in absurd (omega (arith, low.within, is, above)))
+                (λ g. h.0 ∙ sym g.0) (got_last ended it k other.0 other.1)) (got_last ended it j one.0 one.1);
+            gone = λ j k link has end. ⊎_elim (λ g. told.ends.gone j k link has (end.0, g, end.2))
+                (λ g. let low = told.own j has.0 has.1 in
+                let is : new.number ≡ has.0.number = ap (λ (x : LinkEnd). x.number) g.1 ∙ end.2 ∙ sym has.2 in omega (arith, low.within, is, above))
+                (got_last ended it k end.0 end.1);
+          };
         })
 
   -- one more free slot
-  told_push : (loop : LoopNumbers) (before : List Act) (links : List (Option (Numbered L))) → IsTold view gives loop before links
-      → IsTold view gives loop (before ++ []) (links ++ None ∷ [])
-  told_push loop before links told =
-      subst (λ (b : List Act). IsTold view gives loop b (links ++ None ∷ [])) (sym (append-nil before))
+  told_push : (loop : LoopNumbers) (before : List Act) (links : List (Option (Numbered L))) (ended : List LinkEnd) → IsTold view gives loop before links ended
+      → IsTold view gives loop (before ++ []) (links ++ None ∷ []) (ended ++ [])
+  told_push loop before links ended told =
+      subst (λ (b : List Act). IsTold view gives loop b (links ++ None ∷ []) (ended ++ [])) (sym (append-nil before))
+      (subst (λ (l : List LinkEnd). IsTold view gives loop before (links ++ None ∷ []) l) (sym (append-nil ended))
       (record {
         present = λ j n got. told.present j n (got_front links j n got);
         apart = apart_by (links ++ None ∷ []) (λ j k n m got had same. apart_at links told.apart j k n m (got_front links j n got) (got_front links k m had) same);
-        within = λ j n got. told.within j n (got_front links j n got);
+        own = λ j n got. told.own j n (got_front links j n got);
         later = told.later;
-        each = told.each;
-      })
+        known = λ link. ⊎_elim (λ none. inl none)
+            (λ some. inr (⊎_elim (λ h. inl (h.0, (h.1.0, got_more links (None ∷ []) h.0 (Some h.1.0) h.1.1, h.1.2))) (λ h. inr h) some)) (told.known link);
+        ends = record {
+          each = told.ends.each;
+          once = told.ends.once;
+          gone = λ j k link has end. told.ends.gone j k link (has.0, got_front links j has.0 has.1, has.2) end;
+        };
+      }))
+
+  -- the last slot was free, and is gone
+  told_unpush : (loop : LoopNumbers) (before : List Act) (links : List (Option (Numbered L))) (ended : List LinkEnd) → IsTold view gives loop before (links ++ None ∷ []) ended
+      → IsTold view gives loop before links ended
+  told_unpush loop before links ended told =
+      let more : (j : ℕ) (n : Numbered L) → slice_get links j ≡ Some (Some n) → slice_get (links ++ None ∷ []) j ≡ Some (Some n) =
+      (λ j n got. got_more links (None ∷ []) j (Some n) got) in
+      record {
+        present = λ j n got. told.present j n (more j n got);
+        apart = apart_by links (λ j k n m got had same. apart_at (links ++ None ∷ []) told.apart j k n m (more j n got) (more k m had) same);
+        own = λ j n got. told.own j n (more j n got);
+        later = told.later;
+        known = λ link. ⊎_elim (λ none. inl none)
+            (λ some. inr (⊎_elim (λ h. inl (h.0, (h.1.0, got_front links h.0 h.1.0 h.1.1, h.1.2))) (λ h. inr h) some)) (told.known link);
+        ends = record {
+          each = told.ends.each;
+          once = told.ends.once;
+          gone = λ j k link has end. told.ends.gone j k link (has.0, more j has.0 has.1, has.2) end;
+        };
+      }
+
+  -- the last slot is gone, and its link was let go of
+  told_pop : (loop : LoopNumbers) (before : List Act) (links : List (Option (Numbered L))) (ended : List LinkEnd) (last : Option (Numbered L))
+      → IsTold view gives loop before (links ++ last ∷ []) ended → IsTold view gives loop (before ++ []) links (ended ++ end_in view last)
+  told_pop loop before links ended last told =
+      told_unpush loop (before ++ []) links (ended ++ end_in view last)
+      (subst (λ (l : List (Option (Numbered L))). IsTold view gives loop (before ++ []) l (ended ++ end_in view last)) (set_last links last None)
+      (told_gone loop before (links ++ last ∷ []) ended told (length links) last (got_end links last)))
+
+  -- nothing was done
+  told_still : (loop : LoopNumbers) (before : List Act) (links : List (Option (Numbered L))) (ended : List LinkEnd) → IsTold view gives loop before links ended
+      → IsTold view gives loop (before ++ []) links (ended ++ [])
+  told_still loop before links ended told =
+      subst (λ (b : List Act). IsTold view gives loop b links (ended ++ [])) (sym (append-nil before))
+      (subst (λ (l : List LinkEnd). IsTold view gives loop before links l) (sym (append-nil ended)) told)
 
   -- a loop begins without links
-  pub told_none : (loop : LoopNumbers) (links : List (Option (Numbered L))) → links ≡ [] → IsTold view gives loop [] links
+  pub told_none : (loop : LoopNumbers) (links : List (Option (Numbered L))) → links ≡ [] → IsTold view gives loop [] links []
   told_none loop links none =
-      subst (λ (xs : List (Option (Numbered L))). IsTold view gives loop [] xs) (sym none)
+      subst (λ (xs : List (Option (Numbered L))). IsTold view gives loop [] xs []) (sym none)
       (record {
         present = λ i at got. let empty : None ≡ Some (Some at) = got in cc;
         apart = apart_by [] (λ i j at other got had same. let empty : None ≡ Some (Some at) = got in cc);
-        within = λ i at got. let empty : None ≡ Some (Some at) = got in cc;
+        own = λ i at got. let empty : None ≡ Some (Some at) = got in cc;
         later = λ link above. (refl, refl);
-        each = λ link. inl (refl, refl);
+        known = λ link. inl (refl, refl);
+        ends = record {
+          each = λ k it got. let empty : None ≡ Some it = got in cc;
+          once = λ j k link one other. let empty : None ≡ Some one.0 = one.1 in cc;
+          gone = λ i k link has end. let empty : None ≡ Some (Some has.0) = has.1 in cc;
+        };
       })
+
+module _ {L N : Type 0} (view : LoopView L N) (gives : Giving) where
+  -- ---- a ledger
+
+  pub enters_none : (ledger : Ledger N) → Enters view ledger [] ledger
+  enters_none ledger kept = (kept, λ told. sym (append-nil (view.entries ledger.ends)))
+
+  -- it is as it was
+  enters_still : (old new : Ledger N) → new ≡ old → Enters view old [] new
+  enters_still old new same = subst (λ (l : Ledger N). Enters view old [] l) (sym same) (enters_none old)
+
+  pub enters_then : (old mid new : Ledger N) (gone more : List LinkEnd) → Enters view old gone mid → Enters view mid more new → Enters view old (gone ++ more) new
+  enters_then old mid new gone more h k kept =
+      let late = k kept in
+      let early = h late.0 in
+      (early.0, λ told. late.1 told ∙ ap (λ (l : List LinkEnd). l ++ more) (early.1 told) ∙ append_assoc (view.entries old.ends) gone more)
+
+  -- one is lost
+  enters_lost : (old new : Ledger N) (gone : List LinkEnd) → new.lost ≡ true → Enters view old gone new
+  enters_lost old new gone lost kept = absurd (cc)
 
   -- ---- a loop
 
-  pub goes_on : (old mid new : Links L) (first rest : List Act) → GoesOn view gives old first mid → GoesOn view gives mid rest new
+  -- by what its links did, where those that were let go of were entered
+  goes_with : (old new : Links L N) (acts : List Act) (gone : List LinkEnd) → (new.loops ≡ old.loops) × (new.number ≡ old.number)
+      → Enters view old.ledger gone new.ledger
+      → ((before : List Act) (ended : List LinkEnd) → IsTold view.links gives (loop_numbers old) before old.slots.items ended
+      → IsTold view.links gives (loop_numbers new) (before ++ acts) new.slots.items (ended ++ gone)) → GoesOn view gives old acts new
+  goes_with old new acts gone same enters keeps = record {
+    same = same;
+    keeps = λ before told. record {
+      ended = told.ended ++ gone;
+      are = λ kept tells. let entered = enters kept in entered.1 tells ∙ ap (λ (l : List LinkEnd). l ++ gone) (told.are entered.0 tells);
+      so = keeps before told.ended told.so;
+    };
+  }
+
+  pub goes_on : (old mid new : Links L N) (first rest : List Act) → GoesOn view gives old first mid → GoesOn view gives mid rest new
       → GoesOn view gives old (first ++ rest) new
   goes_on old mid new first rest h k = record {
     same = (k.same.0 ∙ h.same.0, k.same.1 ∙ h.same.1);
     keeps = λ before told.
-        subst (λ (b : List Act). IsTold view gives (loop_numbers new) b new.slots.items) (append_assoc before first rest)
+        subst (λ (b : List Act). IsToldOf view gives b new) (append_assoc before first rest)
         (k.keeps (before ++ first) (h.keeps before told));
   }
 
   -- nothing was done
-  pub goes_nowhere : (links : Links L) → GoesOn view gives links [] links
+  pub goes_nowhere : (links : Links L N) → GoesOn view gives links [] links
   goes_nowhere links = record {
     same = (refl, refl);
-    keeps = λ before told. subst (λ (b : List Act). IsTold view gives (loop_numbers links) b links.slots.items) (sym (append-nil before)) told;
+    keeps = λ before told. subst (λ (b : List Act). IsToldOf view gives b links) (sym (append-nil before)) told;
   }
 
-  pub goes_nowhere_to : (old new : Links L) → new ≡ old → GoesOn view gives old [] new
-  goes_nowhere_to old new same = subst (λ (l : Links L). GoesOn view gives old [] l) (sym same) (goes_nowhere old)
+  pub goes_nowhere_to : (old new : Links L N) → new ≡ old → GoesOn view gives old [] new
+  goes_nowhere_to old new same = subst (λ (l : Links L N). GoesOn view gives old [] l) (sym same) (goes_nowhere old)
 
   -- then nothing was done
-  pub goes_kept : (old mid new : Links L) → GoesOn view gives old [] mid → new ≡ mid → GoesOn view gives old [] new
-  goes_kept old mid new h same = subst (λ (l : Links L). GoesOn view gives old [] l) (sym same) h
+  pub goes_kept : (old mid new : Links L N) → GoesOn view gives old [] mid → new ≡ mid → GoesOn view gives old [] new
+  goes_kept old mid new h same = subst (λ (l : Links L N). GoesOn view gives old [] l) (sym same) h
 
   -- nothing was done at first
-  pub goes_from : (old mid new : Links L) → mid ≡ old → GoesOn view gives mid [] new → GoesOn view gives old [] new
-  goes_from old mid new same h = subst (λ (l : Links L). GoesOn view gives l [] new) same h
+  pub goes_from : (old mid new : Links L N) → mid ≡ old → GoesOn view gives mid [] new → GoesOn view gives old [] new
+  goes_from old mid new same h = subst (λ (l : Links L N). GoesOn view gives l [] new) same h
 
   -- no step was made, twice
-  pub goes_then : (old mid new : Links L) → GoesOn view gives old [] mid → GoesOn view gives mid [] new → GoesOn view gives old [] new
+  pub goes_then : (old mid new : Links L N) → GoesOn view gives old [] mid → GoesOn view gives mid [] new → GoesOn view gives old [] new
   goes_then old mid new h k = goes_on old mid new [] [] h k
 
-  -- the same links in the same slots
-  pub goes_still : (old new : Links L) → (new.loops ≡ old.loops) × (new.number ≡ old.number) × (new.newest ≡ old.newest) × (new.slots.items ≡ old.slots.items)
-      → GoesOn view gives old [] new
-  goes_still old new same = record {
-    same = (same.0, same.1);
-    keeps = λ before told. let after = (goes_nowhere old).keeps before told in rw (same.0, same.1, same.2, same.3) after;
-  }
+  -- the same links in the same slots, where one may be lost
+  pub goes_entering : (old new : Links L N) → (new.loops ≡ old.loops) × (new.number ≡ old.number) × (new.newest ≡ old.newest) × (new.slots.items ≡ old.slots.items)
+      → Enters view old.ledger [] new.ledger → GoesOn view gives old [] new
+  goes_entering old new same enters = goes_with old new [] [] (same.0, same.1) enters
+      (λ before ended told. let after = told_still view.links gives (loop_numbers old) before old.slots.items ended told in rw (same.0, same.1, same.2, same.3) after)
+
+  goes_still : (old new : Links L N) → (new.loops ≡ old.loops) × (new.number ≡ old.number) × (new.newest ≡ old.newest) × (new.slots.items ≡ old.slots.items)
+      → new.ledger ≡ old.ledger → GoesOn view gives old [] new
+  goes_still old new same ledger = goes_entering old new same (enters_still old.ledger new.ledger ledger)
+
+  -- one is lost
+  pub goes_lost : (old new : Links L N) → (new.loops ≡ old.loops) × (new.number ≡ old.number) × (new.newest ≡ old.newest) × (new.slots.items ≡ old.slots.items)
+      → new.ledger.lost ≡ true → GoesOn view gives old [] new
+  goes_lost old new same lost = goes_entering old new same (enters_lost old.ledger new.ledger [] lost)
 
   -- a new link was put into a free slot
-  pub goes_put : (old new : Links L) (i : ℕ) (n : Numbered L) (host : List ℕ)
+  pub goes_put : (old new : Links L N) (i : ℕ) (n : Numbered L)
       → (new.loops ≡ old.loops) × (new.number ≡ old.number) × (new.newest ≡ n.number) × (new.slots.items ≡ set old.slots.items i (Some n))
-      → slice_get old.slots.items i ≡ Some None → old.newest < n.number → loop_of old.loops n.number ≡ old.number
-      → IsFresh view.tells n.number host (seen_in view n) → GoesOn view gives old [] new
-  goes_put old new i n host same at above falls fresh = record {
-    same = (same.0, same.1);
-    keeps = λ before told. let after = told_put (loop_numbers old) before old.slots.items told i n host at above falls fresh in
-        rw (same.0, same.1, same.2, same.3) after;
-  }
+      → new.ledger ≡ old.ledger → slice_get old.slots.items i ≡ Some None → old.newest < n.number → loop_of old.loops n.number ≡ old.number
+      → IsFresh view.links.tells n.number n.peer (seen_in view.links n) → GoesOn view gives old [] new
+  goes_put old new i n same ledger at above falls fresh = goes_with old new [] [] (same.0, same.1) (enters_still old.ledger new.ledger ledger)
+      (λ before ended told. let after = told_put view.links gives (loop_numbers old) before old.slots.items ended told n above falls fresh i at in
+      rw (same.0, same.1, same.2, same.3) after)
+
+  -- a new link was let go of at once
+  pub goes_refusing : (old new : Links L N) (n : Numbered L)
+      → (new.loops ≡ old.loops) × (new.number ≡ old.number) × (new.newest ≡ n.number) × (new.slots.items ≡ old.slots.items)
+      → Enters view old.ledger (end_as n (seen_in view.links n) ∷ []) new.ledger → old.newest < n.number → loop_of old.loops n.number ≡ old.number
+      → IsFresh view.links.tells n.number n.peer (seen_in view.links n) → GoesOn view gives old [] new
+  goes_refusing old new n same enters above falls fresh = goes_with old new [] (end_as n (seen_in view.links n) ∷ []) (same.0, same.1) enters
+      (λ before ended told. let after = told_refused view.links gives (loop_numbers old) before old.slots.items ended told n above falls fresh in
+      rw (same.0, same.1, same.2, same.3) after)
 
   -- there is one more free slot
-  pub goes_pushed : (old new : Links L) → (new.loops ≡ old.loops) × (new.number ≡ old.number) × (new.newest ≡ old.newest)
-      × (new.slots.items ≡ old.slots.items ++ None ∷ []) → GoesOn view gives old [] new
-  goes_pushed old new same = record {
-    same = (same.0, same.1);
-    keeps = λ before told. let after = told_push (loop_numbers old) before old.slots.items told in rw (same.0, same.1, same.2, same.3) after;
-  }
+  goes_pushed : (old new : Links L N) → (new.loops ≡ old.loops) × (new.number ≡ old.number) × (new.newest ≡ old.newest)
+      × (new.slots.items ≡ old.slots.items ++ None ∷ []) → new.ledger ≡ old.ledger → GoesOn view gives old [] new
+  goes_pushed old new same ledger = goes_with old new [] [] (same.0, same.1) (enters_still old.ledger new.ledger ledger)
+      (λ before ended told. let after = told_push view.links gives (loop_numbers old) before old.slots.items ended told in rw (same.0, same.1, same.2, same.3) after)
 
   -- there is one more free slot, or there was no memory for it
-  pub goes_pushing : (old new : Links L) (done : Bool) → (new.loops ≡ old.loops) × (new.number ≡ old.number) × (new.newest ≡ old.newest)
-      × (new.slots.items ≡ cond done (old.slots.items ++ None ∷ []) old.slots.items) → GoesOn view gives old [] new
-  goes_pushing old new true same = goes_pushed old new same
-  goes_pushing old new false same = goes_still old new same
+  pub goes_pushing : (old new : Links L N) (done : Bool) → (new.loops ≡ old.loops) × (new.number ≡ old.number) × (new.newest ≡ old.newest)
+      × (new.slots.items ≡ cond done (old.slots.items ++ None ∷ []) old.slots.items) → new.ledger ≡ old.ledger → GoesOn view gives old [] new
+  goes_pushing old new true same ledger = goes_pushed old new same ledger
+  goes_pushing old new false same ledger = goes_still old new same ledger
 
   -- a link was reported
-  pub goes_reported : (old new : Links L) (i : ℕ) (o n : Option (Numbered L)) → (new.loops ≡ old.loops) × (new.number ≡ old.number) × (new.newest ≡ old.newest)
-      × (new.slots.items ≡ set old.slots.items i n) → slice_get old.slots.items i ≡ Some o → IsSeenAs view o n → GoesOn view gives old [] new
-  goes_reported old new i o n same at seen = record {
-    same = (same.0, same.1);
-    keeps = λ before told. let after = told_seen (loop_numbers old) before old.slots.items told i o n at seen in
-        rw (same.0, same.1, same.2, same.3) after;
-  }
+  pub goes_reported : (old new : Links L N) (i : ℕ) (o n : Option (Numbered L)) → (new.loops ≡ old.loops) × (new.number ≡ old.number) × (new.newest ≡ old.newest)
+      × (new.slots.items ≡ set old.slots.items i n) → new.ledger ≡ old.ledger → slice_get old.slots.items i ≡ Some o → IsSeenAs view.links o n → GoesOn view gives old [] new
+  goes_reported old new i o n same ledger at seen = goes_with old new [] [] (same.0, same.1) (enters_still old.ledger new.ledger ledger)
+      (λ before ended told. let after = told_seen view.links gives (loop_numbers old) before old.slots.items ended told i o n at seen in
+      rw (same.0, same.1, same.2, same.3) after)
 
+  -- the last slot is gone, and its link was let go of
+  pub goes_popped : (old new : Links L N) (last : Option (Numbered L)) → (new.loops ≡ old.loops) × (new.number ≡ old.number) × (new.newest ≡ old.newest)
+      → old.slots.items ≡ new.slots.items ++ last ∷ [] → Enters view old.ledger (end_in view.links last) new.ledger → GoesOn view gives old [] new
+  goes_popped old new last same at enters = goes_with old new [] (end_in view.links last) (same.0, same.1) enters
+      (λ before ended told. let after = told_pop view.links gives (loop_numbers old) before new.slots.items ended last
+      (subst (λ (l : List (Option (Numbered L))). IsTold view.links gives (loop_numbers old) before l ended) at told) in rw (same.0, same.1, same.2) after)
+
+module _ {L : Type 0} (view : LinkView L) (gives : Giving) where
   -- ---- slots one after another
 
+  -- what one slot did after others
+  keeps_then : (first mid : List (Option (Numbered L))) (i : ℕ) (old new : Option (Numbered L)) (acts more : List Act) (gone late : List LinkEnd) → slice_get mid i ≡ Some old
+      → Keeps view gives first acts mid gone → ActsOrLeaves view gives old more new late → Keeps view gives first (acts ++ more) (set mid i new) (gone ++ late)
+  keeps_then first mid i old new acts more gone late at h k loop before ended told =
+      subst (λ (b : List Act). IsTold view gives loop b (set mid i new) (ended ++ (gone ++ late))) (append_assoc before acts more)
+      (subst (λ (l : List LinkEnd). IsTold view gives loop ((before ++ acts) ++ more) (set mid i new) l) (append_assoc ended gone late)
+      (told_acting view gives loop (before ++ acts) mid (ended ++ gone) (h loop before ended told) i old new more late at k))
+
+  pub keeps_all : (links : List (Option (Numbered L))) → Keeps view gives links [] links []
+  keeps_all links loop before ended told = told_still view gives loop before links ended told
+
+  -- a pass of a slot
+  passes_one : (old new : Option (Numbered L)) (acts : List Act) → Acts view gives old acts new → ActsOrLeaves view gives old acts new []
+  passes_one old (Some new) acts did = (did, refl)
+  passes_one None None acts did = (did.0, refl)
+  passes_one (Some old) None acts did = absurd did
+
   module _ {C : Type 0} (makes : Steps C) where
-    -- a pass of a link, in which a check-back may be written
-    one_went : (x y : C) (o n : Numbered L) (asks all : List AskParts) → AreSome (asks ++ []) all → n.number ≡ o.number
-        → Leads makes x y (λ made. WentOnWith view.tells gives (seen_in view o) made asks (seen_in view n))
-        → LeadsWith makes x y all (λ acts. Acts view gives (Some o) acts (Some n))
-    one_went x y o n asks all some same went = record {
-      acts = record { link = o.number; made = went.made; asks = asks } ∷ [];
-      leads = subst (λ (l : Made). Makes makes x l y) (sym (append-nil went.made)) went.leads;
-      wrote = some;
-      so = (went.made, asks, same, went.so, refl);
-    }
-
-    pub one_asked : (x y : C) (o n : Numbered L) (ask : AskParts) (did : Bool) → n.number ≡ o.number
-        → Leads makes x y (λ made. WentOnWith view.tells gives (seen_in view o) made (if_asked did ask) (seen_in view n))
-        → LeadsWith makes x y (ask ∷ []) (λ acts. Acts view gives (Some o) acts (Some n))
-    one_asked x y o n ask did same went = one_went x y o n (if_asked did ask) (ask ∷ []) (some_one did ask) same went
-
-    pub one_replied : (x y : C) (o n : Numbered L) → n.number ≡ o.number → Leads makes x y (λ made. WentOn view.tells gives (seen_in view o) made (seen_in view n))
-        → LeadsBy makes x y (λ acts. Acts view gives (Some o) acts (Some n))
-    one_replied x y o n same went = one_went x y o n [] [] refl same went
-
-    pub one_heard : (x y : C) (o n : Numbered L) → n.number ≡ o.number → Leads makes x y (λ made. WentOnUnread view.tells (seen_in view o) made (seen_in view n))
-        → LeadsBy makes x y (λ acts. Acts view gives (Some o) acts (Some n))
-    one_heard x y o n same went =
-        one_replied x y o n same (record { made = went.made; leads = went.leads; so = went_read view.tells gives (seen_in view o) went.made (seen_in view n) went.so })
-
-    -- a pass of a link, and its end
-    pub one_left : (x y z : C) (o : Numbered L) (after : Seen) (said : Option Said) → Leads makes x y (λ made. WentOn view.tells gives (seen_in view o) made after)
-        → makes y (Leave o.number) said z → LeadsBy makes x z (λ acts. Acts view gives (Some o) acts None)
-    one_left x y z o after said went leave = record {
-      acts = act o.number went.made ∷ act o.number ((Leave o.number, said) ∷ []) ∷ [];
-      leads = makes_append makes x went.made y ((Leave o.number, said) ∷ []) z went.leads (z, leave, refl);
-      wrote = refl;
-      so = (went.made, after, said, went.so, refl);
-    }
-
-    -- there is no link
-    pub none_asked : (x : C) (o : Option (Numbered L)) (asks : List AskParts) → o ≡ None → LeadsWith makes x x asks (λ acts. Acts view gives o acts o)
-    none_asked x o asks none = subst (λ (w : Option (Numbered L)). LeadsWith makes x x asks (λ acts. Acts view gives w acts w)) (sym none)
-        (record { acts = []; leads = refl; wrote = some_none asks; so = (refl, refl) })
-
     pub acts_lead : (x y z : C) (first rest : List Act) → Makes makes x (steps_of first) y → Makes makes y (steps_of rest) z → Makes makes x (steps_of (first ++ rest)) z
     acts_lead x y z first rest h k =
         subst (λ (l : Made). Makes makes x l z) (sym (steps_append first rest)) (makes_append makes x (steps_of first) y (steps_of rest) z h k)
@@ -457,85 +732,164 @@ module _ {L : Type 0} (view : LinkView L) (gives : Giving) where
     acts_write first rest asks more h k =
         subst (λ (l : List AskParts). AreSome l (asks ++ more)) (sym (asks_append first rest)) (some_append (asks_of first) asks (asks_of rest) more h k)
 
+    -- a pass of a link, in which a check-back may be written
+    one_went : (x y : C) (o n : Numbered L) (asks all : List AskParts) → AreSome (asks ++ []) all → IsSame o n
+        → Leads makes x y (λ made. WentOnWith view.tells gives (seen_in view o) made asks (seen_in view n))
+        → LeadsWith makes x y all (λ acts. Acts view gives (Some o) acts (Some n))
+    one_went x y o n asks all some same went = record {
+      acts = record { link = o.number; made = went.made; asks = asks } ∷ [];
+      leads = subst (λ (l : Made). Makes makes x l y) (sym (append-nil went.made)) went.leads;
+      wrote = some;
+      so = (went.made, asks, same, went.so, refl);
+    }
+
+    pub one_asked : (x y : C) (o n : Numbered L) (ask : AskParts) (did : Bool) → IsSame o n
+        → Leads makes x y (λ made. WentOnWith view.tells gives (seen_in view o) made (if_asked did ask) (seen_in view n))
+        → LeadsWith makes x y (ask ∷ []) (λ acts. Acts view gives (Some o) acts (Some n))
+    one_asked x y o n ask did same went = one_went x y o n (if_asked did ask) (ask ∷ []) (some_one did ask) same went
+
+    pub one_replied : (x y : C) (o n : Numbered L) → IsSame o n → Leads makes x y (λ made. WentOn view.tells gives (seen_in view o) made (seen_in view n))
+        → LeadsBy makes x y (λ acts. Acts view gives (Some o) acts (Some n))
+    one_replied x y o n same went = one_went x y o n [] [] refl same went
+
+    pub one_heard : (x y : C) (o n : Numbered L) → IsSame o n → Leads makes x y (λ made. WentOnUnread view.tells (seen_in view o) made (seen_in view n))
+        → LeadsBy makes x y (λ acts. Acts view gives (Some o) acts (Some n))
+    one_heard x y o n same went =
+        one_replied x y o n same (record { made = went.made; leads = went.leads; so = went_read view.tells gives (seen_in view o) went.made (seen_in view n) went.so })
+
+    -- a pass of a link, and its end
+    pub one_left : (x y z : C) (o n : Numbered L) (said : Option Said) → IsSame o n → Leads makes x y (λ made. WentOn view.tells gives (seen_in view o) made (seen_in view n))
+        → makes y (Leave o.number) said z → LeadsBy makes x z (λ acts. Leaves view gives o acts n)
+    one_left x y z o n said same went leave = record {
+      acts = act o.number went.made ∷ act o.number ((Leave o.number, said) ∷ []) ∷ [];
+      leads = makes_append makes x went.made y ((Leave o.number, said) ∷ []) z went.leads (z, leave, refl);
+      wrote = refl;
+      so = (went.made, said, same, went.so, refl);
+    }
+
+    module _ {N : Type 0} (whole : LoopView L N) where
+      -- a slot in which something was done, or nothing, and whose link is there still
+      pub slot_stays : (x y : C) (o n : Option (Numbered L)) (ledger : Ledger N) → LeadsBy makes x y (λ acts. Acts view gives o acts n)
+          → LeadsBy makes x y (λ acts. (gone : List LinkEnd) × Enters whole ledger gone ledger × ActsOrLeaves view gives o acts n gone)
+      slot_stays x y o n ledger h =
+          record { acts = h.acts; leads = h.leads; wrote = h.wrote; so = ([], enters_none whole gives ledger, passes_one o n h.acts h.so) }
+
+      -- its link has ended, and was let go of
+      pub slot_left : (x y : C) (s t taken : Option (Numbered L)) (o n : Numbered L) (old new : Ledger N) → s ≡ Some o → t ≡ None → taken ≡ Some n
+          → LeadsBy makes x y (λ acts. Leaves view gives o acts n) → Enters whole old (end_in view taken) new
+          → LeadsBy makes x y (λ acts. (gone : List LinkEnd) × Enters whole old gone new × ActsOrLeaves view gives s acts t gone)
+      slot_left x y s t taken o n old new was free got h enters =
+          subst (λ (u : Option (Numbered L)). LeadsBy makes x y (λ acts. (gone : List LinkEnd) × Enters whole old gone new × ActsOrLeaves view gives u acts t gone)) (sym was)
+          (subst (λ (u : Option (Numbered L)). LeadsBy makes x y (λ acts. (gone : List LinkEnd) × Enters whole old gone new × ActsOrLeaves view gives (Some o) acts u gone)) (sym free)
+          (record {
+            acts = h.acts;
+            leads = h.leads;
+            wrote = h.wrote;
+            so = (end_as n (seen_in view n) ∷ [], subst (λ (u : Option (Numbered L)). Enters whole old (end_in view u) new) got enters, (n, h.so, refl));
+          }))
+
+      -- acts of one slot, and of others before it
+      pub keeps_replying : (x y z : C) (first mid : List (Option (Numbered L))) (i : ℕ) (old new : Option (Numbered L)) (l m r : Ledger N) → slice_get mid i ≡ Some old
+          → LeadsBy makes x y (λ acts. (gone : List LinkEnd) × Enters whole l gone m × Keeps view gives first acts mid gone)
+          → LeadsBy makes y z (λ acts. (gone : List LinkEnd) × Enters whole m gone r × ActsOrLeaves view gives old acts new gone)
+          → LeadsBy makes x z (λ acts. (gone : List LinkEnd) × Enters whole l gone r × Keeps view gives first acts (set mid i new) gone)
+      keeps_replying x y z first mid i old new l m r at h k = record {
+        acts = h.acts ++ k.acts;
+        leads = acts_lead x y z h.acts k.acts h.leads k.leads;
+        wrote = acts_write h.acts k.acts [] [] h.wrote k.wrote;
+        so = (h.so.0 ++ k.so.0, enters_then whole gives l m r h.so.0 k.so.0 h.so.1 k.so.1, keeps_then first mid i old new h.acts k.acts h.so.0 k.so.0 at h.so.2 k.so.2);
+      }
+
+      pub replying_first : (x : C) (links : List (Option (Numbered L))) (ledger : Ledger N)
+          → LeadsBy makes x x (λ acts. (gone : List LinkEnd) × Enters whole ledger gone ledger × Keeps view gives links acts links gone)
+      replying_first x links ledger =
+          record { acts = []; leads = refl; wrote = refl; so = ([], enters_none whole gives ledger, keeps_all links) }
+
+    -- there is no link
+    pub none_asked : (x : C) (o : Option (Numbered L)) (asks : List AskParts) → o ≡ None → LeadsWith makes x x asks (λ acts. Acts view gives o acts o)
+    none_asked x o asks none = subst (λ (w : Option (Numbered L)). LeadsWith makes x x asks (λ acts. Acts view gives w acts w)) (sym none)
+        (record { acts = []; leads = refl; wrote = some_none asks; so = (refl, refl) })
+
     -- acts of one slot, and of others before it
     pub keeps_slot : (x y z : C) (first mid : List (Option (Numbered L))) (i : ℕ) (old new : Option (Numbered L)) → slice_get mid i ≡ Some old
-        → LeadsBy makes x y (λ acts. Keeps view gives first acts mid) → LeadsBy makes y z (λ acts. Acts view gives old acts new)
-        → LeadsBy makes x z (λ acts. Keeps view gives first acts (set mid i new))
+        → LeadsBy makes x y (λ acts. Keeps view gives first acts mid []) → LeadsBy makes y z (λ acts. Acts view gives old acts new)
+        → LeadsBy makes x z (λ acts. Keeps view gives first acts (set mid i new) [])
     keeps_slot x y z first mid i old new at h k = record {
       acts = h.acts ++ k.acts;
       leads = acts_lead x y z h.acts k.acts h.leads k.leads;
       wrote = acts_write h.acts k.acts [] [] h.wrote k.wrote;
-      so = λ loop before told.
-          subst (λ (b : List Act). IsTold view gives loop b (set mid i new)) (append_assoc before h.acts k.acts)
-          (told_acts loop (before ++ h.acts) mid (h.so loop before told) i old new k.acts at k.so);
+      so = keeps_then first mid i old new h.acts k.acts [] [] at h.so (passes_one old new k.acts k.so);
     }
 
-    pub keeps_first : (x : C) (links : List (Option (Numbered L))) → LeadsBy makes x x (λ acts. Keeps view gives links acts links)
-    keeps_first x links = record {
-      acts = [];
-      leads = refl;
-      wrote = refl;
-      so = λ loop before told. subst (λ (b : List Act). IsTold view gives loop b links) (sym (append-nil before)) told;
-    }
+    pub keeps_first : (x : C) (links : List (Option (Numbered L))) → LeadsBy makes x x (λ acts. Keeps view gives links acts links [])
+    keeps_first x links = record { acts = []; leads = refl; wrote = refl; so = keeps_all links }
 
+module _ {L N : Type 0} (view : LoopView L N) (gives : Giving) where
+  module _ {C : Type 0} (makes : Steps C) where
     -- a loop goes on by what its slots do
-    pub goes_by : (x y : C) (old new : Links L) → (new.loops ≡ old.loops) × (new.number ≡ old.number) × (new.newest ≡ old.newest)
-        → LeadsBy makes x y (λ acts. Keeps view gives old.slots.items acts new.slots.items) → LeadsBy makes x y (λ acts. GoesOn view gives old acts new)
-    goes_by x y old new same h = record {
+    pub goes_by : (x y : C) (old new : Links L N) (slots left : List (Option (Numbered L))) → slots ≡ old.slots.items → new.slots.items ≡ left
+        → (new.loops ≡ old.loops) × (new.number ≡ old.number) × (new.newest ≡ old.newest)
+        → LeadsBy makes x y (λ acts. (gone : List LinkEnd) × Enters view old.ledger gone new.ledger × Keeps view.links gives slots acts left gone)
+        → LeadsBy makes x y (λ acts. GoesOn view gives old acts new)
+    goes_by x y old new slots left are then same h = record {
       acts = h.acts;
       leads = h.leads;
       wrote = h.wrote;
-      so = record {
-        same = (same.0, same.1);
-        keeps = λ before told. let after = h.so (loop_numbers old) before told in rw (same.0, same.1, same.2) after;
-      };
+      so = goes_with view gives old new h.acts h.so.0 (same.0, same.1) h.so.1
+          (λ before ended told. let after = h.so.2 (loop_numbers old) before ended (subst (λ (l : List (Option (Numbered L))). IsTold view.links gives (loop_numbers old) before l ended) (sym are) told) in
+          rw (same.0, same.1, same.2, then) after);
     }
+
+    -- where no link is let go of
+    pub goes_hearing : (x y : C) (old new : Links L N) (slots left : List (Option (Numbered L))) → slots ≡ old.slots.items → new.slots.items ≡ left
+        → (new.loops ≡ old.loops) × (new.number ≡ old.number) × (new.newest ≡ old.newest) → new.ledger ≡ old.ledger
+        → LeadsBy makes x y (λ acts. Keeps view.links gives slots acts left []) → LeadsBy makes x y (λ acts. GoesOn view gives old acts new)
+    goes_hearing x y old new slots left are then same ledger h =
+        goes_by x y old new slots left are then same (record { acts = h.acts; leads = h.leads; wrote = h.wrote; so = ([], enters_still view gives old.ledger new.ledger ledger, h.so) })
 
     -- a loop goes on by what one of its slots does
-    pub goes_at : (x y : C) (old new : Links L) (i : ℕ) (o n : Option (Numbered L)) (asks : List AskParts)
-        → (new.loops ≡ old.loops) × (new.number ≡ old.number) × (new.newest ≡ old.newest) × (new.slots.items ≡ set old.slots.items i n)
-        → slice_get old.slots.items i ≡ Some o → LeadsWith makes x y asks (λ acts. Acts view gives o acts n) → LeadsWith makes x y asks (λ acts. GoesOn view gives old acts new)
-    goes_at x y old new i o n asks same at h = record {
+    pub goes_at : (x y : C) (old new : Links L N) (i : ℕ) (o n : Option (Numbered L)) (asks : List AskParts)
+        → (new.loops ≡ old.loops) × (new.number ≡ old.number) × (new.newest ≡ old.newest) × (new.slots.items ≡ set old.slots.items i n) → new.ledger ≡ old.ledger
+        → slice_get old.slots.items i ≡ Some o → LeadsWith makes x y asks (λ acts. Acts view.links gives o acts n) → LeadsWith makes x y asks (λ acts. GoesOn view gives old acts new)
+    goes_at x y old new i o n asks same ledger at h = record {
       acts = h.acts;
       leads = h.leads;
       wrote = h.wrote;
-      so = record {
-        same = (same.0, same.1);
-        keeps = λ before told. let after = told_acts (loop_numbers old) before old.slots.items told i o n h.acts at h.so in
-            rw (same.0, same.1, same.2, same.3) after;
-      };
+      so = goes_with view gives old new h.acts [] (same.0, same.1) (enters_still view gives old.ledger new.ledger ledger)
+          (λ before ended told. let after = told_acts view.links gives (loop_numbers old) before old.slots.items ended told i o n h.acts at h.so in
+          rw (same.0, same.1, same.2, same.3) after);
     }
 
-    pub goes_leading : (x y z : C) (old mid new : Links L) (asks more : List AskParts) → LeadsWith makes x y asks (λ acts. GoesOn view gives old acts mid)
+    pub goes_leading : (x y z : C) (old mid new : Links L N) (asks more : List AskParts) → LeadsWith makes x y asks (λ acts. GoesOn view gives old acts mid)
         → LeadsWith makes y z more (λ acts. GoesOn view gives mid acts new) → LeadsWith makes x z (asks ++ more) (λ acts. GoesOn view gives old acts new)
     goes_leading x y z old mid new asks more h k = record {
       acts = h.acts ++ k.acts;
-      leads = acts_lead x y z h.acts k.acts h.leads k.leads;
-      wrote = acts_write h.acts k.acts asks more h.wrote k.wrote;
-      so = goes_on old mid new h.acts k.acts h.so k.so;
+      leads = acts_lead view.links gives makes x y z h.acts k.acts h.leads k.leads;
+      wrote = acts_write view.links gives makes h.acts k.acts asks more h.wrote k.wrote;
+      so = goes_on view gives old mid new h.acts k.acts h.so k.so;
     }
 
     -- nothing is written, whatever was taken
-    pub goes_quietly : (x : C) (old new : Links L) (asks : List AskParts) → GoesOn view gives old [] new → LeadsWith makes x x asks (λ acts. GoesOn view gives old acts new)
+    pub goes_quietly : (x : C) (old new : Links L N) (asks : List AskParts) → GoesOn view gives old [] new → LeadsWith makes x x asks (λ acts. GoesOn view gives old acts new)
     goes_quietly x old new asks went = record { acts = []; leads = refl; wrote = some_none asks; so = went }
 
     -- ---- check-backs that were taken
 
     module _ {A : Type 0} (takes : A → List AskParts → A → Type 0) where
-      abbrev pub Taking : C → Links L → A → C → Links L → A → Type 0
+      abbrev pub Taking : C → Links L N → A → C → Links L N → A → Type 0
       Taking x old before y new after = LeadsTaking makes takes x y before after (λ acts. GoesOn view gives old acts new)
 
       -- none was taken
-      pub taking_none : ((end : A) → takes end [] end) → (x y : C) (old new : Links L) (end : A) → LeadsBy makes x y (λ acts. GoesOn view gives old acts new)
+      pub taking_none : ((end : A) → takes end [] end) → (x y : C) (old new : Links L N) (end : A) → LeadsBy makes x y (λ acts. GoesOn view gives old acts new)
           → Taking x old end y new end
       taking_none none x y old new end went = record { taken = []; took = none end; went = went }
 
       -- no step was made either
-      pub taking_nothing : ((end : A) → takes end [] end) → (x : C) (old new : Links L) (end : A) → GoesOn view gives old [] new → Taking x old end x new end
+      pub taking_nothing : ((end : A) → takes end [] end) → (x : C) (old new : Links L N) (end : A) → GoesOn view gives old [] new → Taking x old end x new end
       taking_nothing none x old new end went = taking_none none x x old new end (goes_quietly x old new [] went)
 
       module _ (more : (old : A) (first : List AskParts) (mid : A) (rest : List AskParts) (new : A) → takes old first mid → takes mid rest new → takes old (first ++ rest) new) where
-        pub taking_on : (x y z : C) (old mid new : Links L) (before at after : A) → Taking x old before y mid at → Taking y mid at z new after
+        pub taking_on : (x y z : C) (old mid new : Links L N) (before at after : A) → Taking x old before y mid at → Taking y mid at z new after
             → Taking x old before z new after
         taking_on x y z old mid new before at after h k = record {
           taken = h.taken ++ k.taken;
@@ -544,13 +898,13 @@ module _ {L : Type 0} (view : LinkView L) (gives : Giving) where
         }
 
         -- one more was taken, and was written to its link or dropped
-        pub taking_one : (x y z : C) (old mid new : Links L) (before at after : A) (ask : AskParts) → Taking x old before y mid at → takes at (ask ∷ []) after
+        pub taking_one : (x y z : C) (old mid new : Links L N) (before at after : A) (ask : AskParts) → Taking x old before y mid at → takes at (ask ∷ []) after
             → LeadsWith makes y z (ask ∷ []) (λ acts. GoesOn view gives mid acts new) → Taking x old before z new after
         taking_one x y z old mid new before at after ask h took went =
             taking_on x y z old mid new before at after h (record { taken = ask ∷ []; took = took; went = went })
 
         -- and then none was there
-        pub taking_until : (x y : C) (old new : Links L) (before at after : A) → Taking x old before y new at → takes at [] after → Taking x old before y new after
+        pub taking_until : (x y : C) (old new : Links L N) (before at after : A) → Taking x old before y new at → takes at [] after → Taking x old before y new after
         taking_until x y old new before at after h took = record {
           taken = h.taken;
           took = subst (λ (l : List AskParts). takes before l after) (append-nil h.taken) (more before h.taken at [] after h.took took);
@@ -558,8 +912,8 @@ module _ {L : Type 0} (view : LinkView L) (gives : Giving) where
         }
 
         -- no step was made at first, check-backs were taken, and then none
-        pub taking_serving : ((end : A) → takes end [] end) → (x y z : C) (old mid from given new : Links L) (before after : A) → GoesOn view gives old [] mid
+        pub taking_serving : ((end : A) → takes end [] end) → (x y z : C) (old mid from given new : Links L N) (before after : A) → GoesOn view gives old [] mid
             → from ≡ mid → Taking x from before y given after → LeadsBy makes y z (λ acts. GoesOn view gives given acts new) → Taking x old before z new after
         taking_serving none x y z old mid from given new before after h same took served =
-            taking_on x x z old from new before before after (taking_nothing none x old from before (goes_kept old mid from h same))
+            taking_on x x z old from new before before after (taking_nothing none x old from before (goes_kept view gives old mid from h same))
             (taking_on x y z from given new before after after took (taking_none none y z given new after served))

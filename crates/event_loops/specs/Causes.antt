@@ -15,13 +15,13 @@ pub record LoopFaults : Type 0 where
   pub door : Option ℕ
 
 -- the count of the door that stands in an entrance, if there is one
-abbrev pub door_faults : {Ready Link Door Waker : Type 0} → (Door → ℕ) → Option (Entrance Ready Link Door Waker) → Option ℕ
+abbrev pub door_faults : {Ready Link Door Ends Waker : Type 0} → (Door → ℕ) → Option (Entrance Ready Link Door Ends Waker) → Option ℕ
 door_faults faults None = None
 door_faults faults (Some entrance) = Some (faults entrance.door)
 
 -- the counts of what is outside a loop
-abbrev pub loop_faults : {Ready Link Door Waker Clocks : Type 0} → (Ready → ℕ) → (Door → ℕ) → (Clocks → ℕ)
-    → Outside Ready Clocks Link Door Waker → LoopFaults
+abbrev pub loop_faults : {Ready Link Door Ends Waker Clocks : Type 0} → (Ready → ℕ) → (Door → ℕ) → (Clocks → ℕ)
+    → Outside Ready Clocks Link Door Ends Waker → LoopFaults
 loop_faults ready door clock outside = record {
   ready = ready outside.ready;
   clock = clock outside.clock;

@@ -14,24 +14,24 @@ abbrev pub GaveAll : Option ℕ → ℕ → ℕ → Type 0
 GaveAll None old new = Unit {0}
 GaveAll (Some most) old new = old + most ≤ new
 
-module _ {Ready Link Door Waker : Type 0} where
-  -- the bounds stay, and no more links are counted than the door gave
-  pub record KeepsEntrance (gave : Door → ℕ) (old new : Entrance Ready Link Door Waker) : Type 0 where
+module _ {Ready Link Door Ends Waker : Type 0} where
+  -- the bounds stay, and as many links are counted as the door gave
+  pub record KeepsEntrance (gave : Door → ℕ) (old new : Entrance Ready Link Door Ends Waker) : Type 0 where
     pub bounds : new.bounds ≡ old.bounds
-    pub counted : gave old.door + new.came ≤ gave new.door + old.came
+    pub counted : gave old.door + new.came ≡ gave new.door + old.came
 
   -- an entrance that was there is there still, and so is its count
-  abbrev pub KeepsDoor : (Door → ℕ) → Option (Entrance Ready Link Door Waker) → Option (Entrance Ready Link Door Waker) → Type 0
+  abbrev pub KeepsDoor : (Door → ℕ) → Option (Entrance Ready Link Door Ends Waker) → Option (Entrance Ready Link Door Ends Waker) → Type 0
   KeepsDoor gave None new = new ≡ None
   KeepsDoor gave (Some old) None = ⊥
   KeepsDoor gave (Some old) (Some new) = KeepsEntrance gave old new
 
   -- no further link is let in, where there is an entrance
-  abbrev pub IsDoorDone : Option (Entrance Ready Link Door Waker) → Type 0
+  abbrev pub IsDoorDone : Option (Entrance Ready Link Door Ends Waker) → Type 0
   IsDoorDone None = Unit {0}
   IsDoorDone (Some entrance) = AllCame entrance.bounds.most entrance.came
 
   -- A loop that ended so kept its door; where it ended of itself no further link is let in.
-  pub record AtDoor (gave : Door → ℕ) (end : LoopEnd) (old new : Option (Entrance Ready Link Door Waker)) : Type 0 where
+  pub record AtDoor (gave : Door → ℕ) (end : LoopEnd) (old new : Option (Entrance Ready Link Door Ends Waker)) : Type 0 where
     pub keeps : KeepsDoor gave old new
     pub done : end ≡ Done → IsDoorDone new

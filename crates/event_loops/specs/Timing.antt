@@ -3,7 +3,7 @@ use Rattle.std.specs.Prelude.{◌≡◌, ℕ, ◌++◌, List, [], ◌∷◌}
 use Rattle.mq_outside.specs.Readings.{Giving}
 use Rattle.session.specs.Serving.{Made}
 use Rattle.link_service.specs.Clocks.{AreAt}
-use Rattle.event_loops.specs.Tales.{Act, GoesOn, LinkView, steps_of}
+use Rattle.event_loops.specs.Tales.{Act, GoesOn, LoopView, steps_of}
 use Rattle.event_loops.specs.declared.links.Links.{Links}
 
 -- steps of passes, one for each of these readings, in order: each gave its requests to the broker at its reading
@@ -31,7 +31,7 @@ abbrev pub IsTimed : ClockOver → Made → Type 0
 IsTimed clock made = clock.tells → IsTimedBy clock.old made clock.new
 
 -- the loop went on by these acts, in passes that its clock timed
-pub record GoesTimed {L : Type 0} (view : LinkView L) (gives : Giving) (clock : ClockOver) (old : Links L) (acts : List Act) (new : Links L)
-    : Type 0 where
+pub record GoesTimed {L N : Type 0} (view : LoopView L N) (gives : Giving) (clock : ClockOver) (old : Links L N) (acts : List Act)
+    (new : Links L N) : Type 0 where
   pub went : GoesOn view gives old acts new
   pub timed : IsTimed clock (steps_of acts)

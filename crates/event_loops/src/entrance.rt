@@ -1,6 +1,6 @@
 //! The door, which one loop has: it numbers the links in the order in which they come.
 
-ghost use Rattle.std.specs.Prelude.{◌≡◌, true};
+ghost use Rattle.std.specs.Prelude.{◌≡◌, ◌<◌, ◌-◌, ◌^◌, true, false};
 ghost use Rattle.event_loops.specs.Causes.{CountsDoor};
 ghost use Rattle.event_loops.specs.Doors.{AllCame, KeepsEntrance};
 
@@ -28,7 +28,8 @@ pub struct Entrance<P: Ready> {
 impl<P: Ready> Entrance<P> {
     // Whether no further link is let in.
     pub(crate) fn is_done(&self) -> bool
-        ensures { result ≡ true → AllCame self.now.bounds.most self.now.came }
+        ensures done { result ≡ true → AllCame self.now.bounds.most self.now.came }
+        ensures room { result ≡ false → self.now.came < 2 ^ 32 - 1 }
     {
         match self.bounds.most {
             Some(most) => self.came >= most,
@@ -38,12 +39,13 @@ impl<P: Ready> Entrance<P> {
 
     // The next link at the door, with its number.
     pub(crate) fn accept(&mut self) -> Result<Option<NewLink<P::Link>>, LoopEnd>
+        requires room { self.old.came < 2 ^ 32 - 1 }
         ensures keeps { KeepsEntrance P.Door.gave self.old self.new }
         ensures cause { CountsDoor result (P.Door.faults self.old.door) (P.Door.faults self.new.door) }
     {
         match self.door.accept() {
             Ok(Some(link)) => {
-                self.came = self.came.saturating_add(1);
+                self.came += 1;
                 Ok(Some(NewLink {
                     number: self.came,
                     link,

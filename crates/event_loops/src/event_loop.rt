@@ -1,12 +1,12 @@
 //! A loop: it waits until one of its links may have something to say or a check-back for one has come, serves what came on all of
 //! them, and sends what is due.
 
-ghost use Rattle.std.specs.Prelude.{◌≡◌, ◌<◌, ◌^◌, [], true, IfOk, vec_len};
+ghost use Rattle.std.specs.Prelude.{length, ◌≡◌, ◌<◌, ◌≤◌, ◌^◌, [], true, false, Some, None, IfOk, IfSome, slice_get, vec_len};
 ghost use Rattle.link_service.specs.Clocks.{at_reading, unasked};
 ghost use Rattle.event_loops.specs.Causes.{CountsEnd, CountsLoop, Grow, loop_faults};
 ghost use Rattle.event_loops.specs.Doors.{AtDoor, IsDoorDone, KeepsDoor};
 ghost use Rattle.event_loops.specs.Takings.{LeadsTaking};
-ghost use Rattle.event_loops.specs.Tales.{GoesOn, LeadsBy, link_view};
+ghost use Rattle.event_loops.specs.Tales.{GoesOn, LeadsBy, loop_view};
 ghost use Rattle.event_loops.specs.Timing.{GoesTimed, clock_over};
 
 use crate::asks::{Picked, Takes};
@@ -15,7 +15,7 @@ use crate::outside::{DOOR, Outside};
 use crate::shared::{NewLink, Port, Shared};
 use broker_events::Calls;
 use mq_outside::{Clock, Reader};
-use mq_peers::{Event, Ready};
+use mq_peers::{Ends, Event, Ready};
 use std::alloc::{AllocError, Global};
 use std::sync::Wait;
 
@@ -65,7 +65,7 @@ fn uncount<W: Wait, P: Ready>(around: &Around<'_, W, P>) {
 /// A loop with its links.
 #[derive(Drop)]
 pub struct EventLoop<P: Ready + Drop> {
-    pub(crate) links: Links<P::Link>,
+    pub(crate) links: Links<P::Link, P::Ends>,
     pub(crate) events: Vec<Event>,
     pub(crate) buffer: Vec<u8>,
     pub(crate) turns: u64,
@@ -75,15 +75,21 @@ pub struct EventLoop<P: Ready + Drop> {
 }
 
 impl<P: Ready + Drop> EventLoop<P> {
-    /// A loop without links, this one of so many.
-    pub fn new(alloc: Global, number: usize, loops: usize) -> Result<EventLoop<P>, AllocError>
+    /// A loop without links, this one of so many. Those that end go into this ledger.
+    pub fn new(
+        alloc: Global,
+        number: usize,
+        loops: usize,
+        ends: P::Ends,
+    ) -> Result<EventLoop<P>, AllocError>
         ensures loops { IfOk result (λ it. (it.links.loops ≡ loops) × (it.links.number ≡ number)) }
         ensures none { IfOk result (λ it. it.links.slots.items ≡ []) }
+        ensures ends { IfOk result (λ it. it.links.ledger.ends ≡ ends) }
     {
         let mut buffer = Vec::new(alloc);
         buffer.resize(READ_SIZE, 0)?;
         Ok(EventLoop {
-            links: Links::new(alloc, number, loops),
+            links: Links::new(alloc, number, loops, ends),
             events: Vec::new(alloc),
             buffer,
             turns: 0,
@@ -92,15 +98,44 @@ impl<P: Ready + Drop> EventLoop<P> {
         })
     }
 
-    // Serves this link from now on. One that doesn't fall to the loop, or for which there is no place, is dropped, which closes
-    // it. Answers whether it is served.
+    // A slot for one more link, which is reported from now on. There may be none, or the link can't be reported.
+    fn slot_for<K: Clock + Drop, R: Reader>(
+        &mut self,
+        outside: &mut Outside<P, K>,
+        link: &mut P::Link,
+    ) -> Option<usize>
+        ensures free { IfSome result (λ at. slice_get self.new.links.slots.items at ≡ Some None) }
+        ensures went { GoesOn (loop_view P.Link.tells P.Link.given P.Link.taken P.Ends.tells P.Ends.entries) R.gives
+            self.old.links [] self.new.links }
+        ensures newest { self.new.links.newest ≡ self.old.links.newest }
+        ensures same { link.new ≡ link.old }
+        ensures clock { outside.new.clock ≡ outside.old.clock }
+        ensures entrance { outside.new.entrance ≡ outside.old.entrance }
+        ensures grow { Grow (loop_faults P.faults P.Door.faults K.faults outside.old)
+            (loop_faults P.faults P.Door.faults K.faults outside.new) }
+    {
+        let Some(slot) = self.links.free_slot::<R>() else {
+            return None;
+        };
+        let Ok(token) = u32::try_from(slot) else {
+            return None;
+        };
+        if !outside.register(link, token) {
+            return None;
+        }
+        Some(slot)
+    }
+
+    // Serves this link from now on. One for which there is no place is let go of, and one that doesn't fall to the loop is lost.
+    // Answers whether it is served.
     fn adopt<K: Clock + Drop, R: Reader>(
         &mut self,
         alloc: Global,
         outside: &mut Outside<P, K>,
         new: NewLink<P::Link>,
     ) -> bool
-        ensures went { GoesOn (link_view P.Link.tells P.Link.given P.Link.taken) R.gives self.old.links [] self.new.links }
+        ensures went { GoesOn (loop_view P.Link.tells P.Link.given P.Link.taken P.Ends.tells P.Ends.entries) R.gives
+            self.old.links [] self.new.links }
         ensures clock { outside.new.clock ≡ outside.old.clock }
         ensures entrance { outside.new.entrance ≡ outside.old.entrance }
         ensures grow { Grow (loop_faults P.faults P.Door.faults K.faults outside.old)
@@ -108,19 +143,19 @@ impl<P: Ready + Drop> EventLoop<P> {
     {
         let NewLink { number, mut link } = new;
         if !self.links.may_have(number) {
+            self.links.lose::<R>();
             return false;
         }
-        let Some(slot) = self.links.free_slot::<R>() else {
-            return false;
-        };
-        let Ok(token) = u32::try_from(slot) else {
-            return false;
-        };
-        if !outside.register(&mut link, token) {
-            return false;
+        match self.slot_for::<K, R>(outside, &mut link) {
+            Some(slot) => {
+                self.links.put::<R>(alloc, slot, number, link);
+                true
+            }
+            None => {
+                self.links.refuse::<R>(alloc, number, link);
+                false
+            }
         }
-        self.links.put::<R>(alloc, slot, number, link);
-        true
     }
 
     // Serves a link that is new, or hands it over to the loop to which it falls.
@@ -130,7 +165,8 @@ impl<P: Ready + Drop> EventLoop<P> {
         outside: &mut Outside<P, K>,
         new: NewLink<P::Link>,
     )
-        ensures went { GoesOn (link_view P.Link.tells P.Link.given P.Link.taken) R.gives self.old.links [] self.new.links }
+        ensures went { GoesOn (loop_view P.Link.tells P.Link.given P.Link.taken P.Ends.tells P.Ends.entries) R.gives
+            self.old.links [] self.new.links }
         ensures clock { outside.new.clock ≡ outside.old.clock }
         ensures entrance { outside.new.entrance ≡ outside.old.entrance }
         ensures grow { Grow (loop_faults P.faults P.Door.faults K.faults outside.old)
@@ -143,6 +179,7 @@ impl<P: Ready + Drop> EventLoop<P> {
             && let Some(port) = around.ports.get(to)
         {
             if !port.hand_over(around.rt, new) {
+                self.links.lose::<R>();
                 uncount(around);
             }
             return;
@@ -183,7 +220,8 @@ impl<P: Ready + Drop> EventLoop<P> {
         around: &Around<'_, W, P>,
         outside: &mut Outside<P, K>,
     ) -> Result<(), LoopEnd>
-        ensures went { GoesOn (link_view P.Link.tells P.Link.given P.Link.taken) R.gives self.old.links [] self.new.links }
+        ensures went { GoesOn (loop_view P.Link.tells P.Link.given P.Link.taken P.Ends.tells P.Ends.entries) R.gives
+            self.old.links [] self.new.links }
         ensures clock { outside.new.clock ≡ outside.old.clock }
         ensures door { KeepsDoor P.Door.gave outside.old.entrance outside.new.entrance }
         ensures cause { CountsLoop result (loop_faults P.faults P.Door.faults K.faults outside.old)
@@ -206,7 +244,8 @@ impl<P: Ready + Drop> EventLoop<P> {
         around: &Around<'_, W, P>,
         outside: &mut Outside<P, K>,
     ) -> Result<(), LoopEnd>
-        ensures went { GoesOn (link_view P.Link.tells P.Link.given P.Link.taken) R.gives self.old.links [] self.new.links }
+        ensures went { GoesOn (loop_view P.Link.tells P.Link.given P.Link.taken P.Ends.tells P.Ends.entries) R.gives
+            self.old.links [] self.new.links }
         ensures clock { outside.new.clock ≡ outside.old.clock }
         ensures door { KeepsDoor P.Door.gave outside.old.entrance outside.new.entrance }
         ensures cause { CountsLoop result (loop_faults P.faults P.Door.faults K.faults outside.old)
@@ -226,7 +265,8 @@ impl<P: Ready + Drop> EventLoop<P> {
         around: &Around<'_, W, P>,
         outside: &mut Outside<P, K>,
     ) -> bool
-        ensures went { GoesOn (link_view P.Link.tells P.Link.given P.Link.taken) R.gives self.old.links [] self.new.links }
+        ensures went { GoesOn (loop_view P.Link.tells P.Link.given P.Link.taken P.Ends.tells P.Ends.entries) R.gives
+            self.old.links [] self.new.links }
         ensures clock { outside.new.clock ≡ outside.old.clock }
         ensures entrance { outside.new.entrance ≡ outside.old.entrance }
         ensures grow { Grow (loop_faults P.faults P.Door.faults K.faults outside.old)
@@ -249,7 +289,8 @@ impl<P: Ready + Drop> EventLoop<P> {
     // Notes what was reported of a link, or of the door.
     fn note_report<R: Reader>(&mut self, event: &Event)
         ensures events { vec_len self.new.events ≡ vec_len self.old.events }
-        ensures went { GoesOn (link_view P.Link.tells P.Link.given P.Link.taken) R.gives self.old.links [] self.new.links }
+        ensures went { GoesOn (loop_view P.Link.tells P.Link.given P.Link.taken P.Ends.tells P.Ends.entries) R.gives
+            self.old.links [] self.new.links }
     {
         if event.token == DOOR {
             self.at_door = true;
@@ -260,7 +301,8 @@ impl<P: Ready + Drop> EventLoop<P> {
 
     // Notes what was reported.
     fn note_reports<R: Reader>(&mut self)
-        ensures went { GoesOn (link_view P.Link.tells P.Link.given P.Link.taken) R.gives self.old.links [] self.new.links }
+        ensures went { GoesOn (loop_view P.Link.tells P.Link.given P.Link.taken P.Ends.tells P.Ends.entries) R.gives
+            self.old.links [] self.new.links }
     {
         for i in 0..self.events.len() {
             let event = self.events[i];
@@ -290,7 +332,8 @@ impl<P: Ready + Drop> EventLoop<P> {
         reader: &mut R,
     ) -> bool
         ensures { LeadsTaking (unasked C.makes) A.takes calls.old calls.new asks.old asks.new
-            (λ acts. GoesOn (link_view P.Link.tells P.Link.given P.Link.taken) R.gives self.old.links acts self.new.links) }
+            (λ acts. GoesOn (loop_view P.Link.tells P.Link.given P.Link.taken P.Ends.tells P.Ends.entries) R.gives
+            self.old.links acts self.new.links) }
     {
         for _ in 0..ASKS_MAX {
             let Picked::Ask(next) = asks.take() else {
@@ -312,7 +355,8 @@ impl<P: Ready + Drop> EventLoop<P> {
     )
         requires { now < 2 ^ 62 }
         ensures went { LeadsBy (at_reading now C.makes) calls.old calls.new
-            (λ acts. GoesOn (link_view P.Link.tells P.Link.given P.Link.taken) R.gives self.old.links acts self.new.links) }
+            (λ acts. GoesOn (loop_view P.Link.tells P.Link.given P.Link.taken P.Ends.tells P.Ends.entries) R.gives
+            self.old.links acts self.new.links) }
     {
         let buffer = self.buffer.as_mut_slice();
         if self
@@ -399,7 +443,8 @@ impl<P: Ready + Drop> EventLoop<P> {
         outside: &mut Outside<P, K>,
         timeout: Option<u64>,
     ) -> Result<bool, LoopEnd>
-        ensures went { GoesOn (link_view P.Link.tells P.Link.given P.Link.taken) R.gives self.old.links [] self.new.links }
+        ensures went { GoesOn (loop_view P.Link.tells P.Link.given P.Link.taken P.Ends.tells P.Ends.entries) R.gives
+            self.old.links [] self.new.links }
         ensures clock { outside.new.clock ≡ outside.old.clock }
         ensures door { KeepsDoor P.Door.gave outside.old.entrance outside.new.entrance }
         ensures cause { CountsLoop result (loop_faults P.faults P.Door.faults K.faults outside.old)
@@ -423,7 +468,7 @@ impl<P: Ready + Drop> EventLoop<P> {
         timeout: Option<u64>,
     ) -> Result<Option<u64>, LoopEnd>
         ensures went { LeadsTaking C.makes A.takes calls.old calls.new asks.old asks.new
-            (λ acts. GoesTimed (link_view P.Link.tells P.Link.given P.Link.taken) R.gives
+            (λ acts. GoesTimed (loop_view P.Link.tells P.Link.given P.Link.taken P.Ends.tells P.Ends.entries) R.gives
             (clock_over K.tells (K.readings outside.old.clock) (K.readings outside.new.clock)) self.old.links acts self.new.links) }
         ensures door { KeepsDoor P.Door.gave outside.old.entrance outside.new.entrance }
         ensures cause { CountsLoop result (loop_faults P.faults P.Door.faults K.faults outside.old)
@@ -437,9 +482,8 @@ impl<P: Ready + Drop> EventLoop<P> {
         Ok(self.timeout(around, more_came || more_asks))
     }
 
-    /// Serves links until the door is done and all of them have ended, or a fault of it or of another loop ends it. Meanwhile it writes
-    /// the check-backs that come. Whoever sends one wakes the loop.
-    pub fn run<W: Wait, K: Clock + Drop, A: Takes, C: Calls, R: Reader>(
+    // Serves links until the door is done and all of them have ended, or a fault of it or of another loop ends it.
+    fn go_on<W: Wait, K: Clock + Drop, A: Takes, C: Calls, R: Reader>(
         &mut self,
         around: &Around<'_, W, P>,
         outside: &mut Outside<P, K>,
@@ -447,14 +491,10 @@ impl<P: Ready + Drop> EventLoop<P> {
         calls: &mut C,
         reader: &mut R,
     ) -> LoopEnd
-        // Each step is one of a link's pass, or its end. The requests of each pass are given to the broker at the reading that the
-        // clock gave for it. What was written to links are some of the check-backs that were taken.
         ensures went { LeadsTaking C.makes A.takes calls.old calls.new asks.old asks.new
-            (λ acts. GoesTimed (link_view P.Link.tells P.Link.given P.Link.taken) R.gives
+            (λ acts. GoesTimed (loop_view P.Link.tells P.Link.given P.Link.taken P.Ends.tells P.Ends.entries) R.gives
             (clock_over K.tells (K.readings outside.old.clock) (K.readings outside.new.clock)) self.old.links acts self.new.links) }
-        // No more links are let in than its door gave. It ends as done only where none is let in any more.
         ensures door { AtDoor P.Door.gave result outside.old.entrance outside.new.entrance }
-        // It ends by a fault only where the count of what it blames rose.
         ensures cause { CountsEnd result (loop_faults P.faults P.Door.faults K.faults outside.old)
             (loop_faults P.faults P.Door.faults K.faults outside.new) }
     {
@@ -472,5 +512,96 @@ impl<P: Ready + Drop> EventLoop<P> {
             }
         }
         unreachable!()
+    }
+
+    /// Serves links until the door is done and all of them have ended, or a fault of it or of another loop ends it; then it lets go of
+    /// those that are left. Meanwhile it writes the check-backs that come. Whoever sends one wakes the loop.
+    pub fn run<W: Wait, K: Clock + Drop, A: Takes, C: Calls, R: Reader>(
+        &mut self,
+        around: &Around<'_, W, P>,
+        outside: &mut Outside<P, K>,
+        asks: &mut A,
+        calls: &mut C,
+        reader: &mut R,
+    ) -> LoopEnd
+        // Each step is one of a link's pass, or its end. The requests of each pass are given to the broker at the reading that the
+        // clock gave for it. What was written to links are some of the check-backs that were taken.
+        ensures went { LeadsTaking C.makes A.takes calls.old calls.new asks.old asks.new
+            (λ acts. GoesTimed (loop_view P.Link.tells P.Link.given P.Link.taken P.Ends.tells P.Ends.entries) R.gives
+            (clock_over K.tells (K.readings outside.old.clock) (K.readings outside.new.clock)) self.old.links acts self.new.links) }
+        // Each link that it had is let go of.
+        ensures none { self.new.links.slots.items ≡ [] }
+        // No more links are let in than its door gave. It ends as done only where none is let in any more.
+        ensures door { AtDoor P.Door.gave result outside.old.entrance outside.new.entrance }
+        // It ends by a fault only where the count of what it blames rose.
+        ensures cause { CountsEnd result (loop_faults P.faults P.Door.faults K.faults outside.old)
+            (loop_faults P.faults P.Door.faults K.faults outside.new) }
+    {
+        let end = self.go_on(around, outside, asks, calls, reader);
+        self.links.let_go::<R>();
+        end
+    }
+
+    // Lets go of a link that was handed over and is served by nobody.
+    fn refuse<R: Reader>(&mut self, alloc: Global, new: NewLink<P::Link>)
+        ensures went { GoesOn (loop_view P.Link.tells P.Link.given P.Link.taken P.Ends.tells P.Ends.entries) R.gives
+            self.old.links [] self.new.links }
+        ensures slots { self.new.links.slots ≡ self.old.links.slots }
+    {
+        let NewLink { number, link } = new;
+        if !self.links.may_have(number) {
+            self.links.lose::<R>();
+            return;
+        }
+        self.links.refuse::<R>(alloc, number, link);
+    }
+
+    /// Lets go of the links that were handed over to it and not served any more, once all loops have ended.
+    pub fn refuse_left<W: Wait, R: Reader>(&mut self, around: &Around<'_, W, P>)
+        ensures went { GoesOn (loop_view P.Link.tells P.Link.given P.Link.taken P.Ends.tells P.Ends.entries) R.gives
+            self.old.links [] self.new.links }
+        ensures slots { self.new.links.slots ≡ self.old.links.slots }
+    {
+        let Some(port) = around.ports.get(self.links.number) else {
+            return;
+        };
+        for _ in around.rt.forever() {
+            let Some(new) = port.take(around.rt) else {
+                return;
+            };
+            self.refuse::<R>(around.alloc, new);
+        }
+        unreachable!()
+    }
+
+    /// Whether each link that it had is in its ledger, with a number that is at most this one.
+    pub fn is_whole(&self, came: u32) -> bool
+        ensures { result ≡ true → (self.now.links.ledger.lost ≡ false) × (self.now.links.newest ≤ came) }
+    {
+        !self.links.ledger.lost && self.links.newest <= came
+    }
+
+    /// How many links are in its ledger.
+    pub fn count_ended(&self) -> u64
+        ensures { P.Ends.tells → result ≡ length (P.Ends.entries self.now.links.ledger.ends) }
+    {
+        self.links.ledger.ends.count()
+    }
+
+    /// Its ledger.
+    pub fn into_ends(self) -> P::Ends
+        ensures { result ≡ self.links.ledger.ends }
+    {
+        let EventLoop {
+            links,
+            events,
+            buffer,
+            turns: _,
+            at_door: _,
+            door_waits: _,
+        } = self;
+        drop(events);
+        drop(buffer);
+        links.into_ends()
     }
 }

@@ -1,16 +1,19 @@
 //! The links of a loop: each is read and served, and then what is due on each is sent.
 
-ghost use Rattle.std.specs.Prelude.{◌≡◌, ◌<◌, ◌^◌, ◌∷◌, [], true, false, slice_get, Option, Some, None, IfSome};
+ghost use Rattle.std.specs.Prelude.{◌≡◌, ◌<◌, ◌^◌, ◌∷◌, [], List, true, false, slice_get, Option, Some, None, IfSome};
+ghost use Rattle.mq_peers.specs.Ended.{LinkEnd};
 ghost use Rattle.broker_events.specs.declared.event.Event.TheVariants.{Leave};
 ghost use Rattle.broker_events.specs.declared.said.Said.{Said};
 ghost use Rattle.link_service.specs.Clocks.{at_reading, unasked};
-ghost use Rattle.event_loops.specs.Tales.{Acts, Keeps, LeadsWith, LeadsBy, GoesOn, IsSeenAs, IsLink, IsSlotOf, link_view, loop_of as loop_of_link};
+ghost use Rattle.event_loops.specs.Tales.{Acts, ActsOrLeaves, Enters, Keeps, Leaves, LeadsWith, LeadsBy, GoesOn, IsSeenAs, IsLink, IsSlotOf};
+ghost use Rattle.event_loops.specs.Tales.{link_view, loop_view, loop_of as loop_of_link};
 
+use crate::ledger::{Ledger, enter, let_go};
 use crate::shared::Shared;
 use broker_events::{Calls, Event as BrokerEvent};
 use link_service::Linked;
 use mq_outside::Reader;
-use mq_peers::{Event, Link};
+use mq_peers::{Ends, Event, Link};
 use reply_fields::Ask;
 use std::alloc::Global;
 
@@ -44,22 +47,24 @@ impl Outlook {
     }
 }
 
-/// A link that a loop serves, with its number.
+/// A link that a loop serves, with its number, and its peer as it showed it at first.
 #[derive(Drop)]
 pub struct Numbered<L: Link + Drop> {
     pub(crate) number: u32,
+    pub(crate) peer: [u8; 8],
     pub(crate) linked: Linked<L>,
 }
 
 /// The links of one of several loops. It takes those that fall to it, with greater and greater numbers.
 #[derive(Drop)]
-pub struct Links<L: Link + Drop> {
+pub struct Links<L: Link + Drop, N: Drop> {
     // Which loop it is, of how many.
     pub(crate) number: usize,
     pub(crate) loops: usize,
     // The greatest number that a link of it had.
     pub(crate) newest: u32,
     pub(crate) slots: Vec<Option<Numbered<L>>>,
+    pub(crate) ledger: Ledger<N>,
 }
 
 // It was reported.
@@ -119,7 +124,7 @@ fn hear_each<L: Link + Drop, C: Calls, R: Reader>(
 ) -> bool
     requires { now < 2 ^ 62 }
     ensures went { LeadsBy (at_reading now C.makes) calls.old calls.new
-        (λ acts. Keeps (link_view L.tells L.given L.taken) R.gives slots.old acts slots.new) }
+        (λ acts. Keeps (link_view L.tells L.given L.taken) R.gives slots.old acts slots.new []) }
 {
     let mut any = false;
     for i in 0..slots.len() {
@@ -136,7 +141,7 @@ fn leave<C: Calls>(alloc: Global, calls: &mut C, link: u32)
     let _ = calls.call(alloc, &BrokerEvent::Leave { link });
 }
 
-// Sends what is due on one link, and ends it where it has nothing more to do. Answers whether it has.
+// Sends what is due on one link, and tells the broker where it has nothing more to do. Answers whether it has.
 fn reply_one<L: Link + Drop, C: Calls, R: Reader>(
     alloc: Global,
     calls: &mut C,
@@ -147,27 +152,28 @@ fn reply_one<L: Link + Drop, C: Calls, R: Reader>(
     ensures replied { result ≡ false → LeadsBy (unasked C.makes) calls.old calls.new
         (λ acts. Acts (link_view L.tells L.given L.taken) R.gives (Some numbered.old) acts (Some numbered.new)) }
     ensures left { result ≡ true → LeadsBy (unasked C.makes) calls.old calls.new
-        (λ acts. Acts (link_view L.tells L.given L.taken) R.gives (Some numbered.old) acts None) }
+        (λ acts. Leaves (link_view L.tells L.given L.taken) R.gives numbered.old acts numbered.new) }
 {
     numbered.linked.reply(alloc, calls, reader, flushed);
     if !numbered.linked.has_ended() {
         return false;
     }
     leave(alloc, calls, numbered.number);
-    numbered.linked.close();
     true
 }
 
-// The same of a slot, which is free where the link has ended.
-fn reply_slot<L: Link + Drop, C: Calls, R: Reader>(
+// The same of a slot. A link that has ended is let go of, and the slot is free.
+fn reply_slot<L: Link + Drop, N: Ends<L> + Drop, C: Calls, R: Reader>(
     alloc: Global,
     calls: &mut C,
     slot: &mut Option<Numbered<L>>,
+    ledger: &mut Ledger<N>,
     reader: &mut R,
     flushed: u64,
 ) -> bool
-    ensures went { LeadsBy (unasked C.makes) calls.old calls.new
-        (λ acts. Acts (link_view L.tells L.given L.taken) R.gives slot.old acts slot.new) }
+    ensures went { LeadsBy (unasked C.makes) calls.old calls.new (λ acts. (gone : List LinkEnd)
+        × Enters (loop_view L.tells L.given L.taken N.tells N.entries) ledger.old gone ledger.new
+        × ActsOrLeaves (link_view L.tells L.given L.taken) R.gives slot.old acts slot.new gone) }
 {
     let Some(numbered) = slot else {
         return false;
@@ -175,27 +181,29 @@ fn reply_slot<L: Link + Drop, C: Calls, R: Reader>(
     if !reply_one(alloc, calls, numbered, reader, flushed) {
         return false;
     }
-    *slot = None;
+    let_go(slot.take(), ledger);
     true
 }
 
 // Sends what is due on each link, as far as the last flush turn left it, and lets go of those that have ended. Answers whether any
 // has.
-fn reply_each<L: Link + Drop, C: Calls, R: Reader>(
+fn reply_each<L: Link + Drop, N: Ends<L> + Drop, C: Calls, R: Reader>(
     alloc: Global,
     shared: &Shared,
     calls: &mut C,
     slots: &mut [Option<Numbered<L>>],
+    ledger: &mut Ledger<N>,
     reader: &mut R,
 ) -> bool
-    ensures went { LeadsBy (unasked C.makes) calls.old calls.new
-        (λ acts. Keeps (link_view L.tells L.given L.taken) R.gives slots.old acts slots.new) }
+    ensures went { LeadsBy (unasked C.makes) calls.old calls.new (λ acts. (gone : List LinkEnd)
+        × Enters (loop_view L.tells L.given L.taken N.tells N.entries) ledger.old gone ledger.new
+        × Keeps (link_view L.tells L.given L.taken) R.gives slots.old acts slots.new gone) }
 {
     let mut any = false;
     let flushed = shared.flushed();
     for i in 0..slots.len() {
         let slot = &mut slots[i];
-        if reply_slot(alloc, calls, slot, reader, flushed) {
+        if reply_slot(alloc, calls, slot, ledger, reader, flushed) {
             shared.link_ended();
             any = true;
         }
@@ -266,17 +274,19 @@ fn free_in<L: Link + Drop>(slots: &[Option<Numbered<L>>]) -> Option<usize>
     slots.iter().position(|slot| slot.is_none())
 }
 
-impl<L: Link + Drop> Links<L> {
-    /// No links, of this loop of so many.
-    pub(crate) fn new(alloc: Global, number: usize, loops: usize) -> Links<L>
+impl<L: Link + Drop, N: Ends<L> + Drop> Links<L, N> {
+    /// No links, of this loop of so many. Those that end go into this ledger.
+    pub(crate) fn new(alloc: Global, number: usize, loops: usize, ends: N) -> Links<L, N>
         ensures loops { (result.loops ≡ loops) × (result.number ≡ number) }
         ensures none { result.slots.items ≡ [] }
+        ensures ends { result.ledger.ends ≡ ends }
     {
         Links {
             number,
             loops,
             newest: 0,
             slots: Vec::new(alloc),
+            ledger: Ledger { ends, lost: false },
         }
     }
 
@@ -297,7 +307,7 @@ impl<L: Link + Drop> Links<L> {
     // One more slot, if there is memory for it.
     fn add_slot<R: Reader>(&mut self) -> Option<usize>
         ensures free { IfSome result (λ at. slice_get self.new.slots.items at ≡ Some None) }
-        ensures went { GoesOn (link_view L.tells L.given L.taken) R.gives self.old [] self.new }
+        ensures went { GoesOn (loop_view L.tells L.given L.taken N.tells N.entries) R.gives self.old [] self.new }
         ensures newest { self.new.newest ≡ self.old.newest }
     {
         let at = self.slots.len();
@@ -310,7 +320,7 @@ impl<L: Link + Drop> Links<L> {
     /// A slot for one more link, if there is one.
     pub(crate) fn free_slot<R: Reader>(&mut self) -> Option<usize>
         ensures free { IfSome result (λ at. slice_get self.new.slots.items at ≡ Some None) }
-        ensures went { GoesOn (link_view L.tells L.given L.taken) R.gives self.old [] self.new }
+        ensures went { GoesOn (loop_view L.tells L.given L.taken N.tells N.entries) R.gives self.old [] self.new }
         ensures newest { self.new.newest ≡ self.old.newest }
     {
         if let Some(at) = free_in(self.slots.as_slice()) {
@@ -329,16 +339,59 @@ impl<L: Link + Drop> Links<L> {
         requires falls { loop_of_link self.old.loops number ≡ self.old.number }
         requires given { L.tells → L.given link ≡ [] }
         requires taken { L.tells → L.taken link ≡ [] }
-        ensures went { GoesOn (link_view L.tells L.given L.taken) R.gives self.old [] self.new }
+        ensures went { GoesOn (loop_view L.tells L.given L.taken N.tells N.entries) R.gives self.old [] self.new }
     {
+        let peer = link.peer();
         let linked = Linked::new(alloc, number, link);
         self.newest = number;
-        self.slots[slot] = Some(Numbered { number, linked });
+        self.slots[slot] = Some(Numbered {
+            number,
+            peer,
+            linked,
+        });
+    }
+
+    /// Lets go of a link with this number, which is served by nobody.
+    pub(crate) fn refuse<R: Reader>(&mut self, alloc: Global, number: u32, link: L)
+        requires newest { self.old.newest < number }
+        requires falls { loop_of_link self.old.loops number ≡ self.old.number }
+        requires given { L.tells → L.given link ≡ [] }
+        requires taken { L.tells → L.taken link ≡ [] }
+        ensures went { GoesOn (loop_view L.tells L.given L.taken N.tells N.entries) R.gives self.old [] self.new }
+        ensures slots { self.new.slots ≡ self.old.slots }
+    {
+        let peer = link.peer();
+        let linked = Linked::new(alloc, number, link);
+        let numbered = Numbered {
+            number,
+            peer,
+            linked,
+        };
+        self.newest = number;
+        enter(&mut self.ledger, numbered);
+    }
+
+    /// A link is let go of that isn't entered.
+    pub(crate) fn lose<R: Reader>(&mut self)
+        ensures went { GoesOn (loop_view L.tells L.given L.taken N.tells N.entries) R.gives self.old [] self.new }
+        ensures slots { self.new.slots ≡ self.old.slots }
+    {
+        self.ledger.lose();
+    }
+
+    /// Lets go of all links.
+    pub(crate) fn let_go<R: Reader>(&mut self)
+        ensures went { GoesOn (loop_view L.tells L.given L.taken N.tells N.entries) R.gives self.old [] self.new }
+        ensures none { self.new.slots.items ≡ [] }
+    {
+        while let Some(slot) = self.slots.pop() {
+            let_go(slot, &mut self.ledger);
+        }
     }
 
     /// The link with this token was reported.
     pub(crate) fn report<R: Reader>(&mut self, event: &Event)
-        ensures went { GoesOn (link_view L.tells L.given L.taken) R.gives self.old [] self.new }
+        ensures went { GoesOn (loop_view L.tells L.given L.taken N.tells N.entries) R.gives self.old [] self.new }
     {
         let at = event.token as usize;
         if at < self.slots.len() {
@@ -359,7 +412,7 @@ impl<L: Link + Drop> Links<L> {
     ) -> bool
         requires { now < 2 ^ 62 }
         ensures went { LeadsBy (at_reading now C.makes) calls.old calls.new
-            (λ acts. GoesOn (link_view L.tells L.given L.taken) R.gives self.old acts self.new) }
+            (λ acts. GoesOn (loop_view L.tells L.given L.taken N.tells N.entries) R.gives self.old acts self.new) }
     {
         hear_each::<L, C, R>(alloc, calls, self.slots.as_mut_slice(), buffer, now, failed)
     }
@@ -373,9 +426,16 @@ impl<L: Link + Drop> Links<L> {
         reader: &mut R,
     ) -> bool
         ensures went { LeadsBy (unasked C.makes) calls.old calls.new
-            (λ acts. GoesOn (link_view L.tells L.given L.taken) R.gives self.old acts self.new) }
+            (λ acts. GoesOn (loop_view L.tells L.given L.taken N.tells N.entries) R.gives self.old acts self.new) }
     {
-        reply_each(alloc, shared, calls, self.slots.as_mut_slice(), reader)
+        reply_each(
+            alloc,
+            shared,
+            calls,
+            self.slots.as_mut_slice(),
+            &mut self.ledger,
+            reader,
+        )
     }
 
     /// Writes a check-back to the link that it names, behind the replies that are due. It is dropped where the link is not here
@@ -388,7 +448,7 @@ impl<L: Link + Drop> Links<L> {
         ask: &Ask,
     )
         ensures { LeadsWith (unasked C.makes) calls.old calls.new (ask.now ∷ [])
-            (λ acts. GoesOn (link_view L.tells L.given L.taken) R.gives self.old acts self.new) }
+            (λ acts. GoesOn (loop_view L.tells L.given L.taken N.tells N.entries) R.gives self.old acts self.new) }
     {
         let Some(at) = slot_of(self.slots.as_slice(), ask.link) else {
             return;
@@ -417,5 +477,21 @@ impl<L: Link + Drop> Links<L> {
     /// Whether there is none.
     pub(crate) fn is_empty(&self) -> bool {
         !self.slots.iter().any(|slot| slot.is_some())
+    }
+
+    /// Its ledger.
+    pub(crate) fn into_ends(self) -> N
+        ensures { result ≡ self.ledger.ends }
+    {
+        let Links {
+            number: _,
+            loops: _,
+            newest: _,
+            slots,
+            ledger,
+        } = self;
+        drop(slots);
+        let Ledger { ends, lost: _ } = ledger;
+        ends
     }
 }

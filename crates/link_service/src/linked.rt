@@ -80,12 +80,26 @@ impl<L: Link + Drop> Linked<L> {
         self.session.link()
     }
 
-    /// Ends the link: its peer sees the end.
-    pub fn close(&mut self)
-        ensures { WentOnUnread L.tells (seen_of L.given L.taken self.old) [] (seen_of L.given L.taken self.new) }
+    /// The link, which makes no further call here.
+    pub fn into_link(self) -> L
+        ensures { result ≡ self.link }
     {
-        self.link.close();
-        self.broken = true;
+        let Linked {
+            link,
+            session,
+            readable: _,
+            writable: _,
+            ended: _,
+            deaf: _,
+            garbled: _,
+            drained_since: _,
+            drained_to: _,
+            behind: _,
+            owes: _,
+            broken: _,
+        } = self;
+        drop(session);
+        link
     }
 
     /// It was reported. Where its peer has ended its side, it is read until a read says so.

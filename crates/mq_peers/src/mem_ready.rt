@@ -2,11 +2,13 @@
 
 ghost use Rattle.std.specs.Prelude.{◌≡◌, ◌++◌, ◌∷◌, ◌-◌, ◌==◌, ◌↔◌, [], filter, not, IfOk, OnOk, OnErr};
 ghost use Rattle.mq_outside.specs.Counts.{CountsDiskFault, CountsFailure};
+ghost use Rattle.mq_peers.specs.Kept.{ends_of};
 ghost use Rattle.mq_peers.specs.Reports.{events_of};
 
 use crate::event::Event;
 use crate::link::Link;
 use crate::mem_door::MemDoor;
+use crate::mem_ends::MemEnds;
 use crate::ready::Ready;
 use crate::wake::Wake;
 use mq_outside::{DiskFault, Failed};
@@ -87,6 +89,8 @@ impl<L: Link + Send + Drop> Ready for MemReady<L> {
 
     type Door = MemDoor<L>;
 
+    type Ends = MemEnds<L>;
+
     type Waker = MemWaker;
 
     ghost faults = { λ s. s.faults };
@@ -99,6 +103,12 @@ impl<L: Link + Send + Drop> Ready for MemReady<L> {
         ensures still { self.new ≡ self.old }
     {
         Ok(MemReady::new(self.alloc, self.waits))
+    }
+
+    fn ends(&self) -> MemEnds<L>
+        ensures none { L.tells → ends_of L.peer L.given L.taken result.links.items ≡ [] }
+    {
+        MemEnds::new(self.alloc)
     }
 
     fn waker(&self) -> Result<MemWaker, AllocError> {

@@ -4,6 +4,7 @@ ghost use Rattle.std.specs.Prelude.{◌≡◌, [], ℕ, IfOk, OnErr};
 ghost use Rattle.mq_outside.specs.Counts.{CountsDiskFault, CountsFailure};
 
 use crate::door::Door;
+use crate::ends::Ends;
 use crate::event::Event;
 use crate::link::Link;
 use crate::wake::Wake;
@@ -21,6 +22,8 @@ pub trait Ready {
     type Link: Link + Send + Drop;
     /// The doors that it waits for.
     type Door: Door<Link = Self::Link> + Send + Drop;
+    /// Where its links go that have ended.
+    type Ends: Ends<Self::Link> + Send + Drop;
     /// What ends its waits.
     type Waker: Wake + Send + Sync + Drop;
 
@@ -31,6 +34,10 @@ pub trait Ready {
     fn twin(&mut self) -> Result<Self, DiskFault>
         ensures fresh { IfOk result (λ twin. faults twin ≡ 0) }
         ensures cause { CountsDiskFault result (faults self.old) (faults self.new) };
+
+    /// A ledger of links that have ended, which has none yet.
+    fn ends(&self) -> Self::Ends
+        ensures none { Self.Ends.tells → Self.Ends.entries result ≡ [] };
 
     /// A waker of its waits. It fails for want of memory alone.
     fn waker(&self) -> Result<Self::Waker, AllocError>;

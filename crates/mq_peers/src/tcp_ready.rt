@@ -6,6 +6,7 @@ ghost use Rattle.mq_outside.specs.Counts.{Rises};
 use crate::event::Event;
 use crate::ready::Ready;
 use crate::tcp_door::TcpDoor;
+use crate::tcp_ends::TcpEnds;
 use crate::tcp_link::TcpLink;
 use crate::wake::Wake;
 use mio::{Events, Interest, Poll, Token};
@@ -110,6 +111,8 @@ impl<R: Net + Copy + Send + Drop> Ready for TcpReady<R> {
 
     type Door = TcpDoor<R>;
 
+    type Ends = TcpEnds;
+
     type Waker = TcpWaker;
 
     ghost faults = { λ s. s.faults };
@@ -120,6 +123,10 @@ impl<R: Net + Copy + Send + Drop> Ready for TcpReady<R> {
             Err(DiskFault::Memory) => Err(DiskFault::Memory),
             Err(DiskFault::Failed) => Err(self.fail()),
         }
+    }
+
+    fn ends(&self) -> TcpEnds {
+        TcpEnds::new()
     }
 
     fn waker(&self) -> Result<TcpWaker, AllocError> {

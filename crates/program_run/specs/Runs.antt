@@ -20,7 +20,7 @@ use Rattle.serve_threads.specs.Kept.{KeepOver}
 use Rattle.serve_threads.specs.Served.{Views}
 use Rattle.serve_threads.specs.Causes.{ServeFaults}
 use Rattle.broker_serve.specs.Causes.{Causes}
-use Rattle.broker_serve.specs.Serves.{HasServed, PutsAllAlong, run_over, setup_by}
+use Rattle.broker_serve.specs.Serves.{AllLinks, HasServed, PutsAllAlong, run_over, setup_by}
 use Rattle.broker_serve.specs.Statuses.{TellsWhy}
 use Rattle.broker_serve.specs.Unserved.{ServesNobody}
 use Rattle.exit_status.specs.Stores.{store_over}
@@ -51,14 +51,15 @@ pub record Pipes {D : Type 0} (words : List (List ℕ)) (status : Status) (seen 
 
 -- ---- links
 
--- A run over links: what is seen of it, the disk before it and behind it, the keep, the core that is left, where links were served, and
--- how many links the door gave before it and behind it.
+-- A run over links: what is seen of it, the disk before it and behind it, the keep, the core that is left, where links were served, that
+-- the ledgers of links that have ended tell, and how many links the door gave before it and behind it.
 pub record ServeSeen (D : Type 0) : Type 1 where
   pub views : Views D
   pub old : D
   pub new : D
   pub keep : KeepOver
   pub core : Option Parts
+  pub ends : Type 0
   pub gave : ℕ × ℕ
 
 -- What a run over links does: each field is the clause of `run_serve` with its name.
@@ -86,5 +87,6 @@ pub record Serves {D : Type 0} (words : List (List ℕ)) (status : Status) (seen
       → seen.keep.new.reads name ≡ seen.keep.old.reads name
   pub came : status.code ≡ 0 → (command : ServeCommand) × IsServeCommand words command
       × GaveAll command.connections seen.gave.0 seen.gave.1
+  pub links : IfSome seen.core (λ left. AllLinks seen.ends status seen.gave seen.views.links)
   pub table : FitsTable status
   pub cause : Causes status old new

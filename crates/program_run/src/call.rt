@@ -4,6 +4,7 @@ ghost use Rattle.std.specs.Prelude.{◌≡◌, ◌≢◌, true, false, None};
 ghost use Rattle.worker_turns.specs.Acts.{view_of};
 ghost use Rattle.store_open.specs.Words.{texts_of};
 ghost use Rattle.serve_threads.specs.Kept.{keep_over};
+ghost use Rattle.serve_threads.specs.Links.{links_over};
 ghost use Rattle.serve_threads.specs.Served.{clocks_over, readings_of, views_of};
 ghost use Rattle.serve_threads.specs.Causes.{counts_of, world_faults};
 ghost use Rattle.program_run.specs.Stand.{KeepsAnswers};
@@ -149,13 +150,14 @@ where
     // What `run_serve` promises, of the disk, the keep and the world. The streams stay.
     ensures serve { AsksLinks (texts_of words.now) → Serves (texts_of words.now) result.ended.status
         (record {
-          views = views_of P.Link.tells D.Reader.gives
+          views = views_of (links_over P.Link.tells P.Ends.tells P.Ends.entries result.ended.ends) D.Reader.gives
               (clocks_over K.tells (readings_of K.readings world.clocks) (readings_of K.readings result.ended.world.clocks))
               (view_of D.tells D.state D.faults D.syncs);
           old = store.disk;
           new = result.ended.store.disk;
           keep = keep_over E.tells (E.state store.keep) (E.state result.ended.store.keep);
           core = result.ended.core;
+          ends = P.Ends.tells;
           gave = (P.Door.gave world.door, P.Door.gave result.ended.world.door);
         })
         (counts_of (D.faults store.disk) (E.faults store.keep) (world_faults P.faults P.Door.faults K.faults world))
@@ -187,6 +189,7 @@ where
             core: None,
             store,
             world,
+            ends: None,
         },
         streams,
     }

@@ -23,7 +23,7 @@ pub(crate) const NOW: u64 = 2_000;
 pub(crate) const ROOM: u64 = 4096;
 
 /// How a call ended: its status, with the device that it names, how many records the core that is left has and how many of them are
-/// on the disk, and how many bytes the log's first file has.
+/// on the disk, and how many bytes the log's first file has before the zeros that were written ahead.
 #[derive(Clone, Copy, Debug, PartialEq, Eq)]
 pub(crate) struct Left {
     pub(crate) code: u8,
@@ -65,12 +65,12 @@ pub(crate) fn door(alloc: Global, fails: Calls, room: u64) -> Result<MemDoor<Mem
     Ok(door)
 }
 
-/// An empty disk.
+/// An empty disk, with room for the zeros that are written ahead: 64 pieces of 4 KiB.
 pub(crate) fn disk(alloc: Global) -> Result<MemDisk, AllocError> {
     let room = Room {
-        bytes: 8192,
+        bytes: 1 << 20,
         files: 4,
-        calls: 64,
+        calls: 256,
     };
     MemDisk::new(alloc, Vec::new(alloc), room, Vec::new(alloc))
 }
@@ -79,6 +79,17 @@ pub(crate) fn disk(alloc: Global) -> Result<MemDisk, AllocError> {
 pub(crate) fn records_in(core: &Core) -> (u64, u64) {
     let counts = core.counts();
     (counts.records, counts.flushed)
+}
+
+// How many of these bytes come before the zeros at their end.
+fn len_before_zeros(bytes: &[u8]) -> usize {
+    let mut len = 0;
+    for at in 0..bytes.len() {
+        if bytes[at] != 0 {
+            len = at + 1;
+        }
+    }
+    len
 }
 
 /// What is left of a run whose disk has this one below.
@@ -94,7 +105,7 @@ pub(crate) fn left_of<L: Link + Send + Drop, D: Disk + Drop>(
             ""
         },
         records: ended.core.as_ref().map(|core| records_in(core)),
-        log: disk.bytes(LOG).unwrap_or(&[]).len(),
+        log: len_before_zeros(disk.bytes(LOG).unwrap_or(&[])),
     }
 }
 

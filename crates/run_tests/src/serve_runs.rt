@@ -1,7 +1,7 @@
 //! Calls of `serve` over links in memory: some that are served, one that breaks off, a door that doesn't open.
 
-use crate::links::{Left, ROOM, door, serve};
-use mq_peers::Calls;
+use crate::links::{Left, NOW, ROOM, disk, door, serve, serve_over};
+use mq_peers::{Calls, Link, MemEnds};
 use std::test::Fail;
 
 const TWO: [&'static str; 3] = ["serve", "--connections", "2"];
@@ -27,6 +27,23 @@ fn two_links_that_say_a_byte_at_a_time_are_served_to_their_ends(
 ) -> Result<(), Fail> {
     let door = door(rt.alloc(), Calls::Never, ROOM)?;
     assert!(rt; serve(&rt, rt.alloc(), &TWO, door)? == SERVED);
+    Ok(())
+}
+
+// The number of the first link that has ended.
+fn number_in<L: Link + Drop>(ends: &MemEnds<L>) -> Option<u32> {
+    ends.links().first().map(|it| it.number)
+}
+
+#[test]
+fn each_link_that_came_has_ended_at_the_loop_of_its_number(rt: HostRuntime) -> Result<(), Fail> {
+    let door = door(rt.alloc(), Calls::Never, ROOM)?;
+    let ended = serve_over(&rt, rt.alloc(), &TWO, door, disk(rt.alloc())?, NOW)?;
+    let numbers = match &ended.ends {
+        Some((first, second)) => (number_in(first), number_in(second)),
+        None => (None, None),
+    };
+    assert!(rt; numbers == (Some(2), Some(1)));
     Ok(())
 }
 

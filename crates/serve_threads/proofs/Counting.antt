@@ -81,11 +81,12 @@ pub loops_blame : (end first_end second_end : LoopEnd) (first first_then second 
     → new ≡ both_faults first_then second_then → BlamesWorld end (both_faults first second) new
 loops_blame end first_end second_end first first_then second second_then new none ends one other same =
     subst (λ (w : WorldFaults). BlamesWorld end (both_faults first second) w) (sym same)
-    (⊎_elim
+    (⊎_elim (λ is. subst (λ (e : LoopEnd). BlamesWorld e (both_faults first second) (both_faults first_then second_then)) (sym is) tt)
+    (λ some. ⊎_elim
     (λ is. subst (λ (e : LoopEnd). BlamesWorld e (both_faults first second) (both_faults first_then second_then)) (sym is)
     (second_blames second_end first first_then second second_then none other.blames))
     (λ is. subst (λ (e : LoopEnd). BlamesWorld e (both_faults first second) (both_faults first_then second_then)) (sym is)
-    (first_blames first_end first first_then second second_then one.blames)) ends.one)
+    (first_blames first_end first first_then second second_then one.blames)) some) ends.one)
 
 -- the counts of the same two loops
 pub world_counts : {O : Type 0} (counts : O → LoopFaults) (world : WorldFaults) (near far first second : O) → near ≡ first → far ≡ second
@@ -109,7 +110,7 @@ gave_most : (most : Option ℕ) (old new came : ℕ) → old + came ≤ new → 
 gave_most None old new came counted all = tt
 gave_most (Some most) old new came counted all = omega (arith, counted, all)
 
-pub gave_all : {Ready Link Door Waker : Type 0} (gave : Door → ℕ) (old new : Option (Entrance Ready Link Door Waker)) (door : Door) → KeepsDoor gave old new → IsDoorDone new
+pub gave_all : {Ready Link Door Ends Waker : Type 0} (gave : Door → ℕ) (old new : Option (Entrance Ready Link Door Ends Waker)) (door : Door) → KeepsDoor gave old new → IsDoorDone new
     → IfSome new (λ e. door ≡ e.door) → IfSome old (λ e. e.came ≡ 0 → GaveAll e.bounds.most (gave e.door) (gave door))
 gave_all gave None new door keeps done same = tt
 gave_all gave (Some old) None door keeps done same = absurd keeps
@@ -119,7 +120,7 @@ gave_all gave (Some old) (Some new) door keeps done same = λ none.
     (subst (λ (b : Bounds). AllCame b.most new.came) keeps.bounds done))
 
 -- the same from an entrance that was made with this door and these bounds, by which no link came yet
-pub came_from : {Ready Link Door Waker : Type 0} (faults : Door → ℕ) (gave : Door → ℕ) (door : Door) (bounds : Bounds) (entrance : Option (Entrance Ready Link Door Waker)) (left : Door)
+pub came_from : {Ready Link Door Ends Waker : Type 0} (faults : Door → ℕ) (gave : Door → ℕ) (door : Door) (bounds : Bounds) (entrance : Option (Entrance Ready Link Door Ends Waker)) (left : Door)
     → HasDoor (door_faults faults entrance) → IfSome entrance (λ e. (e.door ≡ door) × (e.bounds ≡ bounds) × (e.came ≡ 0))
     → IfSome entrance (λ e. e.came ≡ 0 → GaveAll e.bounds.most (gave e.door) (gave left)) → GaveAll bounds.most (gave door) (gave left)
 came_from faults gave door bounds None left has made came = absurd has

@@ -10,13 +10,15 @@ use Rattle.broker_events.specs.declared.said.Said.{Said}
 use Rattle.session.specs.Serving.{Made}
 use Rattle.link_service.specs.Transcripts.{IsOfLink, AreOfLink}
 use Rattle.reply_fields.specs.Parts.{AskParts}
+use Rattle.mq_peers.specs.Ended.{LinkEnd}
 use Rattle.event_loops.specs.Tales.{Act, steps_of, made_for, asks_for, MayLeave, IsAnsweredInOrder}
 use Rattle.event_loops.proofs.Told.{made_append, made_one}
 use Rattle.story_lock.specs.Counts.{times}
 use Rattle.story_lock.specs.Owned.{HasAt, AscendsFrom}
 use Rattle.story_lock.proofs.Sums.{one_at, times_append}
 use Rattle.flush_story.specs.Story.{IsBetween, AreBetween}
-use Rattle.serve_threads.specs.Served.{AreAnswered, AreAnsweredFrom, AreLooks, IsMerged}
+use Rattle.serve_threads.specs.Links.{LoopLinks, AreAnswered, AreAnsweredFrom}
+use Rattle.serve_threads.specs.Served.{AreLooks, IsMerged}
 
 -- the flusher's steps are some of these, in order; each other one flushes nothing
 abbrev pub Laid : Made → Made → Type 0
@@ -50,10 +52,10 @@ leave_between link [] leaves = tt
 leave_between link (step ∷ steps) leaves =
     (subst (λ (e : Event). IsBetween e) (sym leaves.0) tt, subst (λ (m : Made). AreBetween m) (sym leaves.1) tt)
 
-tale_between : (tells : Type 0) (gives : Giving) (link : ℕ) (made : Made) (asks : List AskParts) → IsAnsweredInOrder tells gives link made asks → AreBetween made
-tale_between tells gives link made asks is =
+tale_between : (tells : Type 0) (gives : Giving) (it : LinkEnd) (made : Made) (asks : List AskParts) → IsAnsweredInOrder tells gives it made asks → AreBetween made
+tale_between tells gives it made asks is =
     subst (λ (m : Made). AreBetween m) (sym is.both)
-    (between_append is.passes is.end (passes_between link is.passes is.transcript.of_link) (leave_between link is.end is.leaves))
+    (between_append is.passes is.end (passes_between it.number is.passes is.transcript.of_link) (leave_between it.number is.end is.leaves))
 
 acts_between : (acts : List Act) → ((link : ℕ) → AreBetween (made_for link acts)) → AreBetween (steps_of acts)
 acts_between [] each = tt
@@ -65,10 +67,12 @@ acts_between (one ∷ acts) each =
     (λ other. absurd (other.0 refl)) (made_one one.link one))
     (acts_between acts (λ link. between_back (made_for link (one ∷ [])) (made_for link acts) (split link)))
 
-loop_between : (tells : Type 0) (gives : Giving) (number : ℕ) (made : Made) (asks : List AskParts) → AreAnswered tells gives number made asks → AreBetween made
-loop_between tells gives number made asks is =
+loop_between : (links : LoopLinks) (gives : Giving) (number : ℕ) (made : Made) (asks : List AskParts) → AreAnswered links gives number made asks → AreBetween made
+loop_between links gives number made asks is =
     subst (λ (m : Made). AreBetween m) (sym is.all)
-    (acts_between is.acts (λ link. ⊎_elim (λ none. subst (λ (m : Made). AreBetween m) (sym none.0) tt) (λ some. tale_between tells gives link (made_for link is.acts) (asks_for link is.acts) some.1) (is.each link)))
+    (acts_between is.acts (λ link. ⊎_elim (λ none. subst (λ (m : Made). AreBetween m) (sym none.0) tt)
+    (λ some. subst (λ (n : ℕ). AreBetween (made_for n is.acts)) some.1
+    (tale_between links.tells gives some.0 (made_for some.0.number is.acts) (asks_for some.0.number is.acts) some.2.1)) (is.each link)))
 
 -- the keeper's looks flush nothing
 looks_between : (made : Made) → AreLooks made → AreBetween made
@@ -161,9 +165,9 @@ some_of zero zero (suc c) d some P first second third = inr (second (omega arith
 some_of zero zero zero d some P first second third = inr (third (omega (arith, some)))
 
 -- in a history of the flusher, two loops and the keeper the flusher's steps stand so
-pub laid : (tells : Type 0) (gives : Giving) (put : List AskParts × List AskParts) (history turns first second looks : Made) → IsMerged history turns first second looks
-    → AreAnsweredFrom tells gives 0 put.0 first × AreAnsweredFrom tells gives 1 put.1 second → AreLooks looks → Laid history turns
-laid tells gives put history turns first second looks merged links keeper =
+pub laid : (one other : LoopLinks) (gives : Giving) (put : List AskParts × List AskParts) (history turns first second looks : Made) → IsMerged history turns first second looks
+    → AreAnsweredFrom one gives 0 put.0 first × AreAnsweredFrom other gives 1 put.1 second → AreLooks looks → Laid history turns
+laid one other gives put history turns first second looks merged links keeper =
     laid_from history [] turns merged.turns_at merged.ascend.0 merged.are.0
     (λ k e low at.
     let within = slice_get_within history k e at in
@@ -172,6 +176,6 @@ laid tells gives put history turns first second looks merged links keeper =
     let three = times_append k (merged.turns_at ++ merged.first_at) merged.second_at in
     let two = times_append k merged.turns_at merged.first_at in
     some_of (times k merged.turns_at) (times k merged.first_at) (times k merged.second_at) (times k merged.looks_at) (omega (arith, some, all, three, two)) (IsBetween e.0)
-    (λ one. held_between history merged.first_at first merged.are.1 (loop_between tells gives 0 first links.0.0 links.0.2) k e at one)
-    (λ one. held_between history merged.second_at second merged.are.2 (loop_between tells gives 1 second links.1.0 links.1.2) k e at one)
-    (λ one. held_between history merged.looks_at looks merged.are.3 (looks_between looks keeper) k e at one))
+    (λ there. held_between history merged.first_at first merged.are.1 (loop_between one gives 0 first links.0.0 links.0.2) k e at there)
+    (λ there. held_between history merged.second_at second merged.are.2 (loop_between other gives 1 second links.1.0 links.1.2) k e at there)
+    (λ there. held_between history merged.looks_at looks merged.are.3 (looks_between looks keeper) k e at there))

@@ -22,7 +22,8 @@ use Rattle.flush_story.specs.Story.{StepsAs, Happening, Stepped, Ended, Broke, S
 use Rattle.flush_story.proofs.Keeps.{keeps_start, keeps_story}
 use Rattle.spine.specs.Stands.{StepsAlong, Along, Stands}
 use Rattle.reply_fields.specs.Parts.{AskParts}
-use Rattle.serve_threads.specs.Served.{AreAnsweredFrom, AreLooks, IsMerged, of_anybody, Write, LeadsOn}
+use Rattle.serve_threads.specs.Links.{LoopLinks, AreAnsweredFrom}
+use Rattle.serve_threads.specs.Served.{AreLooks, IsMerged, of_anybody, Write, LeadsOn}
 use Rattle.serve_threads.proofs.Laid.{Laid, laid}
 
 -- ---- one step
@@ -42,11 +43,11 @@ between_as (Check now) between = tt
 between_as (Leave link) between = tt
 
 ok_turned : (it : Stored) (behind : ℕ) (batch : Batch) (receipt : Receipt) (old new : Growing) → HasTurned {E = FlushFault} it behind batch (Ok receipt) old new → HasTurned {E = ℕ} it behind batch (Ok receipt) old new
-ok_turned it behind batch receipt old new turned = record { any_moment = turned.any_moment; fault = turned.fault; flushed = turned.flushed; exact = turned.exact }
+ok_turned it behind batch receipt old new turned = record { any_moment = turned.any_moment; fault = turned.fault; flushed = turned.flushed; exact = turned.exact; ahead = turned.ahead }
 
 err_turned : (it : Stored) (behind : ℕ) (batch : Batch) (count : ℕ) (old new : Growing) → HasTurned {E = FlushFault} it behind batch (Err (record { count = count })) old new
     → HasTurned {E = ℕ} it behind batch (Err count) old new
-err_turned it behind batch count old new turned = record { any_moment = turned.any_moment; fault = turned.fault; flushed = turned.flushed; exact = turned.exact }
+err_turned it behind batch count old new turned = record { any_moment = turned.any_moment; fault = turned.fault; flushed = turned.flushed; exact = turned.exact; ahead = turned.ahead }
 
 ok_placed : (it : Stored) (batch : Batch) (receipt : Receipt) (new : LastFile) → PlacesOn {E = FlushFault} it batch (Ok receipt) new → PlacesOn {E = ℕ} it batch (Ok receipt) new
 ok_placed it batch receipt new places = record { ok = places.ok; err = places.err }
@@ -235,14 +236,14 @@ module _ {D : Type 0} (view : DiskView D) where
       (λ own. told_own fuel e H own.0 turns s t p q (told_all fuel t q) less own.1 own.2 along write) is
 
   -- the history of the flusher, two loops and the keeper leads on, and every crash leaves what the turns flushed
-  pub leads_on : (tells : Type 0) (gives : Giving) (put : List AskParts × List AskParts) (change : Change Parts (Place D)) (history : Made) (turns : List Act) (first second looks : Made)
-      → Stands change.calls history change.calls_then → IsMerged history (steps_of turns) first second looks → AreAnsweredFrom tells gives 0 put.0 first × AreAnsweredFrom tells gives 1 put.1 second → AreLooks looks
+  pub leads_on : (one other : LoopLinks) (gives : Giving) (put : List AskParts × List AskParts) (change : Change Parts (Place D)) (history : Made) (turns : List Act) (first second looks : Made)
+      → Stands change.calls history change.calls_then → IsMerged history (steps_of turns) first second looks → AreAnsweredFrom one gives 0 put.0 first × AreAnsweredFrom other gives 1 put.1 second → AreLooks looks
       → Write view turns change.place change.place_then → (s : State) → Represents change.calls s → LeadsOn view history change s
-  leads_on tells gives put change history turns first second looks stands merged links keeper write s are =
+  leads_on one other gives put change history turns first second looks stands merged links keeper write s are =
       let old = change.place in
       let new = change.place_then in
       let run = stands.runs s are in
-      let told = told_all (length history) run.0 new history turns s old (omega arith) (laid tells gives put history (steps_of turns) first second looks merged links keeper) run.1 write in
+      let told = told_all (length history) run.0 new history turns s old (omega arith) (laid one other gives put history (steps_of turns) first second looks merged links keeper) run.1 write in
       let low : s.log.base.records ≤ s.flushed = omega (arith, are.state.base, are.state.dispatched) in
       record {
         reached = run.0;
@@ -250,6 +251,6 @@ module _ {D : Type 0} (view : DiskView D) where
         story = told.story;
         steps = told.steps;
         happens = told.happens;
-        keeps = λ tell ready. keeps_story view.tells (growing_at view) tell s s run.0 [] told.story (view.state old.disk) old new run.2.state.log low
+        keeps = λ tell ready. keeps_story view.tells (growing_at view) tell s s run.0 [] told.story (growing_at view old) old new run.2.state.log low
             (keeps_start s (growing_at view old) ready) told.happens;
       }

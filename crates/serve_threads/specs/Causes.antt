@@ -16,8 +16,8 @@ pub record WorldFaults : Type 0 where
   pub clocks : ℕ × ℕ
   pub door : ℕ
 
-abbrev pub world_faults : {Ready Link Door Waker Clocks : Type 0} → (Ready → ℕ) → (Door → ℕ) → (Clocks → ℕ)
-    → World Ready Clocks Link Door Waker → WorldFaults
+abbrev pub world_faults : {Ready Link Door Ends Waker Clocks : Type 0} → (Ready → ℕ) → (Door → ℕ) → (Clocks → ℕ)
+    → World Ready Clocks Link Door Ends Waker → WorldFaults
 world_faults ready door clock world = record {
   ready = (ready world.ready.0, ready world.ready.1);
   clocks = (clock world.clocks.0, clock world.clocks.1);
@@ -96,7 +96,7 @@ abbrev pub HasDoor : Option ℕ → Type 0
 HasDoor None = ⊥
 HasDoor (Some count) = Unit {0}
 
--- The end of both loops is that of one of them. Where they ended of themselves both did.
+-- The end of both loops is that of one of them, or there was no memory. Where they ended of themselves both did.
 pub record IsFirstFault (first second end : LoopEnd) : Type 0 where
-  pub one : (end ≡ second) ⊎ (end ≡ first)
+  pub one : (end ≡ Memory) ⊎ ((end ≡ second) ⊎ (end ≡ first))
   pub done : end ≡ Done → (first ≡ Done) × (second ≡ Done)

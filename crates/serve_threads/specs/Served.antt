@@ -15,13 +15,8 @@ use Rattle.flush_story.specs.Story as stories
 use Rattle.flush_story.specs.Story.{Happening, Story, span_of}
 use Rattle.flush_story.specs.Keeping.{IsOpenFor, Keeps}
 use Rattle.reply_fields.specs.Parts.{AskParts}
-use Rattle.ask_ways.specs.Ways.{taken_by, ArePair}
-use Rattle.ask_ways.specs.declared.ends.Sender.{Sender}
-use Rattle.ask_ways.specs.declared.ends.Receiver.{Receiver}
-use Rattle.session.specs.Serving.{Made, Leads}
-use Rattle.event_loops.specs.Tales.{Act, steps_of, asks_of, made_for, asks_for, AreSome, DidNothing, loop_of, IsAnsweredInOrder}
+use Rattle.session.specs.Serving.{Made}
 use Rattle.event_loops.specs.Timing.{ClockOver, IsTimed, clock_over}
-use Rattle.event_loops.specs.declared.event_loop.EventLoop.{EventLoop}
 use Rattle.spine.specs.declared.shared.Shared.{Shared}
 use Rattle.worker_turns.specs.Turns.{Steps}
 use Rattle.worker_turns.specs.Turning.{most_seen}
@@ -40,6 +35,7 @@ use Rattle.keeper_turns.specs.Turns.{IsOffsetsOf, IsTopicsOf}
 use Rattle.serve_threads.specs.Asking.{HandsOut, Asking, Asks}
 use Rattle.serve_threads.specs.Deliveries.{IsOfDuties}
 use Rattle.serve_threads.specs.Kept.{KeepOver, PutsAlong}
+use Rattle.serve_threads.specs.Links.{LinksOver, AreAnsweredFrom, first_links, second_links}
 
 -- the clocks of both loops over a run: that they tell what they gave, and what that was before the run and behind it
 pub record ClocksOver : Type 1 where
@@ -63,29 +59,13 @@ second_clock clocks = clock_over clocks.tells clocks.old.1 clocks.new.1
 
 -- how a run sees its links, what its readers give, the clocks of its loops, and its disk
 pub record Views (D : Type 0) : Type 1 where
-  pub links : Type 0
+  pub links : LinksOver
   pub gives : Giving
   pub clocks : ClocksOver
   pub disk : DiskView D
 
-abbrev pub views_of : {D : Type 0} → Type 0 → Giving → ClocksOver → DiskView D → Views D
+abbrev pub views_of : {D : Type 0} → LinksOver → Giving → ClocksOver → DiskView D → Views D
 views_of links gives clocks disk = record { links = links; gives = gives; clocks = clocks; disk = disk }
-
--- ---- the loops
-
--- one of two loops, with this number, which had no link yet
-abbrev pub IsLoop : {Ready Link Door Waker : Type 0} → ℕ → EventLoop Ready Link Door Waker → Type 0
-IsLoop number it = (it.links.loops ≡ 2) × (it.links.number ≡ number) × (it.links.slots.items ≡ [])
-
--- the same, and at this end of a way it has taken nothing yet
-pub record Begins {Ready Link Door Waker : Type 0} (number : ℕ) (it : EventLoop Ready Link Door Waker) (way : Receiver AskParts)
-    : Type 0 where
-  pub loop : IsLoop number it
-  pub none : taken_by way ≡ []
-
--- both of them
-abbrev pub AreLoops : {Ready Link Door Waker : Type 0} → EventLoop Ready Link Door Waker → EventLoop Ready Link Door Waker → Type 0
-AreLoops first second = IsLoop 0 first × IsLoop 1 second
 
 -- ---- the flusher
 
@@ -143,36 +123,11 @@ of_anybody x event said y = Unit {0}
 abbrev pub Write : {D : Type 0} → DiskView D → List acts.Act → Place D → Place D → Type 0
 Write view turns old new = Acts of_anybody view turns (change_of tt old tt new)
 
--- ---- the links
-
--- What one of the two loops made: for each of its links its passes, in which each reply is its request's, and behind them at most its
--- `Leave`, and nothing else. These check-backs were written meanwhile.
-pub record AreAnswered (tells : Type 0) (gives : Giving) (number : ℕ) (steps : Made) (asks : List AskParts) : Type 0 where
-  pub acts : List Act
-  pub all : steps ≡ steps_of acts
-  pub asked : asks ≡ asks_of acts
-  pub each : (link : ℕ) → DidNothing link acts
-      ⊎ ((loop_of 2 link ≡ number) × IsAnsweredInOrder tells gives link (made_for link acts) (asks_for link acts))
-
--- The same, and what was written are some of these check-backs, in their order and each at most once.
-abbrev pub AreAnsweredFrom : Type 0 → Giving → ℕ → List AskParts → Made → Type 0
-AreAnsweredFrom tells gives number put steps = (asks : List AskParts) × AreSome asks put × AreAnswered tells gives number steps asks
-
--- The same in passes, one for each reading that the clock of the loop gave, which gave its requests to the broker at that reading.
-pub record WorksFrom (tells : Type 0) (gives : Giving) (clock : ClockOver) (number : ℕ) (put : List AskParts) (steps : Made)
-    : Type 0 where
-  pub answered : AreAnsweredFrom tells gives number put steps
-  pub timed : IsTimed clock steps
+-- ---- the loops
 
 -- what both loops made, each in passes that its clock timed
 abbrev pub AreTimed : ClocksOver → Made → Made → Type 0
 AreTimed clocks first second = IsTimed (first_clock clocks) first × IsTimed (second_clock clocks) second
-
--- what one of two loops did, which took check-backs at this end of a way: nothing else was made, and it is the end of the same way
-pub record Worked {C : Type 0} (makes : Steps C) (tells : Type 0) (gives : Giving) (clock : ClockOver) (number : ℕ) (x y : C)
-    (old new : Receiver AskParts) : Type 0 where
-  pub leads : Leads makes x y (WorksFrom tells gives clock number (taken_by new))
-  pub same : (sender : Sender AskParts) → ArePair sender old → ArePair sender new
 
 -- ---- the keeper
 
@@ -266,7 +221,8 @@ module _ {chronicle : Ghosts Shared Event (Option Said)} where
     pub flusher : FlushesTo put turns
     pub file : LastFile
     pub write : Write views.disk turns old (place_of file disk)
-    pub links : AreAnsweredFrom views.links views.gives 0 put.0 first × AreAnsweredFrom views.links views.gives 1 put.1 second
+    pub links : AreAnsweredFrom (first_links views.links) views.gives 0 put.0 first
+        × AreAnsweredFrom (second_links views.links) views.gives 1 put.1 second
     pub timed : AreTimed views.clocks first second
     pub keeper : AreLooks looks
     pub seats : (k : ℕ) → k < 4 → 0 < times k (numbers_of pass)
@@ -283,7 +239,7 @@ pub record LeadsOn {D : Type 0} (view : DiskView D) (history : Made) (change : C
   pub steps : stories.steps_of story ≡ history
   pub happens : Story view.tells (growing_at view) story (span_of s change.place reached change.place_then)
   pub keeps : view.tells → IsOpenFor s (growing_at view change.place)
-      → Keeps s reached (stories.turns_of story) (view.state change.place.disk) (growing_at view change.place_then)
+      → Keeps s reached (stories.turns_of story) (growing_at view change.place) (growing_at view change.place_then)
 
 -- Of this history, which leads from the first core to the second: the entries are the flusher's, whose turns wrote what was pending,
 -- what the loops made for each link, and the looks of the keeper. A loop gave the requests of each pass to the broker at the reading
@@ -297,7 +253,8 @@ pub record IsMadeBy {D : Type 0} (views : Views D) (history : Made) (change : Ch
   pub put : List AskParts × List AskParts
   pub merged : IsMerged history (acts.steps_of turns) first second looks
   pub flusher : FlushesTo put turns
-  pub links : AreAnsweredFrom views.links views.gives 0 put.0 first × AreAnsweredFrom views.links views.gives 1 put.1 second
+  pub links : AreAnsweredFrom (first_links views.links) views.gives 0 put.0 first
+      × AreAnsweredFrom (second_links views.links) views.gives 1 put.1 second
   pub timed : AreTimed views.clocks first second
   pub keeper : AreLooks looks
   pub write : Write views.disk turns change.place change.place_then

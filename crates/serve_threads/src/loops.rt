@@ -1,7 +1,7 @@
 //! The two loops, and how other threads reach them.
 
 ghost use Rattle.std.specs.Prelude.{◌≡◌, IfErr, IfOk};
-ghost use Rattle.serve_threads.specs.Served.{AreLoops};
+ghost use Rattle.serve_threads.specs.Links.{AreLoops};
 ghost use Rattle.serve_threads.specs.Causes.{BlamesMaking, world_faults};
 
 use crate::world::World;
@@ -40,14 +40,14 @@ fn ports_of<P: Ready>(alloc: Global, first: &P, second: &P) -> Result<Vec<Port<P
 
 // Both loops, without links.
 fn pair_of<P: Ready + Drop>(alloc: Global, first: &P, second: &P) -> Result<Pair<P>, AllocError>
-    ensures { IfOk result (λ it. AreLoops it.first it.second) }
+    ensures { IfOk result (λ it. AreLoops P.Ends.tells P.Ends.entries it.first it.second) }
 {
     let ports = ports_of(alloc, first, second)?;
-    let first = EventLoop::new(alloc, 0, LOOPS)?;
-    let second = EventLoop::new(alloc, 1, LOOPS)?;
+    let one = EventLoop::new(alloc, 0, LOOPS, first.ends())?;
+    let other = EventLoop::new(alloc, 1, LOOPS, second.ends())?;
     Ok(Pair {
-        first,
-        second,
+        first: one,
+        second: other,
         ports,
     })
 }
@@ -60,7 +60,7 @@ impl<P: Ready + Drop, K: Clock + Drop> Loops<P, K> {
         world: World<P, K>,
         bounds: Bounds,
     ) -> Result<Loops<P, K>, (LoopEnd, World<P, K>)>
-        ensures loops { IfOk result (λ it. AreLoops it.first it.second) }
+        ensures loops { IfOk result (λ it. AreLoops P.Ends.tells P.Ends.entries it.first it.second) }
         ensures counts { IfOk result (λ it. world_faults P.faults P.Door.faults K.faults it.world
             ≡ world_faults P.faults P.Door.faults K.faults world) }
         ensures clocks { IfOk result (λ it. it.world.clocks ≡ world.clocks) }

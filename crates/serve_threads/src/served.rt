@@ -1,6 +1,6 @@
 //! The broker over many links, from the core that is opened to the core that is left.
 
-ghost use Rattle.std.specs.Prelude.{◌≡◌, ◌≤◌, ℕ, List, [], ◌∷◌, Some, None, IfSome, IfOk, IfErr};
+ghost use Rattle.std.specs.Prelude.{◌≡◌, ◌≢◌, ◌≤◌, ◌+◌, ℕ, List, [], ◌∷◌, length, true, false, Some, None, IfSome, IsSome, IfOk, IfErr};
 ghost use Rattle.log_model.specs.Stored.{StaysOutside};
 ghost use Rattle.segment_files.specs.Turn.{IsInside};
 ghost use Rattle.segment_files.specs.declared.last_file.LastFile.{LastFile};
@@ -10,11 +10,12 @@ ghost use Rattle.spine.specs.Seen.{shown_by};
 ghost use Rattle.worker_turns.specs.Acts.{Place, change_of, place_of, view_of};
 ghost use Rattle.event_loops.specs.Causes.{door_faults, loop_faults};
 ghost use Rattle.event_loops.specs.Doors.{GaveAll};
-ghost use Rattle.event_loops.specs.declared.event_loop.LoopEnd.TheVariants.{Done};
+ghost use Rattle.event_loops.specs.declared.event_loop.LoopEnd.TheVariants.{Done, Memory};
 ghost use Rattle.ask_ways.specs.Ways.{ArePair, put_by, taken_by};
 ghost use Rattle.serve_threads.specs.Asking.{HasNoneAsked, IsFrontOf};
 ghost use Rattle.serve_threads.specs.Kept.{PutsAlong, keep_over};
-ghost use Rattle.serve_threads.specs.Served.{AreLoops, AreCut, AreMet, Meets, HasMade, IsLeft, by_thread};
+ghost use Rattle.serve_threads.specs.Links.{AreAllThatCame, AreLoops, AreWhole, links_over};
+ghost use Rattle.serve_threads.specs.Served.{AreCut, AreMet, Meets, HasMade, IsLeft, by_thread};
 ghost use Rattle.serve_threads.specs.Served.{clocks_over, readings_of, views_of};
 ghost use Rattle.serve_threads.specs.Causes.{BlamesDisk, BlamesKeep, BlamesWorld, HasCauses, HasDoor, IsFirstFault};
 ghost use Rattle.serve_threads.specs.Causes.{both_faults, counts_of, world_faults};
@@ -24,7 +25,9 @@ use crate::loops::Loops;
 use crate::threads::{Flushing, Keeping, Ran, Worker, run_all};
 use crate::world::World;
 use broker_core::Core;
-use event_loops::{Around, EventLoop, LoopEnd, Outside, Shared};
+use event_loops::{
+    Around, EventLoop, LoopEnd, Outside, Shared, each_link_of_a_loop_is_answered_in_order,
+};
 use group_flush::Flusher;
 use keeper_turns::keep_core;
 use mq_outside::{Clock, Disk, DiskFault, Keep, Reader};
@@ -58,12 +61,19 @@ pub struct Served<
     pub last: FlushEnd,
     /// What was around the loops.
     pub world: World<P, K>,
+    /// The links that have ended, loop by loop. Where one is missing, for want of memory, none is told.
+    pub ends: Option<(P::Ends, P::Ends)>,
 }
 
-// The first of two ends that is a fault, and where none is, but one loop was stopped, that.
-fn first_fault(first: LoopEnd, second: LoopEnd) -> LoopEnd
-    ensures { IsFirstFault first second result }
+// The first of two ends that is a fault, and where none is, but one loop was stopped, that. Where a link is missing there was no
+// memory.
+fn first_fault(whole: bool, first: LoopEnd, second: LoopEnd) -> LoopEnd
+    ensures fault { IsFirstFault first second result }
+    ensures whole { whole ≡ false → result ≡ Memory }
 {
+    if !whole {
+        return LoopEnd::Memory;
+    }
     match (first, second) {
         (LoopEnd::Done, _) => second,
         (LoopEnd::Stopped, LoopEnd::Done) => first,
@@ -75,6 +85,7 @@ fn first_fault(first: LoopEnd, second: LoopEnd) -> LoopEnd
 // What the threads leave. The pass has each seat number.
 struct Left<P: Ready + Drop, K: Clock + Drop, D: Disk + Drop, R: Reader + Drop, E: Keep + Drop> {
     world: World<P, K>,
+    ends: Option<(P::Ends, P::Ends)>,
     end: LoopEnd,
     last: FlushEnd,
     readers: (R, R),
@@ -138,14 +149,15 @@ fn seats_of<'a, W: Wait>(spine: &'a Spine, rt: &'a W, pass: Pass) -> Seats<'a, W
     }
 }
 
-// What a loop leaves: its pass, its reader, what was outside it, how it ended, and where check-backs came from.
+// What a loop leaves: its pass, its reader, what was outside it, how it ended, where check-backs came from, and itself.
 fn left_of<W: Wait, P: Ready + Drop, K: Clock + Drop, R: Reader + Drop>(
     worker: Worker<P, K, SpinePass<'_, W>, R>,
-) -> (Pass, R, Outside<P, K>, LoopEnd, LoopAsks)
+) -> (Pass, R, Outside<P, K>, LoopEnd, LoopAsks, EventLoop<P>)
     ensures pass { worker.entry.calls.pass ≡ Some result.0 }
     ensures outside { result.2 ≡ worker.entry.outside }
     ensures end { result.3 ≡ worker.entry.end }
     ensures asks { result.4 ≡ worker.entry.asks }
+    ensures links { result.5.links ≡ worker.entry.event_loop.links }
 {
     let Worker {
         event_loop,
@@ -155,9 +167,53 @@ fn left_of<W: Wait, P: Ready + Drop, K: Clock + Drop, R: Reader + Drop>(
         reader,
         end,
     } = worker;
-    let left = (calls.leave(), reader, outside, end, asks);
-    drop(event_loop);
-    left
+    (calls.leave(), reader, outside, end, asks, event_loop)
+}
+
+// How many links came in by the door of this loop.
+fn came_by<P: Ready + Drop, K: Clock + Drop>(outside: &Outside<P, K>) -> u32
+    ensures { IfSome outside.now.entrance (λ e. result ≡ e.came) }
+{
+    match &outside.entrance {
+        Some(entrance) => entrance.came,
+        None => 0,
+    }
+}
+
+// Whether each link that came in is in one of the ledgers of both loops. No clause follows a link from loop to loop, so they are
+// counted.
+fn are_whole<P: Ready + Drop>(came: u32, first: &EventLoop<P>, second: &EventLoop<P>) -> bool
+    ensures first { result ≡ true → (first.now.links.ledger.lost ≡ false) × (first.now.links.newest ≤ came) }
+    ensures second { result ≡ true → (second.now.links.ledger.lost ≡ false) × (second.now.links.newest ≤ came) }
+    ensures many { P.Ends.tells → result ≡ true → length (P.Ends.entries first.now.links.ledger.ends)
+        + length (P.Ends.entries second.now.links.ledger.ends) ≡ came }
+{
+    if !first.is_whole(came) {
+        return false;
+    }
+    if !second.is_whole(came) {
+        return false;
+    }
+    match first.count_ended().checked_add(second.count_ended()) {
+        Some(many) => many == u64::from(came),
+        None => false,
+    }
+}
+
+// The ledgers of both loops, if each link that came in is in one of them.
+fn ends_of<P: Ready + Drop>(
+    came: u32,
+    first: EventLoop<P>,
+    second: EventLoop<P>,
+) -> Option<(P::Ends, P::Ends)>
+    ensures { IfSome result (λ ends. AreWhole P.Ends.tells P.Ends.entries came first.links second.links ends) }
+{
+    if !are_whole(came, &first, &second) {
+        drop(first);
+        drop(second);
+        return None;
+    }
+    Some((first.into_ends(), second.into_ends()))
 }
 
 // Compares the ends of both ways, which are in one thread again: each loop took the first of what was put on its way.
@@ -221,6 +277,10 @@ fn gather<
     ensures keep { result.keep ≡ ran.entry.keeping.keep }
     ensures last { result.last ≡ ran.entry.flushing.last }
     ensures end { IsFirstFault ran.entry.first.end ran.entry.second.end result.end }
+    ensures whole { result.end ≢ Memory → IsSome result.ends }
+    ensures ends { (came : ℕ) × IfSome ran.entry.first.outside.entrance (λ e. came ≡ e.came)
+        × IfSome result.ends (λ ends. AreWhole P.Ends.tells P.Ends.entries came
+        ran.entry.first.event_loop.links ran.entry.second.event_loop.links ends) }
     ensures counts { world_faults P.faults P.Door.faults K.faults result.world ≡ both_faults
         (loop_faults P.faults P.Door.faults K.faults ran.entry.first.outside)
         (loop_faults P.faults P.Door.faults K.faults ran.entry.second.outside) }
@@ -246,14 +306,16 @@ fn gather<
         calls: keeper,
         keep,
     } = keeping;
-    let (first_pass, first_reader, near, first_end, first_asks) = left_of(first);
-    let (second_pass, second_reader, far, second_end, second_asks) = left_of(second);
+    let (first_pass, first_reader, near, first_end, first_asks, first_loop) = left_of(first);
+    let (second_pass, second_reader, far, second_end, second_asks, second_loop) = left_of(second);
     compare(ways, first_asks, second_asks);
+    let ends = ends_of(came_by(&near), first_loop, second_loop);
     let turns = calls.leave();
     let looks = keeper.leave();
     Left {
         world: World::join(near, far, clock),
-        end: first_fault(first_end, second_end),
+        end: first_fault(ends.is_some(), first_end, second_end),
+        ends,
         last,
         readers: (first_reader, second_reader),
         disk,
@@ -284,7 +346,7 @@ where
     requires of { IsPassOf spine.now.story pass }
     requires numbers { numbers_of pass ≡ 0 ∷ 1 ∷ 2 ∷ 3 ∷ [] }
     requires first { (seen_by pass ≡ []) × (mine_of pass ≡ []) }
-    requires loops { AreLoops loops.0 loops.1 }
+    requires loops { AreLoops P.Ends.tells P.Ends.entries loops.0 loops.1 }
     requires door { HasDoor (door_faults P.Door.faults outsides.0.entrance) × (door_faults P.Door.faults outsides.1.entrance ≡ None) }
     requires none_out { (shown_of (start_of spine.now.story).core).out ≡ None }
     requires pairs { ArePair ways.sends.first ways.first.way × ArePair ways.sends.second ways.second.way }
@@ -292,12 +354,15 @@ where
     requires inside { D.tells → IsInside devices.flusher.file.base devices.flusher.file.offset (D.state devices.disk) }
     ensures outside { D.tells → StaysOutside (D.state devices.disk) (D.state result.disk) }
     ensures of { IsPassOf spine.now.story result.pass }
-    ensures made { HasMade (views_of P.Link.tells R.gives
+    ensures made { HasMade (views_of (links_over P.Link.tells P.Ends.tells P.Ends.entries result.ends) R.gives
         (clocks_over K.tells (readings_of K.readings (outsides.0.clock, outsides.1.clock)) (readings_of K.readings result.world.clocks))
         (view_of D.tells D.state D.faults D.syncs))
         (place_of devices.flusher.file devices.disk) result.pass result.disk }
     ensures kept { E.tells → PutsAlong (start_of spine.now.story).core (seen_by result.pass)
         (E.state devices.keep) (E.state result.keep) }
+    ensures whole { result.end ≢ Memory → IsSome result.ends }
+    ensures all { IfSome outsides.0.entrance (λ e. e.came ≡ 0 → AreAllThatCame (P.Door.gave e.door) (P.Door.gave result.world.door)
+        (links_over P.Link.tells P.Ends.tells P.Ends.entries result.ends)) }
     ensures came { result.end ≡ Done → IfSome outsides.0.entrance (λ e. e.came ≡ 0
         → GaveAll e.bounds.most (P.Door.gave e.door) (P.Door.gave result.world.door)) }
     ensures cause { BlamesWorld result.end (both_faults (loop_faults P.faults P.Door.faults K.faults outsides.0)
@@ -353,6 +418,7 @@ where
         keep,
     };
     let ran = run_all(around, first, second, flushing, keeping);
+    each_link_of_a_loop_is_answered_in_order::<P::Link, R>();
     gather(spine, around.rt, ran)
 }
 
@@ -369,18 +435,20 @@ fn close<
     requires seats { seats_in spine.story ≡ 4 }
     ensures disk { result.disk ≡ left.disk }
     ensures left { (place : Place D) (before : E) (given : List ℕ × List ℕ)
-        → HasMade (views_of P.Link.tells R.gives (clocks_over K.tells given (readings_of K.readings left.world.clocks))
-        (view_of D.tells D.state D.faults D.syncs)) place left.pass left.disk
+        → HasMade (views_of (links_over P.Link.tells P.Ends.tells P.Ends.entries left.ends) R.gives
+        (clocks_over K.tells given (readings_of K.readings left.world.clocks)) (view_of D.tells D.state D.faults D.syncs))
+        place left.pass left.disk
         → (E.tells → PutsAlong (start_of spine.story).core (seen_by left.pass) (E.state before) (E.state left.keep))
-        → (file : LastFile) × IsLeft (views_of P.Link.tells R.gives
+        → (file : LastFile) × IsLeft (views_of (links_over P.Link.tells P.Ends.tells P.Ends.entries left.ends) R.gives
         (clocks_over K.tells given (readings_of K.readings left.world.clocks)) (view_of D.tells D.state D.faults D.syncs))
         (change_of (start_of spine.story).core place result.core (place_of file result.disk))
         (keep_over E.tells (E.state before) (E.state result.keep)) result.kept }
-    ensures ends { (result.end ≡ left.end) × (result.last ≡ left.last) × (result.world ≡ left.world) }
+    ensures ends { (result.end ≡ left.end) × (result.last ≡ left.last) × (result.world ≡ left.world) × (result.ends ≡ left.ends) }
     ensures cause { (before : ℕ) → before ≤ E.faults left.keep → BlamesKeep result.kept before (E.faults result.keep) }
 {
     let Left {
         world,
+        ends,
         end,
         last,
         readers,
@@ -399,6 +467,7 @@ fn close<
         end,
         last,
         world,
+        ends,
     }
 }
 
@@ -420,16 +489,22 @@ pub fn serve<
 ) -> Result<Served<P, K, D, R, E>, Unserved<P, K, D, R, E>>
 where
     D::Reader: Send,
-    requires loops { AreLoops loops.first loops.second }
+    requires loops { AreLoops P.Ends.tells P.Ends.entries loops.first loops.second }
     requires none_out { (shown_of core).out ≡ None }
     requires inside { D.tells → IsInside devices.flusher.file.base devices.flusher.file.offset (D.state devices.disk) }
-    ensures left { IfOk result (λ it. (file : LastFile) × IsLeft (views_of P.Link.tells R.gives
+    ensures left { IfOk result (λ it. (file : LastFile) × IsLeft
+        (views_of (links_over P.Link.tells P.Ends.tells P.Ends.entries it.ends) R.gives
         (clocks_over K.tells (readings_of K.readings loops.world.clocks) (readings_of K.readings it.world.clocks))
         (view_of D.tells D.state D.faults D.syncs))
         (change_of core (place_of devices.flusher.file devices.disk) it.core (place_of file it.disk))
         (keep_over E.tells (E.state devices.keep) (E.state it.keep)) it.kept) }
     ensures outside { D.tells → IfOk result (λ it. StaysOutside (D.state devices.disk) (D.state it.disk)) }
     ensures err { IfErr result (λ back. (back.devices ≡ devices) × (back.world ≡ loops.world)) }
+
+    // The links that have ended are all that the door gave, unless there was no memory.
+    ensures whole { IfOk result (λ it. it.end ≢ Memory → IsSome it.ends) }
+    ensures all { IfOk result (λ it. AreAllThatCame (P.Door.gave loops.world.door) (P.Door.gave it.world.door)
+        (links_over P.Link.tells P.Ends.tells P.Ends.entries it.ends)) }
 
     // Where the loops ended of themselves the door gave as many links as the bounds ask for.
     ensures came { IfOk result (λ it. it.end ≡ Done

@@ -1,17 +1,18 @@
 //! The threads: each owns what it works with, and gives it back at its end.
 
-ghost use Rattle.std.specs.Prelude.{◌≡◌, ◌≤◌, ℕ, [], None};
+ghost use Rattle.std.specs.Prelude.{◌≡◌, ◌≤◌, [], None};
 ghost use denote.Param.Send.{IsSync, IsSend};
 ghost use Rattle.log_model.specs.Stored.{StaysOutside};
 ghost use Rattle.segment_files.specs.Turn.{IsInside};
 ghost use Rattle.worker_turns.specs.Acts.{Acted, place_of, view_of, change_of};
 ghost use Rattle.event_loops.specs.Causes.{CountsEnd, loop_faults};
 ghost use Rattle.event_loops.specs.Doors.{AtDoor};
+ghost use Rattle.event_loops.specs.Tales.{loop_view};
 ghost use Rattle.event_loops.specs.Timing.{clock_over};
 ghost use Rattle.serve_threads.specs.Kept.{KeepsUp, keep_over};
-ghost use Rattle.ask_ways.specs.Ways.{taken_by};
 ghost use Rattle.serve_threads.specs.Asking.{AreSameWays, HasNoneAsked, put_of};
-ghost use Rattle.serve_threads.specs.Served.{Begins, IsLoop, FlushesTo, Worked};
+ghost use Rattle.serve_threads.specs.Links.{Worked, part_of};
+ghost use Rattle.serve_threads.specs.Served.{FlushesTo};
 ghost use Rattle.serve_threads.specs.Causes.{BlamesDisk};
 
 use crate::asks::{AskWays, LoopAsks};
@@ -20,7 +21,7 @@ use crate::keeper::keep_up;
 use crate::timetable::Timetable;
 use broker_core::Owner;
 use broker_events::Calls;
-use event_loops::{Around, EventLoop, LoopEnd, Outside, each_link_of_a_loop_is_answered_in_order};
+use event_loops::{Around, EventLoop, LoopEnd, Outside};
 use group_flush::Flusher;
 use mq_outside::{Clock, Disk, Keep, Reader};
 use mq_peers::Ready;
@@ -53,10 +54,10 @@ fn tell_end<W: Wait, P: Ready>(around: &Around<'_, W, P>, end: LoopEnd) {
 impl<P: Ready + Drop, K: Clock + Drop, C: Calls + Drop, R: Reader + Drop> Worker<P, K, C, R> {
     // Runs the loop to its end.
     fn run<W: Wait>(self, around: &Around<'_, W, P>) -> Worker<P, K, C, R>
-        ensures answered { (number : ℕ) → IsLoop number self.event_loop → taken_by self.asks.way ≡ []
-            → Worked C.makes P.Link.tells R.gives
-            (clock_over K.tells (K.readings self.outside.clock) (K.readings result.outside.clock)) number self.calls result.calls
-            self.asks.way result.asks.way }
+        ensures went { Worked C.makes (loop_view P.Link.tells P.Link.given P.Link.taken P.Ends.tells P.Ends.entries) R.gives
+            (clock_over K.tells (K.readings self.outside.clock) (K.readings result.outside.clock))
+            (part_of self.calls self.asks self.event_loop.links)
+            (part_of result.calls result.asks result.event_loop.links) }
         ensures door { AtDoor P.Door.gave result.end self.outside.entrance result.outside.entrance }
         ensures cause { CountsEnd result.end (loop_faults P.faults P.Door.faults K.faults self.outside)
             (loop_faults P.faults P.Door.faults K.faults result.outside) }
@@ -70,7 +71,6 @@ impl<P: Ready + Drop, K: Clock + Drop, C: Calls + Drop, R: Reader + Drop> Worker
             end: _,
         } = self;
         let end = event_loop.run(around, &mut outside, &mut asks, &mut calls, &mut reader);
-        each_link_of_a_loop_is_answered_in_order::<P::Link, R>();
         tell_end(around, end);
         Worker {
             event_loop,
@@ -182,45 +182,50 @@ fn run_loops<
     first: Worker<P, K, C, R>,
     second: Worker<P, K, C, R>,
 ) -> (Worker<P, K, C, R>, Worker<P, K, C, R>)
-    requires first { Begins 0 first.event_loop first.asks.way }
-    requires second { Begins 1 second.event_loop second.asks.way }
-    ensures first { Worked C.makes P.Link.tells R.gives
-        (clock_over K.tells (K.readings first.outside.clock) (K.readings result.0.outside.clock)) 0 first.calls result.0.calls
-        first.asks.way result.0.asks.way }
-    ensures second { Worked C.makes P.Link.tells R.gives
-        (clock_over K.tells (K.readings second.outside.clock) (K.readings result.1.outside.clock)) 1 second.calls result.1.calls
-        second.asks.way result.1.asks.way }
+    ensures first { Worked C.makes (loop_view P.Link.tells P.Link.given P.Link.taken P.Ends.tells P.Ends.entries) R.gives
+        (clock_over K.tells (K.readings first.outside.clock) (K.readings result.0.outside.clock))
+        (part_of first.calls first.asks first.event_loop.links)
+        (part_of result.0.calls result.0.asks result.0.event_loop.links) }
+    ensures second { Worked C.makes (loop_view P.Link.tells P.Link.given P.Link.taken P.Ends.tells P.Ends.entries) R.gives
+        (clock_over K.tells (K.readings second.outside.clock) (K.readings result.1.outside.clock))
+        (part_of second.calls second.asks second.event_loop.links)
+        (part_of result.1.calls result.1.asks result.1.event_loop.links) }
     ensures first_door { AtDoor P.Door.gave result.0.end first.outside.entrance result.0.outside.entrance }
     ensures first_cause { CountsEnd result.0.end (loop_faults P.faults P.Door.faults K.faults first.outside)
         (loop_faults P.faults P.Door.faults K.faults result.0.outside) }
     ensures second_cause { CountsEnd result.1.end (loop_faults P.faults P.Door.faults K.faults second.outside)
         (loop_faults P.faults P.Door.faults K.faults result.1.outside) }
 {
-    let both = join(
+    let (mut first, mut second) = join(
         around.rt,
         move || -> Worker<P, K, C, R>
-            requires { IsSend P.Link.row × IsSend P.Door.row × IsSend P.Waker.row × IsSync P.Waker.row × IsSend K.row
-                × Begins 0 first.event_loop first.asks.way }
-            ensures answered { Worked C.makes P.Link.tells R.gives
-                (clock_over K.tells (K.readings first.outside.clock) (K.readings result.outside.clock)) 0 first.calls result.calls
-                first.asks.way result.asks.way }
+            requires { IsSend P.Link.row × IsSend P.Door.row × IsSend P.Ends.row × IsSend P.Waker.row × IsSync P.Waker.row
+                × IsSend K.row }
+            ensures went { Worked C.makes (loop_view P.Link.tells P.Link.given P.Link.taken P.Ends.tells P.Ends.entries) R.gives
+                (clock_over K.tells (K.readings first.outside.clock) (K.readings result.outside.clock))
+                (part_of first.calls first.asks first.event_loop.links)
+                (part_of result.calls result.asks result.event_loop.links) }
             ensures door { AtDoor P.Door.gave result.end first.outside.entrance result.outside.entrance }
             ensures cause { CountsEnd result.end (loop_faults P.faults P.Door.faults K.faults first.outside)
                 (loop_faults P.faults P.Door.faults K.faults result.outside) }
         { first.run(around) },
         move || -> Worker<P, K, C, R>
-            requires { IsSend P.Link.row × IsSend P.Door.row × IsSend P.Waker.row × IsSync P.Waker.row × IsSend K.row
-                × Begins 1 second.event_loop second.asks.way }
-            ensures answered { Worked C.makes P.Link.tells R.gives
-                (clock_over K.tells (K.readings second.outside.clock) (K.readings result.outside.clock)) 1 second.calls result.calls
-                second.asks.way result.asks.way }
+            requires { IsSend P.Link.row × IsSend P.Door.row × IsSend P.Ends.row × IsSend P.Waker.row × IsSync P.Waker.row
+                × IsSend K.row }
+            ensures went { Worked C.makes (loop_view P.Link.tells P.Link.given P.Link.taken P.Ends.tells P.Ends.entries) R.gives
+                (clock_over K.tells (K.readings second.outside.clock) (K.readings result.outside.clock))
+                (part_of second.calls second.asks second.event_loop.links)
+                (part_of result.calls result.asks result.event_loop.links) }
             ensures cause { CountsEnd result.end (loop_faults P.faults P.Door.faults K.faults second.outside)
                 (loop_faults P.faults P.Door.faults K.faults result.outside) }
         { second.run(around) },
     );
     around.shared.loops_ended();
     bell.unpark();
-    both
+    // Neither hands a link over any more.
+    first.event_loop.refuse_left::<W, R>(around);
+    second.event_loop.refuse_left::<W, R>(around);
+    (first, second)
 }
 
 // Runs both loops, and the keeper until they have ended.
@@ -237,15 +242,16 @@ fn run_kept<
     second: Worker<P, K, C, R>,
     keeping: Keeping<C, E>,
 ) -> (Keeping<C, E>, (Worker<P, K, C, R>, Worker<P, K, C, R>))
-    requires loops { Begins 0 first.event_loop first.asks.way × Begins 1 second.event_loop second.asks.way }
     ensures kept { KeepsUp C.sees (keep_over E.tells (E.state keeping.keep) (E.state result.0.keep)) keeping.calls result.0.calls }
     ensures keep_grows { E.faults keeping.keep ≤ E.faults result.0.keep }
-    ensures first { Worked C.makes P.Link.tells R.gives
-        (clock_over K.tells (K.readings first.outside.clock) (K.readings result.1.0.outside.clock)) 0 first.calls result.1.0.calls
-        first.asks.way result.1.0.asks.way }
-    ensures second { Worked C.makes P.Link.tells R.gives
-        (clock_over K.tells (K.readings second.outside.clock) (K.readings result.1.1.outside.clock)) 1 second.calls result.1.1.calls
-        second.asks.way result.1.1.asks.way }
+    ensures first { Worked C.makes (loop_view P.Link.tells P.Link.given P.Link.taken P.Ends.tells P.Ends.entries) R.gives
+        (clock_over K.tells (K.readings first.outside.clock) (K.readings result.1.0.outside.clock))
+        (part_of first.calls first.asks first.event_loop.links)
+        (part_of result.1.0.calls result.1.0.asks result.1.0.event_loop.links) }
+    ensures second { Worked C.makes (loop_view P.Link.tells P.Link.given P.Link.taken P.Ends.tells P.Ends.entries) R.gives
+        (clock_over K.tells (K.readings second.outside.clock) (K.readings result.1.1.outside.clock))
+        (part_of second.calls second.asks second.event_loop.links)
+        (part_of result.1.1.calls result.1.1.asks result.1.1.event_loop.links) }
     ensures first_door { AtDoor P.Door.gave result.1.0.end first.outside.entrance result.1.0.outside.entrance }
     ensures first_cause { CountsEnd result.1.0.end (loop_faults P.faults P.Door.faults K.faults first.outside)
         (loop_faults P.faults P.Door.faults K.faults result.1.0.outside) }
@@ -262,14 +268,15 @@ fn run_kept<
         { keeping.run(around, rings) },
         move || -> (Worker<P, K, C, R>, Worker<P, K, C, R>)
             requires { IsSync W.row × IsSend P.row × IsSync P.row × IsSend P.Link.row × IsSend P.Door.row × IsSend P.Waker.row
-                × IsSync P.Waker.row × IsSend K.row × IsSend C.row × IsSend R.row
-                × Begins 0 first.event_loop first.asks.way × Begins 1 second.event_loop second.asks.way }
-            ensures first { Worked C.makes P.Link.tells R.gives
-                (clock_over K.tells (K.readings first.outside.clock) (K.readings result.0.outside.clock)) 0 first.calls result.0.calls
-                first.asks.way result.0.asks.way }
-            ensures second { Worked C.makes P.Link.tells R.gives
-                (clock_over K.tells (K.readings second.outside.clock) (K.readings result.1.outside.clock)) 1 second.calls result.1.calls
-                second.asks.way result.1.asks.way }
+                × IsSync P.Waker.row × IsSend K.row × IsSend C.row × IsSend R.row }
+            ensures first { Worked C.makes (loop_view P.Link.tells P.Link.given P.Link.taken P.Ends.tells P.Ends.entries) R.gives
+                (clock_over K.tells (K.readings first.outside.clock) (K.readings result.0.outside.clock))
+                (part_of first.calls first.asks first.event_loop.links)
+                (part_of result.0.calls result.0.asks result.0.event_loop.links) }
+            ensures second { Worked C.makes (loop_view P.Link.tells P.Link.given P.Link.taken P.Ends.tells P.Ends.entries) R.gives
+                (clock_over K.tells (K.readings second.outside.clock) (K.readings result.1.outside.clock))
+                (part_of second.calls second.asks second.event_loop.links)
+                (part_of result.1.calls result.1.asks result.1.event_loop.links) }
             ensures first_door { AtDoor P.Door.gave result.0.end first.outside.entrance result.0.outside.entrance }
             ensures first_cause { CountsEnd result.0.end (loop_faults P.faults P.Door.faults K.faults first.outside)
                 (loop_faults P.faults P.Door.faults K.faults result.0.outside) }
@@ -317,7 +324,6 @@ where
     requires none_out { (C.shown flushing.calls).out ≡ None }
     requires inside { D.tells → IsInside flushing.flusher.file.base flushing.flusher.file.offset (D.state flushing.disk) }
     requires none_asked { HasNoneAsked flushing.ways }
-    requires loops { Begins 0 first.event_loop first.asks.way × Begins 1 second.event_loop second.asks.way }
     ensures outside { D.tells → StaysOutside (D.state flushing.disk) (D.state result.flushing.disk) }
     ensures acted { Acted C.makes (view_of D.tells D.state D.faults D.syncs) (FlushesTo (put_of result.flushing.ways))
         (change_of flushing.calls (place_of flushing.flusher.file flushing.disk)
@@ -325,12 +331,14 @@ where
     ensures ways { AreSameWays flushing.ways result.flushing.ways }
     ensures kept { KeepsUp C.sees (keep_over E.tells (E.state keeping.keep) (E.state result.keeping.keep)) keeping.calls
         result.keeping.calls }
-    ensures first { Worked C.makes P.Link.tells R.gives
-        (clock_over K.tells (K.readings first.outside.clock) (K.readings result.first.outside.clock)) 0 first.calls result.first.calls
-        first.asks.way result.first.asks.way }
-    ensures second { Worked C.makes P.Link.tells R.gives
-        (clock_over K.tells (K.readings second.outside.clock) (K.readings result.second.outside.clock)) 1 second.calls result.second.calls
-        second.asks.way result.second.asks.way }
+    ensures first { Worked C.makes (loop_view P.Link.tells P.Link.given P.Link.taken P.Ends.tells P.Ends.entries) R.gives
+        (clock_over K.tells (K.readings first.outside.clock) (K.readings result.first.outside.clock))
+        (part_of first.calls first.asks first.event_loop.links)
+        (part_of result.first.calls result.first.asks result.first.event_loop.links) }
+    ensures second { Worked C.makes (loop_view P.Link.tells P.Link.given P.Link.taken P.Ends.tells P.Ends.entries) R.gives
+        (clock_over K.tells (K.readings second.outside.clock) (K.readings result.second.outside.clock))
+        (part_of second.calls second.asks second.event_loop.links)
+        (part_of result.second.calls result.second.asks result.second.event_loop.links) }
     ensures first_door { AtDoor P.Door.gave result.first.end first.outside.entrance result.first.outside.entrance }
     ensures first_cause { CountsEnd result.first.end (loop_faults P.faults P.Door.faults K.faults first.outside)
         (loop_faults P.faults P.Door.faults K.faults result.first.outside) }
@@ -354,16 +362,17 @@ where
         { flushing.run(around) },
         move || -> (Keeping<C, E>, (Worker<P, K, C, R>, Worker<P, K, C, R>))
             requires { IsSync W.row × IsSend P.row × IsSync P.row × IsSend P.Link.row × IsSend P.Door.row × IsSend P.Waker.row
-                × IsSync P.Waker.row × IsSend K.row × IsSend C.row × IsSend R.row × IsSend E.row
-                × Begins 0 first.event_loop first.asks.way × Begins 1 second.event_loop second.asks.way }
+                × IsSync P.Waker.row × IsSend K.row × IsSend C.row × IsSend R.row × IsSend E.row }
             ensures kept { KeepsUp C.sees (keep_over E.tells (E.state keeping.keep) (E.state result.0.keep)) keeping.calls result.0.calls }
             ensures keep_grows { E.faults keeping.keep ≤ E.faults result.0.keep }
-            ensures first { Worked C.makes P.Link.tells R.gives
-                (clock_over K.tells (K.readings first.outside.clock) (K.readings result.1.0.outside.clock)) 0 first.calls result.1.0.calls
-                first.asks.way result.1.0.asks.way }
-            ensures second { Worked C.makes P.Link.tells R.gives
-                (clock_over K.tells (K.readings second.outside.clock) (K.readings result.1.1.outside.clock)) 1 second.calls result.1.1.calls
-                second.asks.way result.1.1.asks.way }
+            ensures first { Worked C.makes (loop_view P.Link.tells P.Link.given P.Link.taken P.Ends.tells P.Ends.entries) R.gives
+                (clock_over K.tells (K.readings first.outside.clock) (K.readings result.1.0.outside.clock))
+                (part_of first.calls first.asks first.event_loop.links)
+                (part_of result.1.0.calls result.1.0.asks result.1.0.event_loop.links) }
+            ensures second { Worked C.makes (loop_view P.Link.tells P.Link.given P.Link.taken P.Ends.tells P.Ends.entries) R.gives
+                (clock_over K.tells (K.readings second.outside.clock) (K.readings result.1.1.outside.clock))
+                (part_of second.calls second.asks second.event_loop.links)
+                (part_of result.1.1.calls result.1.1.asks result.1.1.event_loop.links) }
             ensures first_door { AtDoor P.Door.gave result.1.0.end first.outside.entrance result.1.0.outside.entrance }
             ensures first_cause { CountsEnd result.1.0.end (loop_faults P.faults P.Door.faults K.faults first.outside)
                 (loop_faults P.faults P.Door.faults K.faults result.1.0.outside) }

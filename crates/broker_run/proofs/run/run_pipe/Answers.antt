@@ -120,7 +120,7 @@ returns-clause-fits g c = λ fits.
         durable = λ told log flushed stores honest.
             let S = whole sizes.segment in
             let rests = rests_call (rests_call (rests_start _) (format told)) (reader told) in
-            keeps_on opened c.serve_log.result _ c.open_log_with.new.disk setup saved mid kept as_well served told log flushed
+            keeps_on opened c.serve_log.result _ c.open_log_with.new.disk setup saved mid kept as_well served told c.in-Ok-open_log_with.ensures.ahead log flushed
             (c.in-Ok-open_log_with.ensures.ours told log flushed (stores_rests S log flushed _ _ rests stores) (honest_rests S log flushed _ _ rests honest))
             (leaves_around S _ _ _ _ rests (leaves_flushed S _ _ (c.in-Ok-open_log_with.ensures.flushed told)) (rests_start _) log flushed stores honest);
       });

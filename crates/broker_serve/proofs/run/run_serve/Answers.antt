@@ -10,7 +10,7 @@ use Rattle.exit_status.proofs.KeepLemmas.{refused_by}
 use Rattle.broker_serve.specs.Statuses.{IsDamagedFor, TellsWhy}
 use Rattle.broker_serve.specs.Unserved.{ServesNobody}
 use Rattle.broker_serve.proofs.Serving.{run_served, run_unserved, store_others}
-use Rattle.broker_serve.proofs.Telling.{all_came, none_zero, why_unserved, why_then, not_formed, tells_why}
+use Rattle.broker_serve.proofs.Telling.{all_came, none_of, none_zero, why_unserved, why_then, not_formed, tells_why}
 use Rattle.serve_threads.specs.Causes.{counts_of, world_faults}
 use Rattle.broker_serve.proofs.Causing.{causes_from, causes_unserved, opening_causes, threads_cause, words_cause}
 use Rattle.broker_serve.proofs.run.run_serve.Goals as goal
@@ -190,3 +190,12 @@ returns-in-Ok-open_format-clause-came g c =
     all_came ended.core (texts_of c.args.words.now) told ended.status (counts_of (g.D.Disk.faults before.disk) (g.E.Keep.faults before.keep) (counts c.args.world))
     (counts_of (g.D.Disk.faults ended.store.disk) (g.E.Keep.faults ended.store.keep) (counts ended.world)) c.in-Ok.command (gave c.args.world.door) (gave ended.world.door)
     c.in-Ok.ensures.fits (returns-in-Ok-open_format-clause-why g c) c.serve_store.ensures.came
+
+pub returns-in-Err-clause-links : goal.returns-in-Err-clause-links
+returns-in-Err-clause-links g c = none_of _ _ c.unserved.ensures.core
+
+pub returns-then-not-can_start_threads-clause-links : goal.returns-then-not-can_start_threads-clause-links
+returns-then-not-can_start_threads-clause-links g c = none_of _ _ c.unserved-then-not-can_start_threads.ensures.core
+
+pub returns-in-Err-open_format-clause-links : goal.returns-in-Err-open_format-clause-links
+returns-in-Err-open_format-clause-links g c = none_of _ _ c.unserved-in-Err-open_format.ensures.core

@@ -30,10 +30,11 @@ returns-in-Err-clause-outside g c = λ tells.
 pub returns-clause-served : goal.returns-clause-served
 returns-clause-served g c =
     let disk = g.met.D.Disk g.world.𝓛 g.world.𝓜 g.world.𝓡 ((λ s x. x), (λ x. x), (λ x. x), λ x. x) in
-    log_served_with _ _ _ c.as_slice-offsets.result.now _ c.as_slice-topics.result.now c.serve_log.result.core _ _ _ _ _ c.in-Ok.opened _ _
-    c.as_slice-offsets.ensures.value c.as_slice-topics.ensures.value (λ tells. disk.reads_is_image c.args.store.disk tells) c.in-Ok.ensures.represents c.in-Ok.ensures.kept
+    log_served_with _ _ _ c.as_slice-offsets.result.now _ c.as_slice-topics.result.now c.serve_log.result.core _ _ _ _ _ c.with_zeros-opened.result _ _
+    c.as_slice-offsets.ensures.value c.as_slice-topics.ensures.value (λ tells. disk.reads_is_image c.args.store.disk tells)
+    (c.with_zeros-opened.ensures.over _ _ c.in-Ok.ensures.represents) (λ tells. c.with_zeros-opened.ensures.kept _ _ _ (c.in-Ok.ensures.kept tells))
     (record {
-      ours = c.in-Ok.ensures.ours;
+      ours = λ tells log flushed stores honest. c.with_zeros-opened.ensures.ours _ _ log flushed refl (c.in-Ok.ensures.ours tells log flushed stores honest);
       leaves = λ tells. leaves_flushed (whole c.args.segment) _ _ (c.in-Ok.ensures.flushed tells);
       outside = c.in-Ok.ensures.outside;
       faults = c.in-Ok.ensures.cause;
@@ -65,3 +66,6 @@ returns-clause-cause g c = causes_from c.serve_log.result.status _ _ _ _ _ _ _ c
 
 pub returns-in-Err-clause-came : goal.returns-in-Err-clause-came
 returns-in-Err-clause-came g c = none_of _ _ c.unserved.ensures.core
+
+pub returns-in-Err-clause-links : goal.returns-in-Err-clause-links
+returns-in-Err-clause-links g c = none_of _ _ c.unserved.ensures.core

@@ -5,11 +5,12 @@ use Rattle.log_model.specs.Stored.{StaysOutside}
 use Rattle.log_model.proofs.OutsideLemmas.{outside_start}
 use Rattle.worker_turns.specs.Acts.{view_of}
 use Rattle.serve_threads.specs.Kept.{keep_over}
+use Rattle.serve_threads.specs.Links.{links_over}
 use Rattle.serve_threads.specs.Served.{clocks_over, readings_of, views_of}
 use Rattle.broker_serve.specs.Serves.{EndsOver, run_over}
 use Rattle.broker_serve.specs.Statuses.{ShutOut}
 use Rattle.broker_serve.proofs.Serving.{ends_unserved}
-use Rattle.broker_serve.proofs.Telling.{came_from, none_of, why_unserved}
+use Rattle.broker_serve.proofs.Telling.{came_from, links_from, none_of, why_unserved}
 use Rattle.serve_threads.specs.Causes.{world_faults}
 use Rattle.broker_serve.proofs.Causing.{causes_from, causes_unserved, door_causes}
 use Rattle.broker_serve.proofs.run.serve_log.Goals as goal
@@ -43,7 +44,7 @@ returns-in-Ok-clause-ends g c =
     let now = readings_of readings c.serve_loops.result.world.clocks in
     let keep = keep_over g.E.Keep.tells (g.E.Keep.state c.args.store.keep) (g.E.Keep.state c.serve_loops.result.store.keep) in
     let run = run_over c.serve_loops.result.status c.args.store.disk c.serve_loops.result.store.disk keep in
-    subst (λ (was : List ℕ × List ℕ). EndsOver (views_of g.P.Link.Link.tells g.D.Reader.Reader.gives (clocks_over g.K.Clock.tells was now)
+    subst (λ (was : List ℕ × List ℕ). EndsOver (views_of (links_over g.P.Link.Link.tells g.P.Ends.Ends.tells g.P.Ends.Ends.entries c.serve_loops.result.ends) g.D.Reader.Reader.gives (clocks_over g.K.Clock.tells was now)
     (view_of g.D.Disk.tells g.D.Disk.state g.D.Disk.faults g.D.Disk.syncs)) c.args.opened c.serve_loops.result.core run)
     (ap (λ k. readings_of readings k) c.in-Ok.ensures.clocks) c.serve_loops.ensures.ends
 
@@ -52,3 +53,11 @@ returns-in-Err-clause-came g c = none_of _ _ c.unserved.ensures.core
 
 pub returns-in-Ok-clause-came : goal.returns-in-Ok-clause-came
 returns-in-Ok-clause-came g c = came_from c.serve_loops.result.core _ _ _ _ _ _ c.in-Ok.ensures.most c.in-Ok.ensures.gave c.serve_loops.ensures.came
+
+pub returns-in-Err-clause-links : goal.returns-in-Err-clause-links
+returns-in-Err-clause-links g c = none_of _ _ c.unserved.ensures.core
+
+pub returns-in-Ok-clause-links : goal.returns-in-Ok-clause-links
+returns-in-Ok-clause-links g c =
+    links_from c.serve_loops.result.core g.P.Ends.Ends.tells c.serve_loops.result.status _ _ (g.P.Door.Door.gave c.serve_loops.result.world.door)
+    (links_over g.P.Link.Link.tells g.P.Ends.Ends.tells g.P.Ends.Ends.entries c.serve_loops.result.ends) c.in-Ok.ensures.gave c.serve_loops.ensures.links

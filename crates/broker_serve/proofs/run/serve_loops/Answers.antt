@@ -51,3 +51,6 @@ returns-in-Ok-clause-cause g c = causes_from c.serve_open.result.status _ _ _ _ 
 
 pub returns-in-Err-clause-came : goal.returns-in-Err-clause-came
 returns-in-Err-clause-came g c = none_of _ _ c.unserved.ensures.core
+
+pub returns-in-Err-clause-links : goal.returns-in-Err-clause-links
+returns-in-Err-clause-links g c = none_of _ _ c.unserved.ensures.core

@@ -6,10 +6,11 @@ use Rattle.log_model.proofs.OutsideLemmas.{outside_then}
 use Rattle.worker_turns.specs.Acts.{change_of, place_of, view_of}
 use Rattle.exit_status.proofs.LogLemmas.{stays_rests}
 use Rattle.serve_threads.specs.Kept.{keep_over}
+use Rattle.serve_threads.specs.Links.{AreAllThatCame, LinksOver, links_over}
 use Rattle.serve_threads.specs.Served.{IsLeft, clocks_over, readings_of, views_of}
 use Rattle.broker_serve.proofs.Serving.{ends_unserved, ends_served}
 use Rattle.event_loops.specs.Doors.{GaveAll}
-use Rattle.broker_serve.proofs.Telling.{none_of, some_of, why_unserved, why_served, zero_done}
+use Rattle.broker_serve.proofs.Telling.{links_left, none_of, some_of, why_unserved, why_served, zero_done}
 use Rattle.broker_serve.proofs.Causing.{causes_seven}
 use Rattle.broker_serve.proofs.run.serve_open.Goals as goal
 
@@ -31,15 +32,19 @@ pub returns-in-Ok-clause-ends : goal.returns-in-Ok-clause-ends
 returns-in-Ok-clause-ends g c =
     let served = c.in-Ok.served in
     let readings = g.K.Clock.readings in
-    let views = λ (now : List ℕ × List ℕ).
-    views_of g.P.Link.Link.tells g.D.Reader.Reader.gives (clocks_over g.K.Clock.tells (readings_of readings c.args.loops.world.clocks) now)
+    let over = links_over g.P.Link.Link.tells g.P.Ends.Ends.tells g.P.Ends.Ends.entries in
+    let seen = λ (links : LinksOver) (now : List ℕ × List ℕ).
+    views_of links g.D.Reader.Reader.gives (clocks_over g.K.Clock.tells (readings_of readings c.args.loops.world.clocks) now)
     (view_of g.D.Disk.tells g.D.Disk.state g.D.Disk.faults g.D.Disk.syncs) in
+    let now = readings_of readings c.ended_of.result.world.clocks in
     let ended = place_of c.in-Ok.ensures.left.0 served.disk in
-    ends_served (views (readings_of readings c.ended_of.result.world.clocks)) (record { core = c.args.core; flusher = c.args.devices.flusher }) _ _ _ served.end served.last _ ended c.ended_of.ensures.core c.ended_of.ensures.tells c.ended_of.ensures.alike
-    (subst (λ w. IsLeft (views (readings_of readings w.clocks)) (change_of c.args.core (place_of c.args.devices.flusher.file c.args.devices.disk) served.core ended)
+    ends_served (seen (over c.ended_of.result.ends) now) (record { core = c.args.core; flusher = c.args.devices.flusher }) _ _ _ served.end served.last _ ended c.ended_of.ensures.core c.ended_of.ensures.tells c.ended_of.ensures.alike
+    (subst (λ x. IsLeft (seen (over x) now) (change_of c.args.core (place_of c.args.devices.flusher.file c.args.devices.disk) served.core ended)
+    (keep_over g.E.Keep.tells (g.E.Keep.state c.args.devices.keep) (g.E.Keep.state c.ended_of.result.store.keep)) served.kept) (sym c.ended_of.ensures.ends)
+    (subst (λ w. IsLeft (seen (over served.ends) (readings_of readings w.clocks)) (change_of c.args.core (place_of c.args.devices.flusher.file c.args.devices.disk) served.core ended)
     (keep_over g.E.Keep.tells (g.E.Keep.state c.args.devices.keep) (g.E.Keep.state c.ended_of.result.store.keep)) served.kept) (sym c.ended_of.ensures.world)
-    (subst (λ k. IsLeft (views (readings_of readings served.world.clocks)) (change_of c.args.core (place_of c.args.devices.flusher.file c.args.devices.disk) served.core ended)
-    (keep_over g.E.Keep.tells (g.E.Keep.state c.args.devices.keep) (g.E.Keep.state k)) served.kept) (sym c.ended_of.ensures.keep) c.in-Ok.ensures.left.1))
+    (subst (λ k. IsLeft (seen (over served.ends) (readings_of readings served.world.clocks)) (change_of c.args.core (place_of c.args.devices.flusher.file c.args.devices.disk) served.core ended)
+    (keep_over g.E.Keep.tells (g.E.Keep.state c.args.devices.keep) (g.E.Keep.state k)) served.kept) (sym c.ended_of.ensures.keep) c.in-Ok.ensures.left.1)))
 
 pub returns-in-Ok-clause-outside : goal.returns-in-Ok-clause-outside
 returns-in-Ok-clause-outside g c = λ tells. outside_then (c.in-Ok.ensures.outside tells) (stays_rests IsOutside _ _ (c.ended_of.ensures.alike.rests tells))
@@ -66,3 +71,18 @@ returns-in-Ok-clause-came g c =
     let loops = c.args.loops in
     some_of _ _ _ c.ended_of.ensures.core (λ zero. subst (λ w. GaveAll loops.bounds.most (gave loops.world.door) (gave w.door)) (sym c.ended_of.ensures.world)
     (c.in-Ok.ensures.came (zero_done c.ended_of.result.status _ _ _ c.ended_of.ensures.tells zero)))
+
+pub returns-in-Err-clause-links : goal.returns-in-Err-clause-links
+returns-in-Err-clause-links g c = none_of _ _ c.unserved.ensures.core
+
+pub returns-in-Ok-clause-links : goal.returns-in-Ok-clause-links
+returns-in-Ok-clause-links g c =
+    let gave = g.P.Door.Door.gave in
+    let served = c.in-Ok.served in
+    let world = c.args.loops.world in
+    let over = links_over g.P.Link.Link.tells g.P.Ends.Ends.tells g.P.Ends.Ends.entries in
+    let told = c.in-Ok.ensures in
+    some_of _ _ _ c.ended_of.ensures.core
+    (links_left g.P.Link.Link.tells g.P.Ends.Ends.tells g.P.Ends.Ends.entries c.ended_of.result.status served.end served.last served.kept (gave world.door) (gave c.ended_of.result.world.door)
+    served.ends c.ended_of.result.ends c.ended_of.ensures.ends c.ended_of.ensures.tells told.whole
+    (subst (λ w. AreAllThatCame (gave world.door) (gave w.door) (over served.ends)) (sym c.ended_of.ensures.world) told.all))

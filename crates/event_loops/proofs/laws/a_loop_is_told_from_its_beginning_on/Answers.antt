@@ -4,5 +4,9 @@ use Rattle.event_loops.proofs.Told.{told_none}
 use Rattle.event_loops.proofs.laws.a_loop_is_told_from_its_beginning_on.Goals as goal
 
 pub returns : goal.returns
-returns g c old new acts none went =
-    went.keeps [] (told_none (link_view g.L.Link.tells g.L.Link.given g.L.Link.taken) g.R.Reader.gives (loop_numbers old) old.slots.items none)
+returns g c old new acts none empty went =
+    went.keeps [] (record {
+      ended = [];
+      are = λ kept told. empty told;
+      so = told_none (link_view g.L.Link.tells g.L.Link.given g.L.Link.taken) g.R.Reader.gives (loop_numbers old) old.slots.items none;
+    })

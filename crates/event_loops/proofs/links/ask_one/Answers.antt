@@ -6,4 +6,4 @@ use Rattle.event_loops.proofs.links.ask_one.Goals as goal
 
 pub returns : goal.returns
 returns g c = one_asked (link_view g.L.Link.tells g.L.Link.given g.L.Link.taken) g.R.Reader.gives (unasked g.C.Calls.makes) _ _
-    c.args.numbered.now (record { number = c.args.numbered.now.number; linked = c.ask.new.self }) c.args.ask.now c.ask.result refl c.ask.ensures
+    c.args.numbered.now (record { number = c.args.numbered.now.number; peer = c.args.numbered.now.peer; linked = c.ask.new.self }) c.args.ask.now c.ask.result (refl, refl) c.ask.ensures

@@ -7,5 +7,5 @@ use Rattle.event_loops.proofs.links.hear_one.Goals as goal
 pub returns : goal.returns
 returns g c = record {
   went = one_heard (link_view g.L.Link.tells g.L.Link.given g.L.Link.taken) g.R.Reader.gives (at_reading c.args.now g.C.Calls.makes) _ _
-      c.args.numbered.now (record { number = c.args.numbered.now.number; linked = c.hear.new.self }) refl c.hear.ensures.went;
+      c.args.numbered.now (record { number = c.args.numbered.now.number; peer = c.args.numbered.now.peer; linked = c.hear.new.self }) (refl, refl) c.hear.ensures.went;
 }

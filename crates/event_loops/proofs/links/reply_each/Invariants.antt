@@ -1,7 +1,10 @@
+use Rattle.std.proofs.Common.{List}
+use Rattle.mq_peers.specs.Ended.{LinkEnd}
 use Rattle.link_service.specs.Clocks.{unasked}
-use Rattle.event_loops.specs.Tales.{Keeps, LeadsBy, link_view}
+use Rattle.event_loops.specs.Tales.{Enters, Keeps, LeadsBy, link_view, loop_view}
 use Rattle.event_loops.proofs.links.reply_each.Given as goal
 
 abbrev pub invariant-loop-i : goal.invariant-loop-i
-invariant-loop-i g l = LeadsBy (unasked g.C.Calls.makes) l.fn.calls l.calls
-    (λ acts. Keeps (link_view g.L.Link.tells g.L.Link.given g.L.Link.taken) g.R.Reader.gives l.fn.slots acts l.slots)
+invariant-loop-i g l = LeadsBy (unasked g.C.Calls.makes) l.fn.calls l.calls (λ acts. (gone : List LinkEnd)
+    × Enters (loop_view g.L.Link.tells g.L.Link.given g.L.Link.taken g.N.Ends.tells g.N.Ends.entries) l.fn.ledger gone l.ledger
+    × Keeps (link_view g.L.Link.tells g.L.Link.given g.L.Link.taken) g.R.Reader.gives l.fn.slots acts l.slots gone)

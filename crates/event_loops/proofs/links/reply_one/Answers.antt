@@ -6,8 +6,8 @@ use Rattle.event_loops.proofs.links.reply_one.Goals as goal
 
 pub returns-then-not-has_ended-clause-replied : goal.returns-then-not-has_ended-clause-replied
 returns-then-not-has_ended-clause-replied g c = λ is. one_replied (link_view g.L.Link.tells g.L.Link.given g.L.Link.taken) g.R.Reader.gives (unasked g.C.Calls.makes) _ _
-    c.args.numbered.now (record { number = c.args.numbered.now.number; linked = c.reply.new.self }) refl c.reply.ensures.went
+    c.args.numbered.now (record { number = c.args.numbered.now.number; peer = c.args.numbered.now.peer; linked = c.reply.new.self }) (refl, refl) c.reply.ensures.went
 
 pub returns-clause-left : goal.returns-clause-left
-returns-clause-left g c = λ is. one_left (link_view g.L.Link.tells g.L.Link.given g.L.Link.taken) g.R.Reader.gives (unasked g.C.Calls.makes) _ _ _ c.args.numbered.now _
-    c.leave.ensures.0 c.reply.ensures.went (c.leave.ensures.1, tt)
+returns-clause-left g c = λ is. one_left (link_view g.L.Link.tells g.L.Link.given g.L.Link.taken) g.R.Reader.gives (unasked g.C.Calls.makes) _ _ _ c.args.numbered.now
+    (record { number = c.args.numbered.now.number; peer = c.args.numbered.now.peer; linked = c.reply.new.self }) c.leave.ensures.0 (refl, refl) c.reply.ensures.went (c.leave.ensures.1, tt)

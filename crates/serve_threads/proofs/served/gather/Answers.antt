@@ -5,7 +5,9 @@ use Rattle.serve_threads.specs.declared.asks.LoopAsks.{LoopAsks}
 use Rattle.event_loops.specs.Causes.{door_faults, loop_faults}
 use Rattle.serve_threads.proofs.Keys.{some_at}
 use Rattle.serve_threads.specs.Causes.{HasDoor, IsFirstFault}
+use Rattle.serve_threads.specs.Links.{AreWhole}
 use Rattle.serve_threads.proofs.Counting.{world_counts}
+use Rattle.serve_threads.proofs.Whole.{some_unless}
 use Rattle.serve_threads.proofs.served.gather.Goals as goal
 
 pub together-requires-clause-turns : goal.together-requires-clause-turns
@@ -33,7 +35,7 @@ join-requires-clause-door g c κs within = subst (λ o. HasDoor (door_faults g.P
 pub returns-clause-end : goal.returns-clause-end
 returns-clause-end g c =
     subst (λ e. IsFirstFault e c.args.ran.second.end c.first_fault.result) c.left_of-first_pass.ensures.end
-    (subst (λ e. IsFirstFault c.left_of-first_pass.result.3 e c.first_fault.result) c.left_of-second_pass.ensures.end c.first_fault.ensures)
+    (subst (λ e. IsFirstFault c.left_of-first_pass.result.3 e c.first_fault.result) c.left_of-second_pass.ensures.end c.first_fault.ensures.fault)
 
 pub returns-clause-counts : goal.returns-clause-counts
 returns-clause-counts g c =
@@ -66,3 +68,18 @@ returns-clause-clocks g c = (
 pub returns-clause-door : goal.returns-clause-door
 returns-clause-door g c =
     subst (λ o. IfSome o.entrance (λ e. c.join.result.door ≡ e.door)) c.left_of-first_pass.ensures.outside c.join.ensures.door
+
+pub returns-clause-ends : goal.returns-clause-ends
+returns-clause-ends g c =
+    let first = c.left_of-first_pass in
+    let second = c.left_of-second_pass in
+    let ends = c.ends_of-ends.result in
+    let whole = AreWhole g.P.Ends.Ends.tells g.P.Ends.Ends.entries c.came_by.result in (
+      c.came_by.result,
+      subst (λ o. IfSome o.entrance (λ e. c.came_by.result ≡ e.came)) first.ensures.outside c.came_by.ensures,
+      subst (λ l. IfSome ends (λ e. whole l c.args.ran.second.event_loop.links e)) first.ensures.links
+          (subst (λ l. IfSome ends (λ e. whole first.result.5.links l e)) second.ensures.links c.ends_of-ends.ensures),
+    )
+
+pub returns-clause-whole : goal.returns-clause-whole
+returns-clause-whole g c = some_unless c.ends_of-ends.result _ c.first_fault.result _ c.is_some.ensures c.first_fault.ensures.whole

@@ -5,9 +5,12 @@ use Rattle.story_lock.specs.Passes.{seen_by, start_of}
 use Rattle.spine.specs.declared.spine.Spine.{Spine}
 use Rattle.serve_threads.specs.Kept.{PutsAlong}
 use Rattle.serve_threads.specs.Asking.{put_of}
+use Rattle.event_loops.specs.Tales.{loop_view}
+use Rattle.serve_threads.specs.Links.{first_links, second_links, links_over, part_of}
 use Rattle.serve_threads.specs.Served.{FlushesTo, HasMade, clocks_over, readings_of, views_of}
 use Rattle.serve_threads.proofs.Keeping.{keeps_along, puts_longer}
-use Rattle.serve_threads.proofs.Parts.{looks_of, made_of, met_last, stays_acting, stays_leading, took_first}
+use Rattle.serve_threads.proofs.Parts.{answered, looks_of, made_of, met_last, stays_acting, stays_leading, took_first, up_to, worked_leads}
+use Rattle.serve_threads.proofs.Whole.{all_came, first_whole, second_whole}
 use Rattle.serve_threads.specs.Causes.{BlamesDisk}
 use Rattle.serve_threads.proofs.Counting.{door_stays, gave_all, loops_blame}
 use Rattle.serve_threads.proofs.served.run_seated.Goals as goal
@@ -20,12 +23,12 @@ gather-requires-clause-turns g c κs within =
 pub gather-requires-clause-first : goal.gather-requires-clause-first
 gather-requires-clause-first g c κs within =
     let cut = c.seats_of-key.ensures.cut in
-    stays_leading (λ z. z.pass) c.args.spine.now.story _ _ cut.first _ cut.are.1 cut.of.1 c.run_all-ran.ensures.first.leads
+    stays_leading (λ z. z.pass) c.args.spine.now.story _ _ cut.first _ cut.are.1 cut.of.1 (worked_leads _ (loop_view g.P.Link.Link.tells g.P.Link.Link.given g.P.Link.Link.taken g.P.Ends.Ends.tells g.P.Ends.Ends.entries) _ _ _ _ c.run_all-ran.ensures.first)
 
 pub gather-requires-clause-second : goal.gather-requires-clause-second
 gather-requires-clause-second g c κs within =
     let cut = c.seats_of-key.ensures.cut in
-    stays_leading (λ z. z.pass) c.args.spine.now.story _ _ cut.second _ cut.are.2 cut.of.2 c.run_all-ran.ensures.second.leads
+    stays_leading (λ z. z.pass) c.args.spine.now.story _ _ cut.second _ cut.are.2 cut.of.2 (worked_leads _ (loop_view g.P.Link.Link.tells g.P.Link.Link.given g.P.Link.Link.taken g.P.Ends.Ends.tells g.P.Ends.Ends.entries) _ _ _ _ c.run_all-ran.ensures.second)
 
 pub gather-requires-clause-keeper : goal.gather-requires-clause-keeper
 gather-requires-clause-keeper g c κs within =
@@ -44,15 +47,27 @@ returns-clause-made g c =
     let kept = ran.ensures.kept in
     let readings = g.K.Clock.readings in
     let given = readings_of readings (c.args.outsides.0.clock, c.args.outsides.1.clock) in
+    let view = (loop_view g.P.Link.Link.tells g.P.Link.Link.given g.P.Link.Link.taken g.P.Ends.Ends.tells g.P.Ends.Ends.entries) in
+    let ends = c.gather.result.ends in
+    let links = links_over view.links.tells view.told view.entries ends in
+    let whole = c.gather.ensures.ends in
+    let law = c.each_link_of_a_loop_is_answered_in_order.ensures in
+    let first = ran.result.first in
+    let second = ran.result.second in
+    let loops = c.requires.loops in
+    let one = answered view g.R.Reader.gives _ 0 _ _ (part_of first.calls first.asks first.event_loop.links) loops.0.loops loops.0.none loops.0.fresh ran.ensures.first law
+    links.told links.first c.requires.none_asked.1 (first_whole view.told view.entries whole.0 first.event_loop.links second.event_loop.links ends whole.2) in
+    let other = answered view g.R.Reader.gives _ 1 _ _ (part_of second.calls second.asks second.event_loop.links) loops.1.loops loops.1.none loops.1.fresh ran.ensures.second law
+    links.told links.second c.requires.none_asked.2 (second_whole view.told view.entries whole.0 first.event_loop.links second.event_loop.links ends whole.2) in
     let views = λ (now : List ℕ × List ℕ).
-    views_of g.P.Link.Link.tells g.R.Reader.gives (clocks_over g.K.Clock.tells given now) (view_of g.D.Disk.tells g.D.Disk.state g.D.Disk.faults g.D.Disk.syncs) in
+    views_of links g.R.Reader.gives (clocks_over g.K.Clock.tells given now) (view_of g.D.Disk.tells g.D.Disk.state g.D.Disk.faults g.D.Disk.syncs) in
     let place = place_of c.args.devices.flusher.file c.args.devices.disk in
     let clocks = c.gather.ensures.clocks in
     subst (λ (now : List ℕ × List ℕ). HasMade (views now) place c.gather.result.pass c.gather.result.disk) (λ i. (readings (sym clocks.0 i), readings (sym clocks.1 i)))
     (subst (λ d. HasMade (views (readings ran.result.first.outside.clock, readings ran.result.second.outside.clock)) place c.gather.result.pass d) (sym c.gather.ensures.disk)
     (made_of (views (readings ran.result.first.outside.clock, readings ran.result.second.outside.clock)) (λ z. z.pass) (put_of ran.result.flushing.ways) (place_of c.args.devices.flusher.file c.args.devices.disk) ran.result.flushing.flusher.file ran.result.flushing.disk c.args.spine.now.story c.args.pass c.gather.result.pass _ _ _ _ _ _ _ _
     c.requires.first.1 c.requires.numbers c.seats_of-key.ensures.cut c.gather.ensures.met ran.ensures.acted
-    (took_first _ _ _ _ 0 _ _ _ _ c.gather.ensures.fronts.0 ran.ensures.first.leads) (took_first _ _ _ _ 1 _ _ _ _ c.gather.ensures.fronts.1 ran.ensures.second.leads)
+    (took_first _ (first_links links) _ _ 0 _ _ _ _ c.gather.ensures.fronts.0 one) (took_first _ (second_links links) _ _ 1 _ _ _ _ c.gather.ensures.fronts.1 other)
     (looks_of (λ z. z.pass) (λ z. z.spine.now) (λ (v : Spine). start_of v.story) _ kept.cores _ kept.seen)))
 
 pub returns-clause-kept : goal.returns-clause-kept
@@ -84,8 +99,8 @@ returns-clause-keep_grows g c =
 pub gather-requires-clause-pairs : goal.gather-requires-clause-pairs
 gather-requires-clause-pairs g c κs within =
     let ran = c.run_all-ran.ensures in (
-      ran.ways.first c.run_all-ran.result.first.asks.way (ran.first.same c.args.ways.sends.first c.requires.pairs.0),
-      ran.ways.second c.run_all-ran.result.second.asks.way (ran.second.same c.args.ways.sends.second c.requires.pairs.1),
+      ran.ways.first c.run_all-ran.result.first.asks.way (ran.first.went.took.same c.args.ways.sends.first c.requires.pairs.0),
+      ran.ways.second c.run_all-ran.result.second.asks.way (ran.second.went.took.same c.args.ways.sends.second c.requires.pairs.1),
     )
 
 pub returns-clause-came : goal.returns-clause-came
@@ -93,3 +108,20 @@ returns-clause-came g c = λ done.
     let both = c.gather.ensures.end.done done in
     let door = c.run_all-ran.ensures.first_door in
     gave_all g.P.Door.Door.gave c.args.outsides.0.entrance c.run_all-ran.result.first.outside.entrance c.gather.result.world.door door.keeps (door.done both.0) c.gather.ensures.door
+
+pub returns-clause-whole : goal.returns-clause-whole
+returns-clause-whole g c = c.gather.ensures.whole
+
+pub returns-clause-all : goal.returns-clause-all
+returns-clause-all g c =
+    let view = (loop_view g.P.Link.Link.tells g.P.Link.Link.given g.P.Link.Link.taken g.P.Ends.Ends.tells g.P.Ends.Ends.entries) in
+    let ran = c.run_all-ran in
+    let first = ran.result.first in
+    let second = ran.result.second in
+    let loops = c.requires.loops in
+    let whole = c.gather.ensures.ends in
+    all_came view.told view.entries whole.0 first.event_loop.links second.event_loop.links view.links.tells
+    (up_to view g.R.Reader.gives _ 0 _ _ (part_of first.calls first.asks first.event_loop.links) loops.0.loops loops.0.none loops.0.fresh ran.ensures.first whole.0)
+    (up_to view g.R.Reader.gives _ 1 _ _ (part_of second.calls second.asks second.event_loop.links) loops.1.loops loops.1.none loops.1.fresh ran.ensures.second whole.0)
+    g.P.Door.Door.gave c.args.outsides.0.entrance first.outside.entrance c.gather.result.world.door c.gather.result.ends
+    ran.ensures.first_door.keeps c.gather.ensures.door whole.1 whole.2

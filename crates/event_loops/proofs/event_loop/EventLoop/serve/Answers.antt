@@ -1,11 +1,11 @@
 use Rattle.link_service.specs.Clocks.{at_reading}
-use Rattle.event_loops.specs.Tales.{link_view}
+use Rattle.event_loops.specs.Tales.{loop_view}
 use Rattle.event_loops.proofs.Timing.{led_whenever}
 use Rattle.event_loops.proofs.Told.{goes_leading}
 use Rattle.event_loops.proofs.event_loop.EventLoop.serve.Goals as goal
 
 pub returns-in-Some : goal.returns-in-Some
-returns-in-Some g c = record { went = goes_leading (link_view g.P.Link.Link.tells g.P.Link.Link.given g.P.Link.Link.taken) g.R.Reader.gives (at_reading c.args.now g.C.Calls.makes) _ _ _ _ _ _ _ _ c.hear.ensures.went (led_whenever g.C.Calls.makes c.args.now _ _ _ _ c.reply.ensures.went) }
+returns-in-Some g c = record { went = goes_leading (loop_view g.P.Link.Link.tells g.P.Link.Link.given g.P.Link.Link.taken g.P.Ends.Ends.tells g.P.Ends.Ends.entries) g.R.Reader.gives (at_reading c.args.now g.C.Calls.makes) _ _ _ _ _ _ _ _ c.hear.ensures.went (led_whenever g.C.Calls.makes c.args.now _ _ _ _ c.reply.ensures.went) }
 
 pub returns-else-reply : goal.returns-else-reply
-returns-else-reply g c = record { went = goes_leading (link_view g.P.Link.Link.tells g.P.Link.Link.given g.P.Link.Link.taken) g.R.Reader.gives (at_reading c.args.now g.C.Calls.makes) _ _ _ _ _ _ _ _ c.hear.ensures.went (led_whenever g.C.Calls.makes c.args.now _ _ _ _ c.reply.ensures.went) }
+returns-else-reply g c = record { went = goes_leading (loop_view g.P.Link.Link.tells g.P.Link.Link.given g.P.Link.Link.taken g.P.Ends.Ends.tells g.P.Ends.Ends.entries) g.R.Reader.gives (at_reading c.args.now g.C.Calls.makes) _ _ _ _ _ _ _ _ c.hear.ensures.went (led_whenever g.C.Calls.makes c.args.now _ _ _ _ c.reply.ensures.went) }

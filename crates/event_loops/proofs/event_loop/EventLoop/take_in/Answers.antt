@@ -1,12 +1,12 @@
 use Rattle.std.proofs.Common.{refl, ◌∙◌}
 use Rattle.event_loops.proofs.Counting.{grow_none, grow_then}
-use Rattle.event_loops.specs.Tales.{link_view}
+use Rattle.event_loops.specs.Tales.{loop_view}
 use Rattle.event_loops.proofs.Told.{goes_nowhere, goes_then}
 use Rattle.event_loops.proofs.event_loop.EventLoop.take_in.Goals as goal
 
 pub loop-init : goal.loop-init
 loop-init g c = record {
-  went = goes_nowhere (link_view g.P.Link.Link.tells g.P.Link.Link.given g.P.Link.Link.taken) g.R.Reader.gives _;
+  went = goes_nowhere (loop_view g.P.Link.Link.tells g.P.Link.Link.given g.P.Link.Link.taken g.P.Ends.Ends.tells g.P.Ends.Ends.entries) g.R.Reader.gives _;
   clock = refl;
   entrance = refl;
   grow = grow_none _;
@@ -14,7 +14,7 @@ loop-init g c = record {
 
 pub loop-preserved : goal.loop-preserved
 loop-preserved g c = record {
-  went = goes_then (link_view g.P.Link.Link.tells g.P.Link.Link.given g.P.Link.Link.taken) g.R.Reader.gives _ _ _ c.loop.invariant.went c.adopt.ensures.went;
+  went = goes_then (loop_view g.P.Link.Link.tells g.P.Link.Link.given g.P.Link.Link.taken g.P.Ends.Ends.tells g.P.Ends.Ends.entries) g.R.Reader.gives _ _ _ c.loop.invariant.went c.adopt.ensures.went;
   clock = c.adopt.ensures.clock ∙ c.loop.invariant.clock;
   entrance = c.adopt.ensures.entrance ∙ c.loop.invariant.entrance;
   grow = grow_then _ _ _ c.loop.invariant.grow c.adopt.ensures.grow;

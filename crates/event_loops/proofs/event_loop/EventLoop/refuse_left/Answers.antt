@@ -1,0 +1,20 @@
+use Rattle.std.proofs.Common.{refl, ◌∙◌}
+use Rattle.event_loops.specs.Tales.{loop_view}
+use Rattle.event_loops.proofs.Told.{goes_nowhere, goes_then}
+use Rattle.event_loops.proofs.event_loop.EventLoop.refuse_left.Goals as goal
+
+pub loop-init : goal.loop-init
+loop-init g c = record {
+  next = tt;
+  finite = tt;
+  went = goes_nowhere (loop_view g.P.Link.Link.tells g.P.Link.Link.given g.P.Link.Link.taken g.P.Ends.Ends.tells g.P.Ends.Ends.entries) g.R.Reader.gives _;
+  slots = refl;
+}
+
+pub loop-preserved : goal.loop-preserved
+loop-preserved g c = record {
+  next = tt;
+  finite = tt;
+  went = goes_then (loop_view g.P.Link.Link.tells g.P.Link.Link.given g.P.Link.Link.taken g.P.Ends.Ends.tells g.P.Ends.Ends.entries) g.R.Reader.gives _ _ _ c.loop.invariant.went c.refuse.ensures.went;
+  slots = c.refuse.ensures.slots ∙ c.loop.invariant.slots;
+}

@@ -1,0 +1,138 @@
+-- What two loops did for their links, and which links have ended.
+use Rattle.std.specs.Prelude.{◌≡◌, ◌⊎◌, ◌<◌, ◌≤◌, ◌+◌, ℕ, List, [], length, slice_get, Option, Some, None, false}
+use Rattle.mq_outside.specs.Readings.{Giving}
+use Rattle.mq_peers.specs.Ended.{LinkEnd}
+use Rattle.reply_fields.specs.Parts.{AskParts}
+use Rattle.ask_ways.specs.Ways.{taken_by}
+use Rattle.session.specs.Serving.{Made}
+use Rattle.event_loops.specs.Tales.{Act, steps_of, asks_of, made_for, asks_for, AreSome, DidNothing, loop_of}
+use Rattle.event_loops.specs.Tales.{IsEndOf, IsAnsweredInOrder, LoopView}
+use Rattle.event_loops.specs.Takings.{LeadsTaking}
+use Rattle.event_loops.specs.Timing.{ClockOver, GoesTimed, IsTimed}
+use Rattle.event_loops.specs.declared.event_loop.EventLoop.{EventLoop}
+use Rattle.event_loops.specs.declared.links.Links.{Links}
+use Rattle.worker_turns.specs.Turns.{Steps}
+use Rattle.serve_threads.specs.Asking.{HasTaken}
+use Rattle.serve_threads.specs.declared.asks.LoopAsks.{LoopAsks}
+
+-- ---- the links that have ended
+
+-- the links of a run: that they tell what they gave and took, that all that ended are told, and which these are, loop by loop
+pub record LinksOver : Type 1 where
+  pub tells : Type 0
+  pub told : Type 0
+  pub first : List LinkEnd
+  pub second : List LinkEnd
+
+-- by the ledgers of both loops; none is told where one is missing
+abbrev pub told_in : {N : Type 0} → Type 0 → Option (N × N) → Type 0
+told_in told None = ⊥
+told_in told (Some ends) = told
+
+abbrev pub first_in : {N : Type 0} → (N → List LinkEnd) → Option (N × N) → List LinkEnd
+first_in entries None = []
+first_in entries (Some ends) = entries ends.0
+
+abbrev pub second_in : {N : Type 0} → (N → List LinkEnd) → Option (N × N) → List LinkEnd
+second_in entries None = []
+second_in entries (Some ends) = entries ends.1
+
+abbrev pub links_over : {N : Type 0} → Type 0 → Type 0 → (N → List LinkEnd) → Option (N × N) → LinksOver
+links_over tells told entries ends =
+    record { tells = tells; told = told_in told ends; first = first_in entries ends; second = second_in entries ends }
+
+-- those of one loop
+pub record LoopLinks : Type 1 where
+  pub tells : Type 0
+  pub told : Type 0
+  pub ended : List LinkEnd
+
+abbrev pub loop_links : Type 0 → Type 0 → List LinkEnd → LoopLinks
+loop_links tells told ended = record { tells = tells; told = told; ended = ended }
+
+abbrev pub first_links : LinksOver → LoopLinks
+first_links links = loop_links links.tells links.told links.first
+
+abbrev pub second_links : LinksOver → LoopLinks
+second_links links = loop_links links.tells links.told links.second
+
+-- each of these numbers is one from 1 to this one
+abbrev pub AreUpTo : ℕ → List LinkEnd → Type 0
+AreUpTo most ended = (k : ℕ) (it : LinkEnd) → slice_get ended k ≡ Some it → (0 < it.number) × (it.number ≤ most)
+
+-- Where they are told: as many links have ended as the door gave between these two counts of it, and each had one of the numbers from 1
+-- to so many. No two had one number (`AreEntered`), so these are all of them.
+abbrev pub AreAllThatCame : ℕ → ℕ → LinksOver → Type 0
+AreAllThatCame old new links = links.told → (old + (length links.first + length links.second) ≡ new)
+    × AreUpTo (length links.first + length links.second) links.first × AreUpTo (length links.first + length links.second) links.second
+
+-- ---- what was done for them
+
+-- what was done for this link: it falls to this one of the two loops, and was answered in order
+abbrev pub WasAnswered : Type 0 → Giving → ℕ → List Act → LinkEnd → Type 0
+WasAnswered tells gives number acts it = (loop_of 2 it.number ≡ number)
+    × IsAnsweredInOrder tells gives it (made_for it.number acts) (asks_for it.number acts)
+
+-- Each of these links was answered in order, no two had one number, and for no other number anything was done.
+pub record AreEntered (tells : Type 0) (gives : Giving) (number : ℕ) (acts : List Act) (ended : List LinkEnd) : Type 0 where
+  pub each : (k : ℕ) (it : LinkEnd) → slice_get ended k ≡ Some it → WasAnswered tells gives number acts it
+  pub once : (j k link : ℕ) → IsEndOf ended j link → IsEndOf ended k link → j ≡ k
+  pub known : (link : ℕ) → DidNothing link acts ⊎ ((k : ℕ) × IsEndOf ended k link)
+
+-- What one of the two loops made: for each of its links its passes, in which each reply is its request's, and behind them at most its
+-- `Leave`, and nothing else. These check-backs were written meanwhile. Where the links that ended are told, it is what was done for them.
+pub record AreAnswered (links : LoopLinks) (gives : Giving) (number : ℕ) (steps : Made) (asks : List AskParts) : Type 0 where
+  pub acts : List Act
+  pub all : steps ≡ steps_of acts
+  pub asked : asks ≡ asks_of acts
+  pub each : (link : ℕ) → DidNothing link acts
+      ⊎ ((it : LinkEnd) × (it.number ≡ link) × WasAnswered links.tells gives number acts it)
+  pub ended : links.told → AreEntered links.tells gives number acts links.ended
+
+-- The same, and what was written are some of these check-backs, in their order and each at most once.
+abbrev pub AreAnsweredFrom : LoopLinks → Giving → ℕ → List AskParts → Made → Type 0
+AreAnsweredFrom links gives number put steps = (asks : List AskParts) × AreSome asks put × AreAnswered links gives number steps asks
+
+-- The same in passes, one for each reading that the clock of the loop gave, which gave its requests to the broker at that reading.
+pub record WorksFrom (links : LoopLinks) (gives : Giving) (clock : ClockOver) (number : ℕ) (put : List AskParts) (steps : Made)
+    : Type 0 where
+  pub answered : AreAnsweredFrom links gives number put steps
+  pub timed : IsTimed clock steps
+
+-- ---- a loop
+
+-- one of two loops, with this number, which had no link yet; where its ledger tells, it has none either
+pub record IsLoop {Ready Link Door Ends Waker : Type 0} (told : Type 0) (entries : Ends → List LinkEnd) (number : ℕ)
+    (it : EventLoop Ready Link Door Ends Waker) : Type 0 where
+  pub loops : (it.links.loops ≡ 2) × (it.links.number ≡ number)
+  pub none : it.links.slots.items ≡ []
+  pub fresh : told → entries it.links.ledger.ends ≡ []
+
+-- both of them
+abbrev pub AreLoops : {Ready Link Door Ends Waker : Type 0} → Type 0 → (Ends → List LinkEnd) → EventLoop Ready Link Door Ends Waker
+    → EventLoop Ready Link Door Ends Waker → Type 0
+AreLoops told entries first second = IsLoop told entries 0 first × IsLoop told entries 1 second
+
+-- a loop with its caller of the core, and its end of a way by which check-backs come
+pub record Part (C L N : Type 0) : Type 0 where
+  pub calls : C
+  pub asks : LoopAsks
+  pub links : Links L N
+
+abbrev pub part_of : {C L N : Type 0} → C → LoopAsks → Links L N → Part C L N
+part_of calls asks links = record { calls = calls; asks = asks; links = links }
+
+-- what a loop did from the one to the other: its steps were those of passes over its links, each of which is let go of
+pub record Worked {C L N : Type 0} (makes : Steps C) (view : LoopView L N) (gives : Giving) (clock : ClockOver) (old new : Part C L N)
+    : Type 0 where
+  pub went : LeadsTaking makes (λ (from : LoopAsks) taken to. HasTaken from.way taken to.way) old.calls new.calls old.asks new.asks
+      (λ acts. GoesTimed view gives clock old.links acts new.links)
+  pub none : new.links.slots.items ≡ []
+
+-- Both ledgers have each link of their loops, whose numbers are at most this one, and have so many together, where they tell.
+pub record AreWhole {L N : Type 0} (told : Type 0) (entries : N → List LinkEnd) (came : ℕ) (first second : Links L N) (ends : N × N)
+    : Type 0 where
+  pub are : (ends.0 ≡ first.ledger.ends) × (ends.1 ≡ second.ledger.ends)
+  pub known : (first.ledger.lost ≡ false) × (second.ledger.lost ≡ false)
+  pub within : (first.newest ≤ came) × (second.newest ≤ came)
+  pub many : told → length (entries ends.0) + length (entries ends.1) ≡ came
