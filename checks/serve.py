@@ -774,7 +774,9 @@ def _(folder):
         for k in range(150):
             body = b"%d " % k + b"x" * 900
             reply = link.ask(send(k, body, topic="A"))
-            if reply["code"] == 0:
+            if k == 0 and reply["code"] == 10:
+                bodies.append(body)  # the zeros ahead found no room: the next turn writes the record without them
+            elif reply["code"] == 0:
                 want(not refused, "a send is answered with 0 behind one that the disk didn't take")
                 bodies.append(body)
             else:
@@ -909,7 +911,8 @@ def _(folder):
 def follow(trace):
     """How often the log was synced, how many sends were answered with 0, and which of them before the sync of their record.
 
-    A send counts once, by the place that its answer names: what a link did not take at first is written again.
+    A send counts once, by the place that its answer names: what a link did not take at first is written again. Zeros that are written
+    ahead don't count as written: the records are put there later.
     """
     written, synced, syncs, answers, early, open_calls = {}, {}, 0, set(), [], {}
     call = re.compile(r"(\d+) +(?:<\.\.\. )?(\w+)(?:\((?:\d+<(.*?)>)?| resumed>)")
@@ -923,7 +926,7 @@ def follow(trace):
         else:
             base = int(path.rpartition("/")[2]) if path and "/commitlog/" in path else None
             end, was = None, dict(written)
-            if name == "pwrite64" and base is not None:
+            if name == "pwrite64" and base is not None and not re.search(r', "(?:\\0)+", ', line):
                 size, at = re.search(r", (\d+), (\d+)(?:\) += |( <unfinished))", line).groups()[:2]
                 end = (base, base + int(at) + int(size))
             if name in ("write", "writev", "sendto", "sendmsg"):
@@ -937,7 +940,7 @@ def follow(trace):
                 continue
         if path is None or "/commitlog/" not in path or " = -1 " in line:
             continue
-        if name == "pwrite64":
+        if name == "pwrite64" and end is not None:
             written[end[0]] = max(written.get(end[0], 0), end[1])
         elif name in ("fdatasync", "fsync"):
             base = path.rpartition("/")[2]

@@ -142,6 +142,18 @@ def _(folder):
     assert everything(folder) == before
 
 
+@check("zeros behind the last record are neither records nor damage, and the next opening cuts them")
+def _(folder):
+    fill(folder, 2)
+    with open(os.path.join(folder, "store", FIRST), "ab") as log:
+        log.write(bytes(4096))
+    assert call(folder, "dump") == (0, "0 T 0 0 108\n108 T 0 1 108\n", "")
+    assert call(folder, "verify") == (0, "records 2 end 216\nequal\n", "")
+    assert [len(data) for _, data in log_files(folder)] == [216 + 4096]
+    fill(folder, 1)
+    assert [len(data) for _, data in log_files(folder)] == [324] and len(records(folder)) == 3
+
+
 @check("a missing segment is status 8, named by the file that is where it should be")
 def _(folder):
     fill(folder, 3, b"x" * 3000, SMALL)

@@ -186,15 +186,16 @@ def log_files(folder):
 
 
 def records(folder, whole=True):
-    """The records of a store's log, in order; of a `whole` log nothing stands behind them."""
-    found = []
-    for base, data in log_files(folder):
+    """The records of a store's log, in order; of a `whole` log nothing stands behind them but the zeros that `serve` writes ahead."""
+    found, files = [], log_files(folder)
+    for base, data in files:
         at = 0
         while at < len(data):
             r = record(data, at, base)
             if r is None:
                 blank = data[at + 4:at + 8] == bytes.fromhex("CBD43194") and at + int.from_bytes(data[at:at + 4], "big") == len(data)
-                assert blank or not whole, (base, at)
+                zeros = base == files[-1][0] and not data[at:].strip(b"\0")
+                assert blank or zeros or not whole, (base, at)
                 break
             found.append(r)
             at += r["size"]
