@@ -5,10 +5,8 @@ ghost use Rattle.mq_outside.specs.Covers.{piece_start};
 
 use bytes::Bytes;
 use mq_bytes::LogFile;
-use mq_outside::{
-    Disk, DiskFault, Failed, FolderDisk, FolderKeep, Frozen, FrozenRanges, Keep, MemDisk, Reader,
-    Room,
-};
+use mq_folder::{FolderDisk, FolderKeep};
+use mq_outside::{Disk, DiskFault, Failed, Frozen, FrozenRanges, Keep, MemDisk, Reader, Room};
 use std::alloc::{AllocError, Global};
 use std::fs;
 use std::test::Fail;
@@ -137,12 +135,11 @@ fn is_refused(rt: HostRuntime, root: &str, why: &str) -> Result<bool, AllocError
 
 // Whether a second disk is refused: without a format as another program's, and then since the first one has the store.
 fn refuses_second(rt: HostRuntime, root: &str) -> Result<bool, Fail> {
-    let foreign =
-        "mq_outside_store: it has files and no config/format, so it is not this program's";
+    let foreign = "mq_folder_store: it has files and no config/format, so it is not this program's";
     let is_foreign = is_refused(rt, root, foreign)?;
     let mut keep = FolderKeep::new(rt, String::from_str(rt.alloc(), root)?);
     keep.replace(rt.alloc(), "format", b"1")?;
-    let held = "mq_outside_store/lock: another process has the store";
+    let held = "mq_folder_store/lock: another process has the store";
     Ok(is_foreign && is_refused(rt, root, held)?)
 }
 
@@ -159,7 +156,7 @@ fn serves_one(rt: HostRuntime, root: &str) -> Result<bool, Fail> {
 
 #[test]
 fn a_store_folder_is_a_disk_for_one_at_a_time(rt: HostRuntime) -> Result<(), Fail> {
-    let root = "mq_outside_store";
+    let root = "mq_folder_store";
     // What a run left that was cut off.
     let _ = fs::remove_dir_all(&rt, root);
     let serves = serves_one(rt, root)?;

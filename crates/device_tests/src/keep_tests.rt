@@ -1,6 +1,7 @@
 //! Keeps, in memory and in a folder: each call once, and each call that is to fail.
 
-use mq_outside::{DiskFault, FolderKeep, Keep, MemKeep};
+use mq_folder::FolderKeep;
+use mq_outside::{DiskFault, Keep, MemKeep};
 use std::alloc::Global;
 use std::test::Fail;
 use std::{fs, process};
@@ -75,7 +76,7 @@ fn find_text(rt: HostRuntime, root: &str) -> Result<(bool, Result<(), DiskFault>
 #[test]
 fn a_folder_gives_what_was_put_there(rt: HostRuntime) -> Result<(), Fail> {
     let id = process::id(rt.process());
-    let root = format!(in rt.alloc(); "/tmp/mq_outside_keep_{id}")?;
+    let root = format!(in rt.alloc(); "/tmp/mq_folder_keep_{id}")?;
     assert!(rt; put_texts(rt, root.as_str())?);
     let found = find_text(rt, root.as_str())?;
     assert!(rt;

@@ -1,8 +1,9 @@
 //! Which devices may go to another thread: each type is named to a function that asks for `Send`.
 
+use mq_folder::{FolderDisk, FolderKeep, FolderReader};
 use mq_outside::{
-    FolderDisk, FolderKeep, FolderReader, FrozenRanges, MachineClock, MemClock, MemDisk, MemKeep,
-    MemReader, MemSink, MemSource, StdSink, StdSource,
+    FrozenRanges, MachineClock, MemClock, MemDisk, MemKeep, MemReader, MemSink, MemSource, StdSink,
+    StdSource,
 };
 use mq_peers::{MemDoor, MemLink, MemReady, TcpDoor, TcpLink, TcpReady, TcpWaker};
 

@@ -79,6 +79,60 @@ fn json_headers_say_what_their_texts_do_and_others_are_refused(
     Ok(())
 }
 
+fn joined(alloc: Global, front: &[u8], middle: &[u8], end: &[u8]) -> Result<Vec<u8>, AllocError> {
+    let mut text = Vec::from_slice(alloc, front)?;
+    text.extend_from_slice(middle)?;
+    text.extend_from_slice(end)?;
+    Ok(text)
+}
+
+#[test]
+fn json_headers_that_are_not_plain_are_read_by_the_same_rules(rt: HostRuntime) -> Result<(), Fail> {
+    let rows: [(&[u8], &[u8]); 12] = [
+        (b"\"code\":1,\"code\":2", b"{}"),
+        (b"\"c\\u006fde\":2", b"{}"),
+        (b"\"code\":2,\"x\":[{\"code\":1}],\"y\":1e300", b"{}"),
+        (
+            b"\"code\":2,\"extFields\":{\"b\":\"1\",\"a\":\"2\",\"b\":\"\\u00333\"}",
+            b"{\"a\":\"2\",\"b\":\"33\"}",
+        ),
+        (
+            b"\"code\":2,\"extFields\":{\"b\":\"1\",\"a\":\"2\",\"b\":null}",
+            b"{\"a\":\"2\"}",
+        ),
+        (
+            b"\"extFields\":{\"a\":\"1\"},\"code\":2,\"extFields\":{\"b\":\"2\"}",
+            b"{\"b\":\"2\"}",
+        ),
+        (
+            b"\"extFields\":{\"a\":\"1\"},\"code\":2,\"extFields\":null",
+            b"{}",
+        ),
+        (b"\"code\":2,\"x\":\"\\ud800\"", b""),
+        (b"\"code\":2,\"x\":1e400", b""),
+        (b"\"code\":2,\"extFields\":{\"a\":1}", b""),
+        (b"\"code\":2,\"remark\":7", b""),
+        (b"\"code\":2,\"x\":1}{", b""),
+    ];
+    for (members, ext) in rows {
+        let text = joined(rt.alloc(), b"{\"opaque\":7,", members, b"}")?;
+        let says = joined(
+            rt.alloc(),
+            b"{\"code\":2,\"extFields\":",
+            ext,
+            b",\"flag\":0,\"language\":\"OTHER\",\"opaque\":7,\"serializeTypeCurrentRPC\":\"JSON\",\"version\":0}",
+        )?;
+        let read = said(rt.alloc(), Form::Json, text.as_slice())?;
+        let is_so = if ext.is_empty() {
+            read.is_empty()
+        } else {
+            read.as_slice() == says.as_slice()
+        };
+        assert!(rt; is_so, "at {members:?}");
+    }
+    Ok(())
+}
+
 #[test]
 fn binary_pairs_are_read_whole_or_refused(rt: HostRuntime) -> Result<(), Fail> {
     let rows: [(&[u8], &[u8]); 7] = [

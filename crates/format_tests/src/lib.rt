@@ -1,10 +1,8 @@
-//! Tests of what is read and written: bytes, records, frames, requests, replies, sends, arguments and formats.
+//! Tests of what is read and written: bytes, records, frames, requests and replies.
 #![tactic(auto)]
 
 #[cfg(test)]
 mod byte_tests;
-#[cfg(test)]
-mod config_tests;
 #[cfg(test)]
 mod frame_tests;
 #[cfg(test)]
@@ -13,5 +11,3 @@ mod record_tests;
 mod reply_tests;
 #[cfg(test)]
 mod request_tests;
-#[cfg(test)]
-mod store_tests;

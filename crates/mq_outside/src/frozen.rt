@@ -1,7 +1,7 @@
 //! A stored range of a log file that is never written again. It goes from the owner of the disk to the threads that
 //! answer from it, so that these read it with no turn of the owner.
 //!
-//! A disk makes it, and nothing above this crate can make one or change it. A disk in memory puts the bytes into its
+//! A disk makes it, and nothing above the devices can make one or change it (`real_pieces`). A disk in memory puts the bytes into its
 //! pieces, and a real disk doesn't: no answer shows which, so what is above the devices does the same before both.
 
 ghost use Rattle.std.proofs.Props.{props};

@@ -4,12 +4,10 @@
 ghost use Rattle.std.specs.Prelude.{◌≡◌, None, MatchResult};
 ghost use Rattle.mq_outside.specs.Counts.{CountsFailure};
 
-use crate::disk::Disk;
-use crate::faults::{DiskFault, Failed};
 use crate::folder_files::FolderFiles;
 use crate::folder_reader::FolderReader;
-use crate::frozen::Frozen;
 use bytes::Bytes;
+use mq_outside::{Disk, DiskFault, Failed, Frozen};
 use std::alloc::Global;
 use std::fs::File;
 use std::io;
@@ -153,12 +151,7 @@ impl<R: Files<File = File> + AllocGlobal + Clone + Drop> Disk for FolderDisk<R> 
     }
 
     fn freeze(&mut self, base: u64, from: u64, bytes: Bytes) -> Frozen {
-        Frozen {
-            base,
-            from,
-            len: bytes.len() as u64,
-            held: None,
-        }
+        Frozen::of_file(self.files.system(), base, from, bytes.len() as u64)
     }
 
     fn freeze_stored(
@@ -170,12 +163,7 @@ impl<R: Files<File = File> + AllocGlobal + Clone + Drop> Disk for FolderDisk<R> 
     ) -> Result<Frozen, DiskFault> {
         let answer = self.files.check_lock();
         match self.answer(answer) {
-            Ok(()) => Ok(Frozen {
-                base,
-                from,
-                len: to - from,
-                held: None,
-            }),
+            Ok(()) => Ok(Frozen::of_file(self.files.system(), base, from, to - from)),
             Err(Failed) => Err(DiskFault::Failed),
         }
     }

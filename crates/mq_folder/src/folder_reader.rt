@@ -2,13 +2,11 @@
 //! was read last is kept open.
 
 ghost use Rattle.std.specs.Prelude.{◌≡◌};
-ghost use Rattle.mq_outside.specs.Counts.{Counted};
+ghost use Rattle.mq_outside.specs.Counts.{Rises};
 
-use crate::faults::Failed;
 use crate::folder_kinds::{FirstFault, Kind, is_file, unexpected};
-use crate::frozen::Frozen;
-use crate::reader::Reader;
 use mq_bytes::LogFile;
+use mq_outside::{Failed, Frozen, Reader};
 use std::fs::File;
 use std::io;
 use std::os::unix::fs::FileExt;
@@ -85,7 +83,7 @@ impl<R: Files<File = File> + AllocGlobal + Clone + Drop> FolderReader<R> {
 
     // Counts a fault, and notes it where it is the first.
     fn count_fault(&mut self, base: u64, error: &io::Error)
-        ensures faults { Counted 1 self.old.faults self.new.faults }
+        ensures faults { Rises self.old.faults self.new.faults }
         ensures reads { self.new.reads ≡ self.old.reads }
     {
         self.faults = self.faults.saturating_add(1);
@@ -121,15 +119,13 @@ impl<R: Files<File = File> + AllocGlobal + Clone + Drop> Reader for FolderReader
 
     fn read(&mut self, piece: &Frozen, at: u64, out: &mut [u8]) -> Result<(), Failed> {
         self.reads = self.reads.saturating_add(1);
-        if let Some(held) = &piece.held {
-            let from = at as usize;
-            out.copy_from_slice(&held.as_slice()[from..from + out.len()]);
+        if piece.copy_held(&self.rt, at, out) {
             return Ok(());
         }
-        match self.read_log(piece.base, piece.from.saturating_add(at), out) {
+        match self.read_log(piece.base(), piece.from().saturating_add(at), out) {
             Ok(()) => Ok(()),
             Err(e) => {
-                self.count_fault(piece.base, &e);
+                self.count_fault(piece.base(), &e);
                 Err(Failed)
             }
         }

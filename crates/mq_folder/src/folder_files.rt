@@ -235,6 +235,11 @@ impl<R: Files<File = File> + AllocGlobal + Clone + Drop> FolderFiles<R> {
         }
     }
 
+    /// The system's files, which it was given.
+    pub fn system(&self) -> &R {
+        &self.rt
+    }
+
     /// The first fault of any call, `PATH: WHY`. None where no call failed, or there was no memory for the text.
     pub fn fault_text(&self) -> Option<&str> {
         self.fault.text()

@@ -13,9 +13,8 @@
 
 ghost use Rattle.std.specs.Prelude.{◌≡◌, ◌++◌, None, IfOk, codes, string_bytes};
 
-use crate::faults::DiskFault;
 use crate::folder_kinds::{FirstFault, is_file, is_folder, make_folder, parent_of, sync_folder};
-use crate::keep::Keep;
+use mq_outside::{DiskFault, Keep};
 use std::alloc::{AllocError, Global};
 use std::fs::OpenFile;
 use std::io::{ErrorKind, Read, Write};
