@@ -38,14 +38,14 @@ not_empty x remark = ne_eqb _ _ (λ e. absurd (omega arith))
 
 -- ---- read again
 
-whole_again : (z : ℤ) → is_i32 z ≡ true → whole (number (of_integer z)) ≡ Some z
+pub whole_again : (z : ℤ) → is_i32 z ≡ true → whole (number (of_integer z)) ≡ Some z
 unfolding whole
 whole_again (pos n) h =
     let wide : ltb n (2 ^ 63) ≡ true = lt-ltb _ _ (omega (arith, ltb-true n (2 ^ 31) h)) in
     rw (wide, h) refl
 whole_again (negsuc n) h = rw h refl
 
-pairs_again : (ps : List Pair) → pairs_of (texts ps) ≡ Some ps
+pub pairs_again : (ps : List Pair) → pairs_of (texts ps) ≡ Some ps
 pairs_again [] = refl
 pairs_again (p ∷ ps) = rw (pairs_again ps) refl
 

@@ -1,5 +1,7 @@
 pub mod HeaderReading
 pub mod HeaderTexts
+pub mod PlainReading
+pub mod PlainMembers
 pub mod HeaderTokens
 pub mod TextLengths
 pub mod BinaryReading

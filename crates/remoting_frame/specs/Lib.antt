@@ -3,6 +3,7 @@ pub mod Fields
 pub mod Gives
 pub mod Json
 pub mod Written
+pub mod Plain
 pub mod Tokens
 pub mod Binary
 pub mod BinaryText

@@ -35,7 +35,7 @@ use std::alloc::{AllocError, Global};
 use std::collections::BTreeMap;
 
 // For how many pairs room is taken at first, which is enough for most headers.
-const FEW: usize = 16;
+pub(crate) const FEW: usize = 16;
 
 // From how many pairs on a pair is only put behind the others. Pairs in any order would take time that grows with the square
 // of their number if each were put among all before it.
@@ -98,7 +98,7 @@ fn first_of<'a>(bytes: &'a [u8]) -> Option<(&'a str, &'a str, &'a [u8])>
 }
 
 // Whether a pair of this name is put without moving many others: there are few, or all have names below it.
-fn moves_few(name: &str, pairs: &Fields) -> bool {
+pub(crate) fn moves_few(name: &str, pairs: &Fields) -> bool {
     let count = pairs.len();
     if count < MANY {
         return true;

@@ -23,6 +23,7 @@ ghost use Rattle.remoting_frame.specs.declared.fault.HeaderFault.TheVariants.{Me
 use crate::fault::HeaderFault;
 use crate::fields::Fields;
 use crate::header::Header;
+use crate::plain_reader::read_plain;
 use mq_bytes::Text;
 use serde_json::{Map, Value};
 use std::alloc::Global;
@@ -155,6 +156,9 @@ pub(crate) fn read_json(alloc: Global, bytes: &[u8]) -> Result<Header, HeaderFau
     ensures header { Gives (λ h. h) result (json_header bytes.now) }
     ensures memory { IfErr result (λ e. e ≡ Memory → 0 < length bytes.now) }
 {
+    if let Some(header) = read_plain(alloc, bytes) {
+        return Ok(header);
+    }
     let mut value = value_of(alloc, bytes)?;
     header_from(alloc, &mut value, bytes.len())
 }

@@ -14,6 +14,7 @@ mod header;
 mod json_reader;
 mod json_writer;
 mod numbers;
+mod plain_reader;
 mod spellings;
 mod streams;
 
