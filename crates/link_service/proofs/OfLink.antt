@@ -2,6 +2,7 @@
 use Rattle.std.proofs.Common.{◌≡◌, ⊎_elim, inl, inr, ℕ, List, [], ◌∷◌, ◌++◌, Bool, true, false, Option, Some, None, Result, Ok, Err, refl, sym, ap, subst}
 use Rattle.mq_outside.specs.Readings.{Giving}
 use Rattle.reply_fields.specs.Parts.{ReplyParts, AskParts}
+use Rattle.session.specs.Readers.{ReaderView}
 use Rattle.session.specs.Serving.{Made, IsAsked, IsAnswered, ServesNext}
 use Rattle.session.specs.Settling.{IsDueAfter, IsNotYet, Waits, LooksFor, Settles, IsSettled, IsBroken, Stops}
 use Rattle.session.specs.Sessions.{Call, fed, served, gave_up, settled, sent, asked, made_in, made_of}
@@ -15,7 +16,7 @@ use Rattle.session.specs.declared.serving.Step.{Step}
 use Rattle.session.specs.declared.serving.Step.TheVariants as steps
 use Rattle.session.specs.declared.session.Session.{Session}
 use Rattle.session.specs.declared.talk.Talk.{Talk}
-use Rattle.link_service.specs.Transcripts.{Seen, AreOfLink, IsCallOf, AreCallsOf, WentOnWith}
+use Rattle.link_service.specs.Transcripts.{Seen, AreOfLink, any_reader, IsCallOf, AreCallsOf, WentOnWith}
 
 of_append : (link : ℕ) (xs ys : Made) → AreOfLink link xs → AreOfLink link ys → AreOfLink link (xs ++ ys)
 of_append link [] ys are more = more
@@ -63,21 +64,21 @@ looked_of : (link : ℕ) (awaits : Option Awaits) (made : Made) → LooksFor awa
 looked_of link None made is = of_none link made is
 looked_of link (Some awaits) made is = subst (λ (m : Made). AreOfLink link m) (sym is.1) (inr (awaits.number, awaits.turn, refl), tt)
 
-settles_of : (link : ℕ) (gives : Giving) (owed : List Owed) (old : List ℕ) (made : Made) (new : List ℕ) → Settles gives owed old made new → AreOfLink link made
-settles_of link gives [] old made new is = of_none link made is.0
-settles_of link gives (owed ∷ more) old made new is =
-    of_both link made is.1 is.2 is.3 (due_of link owed.awaits owed.reply is.4.due is.1 is.4.is) (settles_of link gives more is.0 is.2 new is.5)
+settles_of : (link : ℕ) (reader : ReaderView) (owed : List Owed) (old : List ℕ) (made : Made) (new : List ℕ) → Settles reader owed old made new → AreOfLink link made
+settles_of link reader [] old made new is = of_none link made is.0
+settles_of link reader (owed ∷ more) old made new is =
+    of_both link made is.1 is.2 is.3 (due_of link owed.awaits owed.reply is.4.due is.1 is.4.is) (settles_of link reader more is.0 is.2 new is.5)
 
 stops_of : (link : ℕ) (session : Session) (made : Made) → Stops session made → AreOfLink link made
 stops_of link session made is = ⊎_elim (λ waits. waits_of link session.owed.items made waits) (λ many. of_none link made many.1) is
 
-settled_of : (link : ℕ) (gives : Giving) (old : Session) (made : Made) (new : Session) → IsSettled gives old made new → AreOfLink link made
-settled_of link gives old made new is =
-    of_both link made is.first is.last is.both (settles_of link gives is.settled old.out.items is.first new.out.items is.puts) (stops_of link new is.last is.stops)
+settled_of : (link : ℕ) (reader : ReaderView) (old : Session) (made : Made) (new : Session) → IsSettled reader old made new → AreOfLink link made
+settled_of link reader old made new is =
+    of_both link made is.first is.last is.both (settles_of link reader is.settled old.out.items is.first new.out.items is.puts) (stops_of link new is.last is.stops)
 
-broken_of : (link : ℕ) (gives : Giving) (old : Session) (made : Made) (new : Session) → IsBroken gives old made new → AreOfLink link made
-broken_of link gives old made new is =
-    of_both link made is.first is.last is.both (settles_of link gives is.settled old.out.items is.first new.out.items is.puts) (looked_of link is.lost.awaits is.last is.looked)
+broken_of : (link : ℕ) (reader : ReaderView) (old : Session) (made : Made) (new : Session) → IsBroken reader old made new → AreOfLink link made
+broken_of link reader old made new is =
+    of_both link made is.first is.last is.both (settles_of link reader is.settled old.out.items is.first new.out.items is.puts) (looked_of link is.lost.awaits is.last is.looked)
 
 -- ---- calls
 
@@ -90,8 +91,8 @@ call_of gives old (served now made result) false new is = (serves_of now old mad
 call_of gives old (served now made result) true new is = (serves_of now old made result new is.1, is.2.0)
 call_of gives old (gave_up count) false new is = (tt, ap (λ (t : Talk). t.link) is.2)
 call_of gives old (gave_up count) true new is = (tt, ap (λ (t : Talk). t.link) is.2)
-call_of gives old (settled made) false new is = (settled_of old.talk.link gives old made new is.0, ap (λ (t : Talk). t.link) is.2)
-call_of gives old (settled made) true new is = (broken_of old.talk.link gives old made new is.0, ap (λ (t : Talk). t.link) is.2)
+call_of gives old (settled made) false new is = (settled_of old.talk.link (any_reader gives) old made new is.0, ap (λ (t : Talk). t.link) is.2)
+call_of gives old (settled made) true new is = (broken_of old.talk.link (any_reader gives) old made new is.0, ap (λ (t : Talk). t.link) is.2)
 call_of gives old (sent count bytes) false new is = (tt, ap (λ (t : Talk). t.link) is.3)
 call_of gives old (sent count bytes) true new is = absurd is
 call_of gives old (asked ask) false new is = (tt, ap (λ (t : Talk). t.link) is.talk)

@@ -6,7 +6,7 @@ use Rattle.session.specs.Asking.{AreFor}
 use Rattle.session.specs.Serving.{Made}
 use Rattle.session.specs.Sessions.{Call, fed, served, gave_up, settled, sent, asked, AreCalls, IsNew, RepliesInOrder, sent_in, asks_in, stream_of, sent_of, made_of, asks_of}
 use Rattle.session.specs.declared.session.Session.{Session}
-use Rattle.link_service.specs.Transcripts.{Seen, FindsNoMemory, IsCallOf, AreCallsOf, AreOfLink, WentOnWith, IsFresh, Ends, IsTranscript}
+use Rattle.link_service.specs.Transcripts.{Seen, any_reader, FindsNoMemory, IsCallOf, AreCallsOf, AreOfLink, WentOnWith, IsFresh, Ends, IsTranscript}
 use Rattle.link_service.proofs.OfLink.{went_of_link}
 use Rattle.link_service.proofs.Went.{sent_append, asks_append}
 
@@ -15,7 +15,7 @@ record Splits (gives : Giving) (old : Session) (calls : List Call) (breaks : Boo
   front : List Call
   last : Session
   end : List Call
-  are : AreCalls gives old front last
+  are : AreCalls (any_reader gives) old front last
   ends : Ends gives last end breaks new
   both : calls ≡ front ++ end
 
@@ -80,7 +80,7 @@ ends_asking gives last (call ∷ more) broken new ends =
     ap (λ (l : List AskParts). l ++ asks_of more) (asks_nothing gives last call new ends.2) ∙ ap (λ (l : List Call). asks_of l) ends.0
 
 pub transcribed : (tells : Type 0) (gives : Giving) (number : ℕ) (host : List ℕ) (first : Seen) (made : Made) (asks : List AskParts) (now : Seen)
-    → ((old : Session) (calls : List Call) (new : Session) → IsNew old → AreCalls gives old calls new → RepliesInOrder gives old calls new)
+    → ((old : Session) (calls : List Call) (new : Session) → IsNew old → AreCalls (any_reader gives) old calls new → RepliesInOrder (any_reader gives) old calls new)
     → IsFresh tells number host first → WentOnWith tells gives first made asks now → IsTranscript tells gives number host made asks now
 transcribed tells gives number host first made asks now law fresh went =
     let are : AreCallsOf gives false first.session went.calls now.broken now.session =

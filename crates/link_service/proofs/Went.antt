@@ -5,6 +5,7 @@ use Rattle.broker_events.proofs.Makes.{makes_append}
 use Rattle.reply_fields.specs.Parts.{AskParts}
 use Rattle.session.specs.Asking.{Asks, AsksOrNot}
 use Rattle.session.specs.Owing.{Steps}
+use Rattle.session.specs.Readers.{reader_view}
 use Rattle.session.specs.Serving.{Made, Leads, ServesNext, KeepsLink, KeepsOut, KeepsRest}
 use Rattle.session.specs.Settling.{IsSettled, IsBroken, unsent_of}
 use Rattle.session.specs.Sessions.{Call, fed, served, gave_up, settled, sent, asked, HadMemory, IsCall, stream_in, sent_in, made_in, asks_in, stream_of, sent_of, made_of, asks_of}
@@ -13,7 +14,8 @@ use Rattle.session.specs.declared.talk.Talk.{Talk}
 use Rattle.session.specs.declared.serving.Step.{Step}
 use Rattle.session.specs.declared.serving.Halt.{Halt}
 use Rattle.session.specs.declared.serving.Halt.TheVariants as halts
-use Rattle.link_service.specs.Transcripts.{Seen, FindsNoMemory, IsCallOf, AreCallsOf, WentOnWith, WentOn, WentOnUnread, NoneSettled, gives_nothing, if_asked}
+use Rattle.session.proofs.ReaderLemmas.{settled_wider, broken_wider}
+use Rattle.link_service.specs.Transcripts.{Seen, any_reader, FindsNoMemory, IsCallOf, AreCallsOf, WentOnWith, WentOn, WentOnUnread, NoneSettled, gives_nothing, if_asked}
 
 -- ---- what calls come to
 
@@ -163,7 +165,7 @@ unread_by tells old new call made no_ask whole is none steps given taken =
     record { went = went_by tells gives_nothing old new call made [] no_ask whole is steps given taken; none = none }
 
 -- one call was made, and the link is whole
-pub unread_whole : (tells : Type 0) (old new : Seen) (call : Call) (made : Made) → old.broken ≡ false → new.broken ≡ false → IsCall gives_nothing old.session call new.session
+pub unread_whole : (tells : Type 0) (old new : Seen) (call : Call) (made : Made) → old.broken ≡ false → new.broken ≡ false → IsCall (any_reader gives_nothing) old.session call new.session
     → NoneSettled (call ∷ []) → [] ≡ asks_in call → made ≡ made_in call → (tells → new.given ≡ old.given ++ stream_in call)
     → (tells → new.taken ≡ old.taken ++ sent_in call) → WentOnUnread tells old made new
 unread_whole tells old new call made was whole is none no_ask =
@@ -290,25 +292,27 @@ module _ {C : Type 0} (makes : Steps C) (tells : Type 0) where
     goes_silent x link ask = record { made = []; leads = refl; so = went_read tells gives link [] link (unread_same tells link) }
 
     -- replies were settled
-    pub settles_whole : (x y : C) (old new : Seen) → old.broken ≡ false → new.broken ≡ false → new.given ≡ old.given → new.taken ≡ old.taken
-        → Leads makes x y (λ made. IsSettled gives old.session made new.session) → new.session.held ≡ old.session.held → new.session.talk ≡ old.session.talk
+    pub settles_whole : (failed : ℕ → Type 0) (x y : C) (old new : Seen) → old.broken ≡ false → new.broken ≡ false → new.given ≡ old.given → new.taken ≡ old.taken
+        → Leads makes x y (λ made. IsSettled (reader_view gives failed) old.session made new.session) → new.session.held ≡ old.session.held → new.session.talk ≡ old.session.talk
         → new.session.sent ≡ old.session.sent → new.session.asked ≡ old.session.asked → Goes x old y new
-    settles_whole x y old new was whole given taken h held talk sends counted = record {
+    settles_whole failed x y old new was whole given taken h held talk sends counted = record {
       made = h.made;
       leads = h.leads;
       so = went_by tells gives old new (settled h.made) h.made [] refl was
-          (subst (λ (b : Bool). IsCallOf gives old.session (settled h.made) b new.session) (sym whole) (h.so, held, talk, sends, counted)) refl
+          (subst (λ (b : Bool). IsCallOf gives old.session (settled h.made) b new.session) (sym whole)
+          (settled_wider gives failed (λ count. Unit {0}) (λ count at. tt) old.session h.made new.session h.so, held, talk, sends, counted)) refl
           (same_bytes tells old.given new.given (λ told. given)) (same_bytes tells old.taken new.taken (λ told. taken));
     }
 
     -- there was no memory for one
-    pub settles_broken : (x y : C) (old new : Seen) → old.broken ≡ false → new.broken ≡ true → new.given ≡ old.given → new.taken ≡ old.taken
-        → Leads makes x y (λ made. IsBroken gives old.session made new.session) → new.session.held ≡ old.session.held → new.session.talk ≡ old.session.talk
+    pub settles_broken : (failed : ℕ → Type 0) (x y : C) (old new : Seen) → old.broken ≡ false → new.broken ≡ true → new.given ≡ old.given → new.taken ≡ old.taken
+        → Leads makes x y (λ made. IsBroken (reader_view gives failed) old.session made new.session) → new.session.held ≡ old.session.held → new.session.talk ≡ old.session.talk
         → new.session.sent ≡ old.session.sent → Goes x old y new
-    settles_broken x y old new was broken given taken h held talk sends = record {
+    settles_broken failed x y old new was broken given taken h held talk sends = record {
       made = h.made;
       leads = h.leads;
       so = went_by tells gives old new (settled h.made) h.made [] refl was
-          (subst (λ (b : Bool). IsCallOf gives old.session (settled h.made) b new.session) (sym broken) (h.so, held, talk, sends)) refl
+          (subst (λ (b : Bool). IsCallOf gives old.session (settled h.made) b new.session) (sym broken)
+          (broken_wider gives failed (λ count. Unit {0}) (λ count at. tt) old.session h.made new.session h.so, held, talk, sends)) refl
           (same_bytes tells old.given new.given (λ told. given)) (same_bytes tells old.taken new.taken (λ told. taken));
     }

@@ -7,6 +7,7 @@ use Rattle.reply_fields.specs.Parts.{AskParts}
 use Rattle.broker_events.specs.declared.event.Event.{Event}
 use Rattle.broker_events.specs.declared.event.Event.TheVariants as events
 use Rattle.session.specs.Asking.{AreFor}
+use Rattle.session.specs.Readers.{ReaderView, reader_view}
 use Rattle.session.specs.Serving.{Made, KeepsLink, KeepsOut, KeepsRest, ServesNext, GivesUp}
 use Rattle.session.specs.Settling.{IsBroken}
 use Rattle.session.specs.Sessions.{Call, fed, served, gave_up, settled, sent, asked, IsCall, IsNew, RepliesInOrder, stream_of, sent_of, made_of, asks_of}
@@ -30,6 +31,10 @@ seen_of given taken linked =
 
 -- ---- calls
 
+-- a reader of which it is known what it gives, and not when it failed
+abbrev pub any_reader : Giving → ReaderView
+any_reader gives = reader_view gives (λ count. Unit {0})
+
 -- What a call that found no memory leaves. Nothing of the piece was fed; the next request is not heard yet, or its answer is lost; what
 -- found no room is not answered; or the next reply has left and has no bytes.
 abbrev pub FindsNoMemory : Giving → Session → Call → Session → Type 0
@@ -39,13 +44,13 @@ FindsNoMemory gives old (served now made result) new =
 FindsNoMemory gives old (gave_up count) new =
     ((halt : Halt) × GivesUp old.held count old (Err halt) new) × (new.held ≡ None) × (new.talk ≡ old.talk) × KeepsOut old new
 FindsNoMemory gives old (settled made) new =
-    IsBroken gives old made new × (new.held ≡ old.held) × (new.talk ≡ old.talk) × (new.sent ≡ old.sent)
+    IsBroken (any_reader gives) old made new × (new.held ≡ old.held) × (new.talk ≡ old.talk) × (new.sent ≡ old.sent)
 FindsNoMemory gives old (sent count bytes) new = ⊥
 FindsNoMemory gives old (asked ask) new = ⊥
 
 -- what a call of a link's session leaves, by whether the link is broken then
 abbrev pub IsCallOf : Giving → Session → Call → Bool → Session → Type 0
-IsCallOf gives old call false new = IsCall gives old call new
+IsCallOf gives old call false new = IsCall (any_reader gives) old call new
 IsCallOf gives old call true new = FindsNoMemory gives old call new
 
 -- These calls, in this order, lead from the old session to the new one, and from a link that is broken or not to one that is or not.
@@ -129,7 +134,7 @@ pub record IsTranscript (tells : Type 0) (gives : Giving) (number : ℕ) (host :
   pub fresh : IsFresh tells number host first
   pub calls : List Call
   pub last : Session
-  pub replies : RepliesInOrder gives first.session calls last
+  pub replies : RepliesInOrder (any_reader gives) first.session calls last
   pub end : List Call
   pub ends : Ends gives last end now.broken now.session
   pub steps : made ≡ made_of (calls ++ end)

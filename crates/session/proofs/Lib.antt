@@ -1,7 +1,8 @@
+pub mod ReaderLemmas
 mod RemarkLemmas
 mod Responses
 mod ServingSteps
-mod SessionLaws
+pub mod SessionLaws
 mod SessionParts
 mod SettlingSteps
 mod TalkLaws

@@ -2,7 +2,7 @@
 use Rattle.std.proofs.Common.{◌≡◌, ◌⊎◌, ℕ, ◌≤◌, List, [], ◌∷◌, ◌++◌, length, take, drop, Option, Some, None, Ok, Err, inl, inr, refl, sym, ap, ◌∙◌, subst, append_assoc, append-nil}
 use Rattle.std.specs.Prelude.{Result, map, option_to_list}
 use Rattle.std.proofs.lemmas.List.{take-append-drop, drop-append-le, map-append}
-use Rattle.mq_outside.specs.Readings.{Giving}
+use Rattle.session.specs.Readers.{ReaderView}
 use Rattle.remoting_frame.specs.Held.{Held}
 use Rattle.broker_events.specs.declared.event.Event.TheVariants as events
 use Rattle.reply_fields.specs.Parts.{AskParts}
@@ -43,9 +43,9 @@ unsent_more old new bytes out same =
 hears_at : (at : ℕ) (bytes : List ℕ) (heard : List Heard) (new : Held) → HasHeard at bytes heard new → HasHeard at (bytes ++ []) heard new
 hears_at at bytes heard new h = subst (λ (l : List ℕ). HasHeard at l heard new) (sym (append-nil bytes)) h
 
-did_feed : (gives : Giving) (old new : Session) (piece : List ℕ) → new.talk.cutter ≡ record { at = old.talk.cutter.at; bytes = old.talk.cutter.bytes ++ piece }
-    → KeepsRest old new → HasServed gives old piece [] [] [] new
-did_feed gives old new piece cut keeps = record {
+did_feed : (reader : ReaderView) (old new : Session) (piece : List ℕ) → new.talk.cutter ≡ record { at = old.talk.cutter.at; bytes = old.talk.cutter.bytes ++ piece }
+    → KeepsRest old new → HasServed reader old piece [] [] [] new
+did_feed reader old new piece cut keeps = record {
   link = keeps.link;
   heard = [];
   hears = hears_fed old.talk.cutter.at (old.talk.cutter.bytes ++ piece) new.talk.cutter (ap (λ (w : Held). w.at) cut) (ap (λ (w : Held). w.bytes) cut);
@@ -66,9 +66,9 @@ did_feed gives old new piece cut keeps = record {
 }
 
 -- no request was served
-did_rest : (gives : Giving) (old new : Session) (made : Made) → HasHeard old.talk.cutter.at old.talk.cutter.bytes [] new.talk.cutter → Rests old made new
-    → KeepsLink old new → KeepsOut old new → HasServed gives old [] made [] [] new
-did_rest gives old new made hears rests link out = record {
+did_rest : (reader : ReaderView) (old new : Session) (made : Made) → HasHeard old.talk.cutter.at old.talk.cutter.bytes [] new.talk.cutter → Rests old made new
+    → KeepsLink old new → KeepsOut old new → HasServed reader old [] made [] [] new
+did_rest reader old new made hears rests link out = record {
   link = link;
   heard = [];
   hears = hears_at old.talk.cutter.at old.talk.cutter.bytes [] new.talk.cutter hears;
@@ -100,8 +100,8 @@ answer_finds talk now heard applied made (inl h) = ap found_in h.none
 answer_finds talk now heard applied made (inr h) = ap found_in h.one
 
 -- a request was answered
-did_answer : (gives : Giving) (now : ℕ) (old new : Session) (made : Made) → Answers now old made new → KeepsLink old new → KeepsOut old new → HasServed gives old [] made [] [] new
-did_answer gives now old new made h link out =
+did_answer : (reader : ReaderView) (now : ℕ) (old new : Session) (made : Made) → Answers now old made new → KeepsLink old new → KeepsOut old new → HasServed reader old [] made [] [] new
+did_answer reader now old new made h link out =
     let next = takes_one old.held h.heard old.talk.cutter new.talk.cutter h.next in
     record {
       link = link;
@@ -124,8 +124,8 @@ did_answer gives now old new made h link out =
     }
 
 -- a request found no room
-did_hold : (gives : Giving) (now : ℕ) (old new : Session) (made : Made) → FindsNoRoom now old made new → KeepsLink old new → KeepsOut old new → HasServed gives old [] made [] [] new
-did_hold gives now old new made h link out =
+did_hold : (reader : ReaderView) (now : ℕ) (old new : Session) (made : Made) → FindsNoRoom now old made new → KeepsLink old new → KeepsOut old new → HasServed reader old [] made [] [] new
+did_hold reader now old new made h link out =
     let next = takes_one old.held h.heard old.talk.cutter new.talk.cutter h.next in
     record {
       link = link;
@@ -148,15 +148,15 @@ did_hold gives now old new made h link out =
       went = stays (unsent_of old) (unsent_of new) (unsent_same old new out.0 out.1);
     }
 
-did_serve : (gives : Giving) (now : ℕ) (old new : Session) (made : Made) (result : Result Step Halt) → HadMemory result → ServesNext now old made result new → KeepsLink old new
-    → KeepsOut old new → HasServed gives old [] made [] [] new
-did_serve gives now old new made (Ok steps.Request) had h link out = did_answer gives now old new made h link out
-did_serve gives now old new made (Ok steps.Nothing) had h link out =
-    did_rest gives old new made (one_answer old.talk.cutter new.talk.cutter (Ok None) h.1) h.0 link out
-did_serve gives now old new made (Ok steps.Full) had h link out = did_hold gives now old new made h link out
-did_serve gives now old new made (Err (halts.BadFrame at)) had h link out =
-    did_rest gives old new made (one_answer old.talk.cutter new.talk.cutter (Err h.1.fault) h.1.hears) h.0 link out
-did_serve gives now old new made (Err halts.Memory) had h link out = absurd had
+did_serve : (reader : ReaderView) (now : ℕ) (old new : Session) (made : Made) (result : Result Step Halt) → HadMemory result → ServesNext now old made result new → KeepsLink old new
+    → KeepsOut old new → HasServed reader old [] made [] [] new
+did_serve reader now old new made (Ok steps.Request) had h link out = did_answer reader now old new made h link out
+did_serve reader now old new made (Ok steps.Nothing) had h link out =
+    did_rest reader old new made (one_answer old.talk.cutter new.talk.cutter (Ok None) h.1) h.0 link out
+did_serve reader now old new made (Ok steps.Full) had h link out = did_hold reader now old new made h link out
+did_serve reader now old new made (Err (halts.BadFrame at)) had h link out =
+    did_rest reader old new made (one_answer old.talk.cutter new.talk.cutter (Err h.1.fault) h.1.hears) h.0 link out
+did_serve reader now old new made (Err halts.Memory) had h link out = absurd had
 
 -- what was held is heard no more of the stream
 hears_none : (old new : Session) → new.talk ≡ old.talk → HasHeard old.talk.cutter.at (old.talk.cutter.bytes ++ []) [] new.talk.cutter
@@ -166,9 +166,9 @@ hears_none old new same = hears_at old.talk.cutter.at old.talk.cutter.bytes [] n
 keeps_link : (old new : Session) → new.talk ≡ old.talk → KeepsLink old new
 keeps_link old new same = (ap (λ (t : Talk). t.link) same, ap (λ (t : Talk). t.host) same)
 
-did_give_up : (gives : Giving) (count : ℕ) (old new : Session) (held : Option Heard) → old.held ≡ held → GivesUp held count old (Ok tt) new → new.held ≡ None
-    → new.talk ≡ old.talk → KeepsOut old new → HasServed gives old [] [] [] [] new
-did_give_up gives count old new None is h none same out = record {
+did_give_up : (reader : ReaderView) (count : ℕ) (old new : Session) (held : Option Heard) → old.held ≡ held → GivesUp held count old (Ok tt) new → new.held ≡ None
+    → new.talk ≡ old.talk → KeepsOut old new → HasServed reader old [] [] [] [] new
+did_give_up reader count old new None is h none same out = record {
   link = keeps_link old new same;
   heard = [];
   hears = hears_none old new same;
@@ -187,7 +187,7 @@ did_give_up gives count old new None is h none same out = record {
   are_pieces = (refl, refl);
   went = stays (unsent_of old) (unsent_of new) (unsent_same old new out.0 out.1);
 }
-did_give_up gives count old new (Some heard) is h none same out = record {
+did_give_up reader count old new (Some heard) is h none same out = record {
   link = keeps_link old new same;
   heard = [];
   hears = hears_none old new same;
@@ -207,10 +207,10 @@ did_give_up gives count old new (Some heard) is h none same out = record {
   went = stays (unsent_of old) (unsent_of new) (unsent_same old new out.0 out.1);
 }
 
-did_settle : (gives : Giving) (old new : Session) (made : Made) → IsSettled gives old made new → new.held ≡ old.held → new.talk ≡ old.talk → new.sent ≡ old.sent
-    → new.asked ≡ old.asked → HasServed gives old [] made [] [] new
-did_settle gives old new made h held same kept still =
-    let puts = puts_replies gives old.asked h.settled old.out.items h.first new.out.items h.puts in
+did_settle : (reader : ReaderView) (old new : Session) (made : Made) → IsSettled reader old made new → new.held ≡ old.held → new.talk ≡ old.talk → new.sent ≡ old.sent
+    → new.asked ≡ old.asked → HasServed reader old [] made [] [] new
+did_settle reader old new made h held same kept still =
+    let puts = puts_replies reader old.asked h.settled old.out.items h.first new.out.items h.puts in
     record {
       link = keeps_link old new same;
       heard = [];
@@ -218,7 +218,7 @@ did_settle gives old new made h held same kept still =
       answers = [];
       are = tt;
       each = stays (option_to_list old.held) (option_to_list new.held) (ap (λ (w : Option Heard). option_to_list w) held);
-      applied = ap applied_in h.both ∙ applies_on h.first h.last [] [] (settles_applies gives h.settled old.out.items h.first new.out.items h.puts)
+      applied = ap applied_in h.both ∙ applies_on h.first h.last [] [] (settles_applies reader h.settled old.out.items h.first new.out.items h.puts)
           (stops_applies new.owed.items h.last _ h.stops);
       pieces = replies_to h.settled;
       left = append-nil old.owed.items ∙ h.left ∙ ap (λ (l : List Owed). l ++ new.owed.items) (sym (owed_among_replies h.settled));
@@ -226,16 +226,16 @@ did_settle gives old new made h held same kept still =
       for_link = tt;
       count = still;
       looks = h.first;
-      found = ap found_in h.both ∙ finds_on h.first h.last h.first [] (settles_finds gives h.settled old.out.items h.first new.out.items h.puts)
+      found = ap found_in h.both ∙ finds_on h.first h.last h.first [] (settles_finds reader h.settled old.out.items h.first new.out.items h.puts)
           (stops_finds new.owed.items h.last _ h.stops) ∙ append-nil h.first;
       bytes = puts.bytes;
       are_pieces = puts.pieces;
       went = unsent_more old new puts.bytes puts.behind kept;
     }
 
-did_send : (gives : Giving) (count : ℕ) (bytes : List ℕ) (old new : Session) → bytes ≡ take count (unsent_of old) → unsent_of new ≡ drop count (unsent_of old) → new.held ≡ old.held
-    → new.talk ≡ old.talk → new.owed.items ≡ old.owed.items → new.asked ≡ old.asked → HasServed gives old [] [] [] bytes new
-did_send gives count bytes old new is rest held same owed still = record {
+did_send : (reader : ReaderView) (count : ℕ) (bytes : List ℕ) (old new : Session) → bytes ≡ take count (unsent_of old) → unsent_of new ≡ drop count (unsent_of old) → new.held ≡ old.held
+    → new.talk ≡ old.talk → new.owed.items ≡ old.owed.items → new.asked ≡ old.asked → HasServed reader old [] [] [] bytes new
+did_send reader count bytes old new is rest held same owed still = record {
   link = keeps_link old new same;
   heard = [];
   hears = hears_none old new same;
@@ -257,8 +257,8 @@ did_send gives count bytes old new is rest held same owed still = record {
 }
 
 -- the frame of a check-back was put behind what is to be sent
-did_ask : (gives : Giving) (old new : Session) (ask : AskParts) → Asks old ask new → HasServed gives old [] [] (ask ∷ []) [] new
-did_ask gives old new ask h =
+did_ask : (reader : ReaderView) (old new : Session) (ask : AskParts) → Asks old ask new → HasServed reader old [] [] (ask ∷ []) [] new
+did_ask reader old new ask h =
     let frame = ask_bytes (opaque_of old.asked) ask.view in
     record {
       link = keeps_link old new h.talk;
@@ -280,14 +280,14 @@ did_ask gives old new ask h =
       went = unsent_more old new frame h.put h.sent;
     }
 
-one_call : (gives : Giving) (old new : Session) (call : Call) → IsCall gives old call new
-    → HasServed gives old (stream_in call) (made_in call) (asks_in call) (sent_in call) new
-one_call gives old new (fed piece) h = did_feed gives old new piece h.0 h.1
-one_call gives old new (served now made result) h = did_serve gives now old new made result h.0 h.1 h.2 h.3
-one_call gives old new (gave_up count) h = did_give_up gives count old new old.held refl h.0 h.1 h.2 h.3
-one_call gives old new (settled made) h = did_settle gives old new made h.0 h.1 h.2 h.3 h.4
-one_call gives old new (sent count bytes) h = did_send gives count bytes old new h.0 h.1 h.2 h.3 h.4 h.5
-one_call gives old new (asked ask) h = did_ask gives old new ask h
+one_call : (reader : ReaderView) (old new : Session) (call : Call) → IsCall reader old call new
+    → HasServed reader old (stream_in call) (made_in call) (asks_in call) (sent_in call) new
+one_call reader old new (fed piece) h = did_feed reader old new piece h.0 h.1
+one_call reader old new (served now made result) h = did_serve reader now old new made result h.0 h.1 h.2 h.3
+one_call reader old new (gave_up count) h = did_give_up reader count old new old.held refl h.0 h.1 h.2 h.3
+one_call reader old new (settled made) h = did_settle reader old new made h.0 h.1 h.2 h.3 h.4
+one_call reader old new (sent count bytes) h = did_send reader count bytes old new h.0 h.1 h.2 h.3 h.4 h.5
+one_call reader old new (asked ask) h = did_ask reader old new ask h
 
 -- ---- one after another
 
@@ -308,10 +308,10 @@ answer_on talk other link host answer (inl h) = inl (
 )
 answer_on talk other link host answer (inr h) = inr h
 
-served_on : (gives : Giving) (old mid new : Session) (stream more : List ℕ) (made rest : Made) (asks wrote : List AskParts) (gone others : List ℕ)
-    → HasServed gives old stream made asks gone mid → HasServed gives mid more rest wrote others new
-    → HasServed gives old (stream ++ more) (made ++ rest) (asks ++ wrote) (gone ++ others) new
-served_on gives old mid new stream more made rest asks wrote gone others h k = record {
+served_on : (reader : ReaderView) (old mid new : Session) (stream more : List ℕ) (made rest : Made) (asks wrote : List AskParts) (gone others : List ℕ)
+    → HasServed reader old stream made asks gone mid → HasServed reader mid more rest wrote others new
+    → HasServed reader old (stream ++ more) (made ++ rest) (asks ++ wrote) (gone ++ others) new
+served_on reader old mid new stream more made rest asks wrote gone others h k = record {
   link = (k.link.0 ∙ h.link.0, k.link.1 ∙ h.link.1);
   heard = h.heard ++ k.heard;
   hears = subst (λ (l : List ℕ). HasHeard old.talk.cutter.at l (h.heard ++ k.heard) new.talk.cutter) (append_assoc old.talk.cutter.bytes stream more)
@@ -333,13 +333,13 @@ served_on gives old mid new stream more made rest asks wrote gone others h k = r
   looks = h.looks ++ k.looks;
   found = finds_on made rest h.looks k.looks h.found k.found;
   bytes = h.bytes ++ k.bytes;
-  are_pieces = pieces_on gives old.asked mid.asked h.pieces k.pieces h.looks k.looks h.bytes k.bytes
+  are_pieces = pieces_on reader old.asked mid.asked h.pieces k.pieces h.looks k.looks h.bytes k.bytes
       (h.count ∙ ap (λ (l : List AskParts). count_after old.asked l) (sym h.asked)) h.are_pieces k.are_pieces;
   went = moves_on (unsent_of old) (unsent_of mid) (unsent_of new) h.bytes k.bytes gone others h.went k.went;
 }
 
-did_none : (gives : Giving) (old : Session) → HasServed gives old [] [] [] [] old
-did_none gives old = record {
+did_none : (reader : ReaderView) (old : Session) → HasServed reader old [] [] [] [] old
+did_none reader old = record {
   link = (refl, refl);
   heard = [];
   hears = hears_none old old refl;
@@ -359,12 +359,12 @@ did_none gives old = record {
   went = append-nil (unsent_of old);
 }
 
-pub calls_serve : (gives : Giving) (calls : List Call) (old new : Session) → AreCalls gives old calls new
-    → HasServed gives old (stream_of calls) (made_of calls) (asks_of calls) (sent_of calls) new
-calls_serve gives [] old new h = subst (λ (s : Session). HasServed gives old [] [] [] [] s) h (did_none gives old)
-calls_serve gives (call ∷ calls) old new h =
-    served_on gives old h.0 new (stream_in call) (stream_of calls) (made_in call) (made_of calls) (asks_in call) (asks_of calls) (sent_in call) (sent_of calls)
-    (one_call gives old h.0 call h.1) (calls_serve gives calls h.0 new h.2)
+pub calls_serve : (reader : ReaderView) (calls : List Call) (old new : Session) → AreCalls reader old calls new
+    → HasServed reader old (stream_of calls) (made_of calls) (asks_of calls) (sent_of calls) new
+calls_serve reader [] old new h = subst (λ (s : Session). HasServed reader old [] [] [] [] s) h (did_none reader old)
+calls_serve reader (call ∷ calls) old new h =
+    served_on reader old h.0 new (stream_in call) (stream_of calls) (made_in call) (made_of calls) (asks_in call) (asks_of calls) (sent_in call) (sent_of calls)
+    (one_call reader old h.0 call h.1) (calls_serve reader calls h.0 new h.2)
 
 -- ---- from the beginning
 
@@ -376,9 +376,9 @@ hears_from held new stream heard all none same h =
 unsent_none : (session : Session) → session.out.items ≡ [] → session.sent ≡ 0 → unsent_of session ≡ []
 unsent_none session out none = rw (out, none) refl
 
-pub replies_in_order : (gives : Giving) (old : Session) (calls : List Call) (new : Session) → IsNew old → AreCalls gives old calls new → RepliesInOrder gives old calls new
-replies_in_order gives old calls new is h =
-    let all = calls_serve gives calls old new h in
+pub replies_in_order : (reader : ReaderView) (old : Session) (calls : List Call) (new : Session) → IsNew old → AreCalls reader old calls new → RepliesInOrder reader old calls new
+replies_in_order reader old calls new is h =
+    let all = calls_serve reader calls old new h in
     let heard : all.heard ≡ map (λ answer. answer.heard) all.answers ++ option_to_list new.held =
     ap (λ (w : Option Heard). option_to_list w ++ all.heard) (sym is.none.0) ∙ all.each in
     let bytes : all.bytes ≡ sent_of calls ++ unsent_of new =
@@ -392,5 +392,5 @@ replies_in_order gives old calls new is h =
       left = ap (λ (l : List Owed). l ++ map (λ answer. answer.owed) all.answers) (sym is.none.1) ∙ all.left;
       asked = all.asked;
       for_link = all.for_link;
-      replies = rw (← bytes, all.found) (subst (λ (n : ℕ). ArePieces gives n all.pieces all.looks all.bytes) is.asked all.are_pieces);
+      replies = rw (← bytes, all.found) (subst (λ (n : ℕ). ArePieces reader n all.pieces all.looks all.bytes) is.asked all.are_pieces);
     }

@@ -2,7 +2,6 @@
 use Rattle.std.specs.Prelude.{◌≡◌, ◌⊎◌, ℕ, ◌++◌, List, [], pos, codes, nat_le, if◌then◌else◌, Option, Some, None, Result, Ok, Err}
 use Rattle.std.specs.declared.alloc.AllocError.{AllocError}
 use Rattle.mq_bytes.specs.Decimal.{digits_of}
-use Rattle.mq_outside.specs.Readings.{Giving}
 use Rattle.remoting_frame.specs.Head.{pairs_size}
 use Rattle.reply_fields.specs.Parts.{ReplyParts, plain}
 use Rattle.reply_fields.specs.Refusals.{fault_reply}
@@ -14,6 +13,7 @@ use Rattle.broker_events.specs.declared.event.Event.{Event}
 use Rattle.broker_events.specs.declared.event.Event.TheVariants as events
 use Rattle.broker_events.specs.declared.said.Said.{Said}
 use Rattle.broker_events.specs.declared.said.Said.TheVariants as said
+use Rattle.session.specs.Readers.{ReaderView, HasCause}
 use Rattle.session.specs.declared.caller.Caller.{Caller}
 use Rattle.session.specs.declared.owed.Applied.{Applied}
 use Rattle.session.specs.declared.owed.Applied.TheVariants.{Owes, Full}
@@ -78,7 +78,8 @@ abbrev pub unwritten : DiskFault → ℕ → ReplyParts
 unwritten Failed count = plain (pos 1) (codes "read " ++ digits_of count)
 unwritten Memory count = fault_reply faults.Memory
 
--- the reply was written, or why it can't be
-abbrev pub IsWritten : Giving → Caller → ReplyParts → ℕ → List ℕ → List ℕ → Type 0
-IsWritten gives caller reply count old new = AppendsReply gives caller.form caller.opaque reply old new
-    ⊎ ((fault : DiskFault) × AppendsReply gives caller.form caller.opaque (unwritten fault count) old new)
+-- the reply was written; or why it can't be, and then there is a cause
+abbrev pub IsWritten : ReaderView → Caller → ReplyParts → ℕ → List ℕ → List ℕ → Type 0
+IsWritten reader caller reply count old new = AppendsReply reader.gives caller.form caller.opaque reply old new
+    ⊎ ((fault : DiskFault) × HasCause reader fault count
+    × AppendsReply reader.gives caller.form caller.opaque (unwritten fault count) old new)

@@ -1,7 +1,6 @@
 -- Calls of a session: what they fed, which requests they heard, and the bytes of replies and check-backs that left.
 use Rattle.std.specs.Prelude.{◌≡◌, ◌⊎◌, ◌++◌, ℕ, List, [], ◌∷◌, Bool, true, false, take, drop, filter, map, option_to_list}
 use Rattle.std.specs.Prelude.{Option, Some, None, Result, Ok, Err}
-use Rattle.mq_outside.specs.Readings.{Giving}
 use Rattle.reply_fields.specs.Parts.{ReplyParts, AskParts}
 use Rattle.reply_fields.specs.Asks.{ask_bytes}
 use Rattle.broker_events.specs.declared.event.Event.{Event}
@@ -12,6 +11,7 @@ use Rattle.broker_events.specs.declared.said.Awaited.TheVariants.{Flushed, Faile
 use Rattle.session.specs.Asking.{Asks, AreFor, opaque_of, next_count, count_after}
 use Rattle.session.specs.Talks.{HasHeard}
 use Rattle.session.specs.Serving.{Made, KeepsRest, KeepsLink, KeepsOut, ServesNext, GivesUp, IsAnswered, caller_of, no_room}
+use Rattle.session.specs.Readers.{ReaderView}
 use Rattle.session.specs.Settling.{IsDueAfter, IsPut, IsSettled, unsent_of}
 use Rattle.session.specs.declared.heard.Heard.{Heard}
 use Rattle.session.specs.declared.owed.Owed.{Owed}
@@ -38,23 +38,23 @@ HadMemory (Err (halts.BadFrame at)) = Unit {0}
 HadMemory (Err halts.Memory) = ⊥
 
 -- what the session is after a call in which memory did not want
-abbrev pub IsCall : Giving → Session → Call → Session → Type 0
-IsCall gives old (fed piece) new =
+abbrev pub IsCall : ReaderView → Session → Call → Session → Type 0
+IsCall reader old (fed piece) new =
     (new.talk.cutter ≡ record { at = old.talk.cutter.at; bytes = old.talk.cutter.bytes ++ piece }) × KeepsRest old new
-IsCall gives old (served now made result) new =
+IsCall reader old (served now made result) new =
     HadMemory result × ServesNext now old made result new × KeepsLink old new × KeepsOut old new
-IsCall gives old (gave_up count) new =
+IsCall reader old (gave_up count) new =
     GivesUp old.held count old (Ok tt) new × (new.held ≡ None) × (new.talk ≡ old.talk) × KeepsOut old new
-IsCall gives old (settled made) new =
-    IsSettled gives old made new × (new.held ≡ old.held) × (new.talk ≡ old.talk) × (new.sent ≡ old.sent) × (new.asked ≡ old.asked)
-IsCall gives old (sent count bytes) new = (bytes ≡ take count (unsent_of old)) × (unsent_of new ≡ drop count (unsent_of old))
+IsCall reader old (settled made) new =
+    IsSettled reader old made new × (new.held ≡ old.held) × (new.talk ≡ old.talk) × (new.sent ≡ old.sent) × (new.asked ≡ old.asked)
+IsCall reader old (sent count bytes) new = (bytes ≡ take count (unsent_of old)) × (unsent_of new ≡ drop count (unsent_of old))
     × (new.held ≡ old.held) × (new.talk ≡ old.talk) × (new.owed.items ≡ old.owed.items) × (new.asked ≡ old.asked)
-IsCall gives old (asked ask) new = Asks old ask new
+IsCall reader old (asked ask) new = Asks old ask new
 
 -- these calls, in this order, lead from the old session to the new one
-abbrev pub AreCalls : Giving → Session → List Call → Session → Type 0
-AreCalls gives old [] new = old ≡ new
-AreCalls gives old (call ∷ calls) new = (after : Session) × IsCall gives old call after × AreCalls gives after calls new
+abbrev pub AreCalls : ReaderView → Session → List Call → Session → Type 0
+AreCalls reader old [] new = old ≡ new
+AreCalls reader old (call ∷ calls) new = (after : Session) × IsCall reader old call after × AreCalls reader after calls new
 
 -- ---- what the calls were given, and gave
 
@@ -199,17 +199,17 @@ steps_of [] = []
 steps_of (answer ∷ answers) = answer.made ++ steps_of answers
 
 -- The bytes are those of the reply that was due for what was owed, after these looks, and none where nobody waits for it.
-pub record IsReplyTo (gives : Giving) (owed : Owed) (made : Made) (bytes : List ℕ) : Type 0 where
+pub record IsReplyTo (reader : ReaderView) (owed : Owed) (made : Made) (bytes : List ℕ) : Type 0 where
   pub due : ReplyParts
   pub is : IsDueAfter owed.awaits owed.reply due made
   pub count : ℕ
-  pub put : IsPut gives owed.caller due count [] bytes
+  pub put : IsPut reader owed.caller due count [] bytes
 
 -- the bytes are those of these replies, one after another, each after its looks
-abbrev pub AreReplies : Giving → List Owed → Made → List ℕ → Type 0
-AreReplies gives [] made bytes = (made ≡ []) × (bytes ≡ [])
-AreReplies gives (owed ∷ more) made bytes = (looks : Made) × (others : Made) × (first : List ℕ) × (rest : List ℕ)
-    × (made ≡ looks ++ others) × (bytes ≡ first ++ rest) × IsReplyTo gives owed looks first × AreReplies gives more others rest
+abbrev pub AreReplies : ReaderView → List Owed → Made → List ℕ → Type 0
+AreReplies reader [] made bytes = (made ≡ []) × (bytes ≡ [])
+AreReplies reader (owed ∷ more) made bytes = (looks : Made) × (others : Made) × (first : List ℕ) × (rest : List ℕ)
+    × (made ≡ looks ++ others) × (bytes ≡ first ++ rest) × IsReplyTo reader owed looks first × AreReplies reader more others rest
 
 -- what leaves, whole: the reply to what was owed, or a check-back
 pub data Piece : Type 0 where
@@ -235,18 +235,18 @@ asks_among (checked ask ∷ pieces) = ask ∷ asks_among pieces
 
 -- The bytes are those of these pieces, one after another: each reply after its looks, and each check-back with the opaque of its
 -- place among those that were written, of which there were so many before.
-abbrev pub ArePieces : Giving → ℕ → List Piece → Made → List ℕ → Type 0
-ArePieces gives count [] made bytes = (made ≡ []) × (bytes ≡ [])
-ArePieces gives count (replied owed ∷ more) made bytes = (looks : Made) × (others : Made) × (first : List ℕ) × (rest : List ℕ)
-    × (made ≡ looks ++ others) × (bytes ≡ first ++ rest) × IsReplyTo gives owed looks first × ArePieces gives count more others rest
-ArePieces gives count (checked ask ∷ more) made bytes = (rest : List ℕ)
-    × (bytes ≡ ask_bytes (opaque_of count) ask.view ++ rest) × ArePieces gives (next_count count) more made rest
+abbrev pub ArePieces : ReaderView → ℕ → List Piece → Made → List ℕ → Type 0
+ArePieces reader count [] made bytes = (made ≡ []) × (bytes ≡ [])
+ArePieces reader count (replied owed ∷ more) made bytes = (looks : Made) × (others : Made) × (first : List ℕ) × (rest : List ℕ)
+    × (made ≡ looks ++ others) × (bytes ≡ first ++ rest) × IsReplyTo reader owed looks first × ArePieces reader count more others rest
+ArePieces reader count (checked ask ∷ more) made bytes = (rest : List ℕ)
+    × (bytes ≡ ask_bytes (opaque_of count) ask.view ++ rest) × ArePieces reader (next_count count) more made rest
 
 -- What calls have done that fed this stream, made these steps, wrote these check-backs and sent these bytes. The requests of the stream
 -- are `heard`; with one that was held before they are those that were answered and one that is held now. What was owed before and the
 -- answers are what left and what is owed now; and what was to be sent before, the replies of those that left and the check-backs are
 -- what was sent and what is to be sent now.
-pub record HasServed (gives : Giving) (old : Session) (stream : List ℕ) (made : Made) (asks : List AskParts) (sent : List ℕ)
+pub record HasServed (reader : ReaderView) (old : Session) (stream : List ℕ) (made : Made) (asks : List AskParts) (sent : List ℕ)
     (new : Session) : Type 0 where
   pub link : KeepsLink old new
   pub heard : List Heard
@@ -263,7 +263,7 @@ pub record HasServed (gives : Giving) (old : Session) (stream : List ℕ) (made 
   pub looks : Made
   pub found : found_in made ≡ looks
   pub bytes : List ℕ
-  pub are_pieces : ArePieces gives old.asked pieces looks bytes
+  pub are_pieces : ArePieces reader old.asked pieces looks bytes
   pub went : unsent_of old ++ bytes ≡ sent ++ unsent_of new
 
 -- nothing was heard yet, and nothing is owed
@@ -276,7 +276,7 @@ pub record IsNew (session : Session) : Type 0 where
 -- which a request was applied are those of the answers; and what was sent, and is to be sent, are the replies of the first requests,
 -- in order, one each, and none for those that wait for none, and between them, whole, the check-backs that were written, in order, each
 -- for this link. The looks that found something are those of these replies.
-pub record RepliesInOrder (gives : Giving) (old : Session) (calls : List Call) (new : Session) : Type 0 where
+pub record RepliesInOrder (reader : ReaderView) (old : Session) (calls : List Call) (new : Session) : Type 0 where
   pub answers : List Answer
   pub are : AreAnswers old.talk answers
   pub hears : HasHeard 0 (stream_of calls) (map (λ answer. answer.heard) answers ++ option_to_list new.held) new.talk.cutter
@@ -285,4 +285,4 @@ pub record RepliesInOrder (gives : Giving) (old : Session) (calls : List Call) (
   pub left : map (λ answer. answer.owed) answers ≡ owed_among pieces ++ new.owed.items
   pub asked : asks_among pieces ≡ asks_of calls
   pub for_link : AreFor old.talk.link (asks_of calls)
-  pub replies : ArePieces gives 0 pieces (found_in (made_of calls)) (sent_of calls ++ unsent_of new)
+  pub replies : ArePieces reader 0 pieces (found_in (made_of calls)) (sent_of calls ++ unsent_of new)

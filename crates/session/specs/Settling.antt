@@ -3,7 +3,6 @@ use Rattle.std.specs.Prelude.{◌≡◌, ◌⊎◌, ◌-◌, ◌≤◌, ◌++◌
 use Rattle.std.specs.Prelude.{Option, Some, None, Result, Ok, Err}
 use Rattle.std.specs.Bool.{MatchBool}
 use Rattle.std.specs.declared.alloc.AllocError.{AllocError}
-use Rattle.mq_outside.specs.Readings.{Giving}
 use Rattle.reply_fields.specs.Parts.{ReplyParts}
 use Rattle.broker_events.specs.declared.event.Event.{Event}
 use Rattle.broker_events.specs.declared.event.Event.TheVariants.{Look}
@@ -12,6 +11,7 @@ use Rattle.broker_events.specs.declared.said.Said.TheVariants as said
 use Rattle.broker_events.specs.declared.said.Awaited.{Awaited}
 use Rattle.broker_events.specs.declared.said.Awaited.TheVariants.{Flushed, Failed, NotYet}
 use Rattle.session.specs.Owing.{IsWritten, not_flushed}
+use Rattle.session.specs.Readers.{ReaderView}
 use Rattle.session.specs.Serving.{Made}
 use Rattle.session.specs.declared.caller.Caller.{Caller}
 use Rattle.session.specs.declared.owed.Awaits.{Awaits}
@@ -84,53 +84,53 @@ GivesDue old made (Err fault) new = IsLost old made new
 -- ---- what is written
 
 -- a reply is put behind the bytes before it, unless nobody waits for it
-abbrev pub IsPut : Giving → Caller → ReplyParts → ℕ → List ℕ → List ℕ → Type 0
-IsPut gives caller reply count old new = MatchBool caller.one_way (new ≡ old) (IsWritten gives caller reply count old new)
+abbrev pub IsPut : ReaderView → Caller → ReplyParts → ℕ → List ℕ → List ℕ → Type 0
+IsPut reader caller reply count old new = MatchBool caller.one_way (new ≡ old) (IsWritten reader caller reply count old new)
 
 -- ---- what is settled
 
 -- the reply that is due for one that is owed is put behind the bytes before, where the reader counts so many faults
-pub record SettlesOne (gives : Giving) (owed : Owed) (old : List ℕ) (made : Made) (new : List ℕ) : Type 0 where
+pub record SettlesOne (reader : ReaderView) (owed : Owed) (old : List ℕ) (made : Made) (new : List ℕ) : Type 0 where
   pub due : ReplyParts
   pub is : IsDueAfter owed.awaits owed.reply due made
   pub count : ℕ
-  pub put : IsPut gives owed.caller due count old new
+  pub put : IsPut reader owed.caller due count old new
 
 -- each of these is settled, in this order
-abbrev pub Settles : Giving → List Owed → List ℕ → Made → List ℕ → Type 0
-Settles gives [] old made new = (made ≡ []) × (new ≡ old)
-Settles gives (owed ∷ more) old made new = (mid : List ℕ) × (first rest : Made) × (made ≡ first ++ rest)
-    × SettlesOne gives owed old first mid × Settles gives more mid rest new
+abbrev pub Settles : ReaderView → List Owed → List ℕ → Made → List ℕ → Type 0
+Settles reader [] old made new = (made ≡ []) × (new ≡ old)
+Settles reader (owed ∷ more) old made new = (mid : List ℕ) × (first rest : Made) × (made ≡ first ++ rest)
+    × SettlesOne reader owed old first mid × Settles reader more mid rest new
 
 -- why no further reply is settled: none is owed, or its record is pending still, or so many bytes wait
 abbrev pub Stops : Session → Made → Type 0
 Stops session made = Waits session.owed.items made ⊎ ((UNSENT_MAX ≤ length session.out.items - session.sent) × (made ≡ []))
 
 -- the first of what was owed are settled, and then there is a cause to stop
-pub record IsSettled (gives : Giving) (old : Session) (made : Made) (new : Session) : Type 0 where
+pub record IsSettled (reader : ReaderView) (old : Session) (made : Made) (new : Session) : Type 0 where
   pub settled : List Owed
   pub left : old.owed.items ≡ settled ++ new.owed.items
   pub first : Made
   pub last : Made
   pub both : made ≡ first ++ last
-  pub puts : Settles gives settled old.out.items first new.out.items
+  pub puts : Settles reader settled old.out.items first new.out.items
   pub stops : Stops new last
 
 -- the first of what was owed are settled, and for want of memory the next one left and has no reply
-pub record IsBroken (gives : Giving) (old : Session) (made : Made) (new : Session) : Type 0 where
+pub record IsBroken (reader : ReaderView) (old : Session) (made : Made) (new : Session) : Type 0 where
   pub settled : List Owed
   pub lost : Owed
   pub left : old.owed.items ≡ settled ++ lost ∷ new.owed.items
   pub first : Made
   pub last : Made
   pub both : made ≡ first ++ last
-  pub puts : Settles gives settled old.out.items first new.out.items
+  pub puts : Settles reader settled old.out.items first new.out.items
   pub looked : LooksFor lost.awaits last
 
 -- what `settle` does, by what it answers
-abbrev pub SettlesAll : Giving → Session → Made → Result (Unit {0}) AllocError → Session → Type 0
-SettlesAll gives old made (Ok done) new = IsSettled gives old made new
-SettlesAll gives old made (Err fault) new = IsBroken gives old made new
+abbrev pub SettlesAll : ReaderView → Session → Made → Result (Unit {0}) AllocError → Session → Type 0
+SettlesAll reader old made (Ok done) new = IsSettled reader old made new
+SettlesAll reader old made (Err fault) new = IsBroken reader old made new
 
 -- ---- what is seen of it
 

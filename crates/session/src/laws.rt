@@ -2,6 +2,7 @@
 
 ghost use Rattle.std.specs.Prelude.{◌≡◌, ◌++◌, [], List};
 ghost use Rattle.remoting_frame.specs.Held.{Held};
+ghost use Rattle.session.specs.Readers.{reads_of};
 ghost use Rattle.session.specs.Talks.{Call, AreCalls, HasHeard, stream_of, heard_of};
 ghost use Rattle.session.specs.Sessions as sessions;
 ghost use Rattle.session.specs.Settling.{unsent_of};
@@ -21,14 +22,15 @@ pub fn a_talk_hears_the_requests_of_its_stream()
 /// each, and none to those that want none. The requests that the broker applied are those that were answered, in order and each
 /// once, and each reply that waited for its record stands behind a look that found it flushed, or tells the failure that it found.
 pub fn replies_leave_in_the_order_of_the_requests<R: Reader>()
-    ensures { (old : ASession) (calls : List sessions.Call) (new : ASession) → sessions.IsNew old → sessions.AreCalls R.gives old calls new
-        → sessions.RepliesInOrder R.gives old calls new }
+    ensures { (old : ASession) (calls : List sessions.Call) (new : ASession) → sessions.IsNew old
+        → sessions.AreCalls (reads_of R.gives R.faults) old calls new
+        → sessions.RepliesInOrder (reads_of R.gives R.faults) old calls new }
 {}
 
 /// Where no check-back was written, what calls of a new session sent are the replies alone.
 pub fn without_check_backs_the_replies_leave_alone<R: Reader>()
     ensures { (old : ASession) (calls : List sessions.Call) (new : ASession) → sessions.asks_of calls ≡ []
-        → (is : sessions.RepliesInOrder R.gives old calls new)
-        → sessions.AreReplies R.gives (sessions.owed_among is.pieces) (sessions.found_in (sessions.made_of calls))
+        → (is : sessions.RepliesInOrder (reads_of R.gives R.faults) old calls new)
+        → sessions.AreReplies (reads_of R.gives R.faults) (sessions.owed_among is.pieces) (sessions.found_in (sessions.made_of calls))
         (sessions.sent_of calls ++ unsent_of new) }
 {}

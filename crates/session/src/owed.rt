@@ -1,6 +1,6 @@
 //! What is owed to a link for a request: its reply, at once or once its record is on the disk.
 
-ghost use Rattle.std.specs.Prelude.{◌≡◌, ◌<◌, ◌^◌, ◌++◌, Some, OnOk, OnErr, IfOk, pos, codes};
+ghost use Rattle.std.specs.Prelude.{◌≡◌, ◌≤◌, ◌<◌, ◌^◌, ◌++◌, Some, OnOk, OnErr, IfOk, pos, codes};
 ghost use Rattle.mq_bytes.specs.Decimal.{digits_of};
 ghost use Rattle.remoting_frame.specs.Head.{pairs_size};
 ghost use Rattle.reply_fields.specs.Parts.{plain};
@@ -8,6 +8,7 @@ ghost use Rattle.broker_events.specs.Shown.{Accepts};
 ghost use Rattle.broker_events.specs.declared.event.Event.TheVariants.{Look};
 ghost use Rattle.broker_events.specs.declared.said.Said.TheVariants as said;
 ghost use Rattle.session.specs.Owing.{IsRequest, IsApplied, IsWritten, not_flushed as not_flushed_of, unwritten as unwritten_of};
+ghost use Rattle.session.specs.Readers.{risen_from};
 
 use crate::caller::Caller;
 use broker_events::{Awaited, Calls, Event, Said};
@@ -137,8 +138,8 @@ fn unwritten(alloc: Global, fault: DiskFault, count: u64) -> Result<Reply, Alloc
     }
 }
 
-/// Appends the bytes of a reply. One whose stored bytes can't be read is told as such with the reader's count, and one for which
-/// memory wants as that. `Err` is want of memory for telling it, and leaves `out` as it was.
+/// Appends the bytes of a reply. One whose stored bytes can't be read is told as such with the reader's count, which has risen, and
+/// one for which memory wants as that. `Err` is want of memory for telling it, and leaves `out` as it was.
 pub fn write_reply<R: Reader>(
     alloc: Global,
     caller: Caller,
@@ -146,8 +147,10 @@ pub fn write_reply<R: Reader>(
     reader: &mut R,
     out: &mut Vec<u8>,
 ) -> Result<(), AllocError>
-    ensures written { OnOk result (IsWritten R.gives caller reply (R.faults reader.new) out.old.items out.new.items) }
+    ensures written { OnOk result (IsWritten (risen_from R.gives (R.faults reader.old)) caller reply (R.faults reader.new)
+        out.old.items out.new.items) }
     ensures err { OnErr result (out.new.items ≡ out.old.items) }
+    ensures grows { R.faults reader.old ≤ R.faults reader.new }
 {
     let fault = match reply.write(alloc, caller.form, caller.opaque, reader, out) {
         Ok(()) => return Ok(()),
