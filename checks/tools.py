@@ -1,5 +1,5 @@
 #!/usr/bin/env python3
-"""The tools of an operator over stores of every kind: checks/tools.py PROGRAM.
+"""The tools of an operator over stores of every kind, and the generator: checks/tools.py PROGRAM.
 
 What `dump` and `verify` write stands beside what the replies said and what is read of the log's files by code of its own. Each check
 prints its name; the first that fails ends it.
@@ -200,13 +200,14 @@ def _(folder):
         assert sorted(os.listdir(f"{folder}/{tool}")) == ["config", "lock"]
 
 
-@check("--store is the only option, what doesn't fit is status 1 and makes nothing, and the help has both tools")
+@check("--store is the only option, what doesn't fit is status 1 and makes nothing, and the help has all")
 def _(folder):
     for tool in TOOLS:
         for words, said in ((("--segment", "4096"), '"--segment" is no option'), (("--store",), '"--store" has no value'),
                             (("--store", ""), '"" is no value of --store'), (("--store", "a", "--store", "b"), '"--store" is given twice')):
             status, out, line = call(folder, tool, *words)
             assert (status, out) == (1, "") and said in line, (tool, words, status, line)
+    for tool in (*TOOLS, "gen"):
         status, out, said = call(folder, tool, "--help")
         assert (status, said) == (0, "") and out.startswith(f"mq_broker {tool} ") and "--store" in out and "--host" not in out, out
         assert f"  {tool} " in call(folder, "--help")[1]
@@ -251,3 +252,99 @@ def _(folder):
         status, memory, read = map(int, done.stderr.split())
         assert status == 0 and open(folder + "/out").read() == text
         assert memory < most and read < (times + 0.05) * size, (tool, memory, read, size)
+
+
+# What the generator tells of 100,000 items from start 7 on.
+SUMMARY = """gen 100000 7
+records 130000
+queue gen 0 20000
+queue gen 1 20000
+queue gen 2 20000
+queue gen 3 20000
+halves 20000 committed 10000 rolledback 10000 open 0
+delayed 10000 delivered 10000
+pulls 10000 found 9900
+replay equal
+"""
+
+
+def summary_of(items, start):
+    """What the generator tells of so many items, by counting them here."""
+    kinds = [i % 10 for i in range(items)]
+    shown = [kinds[i] < 7 or kinds[i] == 9 for i in range(items)]
+    queues = [sum(1 for i in range(items) if shown[i] and (i + start) % 4 == queue) for queue in range(4)]
+    commits, backs, pulls, delays = (kinds.count(kind) for kind in (6, 7, 8, 9))
+    dispatched, found = set(), 0
+    for i in range(items):
+        if i and i % 1000 == 0:
+            dispatched = {(k + start) % 4 for k in range(i) if kinds[k] < 7}
+        found += kinds[i] == 8 and (i + start) % 4 in dispatched
+    plain = sum(kind < 6 for kind in kinds)
+    return "".join(line + "\n" for line in (
+        f"gen {items} {start}", f"records {plain + 3 * commits + 2 * backs + 2 * delays}",
+        *(f"queue gen {queue} {queues[queue]}" for queue in range(4)),
+        f"halves {commits + backs} committed {commits} rolledback {backs} open 0", f"delayed {delays} delivered {delays}",
+        f"pulls {pulls} found {found}", "replay equal"))
+
+
+@check("gen fills an empty store by 100,000 items, tells what it holds, and both tools find so")
+def _(folder):
+    assert summary_of(100000, 7) == SUMMARY
+    assert call(folder, "gen", "100000", "7") == (0, SUMMARY, "")
+    status, out, said = call(folder, "dump")
+    rows = [line.split(" ") for line in out.splitlines()]
+    assert (status, said, len(rows)) == (0, "", 130000)
+    for topic, count in (("gen", 80000), ("RMQ_SYS_TRANS_HALF_TOPIC", 20000), ("RMQ_SYS_TRANS_OP_HALF_TOPIC", 20000),
+                         ("SCHEDULE_TOPIC_XXXX", 10000)):
+        assert sum(row[1] == topic for row in rows) == count, topic
+    end = int(rows[-1][0]) + int(rows[-1][4])
+    assert call(folder, "verify") == (0, f"records 130000 end {end}\nequal\n", "")
+
+
+@check("gen tells the counts of any number of items from any start on, and nothing is pending at its end")
+def _(folder):
+    for items, start in ((1, 0), (7, 1000000), (10, 3), (1000, 2), (1009, 1), (2500, 5)):
+        store = f"{items}-{start}"
+        assert call(folder, "gen", str(items), str(start), "--store", store) == (0, summary_of(items, start), ""), (items, start)
+        assert call(folder, "verify", "--store", store)[0] == 0
+
+
+@check("a store that has records is status 6 with the line foreign records, and is left as it is; one without is filled")
+def _(folder):
+    fill(folder)
+    before = everything(folder)
+    status, out, said = call(folder, "gen", "10", "0")
+    assert (status, out) == (6, "foreign records\n") and "store has records (status 6): " in said, (status, out, said)
+    assert everything(folder) == before
+    assert call(folder, "verify", "--store", "other") == (0, "records 0 end 0\nequal\n", "")
+    assert call(folder, "gen", "10", "0", "--store", "other") == (0, summary_of(10, 0), "")
+    status, out, said = call(folder, "gen", "10", "0", "--store", "other")
+    assert (status, out) == (6, "foreign records\n")
+
+
+@check("gen wants its two numbers and no option but --store: else the status is 1, with the argument, and nothing is made")
+def _(folder):
+    for words, said in (((), '"gen" has no value'), (("0", "0"), '"0" is no value of N 1..1000000'), (("1000001", "0"), '"1000001" is no value of N'),
+                        (("x", "0"), '"x" is no value of N'), (("1",), '"1" has no value'), (("1", "1000001"), '"1000001" is no value of START 0..1000000'),
+                        (("1", "-1"), '"-1" is no value of START'), (("1", "0", "--segment", "4096"), '"--segment" is no option'),
+                        (("1", "0", "--store"), '"--store" has no value'), (("1", "0", "--store", ""), '"" is no value of --store'),
+                        (("1", "0", "--store", "a", "--store", "b"), '"--store" is given twice')):
+        status, out, line = call(folder, "gen", *words)
+        assert (status, out) == (1, "") and said in line, (words, status, line)
+    assert os.listdir(folder) == []
+
+
+@check("a foreign store, and one that a broker has, are told of gen as of the tools, and are left as they are")
+def _(folder):
+    os.makedirs(folder + "/store")
+    open(folder + "/store/x", "w").close()
+    before = everything(folder)
+    assert call(folder, "gen", "10", "0")[:2] == (6, "foreign x\n")
+    assert everything(folder) == before
+    broker = subprocess.Popen([PROGRAM, "pipe", "--store", "other"], stdin=subprocess.PIPE, stdout=subprocess.PIPE, cwd=folder)
+    broker.stdin.write(send(0, b"hi"))
+    broker.stdin.flush()
+    assert broker.stdout.read(4)
+    status, out, said = call(folder, "gen", "10", "0", "--store", "other")
+    assert (status, out) == (5, "") and "another process has the store" in said, (status, out, said)
+    broker.communicate()

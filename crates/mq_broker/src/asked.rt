@@ -1,10 +1,16 @@
 //! What the arguments ask for, found before anything is made.
 
-use store_open::{Tool, Verb, read_serve_words, read_tool_words, read_words};
+use store_open::{Tool, Verb, read_gen_words, read_serve_words, read_tool_words, read_words};
 use tool_run::asked_tool;
 
 /// The commands, in the order in which the help shows them.
-pub(crate) const COMMANDS: [Verb; 4] = [Verb::Serve, Verb::Pipe, Verb::Dump, Verb::Verify];
+pub(crate) const COMMANDS: [Verb; 5] = [
+    Verb::Serve,
+    Verb::Pipe,
+    Verb::Dump,
+    Verb::Verify,
+    Verb::Gen,
+];
 
 /// A run: the command, the store's folder, and where `serve` listens (the address, and the port in four bytes, high byte first).
 #[derive(Clone, Copy)]
@@ -23,6 +29,8 @@ pub(crate) enum Asked<'a> {
     Run(Target<'a>),
     /// A tool over the store in this folder.
     Use(Tool, &'a str),
+    /// The store in this folder is filled.
+    Fill(&'a str),
     /// The argument at this place, counted from 0, is the first that doesn't fit.
     Unfit(u64),
 }
@@ -56,6 +64,14 @@ fn asked_of_tool<'a>(tool: Tool, words: &[&'a str]) -> Asked<'a> {
     match read_tool_words(tool, words) {
         Err(place) => Asked::Unfit(place),
         Ok(command) => Asked::Use(tool, command.store),
+    }
+}
+
+// The store that the arguments of `gen` ask to be filled.
+fn asked_of_gen<'a>(words: &[&'a str]) -> Asked<'a> {
+    match read_gen_words(words) {
+        Err(place) => Asked::Unfit(place),
+        Ok(command) => Asked::Fill(command.store),
     }
 }
 
@@ -103,6 +119,7 @@ pub(crate) fn asked_of<'a>(words: &[&'a str]) -> Asked<'a> {
     }
     match words.first() {
         Some(word) if *word == Verb::Serve.word() => asked_of_serve(words),
+        Some(word) if *word == Verb::Gen.word() => asked_of_gen(words),
         _ => asked_of_pipe(words),
     }
 }

@@ -1,7 +1,7 @@
 //! `mq_broker pipe` answers the requests of standard input on standard output; `mq_broker serve` accepts connections over TCP;
-//! `mq_broker dump` and `mq_broker verify` tell what a store holds. The arguments are read before anything is made. Standard
-//! output has replies and the texts of the tools, of `--help` and of `--version` alone; standard error has one line for each
-//! run that ends with another status than 0, and two of each run of `serve`.
+//! `mq_broker dump` and `mq_broker verify` tell what a store holds, and `mq_broker gen` fills one. The arguments are read before
+//! anything is made. Standard output has replies and the texts of the tools, of `--help` and of `--version` alone; standard error
+//! has one line for each run that ends with another status than 0, and two of each run of `serve`.
 #![tactic(auto)]
 
 mod asked;
@@ -18,7 +18,7 @@ use std::sync::Wait;
 use std::thread::Threads;
 use store_open::{help, help_of};
 use telling::{say, warn};
-use tooling::use_tool;
+use tooling::{fill_store, use_tool};
 
 /// The status of a usage error.
 const USAGE: u8 = 1;
@@ -60,6 +60,7 @@ fn run_words<W: Wait + Threads + Sync>(
         }
         Asked::Run(target) => run_target(threads, rt, alloc, words, &target),
         Asked::Use(tool, store) => use_tool(rt, alloc, words, tool, store),
+        Asked::Fill(store) => fill_store(rt, alloc, words, store),
     }
 }
 

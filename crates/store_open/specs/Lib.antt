@@ -1,3 +1,4 @@
+pub mod GenWords
 pub mod Formats
 pub mod Left
 pub mod Openings

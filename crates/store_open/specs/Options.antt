@@ -6,7 +6,7 @@ use Rattle.mq_bytes.specs.Decimal.{digits_of}
 use Rattle.log_model.specs.Log.{IsSegmentSize}
 use Rattle.store_open.specs.declared.format.AskedSizes.{AskedSizes}
 use Rattle.store_open.specs.declared.settings.Verb.{Verb}
-use Rattle.store_open.specs.declared.settings.Verb.TheVariants.{Pipe, Serve, Dump, Verify}
+use Rattle.store_open.specs.declared.settings.Verb.TheVariants.{Pipe, Serve, Dump, Verify, Gen}
 use Rattle.store_open.specs.declared.settings.Choice.{Choice}
 use Rattle.store_open.specs.declared.settings.Choice.TheVariants.{Flush, Segment, Slots, Entries, Host, Store, Listen, Links, Connections}
 use Rattle.store_open.specs.declared.settings.Setting.{Setting}
@@ -26,6 +26,7 @@ word_of Pipe = codes "pipe"
 word_of Serve = codes "serve"
 word_of Dump = codes "dump"
 word_of Verify = codes "verify"
+word_of Gen = codes "gen"
 
 -- the word of an option
 abbrev pub spelled : Choice → List ℕ
@@ -56,6 +57,7 @@ abbrev pub IsOffered : Verb → Choice → Type 0
 IsOffered Serve choice = Unit {0}
 IsOffered Dump choice = IsOfTool choice
 IsOffered Verify choice = IsOfTool choice
+IsOffered Gen choice = IsOfTool choice
 IsOffered Pipe Flush = Unit {0}
 IsOffered Pipe Segment = Unit {0}
 IsOffered Pipe Slots = Unit {0}

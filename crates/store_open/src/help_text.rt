@@ -40,6 +40,15 @@ fn purpose(verb: Verb) -> &'static str {
         Verb::Serve => "accepts connections over TCP and answers their requests",
         Verb::Dump => "writes a line for each record of a store that no broker has open",
         Verb::Verify => "reads a store that no broker has open and tells whether it is sound",
+        Verb::Gen => "fills an empty store by N requests of a fixed kind, and tells what it holds",
+    }
+}
+
+// What stands between the command and its options.
+fn operands(verb: Verb) -> &'static str {
+    match verb {
+        Verb::Gen => " N START",
+        Verb::Pipe | Verb::Serve | Verb::Dump | Verb::Verify => "",
     }
 }
 
@@ -61,6 +70,7 @@ fn push_options(verb: Verb, beside: Option<Verb>, out: &mut String) -> Result<()
 pub fn help_of(alloc: Global, verb: Verb) -> Result<String, AllocError> {
     let mut out = String::from_str(alloc, "mq_broker ")?;
     out.push_str(verb.word())?;
+    out.push_str(operands(verb))?;
     out.push_str(" [OPTION VALUE]...\n\n  ")?;
     out.push_str(purpose(verb))?;
     out.push_str("\n\noptions, each at most once and in any order:\n")?;
@@ -81,7 +91,7 @@ fn push_command(verb: Verb, out: &mut String) -> Result<(), AllocError> {
 fn push_tool(verb: Verb, out: &mut String) -> Result<(), AllocError> {
     match verb {
         Verb::Serve | Verb::Pipe => Ok(()),
-        Verb::Dump | Verb::Verify => {
+        Verb::Dump | Verb::Verify | Verb::Gen => {
             out.push_str("\noption of ")?;
             out.push_str(verb.word())?;
             out.push_str(":\n")?;

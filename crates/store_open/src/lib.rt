@@ -2,6 +2,7 @@
 #![tactic(auto)]
 
 mod format;
+mod gen_words;
 mod help_text;
 mod host;
 mod laws;
@@ -16,6 +17,7 @@ mod unfit;
 mod words;
 
 pub use format::{AskedSizes, Sizes};
+pub use gen_words::{GenCommand, read_gen_words};
 pub use help_text::{help, help_of};
 pub use laws::a_cut_off_opening_leaves_a_store;
 pub use opening::open_format;

@@ -15,6 +15,7 @@ impl Verb {
             Verb::Serve => "serve",
             Verb::Dump => "dump",
             Verb::Verify => "verify",
+            Verb::Gen => "gen",
         }
     }
 }

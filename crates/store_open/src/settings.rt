@@ -28,7 +28,7 @@ use record_codec::{SEGMENT_MAX, SEGMENT_MIN};
 const DEFAULT_HOST: [u8; 8] = [127, 0, 0, 1, 0, 0, 42, 159];
 
 // The folder of the current one that has the store.
-const DEFAULT_STORE: &str = "store";
+pub(crate) const DEFAULT_STORE: &str = "store";
 
 /// A command that has options.
 #[derive(Debug, Clone, Copy, PartialEq, Eq)]
@@ -37,6 +37,7 @@ pub enum Verb {
     Serve,
     Dump,
     Verify,
+    Gen,
 }
 
 /// An option.
@@ -221,7 +222,7 @@ pub(crate) fn is_offered(verb: Verb, choice: Choice) -> bool
     match verb {
         Verb::Serve => true,
         Verb::Pipe => !matches!(choice, Choice::Listen | Choice::Links | Choice::Connections),
-        Verb::Dump | Verb::Verify => matches!(choice, Choice::Store),
+        Verb::Dump | Verb::Verify | Verb::Gen => matches!(choice, Choice::Store),
     }
 }
 

@@ -8,7 +8,7 @@
 //! |    3 |          | the source failed                                                                    |
 //! |    4 |          | the sink failed                                                                      |
 //! |    5 |          | the disk failed                                                                      |
-//! |    6 | a file   | foreign: this file stands without a format, or `format` is another than asked for    |
+//! |    6 | a file   | foreign: this file stands without a format, or `format` is another than asked for; or `gen` meets `records` |
 //! |    7 |          | want of memory                                                                       |
 //! |    8 | a file   | damaged: no broker leaves this file as it is; `place` is the physical offset, or 0 of a kept text |
 //! |    9 |          | `serve`: no thread can be started, and nothing was served                             |

@@ -27,6 +27,8 @@ fn verb_of(word: &str) -> Verb {
         Verb::Dump
     } else if word == Verb::Verify.word() {
         Verb::Verify
+    } else if word == Verb::Gen.word() {
+        Verb::Gen
     } else {
         Verb::Pipe
     }
@@ -48,7 +50,16 @@ fn unfit_value<'a>(name: &'a str, value: &'a str) -> Unfit<'a> {
     }
 }
 
-/// What is wrong with the first argument that doesn't fit, whose place `read_words`, `read_serve_words` or `read_tool_words` gave.
+// What is wrong with the number at this place of the arguments of `gen`.
+fn unfit_number<'a>(at: usize, value: &'a str) -> Unfit<'a> {
+    if at == 1 {
+        return Unfit::NotAValue("N", value, "1..1000000");
+    }
+    Unfit::NotAValue("START", value, "0..1000000")
+}
+
+/// What is wrong with the first argument that doesn't fit, whose place `read_words`, `read_serve_words`, `read_tool_words` or
+/// `read_gen_words` gave.
 pub fn unfit_at<'a>(words: &[&'a str], place: u64) -> Unfit<'a> {
     let Some(command) = words.first() else {
         return Unfit::NoCommand;
@@ -65,6 +76,7 @@ pub fn unfit_at<'a>(words: &[&'a str], place: u64) -> Unfit<'a> {
     };
     match words.get(at) {
         None => Unfit::NoValue(before),
+        Some(word) if at <= 2 && *command == Verb::Gen.word() => unfit_number(at, *word),
         Some(word) if at % 2 == 1 => unfit_name(verb_of(command), *word),
         Some(word) => unfit_value(before, *word),
     }

@@ -7,9 +7,9 @@ use table_check::Comparing;
 
 /// Goes through tables beside the records that it is handed.
 #[derive(Drop)]
-pub(crate) struct Beside<'a> {
-    pub(crate) comparing: Comparing<'a>,
-    pub(crate) alloc: Global,
+pub struct Beside<'a> {
+    pub comparing: Comparing<'a>,
+    pub alloc: Global,
 }
 
 impl<'a> Visit for Beside<'a> {

@@ -27,7 +27,7 @@ fn end_with<K: Sink + Drop>(alloc: Global, code: u8, lines: Lines<K>) -> ToolRan
 }
 
 /// Writes what is left of the text.
-pub(crate) fn end_whole<K: Sink + Drop>(alloc: Global, lines: Lines<K>) -> ToolRan<K>
+pub fn end_whole<K: Sink + Drop>(alloc: Global, lines: Lines<K>) -> ToolRan<K>
     ensures done { (first : K) (text : List ℕ) → Told K.Sink first lines text → result.status.code ≡ 0
         → TookAll (seen_of K.Sink first result.sink) text }
     ensures failed { (first : K) (text : List ℕ) → Told K.Sink first lines text → result.status.code ≡ 4
@@ -71,7 +71,7 @@ pub(crate) fn end_sound<K: Sink + Drop>(
 }
 
 /// Writes what is left of the text, and then the line of the damage.
-pub(crate) fn end_damaged<K: Sink + Drop>(
+pub fn end_damaged<K: Sink + Drop>(
     alloc: Global,
     lines: Lines<K>,
     place: u64,
@@ -119,7 +119,7 @@ pub(crate) fn end_broken<K: Sink + Drop>(alloc: Global, lines: Lines<K>) -> Tool
 }
 
 /// Writes the line of a store that is not this program's; nothing where another fault ended the opening.
-pub(crate) fn end_unopened<K: Sink + Drop>(alloc: Global, status: Status, sink: K) -> ToolRan<K>
+pub fn end_unopened<K: Sink + Drop>(alloc: Global, status: Status, sink: K) -> ToolRan<K>
     ensures line { result.status.code ≡ 6 → TookOrFailed (seen_of K.Sink sink result.sink) (foreign_line result.status.name) }
     ensures nothing { result.status.code ≢ 6 → result.sink ≡ sink }
     ensures status { (result.status ≡ status) ⊎ (result.status.code ≡ 7) }

@@ -15,5 +15,8 @@ mod sound;
 mod texts;
 
 pub use asked::asked_tool;
+pub use beside::Beside;
+pub use ends::{end_damaged, end_unopened, end_whole};
+pub use lines::Lines;
 pub use ran::ToolRan;
 pub use run::run_tool;

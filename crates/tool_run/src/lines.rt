@@ -13,11 +13,11 @@ const PIECE: usize = 1 << 16;
 
 /// Text that goes to a sink.
 #[derive(Drop)]
-pub(crate) struct Lines<K: Sink + Drop> {
-    pub(crate) sink: K,
-    pub(crate) held: Vec<u8>,
+pub struct Lines<K: Sink + Drop> {
+    pub sink: K,
+    pub held: Vec<u8>,
     /// Whether the sink failed. Nothing is written from then on.
-    pub(crate) failed: bool,
+    pub failed: bool,
 }
 
 // Writes the whole piece. At a failure first bytes of it may have been taken.
@@ -39,7 +39,7 @@ impl<K: Sink + Drop> Lines<K> {
     ghost use Rattle.tool_run.specs.Writes.{Told, Broke};
 
     /// No text for this sink.
-    pub(crate) fn new(alloc: Global, sink: K) -> Lines<K>
+    pub fn new(alloc: Global, sink: K) -> Lines<K>
         ensures sink { result.sink ≡ sink }
         ensures held { result.held.items ≡ [] }
         ensures well { result.failed ≡ false }

@@ -1,0 +1,6 @@
+mod AskLemmas
+mod RoundLemmas
+mod FillLemmas
+mod SumLemmas
+mod RunLemmas
+mod EndLemmas

@@ -1,0 +1,28 @@
+use Rattle.log_model.specs.Stored.{IsOutside}
+use Rattle.log_model.proofs.OutsideLemmas.{outside_then}
+use Rattle.exit_status.proofs.LogLemmas.{stays_rests}
+use Rattle.gen_run.proofs.FillLemmas.{opened_before}
+use Rattle.gen_run.proofs.RunLemmas.{counts_then}
+use Rattle.gen_run.proofs.opening.open_empty.Goals as goal
+
+pub returns-in-Err-clause-records : goal.returns-in-Err-clause-records
+returns-in-Err-clause-records g c = λ tells six. c.in-Err.ensures.rests tells
+
+pub returns-in-Err-clause-outside : goal.returns-in-Err-clause-outside
+returns-in-Err-clause-outside g c = λ tells. stays_rests IsOutside _ _ (c.in-Err.ensures.rests tells)
+
+pub returns-in-Err-open_unfilled-clause-cause : goal.returns-in-Err-open_unfilled-clause-cause
+returns-in-Err-open_unfilled-clause-cause g c = counts_then _ _ _ _ c.in-Ok.ensures.still c.in-Err-open_unfilled.ensures.cause
+
+pub returns-in-Err-open_unfilled-clause-records : goal.returns-in-Err-open_unfilled-clause-records
+returns-in-Err-open_unfilled-clause-records g c = λ tells six. absurd (c.in-Err-open_unfilled.ensures.others six)
+
+pub returns-in-Err-open_unfilled-clause-outside : goal.returns-in-Err-open_unfilled-clause-outside
+returns-in-Err-open_unfilled-clause-outside g c = λ tells. outside_then (stays_rests IsOutside _ _ (c.in-Ok.ensures.rests tells)) (c.in-Err-open_unfilled.ensures.outside tells)
+
+pub returns-in-Ok-open_unfilled-clause-opens : goal.returns-in-Ok-open_unfilled-clause-opens
+returns-in-Ok-open_unfilled-clause-opens g c =
+    opened_before _ c.args.segment c.in-Ok-open_unfilled.opened _ _ _ (λ tells. c.in-Ok.ensures.rests tells) c.in-Ok-open_unfilled.ensures.opens
+
+pub returns-in-Ok-open_unfilled-clause-outside : goal.returns-in-Ok-open_unfilled-clause-outside
+returns-in-Ok-open_unfilled-clause-outside g c = λ tells. outside_then (stays_rests IsOutside _ _ (c.in-Ok.ensures.rests tells)) (c.in-Ok-open_unfilled.ensures.outside tells)
