@@ -21,6 +21,7 @@ use crate::frame::{FORM_UNIT, FRAME_MAX, Form};
 use crate::front::FrameFront;
 use crate::header::Header;
 use crate::numbers::u32_at;
+use json::Scratch;
 use std::alloc::Global;
 
 #[tactic(auto, unfolding(crate::specs::Frames::with_header))]
@@ -31,6 +32,7 @@ fn past_form(
     len: u32,
     form: Form,
     header_len: u32,
+    scratch: &mut Option<Box<Scratch>>,
 ) -> Result<Option<FrameFront>, FrameFault>
     requires within { len ≤ 16777216 }
     requires header_within { header_len < 2 ^ 24 }
@@ -42,7 +44,8 @@ fn past_form(
     if bytes.len() < 8 + header_len as usize {
         return Ok(None);
     }
-    match Header::read(alloc, form, &bytes[8..8 + header_len as usize]) {
+    let header = &bytes[8..8 + header_len as usize];
+    match Header::read_with(alloc, form, header, scratch) {
         Ok(header) => Ok(Some(FrameFront {
             form,
             header,
@@ -60,14 +63,15 @@ fn past_word(
     bytes: &[u8],
     len: u32,
     word: u32,
+    scratch: &mut Option<Box<Scratch>>,
 ) -> Result<Option<FrameFront>, FrameFault>
     requires within { len ≤ 16777216 }
     ensures { Answers front_view result (with_word at bytes.now len word) }
 {
     let header_len = word % FORM_UNIT;
     match word / FORM_UNIT {
-        0 => past_form(alloc, at, bytes, len, Form::Json, header_len),
-        1 => past_form(alloc, at, bytes, len, Form::Binary, header_len),
+        0 => past_form(alloc, at, bytes, len, Form::Json, header_len, scratch),
+        1 => past_form(alloc, at, bytes, len, Form::Binary, header_len, scratch),
         _ => Err(FrameFault::BadForm(at)),
     }
 }
@@ -78,6 +82,7 @@ pub(crate) fn front_at(
     alloc: Global,
     at: u64,
     bytes: &[u8],
+    scratch: &mut Option<Box<Scratch>>,
 ) -> Result<Option<FrameFront>, FrameFault>
     ensures { Answers front_view result (first_of at bytes.now) }
 {
@@ -91,5 +96,5 @@ pub(crate) fn front_at(
     if bytes.len() < 8 {
         return Ok(None);
     }
-    past_word(alloc, at, bytes, len, u32_at(bytes, 4))
+    past_word(alloc, at, bytes, len, u32_at(bytes, 4), scratch)
 }

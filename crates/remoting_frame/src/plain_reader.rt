@@ -25,6 +25,9 @@ use json::{Reader, Scratch, Token};
 use mq_bytes::{Text, read_decimal};
 use std::alloc::Global;
 
+// A scratch has room for the longest text that it read, and is given back behind one of more bytes than this.
+const KEPT_ROOM: usize = 16384;
+
 // What the members so far say. Of a name that comes twice, but `extFields`, the last value counts.
 #[derive(Drop)]
 struct Found {
@@ -215,23 +218,60 @@ fn header_from(alloc: Global, found: Found) -> Option<Header>
     Some(header_with(code?, version, opaque?, flag, remark, ext))
 }
 
-/// The header that the bytes are in JSON form, where it is plain.
-pub(crate) fn read_plain(alloc: Global, bytes: &[u8]) -> Option<Header>
-    ensures { IfSome result (λ h. json_header bytes.now ≡ Some h) }
+// Only the first JSON header of a stream comes here, so no other pays for the room that 16 KiB take on the stack.
+#[cold]
+#[inline(never)]
+fn new_scratch(alloc: Global) -> Option<Box<Scratch>> {
+    Box::new(alloc, Scratch::new(alloc)).ok()
+}
+
+// The scratch that is kept, or none where no memory is had for it.
+fn lend(alloc: Global, kept: &mut Option<Box<Scratch>>) -> Option<&mut Scratch> {
+    if kept.is_none() {
+        *kept = new_scratch(alloc);
+    }
+    kept.as_deref_mut()
+}
+
+// The header that a text is, where it is plain.
+fn header_in(alloc: Global, text: &str, scratch: &mut Scratch) -> Option<Header>
+    ensures { IfSome result (λ h. json_header text.now ≡ Some h) }
 {
-    let Ok(text) = str::from_utf8(bytes) else {
-        return None;
-    };
-    let mut scratch = Scratch::new(alloc);
-    let Ok(mut reader) = Reader::new(text, &mut scratch) else {
+    let Ok(mut reader) = Reader::new(text, scratch) else {
         return None;
     };
     let Some(Token::BeginObject) = reader.next() else {
         return None;
     };
-    let found = members_from(alloc, &mut reader, bytes.len())?;
+    let found = members_from(alloc, &mut reader, text.len())?;
     if reader.next().is_some() {
         return None;
     }
     header_from(alloc, found)
+}
+
+/// The header that the bytes are in JSON form, where it is plain. The scratch is made where there is none, and is kept
+/// unless the text is long.
+pub(crate) fn read_plain(
+    alloc: Global,
+    bytes: &[u8],
+    kept: &mut Option<Box<Scratch>>,
+) -> Option<Header>
+    ensures { IfSome result (λ h. json_header bytes.now ≡ Some h) }
+{
+    // No bytes take no memory.
+    if bytes.is_empty() {
+        return None;
+    }
+    let Ok(text) = str::from_utf8(bytes) else {
+        return None;
+    };
+    let Some(scratch) = lend(alloc, kept) else {
+        return None;
+    };
+    let header = header_in(alloc, text, scratch);
+    if bytes.len() > KEPT_ROOM {
+        *kept = None;
+    }
+    header
 }
