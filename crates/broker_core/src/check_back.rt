@@ -23,7 +23,7 @@ use broker_events::{Checked, Said};
 use core_log::{Parts, size_of};
 use half_view::Check;
 use log_model::OriginState;
-use mq_bytes::{Rows, Text};
+use mq_bytes::Text;
 use record_codec::{Draft, Place, Record};
 use record_copies::{Whole, discard_draft, op_draft, renewal_draft};
 use reply_fields::Ask;
@@ -43,7 +43,7 @@ fn copy_of(alloc: Global, draft: &Draft) -> Result<Draft, AllocError>
         store_host: draft.store_host,
         reconsume: draft.reconsume,
         prepared: draft.prepared,
-        body: Rows::of(Vec::from_slice(alloc, draft.body.as_slice())?),
+        body: draft.body.copy(alloc)?,
         props: draft.props.copy(alloc)?,
     })
 }

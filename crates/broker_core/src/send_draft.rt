@@ -10,7 +10,7 @@ ghost use Rattle.broker_core.specs.Kinds.{HasLevel, draft_by, kind_of as kind_of
 
 use crate::send_rows::queue_named;
 use core_log::Kind;
-use mq_bytes::{Rows, Text, read_decimal};
+use mq_bytes::{Text, read_decimal};
 use record_codec::{Draft, PREPARED, Props, TRANSACTION_BITS};
 use request_fields::SendFields;
 use std::alloc::{AllocError, Global};
@@ -109,7 +109,7 @@ pub(crate) fn plain_draft(
         store_host,
         reconsume: send.reconsume,
         prepared: 0,
-        body: Rows::of(Vec::from_slice(alloc, send.body.as_slice())?),
+        body: send.body.copy(alloc)?,
         props: kept_props(alloc, send.props.as_str())?,
     })
 }

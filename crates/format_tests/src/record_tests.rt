@@ -3,8 +3,8 @@
 ghost use Rattle.std.specs.Prelude.{◌≡◌, codes, false, IfOk};
 ghost use Rattle.record_codec.specs.Props.{has_name};
 
-use mq_bytes::{Rows, Text};
-use record_codec::{Draft, DraftFault, Place, Props, View, encode, test, test_blank, unit_of};
+use mq_bytes::Text;
+use record_codec::{Body, Draft, DraftFault, Place, Props, View, encode, test, test_blank, unit_of};
 use std::alloc::{AllocError, Global};
 use std::test::Fail;
 
@@ -40,7 +40,7 @@ fn draft_of(alloc: Global, topic: &str, body: &[u8], props: Props) -> Result<Dra
         store_host: *b"\x7F\x00\x00\x01\x00\x00\x2A\x9F",
         reconsume: -2,
         prepared: 3,
-        body: Rows::of(Vec::from_slice(alloc, body)?),
+        body: Body::of(Vec::from_slice(alloc, body)?),
         props,
     })
 }
@@ -63,6 +63,17 @@ fn bytes_of(alloc: Global, topic: &str, body: &[u8], props: Props) -> Result<Vec
 }
 
 #[test]
+fn a_body_has_the_sum_of_its_bytes_and_so_has_its_copy(rt: HostRuntime) -> Result<(), Fail> {
+    let alloc = rt.alloc();
+    let body = Body::of(Vec::from_slice(alloc, b"hi")?);
+    let copy = body.copy(alloc)?;
+    assert!(rt; body.sum() == 0xD893_2AAC);
+    assert!(rt; copy.sum() == 0xD893_2AAC);
+    assert!(rt; copy.as_slice() == b"hi".as_slice());
+    Ok(())
+}
+
+#[test]
 fn the_documented_record_is_written(rt: HostRuntime) -> Result<(), Fail> {
     let alloc = rt.alloc();
     let draft = Draft {
@@ -75,7 +86,7 @@ fn the_documented_record_is_written(rt: HostRuntime) -> Result<(), Fail> {
         store_host: *b"\x7F\x00\x00\x01\x00\x00\x2A\x9F",
         reconsume: 0,
         prepared: 0,
-        body: Rows::of(Vec::from_slice(alloc, b"hi")?),
+        body: Body::of(Vec::from_slice(alloc, b"hi")?),
         props: Props::new(alloc),
     };
     let place = Place {

@@ -6,7 +6,8 @@ ghost use Rattle.gen_run.specs.Items.{time_of as time_at, props_of as props_text
 
 use crate::kinds::Kind;
 use itoa::Buffer;
-use mq_bytes::{Rows, Text, write_number};
+use mq_bytes::{Text, write_number};
+use record_codec::Body;
 use request_fields::{EndFields, PullFields, Request, SendFields};
 use std::alloc::{AllocError, Global};
 
@@ -36,12 +37,12 @@ fn props_of(alloc: Global, kind: Kind, item: u32) -> Result<Text, AllocError>
 }
 
 // The body of an item's message: its number.
-fn body_of(alloc: Global, item: u32) -> Result<Rows<u8>, AllocError>
+fn body_of(alloc: Global, item: u32) -> Result<Body, AllocError>
     ensures { IfOk result (λ body. body ≡ digits_of item) }
 {
     let mut body = Vec::new(alloc);
     write_number(u64::from(item), &mut body)?;
-    Ok(Rows::of(body))
+    Ok(Body::of(body))
 }
 
 /// The send of an item of this kind.

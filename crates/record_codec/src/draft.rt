@@ -1,9 +1,10 @@
 //! What a record says before it has a place, and the test that it can be written.
 
+use crate::body::Body;
 use crate::props::Props;
 use crate::sysflag::HOSTS_LONG;
 use crate::topic::{TOPIC_MAX, is_named};
-use mq_bytes::{Rows, Text};
+use mq_bytes::Text;
 
 /// What a record says, but for its place. Times are milliseconds, hosts are an IPv4 address and a port of four bytes each.
 #[derive(Drop)]
@@ -18,7 +19,7 @@ pub struct Draft {
     pub store_host: [u8; 8],
     pub reconsume: i32,
     pub prepared: u64,
-    pub body: Rows<u8>,
+    pub body: Body,
     pub props: Props,
 }
 

@@ -33,7 +33,6 @@ ghost use Rattle.record_codec.specs.Props.{written, AreProps};
 use crate::append::{put, put_byte, put_u16, put_u32, put_u64};
 use crate::draft::{Draft, Place};
 use crate::seal::put_seal;
-use mq_bytes::crc32;
 use std::alloc::AllocError;
 
 pub(crate) const MAGIC: u32 = 0xDAA3_20A7;
@@ -58,7 +57,7 @@ fn put_numbers(draft: &Draft, place: &Place, size: u32, out: &mut Vec<u8>)
     let body = draft.body.as_slice();
     put_u32(out, size);
     put_u32(out, MAGIC);
-    put_u32(out, crc32(body) % 0x8000_0000);
+    put_u32(out, draft.body.sum() % 0x8000_0000);
     put_u32(out, draft.queue);
     put_u32(out, draft.flag.cast_unsigned());
     put_u64(out, place.queue_offset);

@@ -3,6 +3,7 @@
 
 mod append;
 mod blank;
+mod body;
 mod draft;
 mod laws;
 mod layout;
@@ -18,6 +19,7 @@ mod unit;
 mod view;
 
 pub use blank::{BLANK_FRONT, blank_front, test_blank};
+pub use body::Body;
 pub use draft::{BODY_MAX, Draft, DraftFault, Place, Record, SEGMENT_MAX, SEGMENT_MIN};
 pub use laws::{last_properties_count, layouts_are_apart, layouts_read_back, records_write_back};
 pub use layout::encode;

@@ -7,11 +7,11 @@ ghost use Rattle.record_codec.specs.Layout.{layout as layout_of, size as size_of
 ghost use Rattle.record_codec.specs.Parsed.{parsed};
 ghost use Rattle.record_codec.specs.Props.{value_of};
 
+use crate::body::Body;
 use crate::draft::{Draft, Place, Record};
 use crate::lengths::{host_at, u32_at, u64_at};
 use crate::props::{Props, text_of};
 use crate::scan::value_in;
-use mq_bytes::Rows;
 use std::alloc::{AllocError, Global};
 use std::marker::Model;
 
@@ -193,7 +193,7 @@ impl<'a> View<'a> {
             store_host: self.store_host(),
             reconsume: self.reconsume(),
             prepared: self.prepared(),
-            body: Rows::of(Vec::from_slice(alloc, self.body())?),
+            body: Body::of(Vec::from_slice(alloc, self.body())?),
             props: self.props(alloc)?,
         })
     }

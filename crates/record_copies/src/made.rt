@@ -13,8 +13,8 @@ ghost use Rattle.log_model.specs.Drafts.{without_real as without_real_of, withou
 ghost use Rattle.log_model.specs.Drafts.{delivery_text as delivery_text_of};
 ghost use Rattle.log_model.specs.Queues.{said_by};
 
-use mq_bytes::{Rows, Text, read_decimal};
-use record_codec::{COMMITTED, Draft, Props, Record, TRANSACTION_BITS};
+use mq_bytes::{Text, read_decimal};
+use record_codec::{Body, COMMITTED, Draft, Props, Record, TRANSACTION_BITS};
 use std::alloc::{AllocError, Global};
 
 fn text(alloc: Global, text: &str) -> Result<Text, AllocError>
@@ -123,7 +123,7 @@ pub fn op_draft(alloc: Global, host: [u8; 8], now: u64, origin: u64) -> Result<D
         store_host: host,
         reconsume: 0,
         prepared: 0,
-        body: Rows::of(number(alloc, origin)?.into_bytes()),
+        body: Body::of(number(alloc, origin)?.into_bytes()),
         props: op_props(alloc)?,
     })
 }

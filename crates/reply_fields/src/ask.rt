@@ -23,7 +23,7 @@ ghost use Rattle.remoting_frame.specs.declared.frame.Form.TheVariants.{Json};
 ghost use Rattle.reply_fields.specs.Asks.{text_or, real_topic as real_topic_of, real_queue as real_queue_of, real_draft};
 ghost use Rattle.reply_fields.specs.Asks.{offset_id as offset_id_of, ask_fields, ask_head, ask_bytes, IsAsked};
 
-use mq_bytes::{Rows, Text, message_id, read_decimal};
+use mq_bytes::{Text, message_id, read_decimal};
 use record_codec::{Draft, Props, Record, SEGMENT_MAX, encode};
 use remoting_frame::{Fields, Form, Header};
 use std::alloc::{AllocError, Global};
@@ -99,7 +99,7 @@ fn message_of(alloc: Global, view: &Record) -> Result<Draft, AllocError>
         store_host: half.store_host,
         reconsume: half.reconsume,
         prepared: half.prepared,
-        body: Rows::of(Vec::from_slice(alloc, half.body.as_slice())?),
+        body: half.body.copy(alloc)?,
         props: half.props.copy(alloc)?,
     })
 }

@@ -31,6 +31,7 @@ use crate::request::Request;
 use crate::send_fields::SendFields;
 use crate::send_names::SendNames;
 use mq_bytes::Rows;
+use record_codec::Body;
 use remoting_frame::Header;
 use std::alloc::Global;
 
@@ -100,6 +101,6 @@ pub(crate) fn send(
         default_queues: numbers.default_queues,
         props,
         reconsume: numbers.reconsume,
-        body,
+        body: Body::of(body.into_vec()),
     }))
 }

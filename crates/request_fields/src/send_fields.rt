@@ -1,6 +1,7 @@
 //! What a SEND says.
 
-use mq_bytes::{Rows, Text};
+use mq_bytes::Text;
+use record_codec::Body;
 use std::marker::Model;
 
 /// A message, as its producer sends it. `queue` is any number of 32 signed bits, `born` is in milliseconds. `props` are
@@ -20,7 +21,7 @@ pub struct SendFields {
     pub default_queues: i32,
     pub props: Text,
     pub reconsume: i32,
-    pub body: Rows<u8>,
+    pub body: Body,
 }
 
 impl Model for SendFields {

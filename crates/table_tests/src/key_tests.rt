@@ -1,8 +1,8 @@
 //! Queries of a table as the broker keeps it, beside answers that were worked out by hand.
 
 use key_view::{KeyView, RecordKeys, key_hash};
-use mq_bytes::{Rows, Text};
-use record_codec::{Draft, Props, test as test_record};
+use mq_bytes::Text;
+use record_codec::{Body, Draft, Props, test as test_record};
 use std::alloc::Global;
 use std::test::Fail;
 
@@ -129,7 +129,7 @@ fn draft_with_keys(alloc: Global, count: u32) -> Result<Draft, Fail> {
         store_host: [127, 0, 0, 1, 0, 0, 42, 159],
         reconsume: 0,
         prepared: 0,
-        body: Rows::of(Vec::new(alloc)),
+        body: Body::of(Vec::new(alloc)),
         props: Props::read(alloc, text.as_str())?,
     })
 }

@@ -2,9 +2,9 @@
 
 ghost use Rattle.std.specs.Prelude.{◌≡◌, [], codes, IfOk};
 
-use mq_bytes::{Rows as Bytes, Text};
+use mq_bytes::Text;
 use pending_log::{Pending, Row, Rows};
-use record_codec::{Draft, Place, Props, SEGMENT_MAX};
+use record_codec::{Body, Draft, Place, Props, SEGMENT_MAX};
 use std::alloc::{AllocError, Global};
 use std::test::Fail;
 
@@ -23,7 +23,7 @@ fn draft_of(alloc: Global, body: usize) -> Result<Draft, AllocError>
         store_host: *b"\x7F\x00\x00\x01\x00\x00\x2A\x9F",
         reconsume: 0,
         prepared: 0,
-        body: Bytes::of(vec![in alloc; b'x'; body]?),
+        body: Body::of(vec![in alloc; b'x'; body]?),
         props: Props::new(alloc),
     })
 }

@@ -13,11 +13,11 @@ returns-clause-items c =
     c.put_u32.ensures.items c.put_u32-2.ensures.items c.put_u32-3.ensures.items c.put_u32-4.ensures.items c.put_u32-5.ensures.items
     c.put_u64.ensures.items c.put_u64-2.ensures.items c.put_u32-6.ensures.items c.put_u64-3.ensures.items c.put_u64-4.ensures.items
     c.put_u64-5.ensures.items c.put_u64-6.ensures.items c.put_u32-7.ensures.items c.put_u64-7.ensures.items c.put_u32-8.ensures.items in
-    let crc : c.crc32.result % 2147483648 ≡ body_crc c.args.draft.now.body = ap (λ (n : ℕ). n % 2147483648) c.crc32.ensures ∙ ap body_crc c.as_slice-body.ensures in
+    let crc : c.sum.result % 2147483648 ≡ body_crc c.args.draft.now.body = ap (λ (n : ℕ). n % 2147483648) c.sum.ensures in
     let d = c.args.draft.now in
     let p = c.args.place.now in
     let len : length c.as_slice-body.result.now ≡ length d.body = ap (λ (w : List ℕ). length w) c.as_slice-body.ensures in
-    let ns : List ℕ = c.args.size ∷ magic ∷ c.crc32.result % 2147483648 ∷ d.queue ∷ c.cast_unsigned.result ∷ p.queue_offset ∷ p.offset ∷ d.sysflag ∷ d.born ∷ c.host_number.result ∷ p.store
+    let ns : List ℕ = c.args.size ∷ magic ∷ c.sum.result % 2147483648 ∷ d.queue ∷ c.cast_unsigned.result ∷ p.queue_offset ∷ p.offset ∷ d.sysflag ∷ d.born ∷ c.host_number.result ∷ p.store
     ∷ c.host_number-2.result ∷ c.cast_unsigned-2.result ∷ d.prepared ∷ length c.as_slice-body.result.now ∷ [] in
     let e1 : c.args.size ≡ size (entry_of d p) = c.requires.size in
     let e3 : c.cast_unsigned.result ≡ cast_unsigned w32 d.flag = c.cast_unsigned.ensures ∙ ap (cast_unsigned w32) (to_z-of_z {w = w32} {z = d.flag} (search rules)) in

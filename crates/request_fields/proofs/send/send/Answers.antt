@@ -1,4 +1,4 @@
-use Rattle.std.proofs.Common.{rules}
+use Rattle.std.proofs.Common.{◌∙◌, rules}
 use Rattle.request_fields.specs.Rows.{send_row}
 use Rattle.request_fields.specs.Reading.{send_said, send_numbers}
 use Rattle.request_fields.proofs.Later.{told_first, told_later, told_none, none_of_both, handed_on}
@@ -28,5 +28,5 @@ pub returns : goal.returns
 unfolding send_row send_said send_numbers
 returns c = (
   none_of_both _ _ c.in_ok-group.ensures.value.0 (none_of_both _ _ c.in_ok-topic.ensures.value.0 c.in_ok-numbers.ensures.value.0),
-  search (rules, c.in_ok-group.ensures.value.1, c.in_ok-topic.ensures.value.1, c.in_ok-numbers.ensures.value.1, c.in_ok-default_topic.ensures.1, c.in_ok-props.ensures.1) depth 20,
+  search (rules, c.in_ok-group.ensures.value.1, c.in_ok-topic.ensures.value.1, c.in_ok-numbers.ensures.value.1, c.in_ok-default_topic.ensures.1, c.in_ok-props.ensures.1, c.of.ensures ∙ c.into_vec.ensures) depth 20,
 )
