@@ -19,3 +19,5 @@ pub mod ScanLemmas
 pub mod WrittenLemmas
 pub mod Seals
 pub mod MarkLemmas
+pub mod JoinLemmas
+pub mod ShiftLemmas

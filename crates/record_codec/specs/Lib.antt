@@ -11,3 +11,4 @@ pub mod Blanks
 pub mod Fronts
 pub mod Units
 pub mod Marks
+pub mod Join
