@@ -1,13 +1,13 @@
 -- Checksums are polynomials: a shift multiplies them.
 use Rattle.std.proofs.Common.{◌≡◌, lit<, ℕ, zero, suc, ◌+◌, ◌*◌, ◌/◌, ◌%◌, ◌^◌, ◌<◌, ◌≤◌, ◌-◌, cond, eqb, Bool, true, false, List, [], ◌∷◌, ◌++◌, length, get_or, refl, sym, subst, ap, ◌∙◌, arith}
 use Rattle.std.specs.Prelude.{bit_xor, bit_and}
-use Rattle.std.specs.Int.Bits.{xor_assoc, xor_self, xor_zero_l, xor_zero_r, xor_add_and}
+use Rattle.std.specs.Int.Bits.{xor_assoc, xor_zero_r, xor_add_and}
 use Rattle.std.proofs.lemmas.Nat.{xor_comm, xor_lt, xor_block, and_mask, mod_below, mod-pow-add, pow-add, pow_pos}
 use Rattle.std.proofs.Math.Nat.{pow-suc, mul-le-mul_right}
 use Rattle.mq_bytes.specs.Bytes.{AreBytes}
-use Rattle.mq_bytes.specs.Crc.{polynomial, bit_out, bits, crc_from, turned, crc_of}
+use Rattle.mq_bytes.specs.Crc.{bit_out, bits, crc_from, turned, crc_of}
 use Rattle.mq_bytes.specs.Tables.{after}
-use Rattle.mq_bytes.proofs.CrcLemmas.{cross, bits-xor, crc_from-append}
+use Rattle.mq_bytes.proofs.CrcLemmas.{bits-xor, crc_from-append}
 use Rattle.mq_bytes.proofs.CrcLaws.{crc_from-below}
 use Rattle.record_codec.specs.Join.{shift_of}
 

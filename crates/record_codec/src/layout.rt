@@ -120,6 +120,6 @@ pub fn encode(draft: &Draft, place: &Place, out: &mut Vec<u8>) -> Result<(), All
     out.reserve(size as usize)?;
     let start = out.len();
     put_front(draft, place, size, out);
-    put_seal(out, start);
+    put_seal(out, start, &draft.body);
     Ok(())
 }

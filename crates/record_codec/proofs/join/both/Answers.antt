@@ -1,6 +1,5 @@
-use Rattle.std.proofs.Common.{◌≡◌, ℕ, ◌+◌, sym, ap, ◌∙◌, arith}
+use Rattle.std.proofs.Common.{sym, ap, ◌∙◌}
 use Rattle.mq_bytes.specs.Tables.{after}
-use Rattle.record_codec.specs.Join.{shift_of}
 use Rattle.record_codec.proofs.JoinLemmas.{shift_of-add}
 use Rattle.record_codec.proofs.join.both.Goals as goal
 
