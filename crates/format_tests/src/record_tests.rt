@@ -4,7 +4,10 @@ ghost use Rattle.std.specs.Prelude.{◌≡◌, codes, false, IfOk};
 ghost use Rattle.record_codec.specs.Props.{has_name};
 
 use mq_bytes::Text;
-use record_codec::{Body, Draft, DraftFault, Place, Props, View, encode, test, test_blank, unit_of};
+use record_codec::{
+    Body, Draft, DraftFault, Place, Props, View, crc32_join, encode, shift_over, test, test_blank,
+    unit_of,
+};
 use std::alloc::{AllocError, Global};
 use std::test::Fail;
 
@@ -258,4 +261,24 @@ fn a_blank_is_known_by_its_magic(rt: HostRuntime) {
     assert!(rt; test_blank(b"\x00\x00\x03\x96\xCB\xD4\x31\x94\xFF") == Some(918));
     assert!(rt; test_blank(b"\x00\x00\x00\x08\xCB\xD4\x31") == None);
     assert!(rt; test_blank(HI) == None);
+}
+
+#[test]
+fn sums_join_as_zlib_has_them(rt: HostRuntime) {
+    let digits = 0xCBF4_3926;
+    // so many `a`, their sum, and that of `123456789` before them, all by zlib
+    let cases = [
+        (0, 0, 0xCBF4_3926),
+        (1, 0xE8B7_BE43, 0x3A71_CF87),
+        (64, 0x89B4_6555, 0x57E6_1B38),
+        (1000, 0x9A38_DA03, 0x87BB_D685),
+        (99_999, 0xEC35_8C12, 0x9FA2_F45A),
+        (4_194_304, 0x48FA_5577, 0xB5F0_A3E7),
+    ];
+    for (len, letters, both) in cases {
+        assert!(rt;
+            crc32_join(digits, letters, shift_over(len)) == both,
+            "{len}"
+        );
+    }
 }
