@@ -1,7 +1,7 @@
 -- Checksums are polynomials: a shift multiplies them.
 use Rattle.std.proofs.Common.{◌≡◌, lit<, ℕ, zero, suc, ◌+◌, ◌*◌, ◌/◌, ◌%◌, ◌^◌, ◌<◌, ◌≤◌, ◌-◌, cond, eqb, Bool, true, false, List, [], ◌∷◌, ◌++◌, length, get_or, refl, sym, subst, ap, ◌∙◌, arith}
 use Rattle.std.specs.Prelude.{bit_xor, bit_and}
-use Rattle.std.specs.Int.Bits.{xor_assoc, xor_zero_r, xor_add_and}
+use Rattle.std.specs.Int.Bits.{xor_assoc, xor_zero_l, xor_zero_r, xor_add_and}
 use Rattle.std.proofs.lemmas.Nat.{xor_comm, xor_lt, xor_block, and_mask, mod_below, mod-pow-add, pow-add, pow_pos}
 use Rattle.std.proofs.Math.Nat.{pow-suc, mul-le-mul_right}
 use Rattle.mq_bytes.specs.Bytes.{AreBytes}
@@ -60,26 +60,59 @@ unfoldable pub product : ℕ → ℕ → ℕ → ℕ
 product zero r q = 0
 product (suc k) r q = bit_xor (bit_out (product k r q)) (term k r q)
 
-pub product-none : (r q : ℕ) → product 0 r q ≡ 0
+product-none : (r q : ℕ) → product 0 r q ≡ 0
 unfolding product
 product-none r q = refl
 
-product-suc : (k r q : ℕ) → product (suc k) r q ≡ bit_xor (bit_out (product k r q)) (term k r q)
-unfolding product
-product-suc k r q = refl
+bits-zero : (k : ℕ) → bits k 0 ≡ 0
+unfolding bits
+bits-zero zero = refl
+bits-zero (suc k) = bits-zero k
 
-pub product-more : (k r q : ℕ) → product (k + 1) r q ≡ bit_xor (bit_out (product k r q)) (term k r q)
-product-more k r q =
+-- ---- the same product from the highest bit of r on
+
+-- a sum of terms, beside what the lowest n bits of r are still to add
+abbrev pub with_rest : ℕ → ℕ → ℕ → ℕ → ℕ → ℕ
+with_rest sum k n r q = bit_xor sum (bits k (product n r q))
+
+pub with_rest-first : (n r q : ℕ) → with_rest 0 0 n r q ≡ product n r q
+unfolding bits
+with_rest-first n r q = xor_zero_l (product n r q)
+
+pub with_rest-last : (sum k r q : ℕ) → with_rest sum k 0 r q ≡ sum
+with_rest-last sum k r q = ap (λ (x : ℕ). bit_xor sum (bits k x)) (product-none r q) ∙ ap (bit_xor sum) (bits-zero k) ∙ xor_zero_r sum
+
+bits-product : (k n r q : ℕ) → bits k (product (suc n) r q) ≡ bit_xor (bits k (term n r q)) (bits (suc k) (product n r q))
+unfolding product bits
+bits-product k n r q = bits-xor k (bit_out (product n r q)) (term n r q) ∙ xor_comm (bits k (bit_out (product n r q))) (bits k (term n r q))
+
+with_rest-suc : (sum k n r q : ℕ) → with_rest sum k (suc n) r q ≡ with_rest (bit_xor sum (bits k (term n r q))) (suc k) n r q
+with_rest-suc sum k n r q =
+    ap (bit_xor sum) (bits-product k n r q) ∙ sym (xor_assoc sum (bits k (term n r q)) (bits (suc k) (product n r q)))
+
+-- the next term goes in
+pub with_rest-on : (sum k n r q : ℕ) → k < n → with_rest sum k (n - k) r q ≡ with_rest (bit_xor sum (bits k (term (n - 1 - k) r q))) (k + 1) (n - (k + 1)) r q
+with_rest-on sum k n r q lt =
+    let here : n - k ≡ suc (n - 1 - k) = omega (arith, lt) in
+    let after_it : k + 1 ≡ suc k = omega arith in
+    let left : n - (k + 1) ≡ n - 1 - k = omega (arith, lt) in
+    let went = bit_xor sum (bits k (term (n - 1 - k) r q)) in
+    ap (λ (m : ℕ). with_rest sum k m r q) here ∙ with_rest-suc sum k (n - 1 - k) r q
+    ∙ sym (ap (λ (j : ℕ). with_rest went j (n - (k + 1)) r q) after_it ∙ ap (λ (m : ℕ). with_rest went (suc k) m r q) left)
+
+pub bits-on : (k q : ℕ) → bits (k + 1) q ≡ bit_out (bits k q)
+unfolding bits
+bits-on k q =
     let e : k + 1 ≡ suc k = omega arith in
-    ap (λ (n : ℕ). product n r q) e ∙ product-suc k r q
+    ap (λ (j : ℕ). bits j q) e ∙ bits-out k q
 
-pub term-even : (k r q : ℕ) → r / 2 ^ k % 2 ≡ 0 → term k r q ≡ 0
-term-even k r q even = ap (λ (b : ℕ). cond (eqb b 0) 0 q) even
+pub term-even : (j k r q : ℕ) → r / 2 ^ k % 2 ≡ 0 → bits j (term k r q) ≡ 0
+term-even j k r q even = ap (λ (b : ℕ). bits j (cond (eqb b 0) 0 q)) even ∙ bits-zero j
 
-pub term-odd : (k r q : ℕ) → (r / 2 ^ k % 2 ≡ 0 → ⊥) → term k r q ≡ q
-term-odd k r q odd =
+pub term-odd : (j k r q : ℕ) → (r / 2 ^ k % 2 ≡ 0 → ⊥) → bits j (term k r q) ≡ bits j q
+term-odd j k r q odd =
     let one : r / 2 ^ k % 2 ≡ 1 = omega (arith, odd) in
-    ap (λ (b : ℕ). cond (eqb b 0) 0 q) one
+    ap (λ (b : ℕ). bits j (cond (eqb b 0) 0 q)) one
 
 after-term : (n : ℕ) (b : Bool) (q : ℕ) → cond b 0 (after n q) ≡ after n (cond b 0 q)
 after-term n true q = sym (after-zero n)

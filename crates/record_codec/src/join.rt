@@ -45,14 +45,21 @@ fn step(register: u32) -> u32
     }
 }
 
-// The register as many bytes of 0 on as the shift says.
+// The register as many bytes of 0 on as the shift says: for each power of x that the register has, `moved` is the shift times
+// that power. No step waits for the sum.
 fn times(register: u32, shift: u32) -> u32
     ensures { (n : ℕ) → shift ≡ shift_of n → result ≡ after n register }
 {
     let mut sum = 0;
-    for bit in 0..32_u32 {
-        let term = if (register >> bit) % 2 == 0 { 0 } else { shift };
-        sum = step(sum) ^ term;
+    let mut moved = shift;
+    for power in 0..32_u32 {
+        let term = if (register >> (31 - power)) % 2 == 0 {
+            0
+        } else {
+            moved
+        };
+        sum ^= term;
+        moved = step(moved);
     }
     sum
 }

@@ -1,4 +1,4 @@
-use Rattle.std.proofs.Common.{◌≡◌, ℕ, ap, ◌∙◌, length}
+use Rattle.std.proofs.Common.{ℕ, ap, ◌∙◌, length}
 use Rattle.std.specs.Prelude.{bit_xor}
 use Rattle.mq_bytes.specs.Crc.{crc_of}
 use Rattle.mq_bytes.specs.Tables.{after}
