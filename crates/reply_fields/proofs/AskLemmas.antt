@@ -44,7 +44,7 @@ length-value name other [] = omega arith
 length-value name other (p ∷ props) =
     omega (arith, one_of (bytes_eq name p.0) p.1 other (value_of name props) (length (pair_text p)) (length (written props)) (length-pair p) (length-value name other props), length-append (pair_text p) (written props))
 
-length-id : (host : List ℕ) (place : ℕ) → length host ≡ 8 → length (message_id_of host place) ≡ 32
+pub length-id : (host : List ℕ) (place : ℕ) → length host ≡ 8 → length (message_id_of host place) ≡ 32
 unfolding message_id_of
 length-id host place eight = omega (arith, eight, length-hex_of (host ++ to_be_bytes w64 place), length-append host (to_be_bytes w64 place))
 

@@ -1,4 +1,5 @@
 pub mod BodyLemmas
 pub mod ReplyLemmas
 pub mod AskLemmas
+pub mod SentLemmas
 pub mod GrantedLemmas

@@ -2,6 +2,7 @@ pub mod Ranges
 pub mod Slices
 pub mod Stretches
 pub mod Parts
+pub mod Sent
 pub mod Replies
 pub mod Refusals
 pub mod Asks

@@ -4,12 +4,14 @@
 
 mod ask;
 mod body;
+mod ext;
 mod granted;
 mod refusals;
 mod reply;
 mod slice;
 
 pub use ask::Ask;
+pub use ext::{Ext, Sent};
 pub use granted::granted_body;
 pub use reply::Reply;
 pub use slice::{Slice, StoredRange};

@@ -1,6 +1,6 @@
 //! A reply: what a client is told of its request, and how it is written.
 
-ghost use Rattle.std.specs.Prelude.{◌≡◌, ◌+◌, ◌<◌, ◌≤◌, ◌^◌, ◌++◌, length, FitsSigned, OnOk, OnErr, IfOk, Some};
+ghost use Rattle.std.specs.Prelude.{◌≡◌, ◌+◌, ◌<◌, ◌≤◌, ◌^◌, ◌++◌, [], length, pos, FitsSigned, OnOk, OnErr, IfOk, Some};
 ghost use Rattle.std.specs.Int.{w16};
 ghost use Rattle.mq_outside.specs.Counts.{CountsDiskFault};
 ghost use Rattle.remoting_frame.specs.BinaryText.{Has16Bits};
@@ -8,14 +8,16 @@ ghost use Rattle.remoting_frame.specs.Head.{pairs_size};
 ghost use Rattle.remoting_frame.specs.Headers.{header_in, header_text, front_bytes};
 ghost use Rattle.reply_fields.specs.Parts.{ReplyParts, plain as plain_of};
 ghost use Rattle.reply_fields.specs.Ranges.{RisesAtMost, AreAsked};
+ghost use Rattle.reply_fields.specs.Sent.{fields_of_sent};
 ghost use Rattle.reply_fields.specs.Replies.{reply_head, AppendsReply};
 ghost use Rattle.reply_fields.specs.Slices.{body_len, kept_count, AppendsBody};
 
 use crate::body::{size_of, write_body};
+use crate::ext::{Ext, Sent};
 use crate::slice::Slice;
 use mq_bytes::{Rows, Text};
 use mq_outside::{DiskFault, Reader};
-use remoting_frame::{Fields, Form, Header};
+use remoting_frame::{Form, Header};
 use std::alloc::{AllocError, Global};
 use std::marker::Model;
 
@@ -26,7 +28,7 @@ use std::marker::Model;
 pub struct Reply {
     pub code: i32,
     pub remark: Text,
-    pub ext: Fields,
+    pub ext: Ext,
     pub body: Rows<Slice>,
 }
 
@@ -111,9 +113,21 @@ impl Reply {
         Ok(Reply {
             code,
             remark: Text::of(String::from_str(alloc, remark)?),
-            ext: Fields::new(alloc),
+            ext: Ext::none(alloc),
             body: Rows::of(Vec::new(alloc)),
         })
+    }
+
+    /// The reply to a send whose record stands there. It takes no memory.
+    pub fn sent(alloc: Global, sent: Sent) -> Reply
+        ensures { result ≡ record { code = pos 0; remark = []; ext = fields_of_sent sent; body = [] } }
+    {
+        Reply {
+            code: 0,
+            remark: Text::of(String::new(alloc)),
+            ext: Ext::sent(sent),
+            body: Rows::of(Vec::new(alloc)),
+        }
     }
 
     /// Appends the frame of this reply to the request with this opaque. Ranges that adjoin in one piece are read by one
@@ -139,6 +153,9 @@ impl Reply {
             ext,
             body,
         } = self;
+        let Ok(ext) = ext.into_fields(alloc) else {
+            return Err(DiskFault::Memory);
+        };
         let header = Header {
             code,
             version: 0,
