@@ -25,7 +25,6 @@ pub mod RoomSteps
 pub mod SaidLemmas
 pub mod SendDraftLemmas
 pub mod SendLemmas
-pub mod SentLemmas
 pub mod ShownLemmas
 pub mod StateLemmasReads
 pub mod StepLemmas

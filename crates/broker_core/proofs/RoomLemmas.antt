@@ -32,7 +32,8 @@ use Rattle.broker_core.specs.SendRows.{refusal_by, refused}
 use Rattle.core_log.specs.Represents.{Represents}
 use Rattle.broker_core.specs.Asked.{CarriesRequest}
 use Rattle.core_log.specs.Stands.{IsStorable}
-use Rattle.broker_core.specs.Stores.{IsStored, IsSent, sent_fields, stored_reply, stored_state, sent_reply, sent_state}
+use Rattle.reply_fields.specs.Sent.{sent_fields}
+use Rattle.broker_core.specs.Stores.{IsStored, IsSent, stored_reply, stored_state, sent_reply, sent_state}
 use Rattle.core_log.specs.Rooms.{is_past, is_over}
 use Rattle.broker_core.proofs.AnswerLemmas.{is_plain_reply, carries_refused}
 use Rattle.broker_core.proofs.EventLemmas.{log_end_answer, full_answer, stored_says, stored_after}

@@ -1,10 +1,9 @@
 -- A message that is stored, and the reply to its send.
 use Rattle.std.specs.Prelude.{◌≡◌, ℕ, ◌<◌, ◌≤◌, List, [], ◌∷◌, codes, true, false, Option, if◌then◌else◌}
-use Rattle.mq_bytes.specs.Decimal.{digits_of}
-use Rattle.mq_bytes.specs.Ids.{message_id_of}
 use Rattle.record_codec.specs.Entry.{Entry}
 use Rattle.record_codec.specs.Layout.{is_legal}
 use Rattle.record_codec.specs.declared.draft.Draft.{Draft}
+use Rattle.reply_fields.specs.Sent.{sent_fields}
 use Rattle.log_model.specs.Admissible.{is_system_topic}
 use Rattle.log_model.specs.Numbered.{next_record}
 use Rattle.client_tables.specs.declared.topics.Topics.{Topics}
@@ -20,11 +19,6 @@ use Rattle.broker_events.specs.Steps.{Says}
 use Rattle.core_log.specs.declared.parts.Parts.{Parts}
 use Rattle.core_log.specs.Represents.{Represents}
 use Rattle.core_log.specs.Rooms.{is_past, is_over}
-
--- the fields that tell where a record stands
-abbrev pub sent_fields : List ℕ → ℕ → ℕ → ℕ → List (List ℕ × List ℕ)
-sent_fields host place queue queue_offset =
-    (codes "msgId", message_id_of host place) ∷ (codes "queueId", digits_of queue) ∷ (codes "queueOffset", digits_of queue_offset) ∷ []
 
 -- A message may be for this topic, which has so many queues where it is known and is made with this number where it isn't.
 pub record IsTarget (topics : Topics) (topic : List ℕ) (known : Option ℕ) (made : ℕ) : Type 0 where

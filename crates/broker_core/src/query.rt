@@ -29,7 +29,7 @@ use mq_bytes::{Rows, Text};
 use pending_log::Row;
 use record_codec::Unit;
 use remoting_frame::Fields;
-use reply_fields::{Reply, Slice};
+use reply_fields::{Ext, Reply, Slice};
 use request_fields::QueryFields;
 use std::alloc::{AllocError, Global};
 
@@ -86,7 +86,7 @@ pub(crate) fn found(alloc: Global, fields: Fields, slices: Vec<Slice>) -> Result
     Ok(Reply {
         code: 0,
         remark: Text::of(String::new(alloc)),
-        ext: fields,
+        ext: Ext::of(fields),
         body: Rows::of(slices),
     })
 }

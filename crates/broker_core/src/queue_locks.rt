@@ -14,8 +14,7 @@ use broker_events::Said;
 use bytes::Bytes;
 use core_log::Parts;
 use mq_bytes::{Rows, Text};
-use remoting_frame::Fields;
-use reply_fields::{Reply, Slice, granted_body};
+use reply_fields::{Ext, Reply, Slice, granted_body};
 use request_fields::{LockFields, QueueName};
 use std::alloc::{AllocError, Global};
 
@@ -41,7 +40,7 @@ fn lock_reply(alloc: Global, granted: &[QueueName]) -> Result<Reply, AllocError>
     Ok(Reply {
         code: 0,
         remark: Text::of(String::new(alloc)),
-        ext: Fields::new(alloc),
+        ext: Ext::none(alloc),
         body: lock_slices(alloc, granted)?,
     })
 }

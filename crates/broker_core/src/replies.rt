@@ -34,7 +34,7 @@ use broker_events::Said;
 use mq_bytes::{Rows, Text};
 use queue_view::Pulled;
 use remoting_frame::Fields;
-use reply_fields::{Reply, Slice};
+use reply_fields::{Ext, Reply, Slice};
 use std::alloc::{AllocError, Global};
 
 /// Why a request that reads is refused.
@@ -85,7 +85,7 @@ pub(crate) fn offset_reply(alloc: Global, offset: u64) -> Result<Reply, AllocErr
     Ok(Reply {
         code: 0,
         remark: Text::of(String::new(alloc)),
-        ext: offset_fields(alloc, offset)?,
+        ext: Ext::of(offset_fields(alloc, offset)?),
         body: Rows::of(Vec::new(alloc)),
     })
 }
@@ -136,7 +136,7 @@ pub(crate) fn pull_reply(
     Ok(Reply {
         code: pulled.code,
         remark: Text::of(String::new(alloc)),
-        ext: pull_fields(alloc, pulled.max, pulled.min, pulled.next)?,
+        ext: Ext::of(pull_fields(alloc, pulled.max, pulled.min, pulled.next)?),
         body: Rows::of(slices),
     })
 }

@@ -2,7 +2,7 @@
 
 ghost use Rattle.std.specs.Prelude.{◌≡◌, ◌<◌, ◌≤◌, ◌+◌, ◌^◌, ◌∷◌, [], length, max, pos, Some, IfOk, OnOk, OnErr, unwrap_or};
 ghost use Rattle.record_codec.specs.Drafts.{draft_size, entry_of, IsEncodable};
-ghost use Rattle.remoting_frame.specs.Head.{IsInOrder, pairs_size};
+ghost use Rattle.reply_fields.specs.Sent.{sent_fields};
 ghost use Rattle.log_model.specs.Log.{place_after};
 ghost use Rattle.queue_view.specs.Tables.{number_of};
 ghost use Rattle.broker_model.specs.State.{State};
@@ -15,15 +15,13 @@ ghost use Rattle.core_log.specs.Carries.{Stays, RepresentsSome};
 ghost use Rattle.core_log.specs.Represents.{Represents};
 ghost use Rattle.core_log.specs.Appends.{HasRoomFor, MayStand};
 ghost use Rattle.core_log.specs.Stands.{IsKeptAs, IsStorable};
-ghost use Rattle.broker_core.specs.Stores.{IsStored, IsTarget, sent_fields as sent_fields_of};
+ghost use Rattle.broker_core.specs.Stores.{IsStored, IsTarget};
 
 use crate::send_draft::waits;
 use broker_events::Said;
 use core_log::{Kind, Parts};
-use mq_bytes::{Rows, Text, message_id};
 use record_codec::{Draft, Place};
-use remoting_frame::Fields;
-use reply_fields::Reply;
+use reply_fields::{Reply, Sent};
 use std::alloc::{AllocError, Global};
 
 /// Where a message belongs, and how it is kept.
@@ -39,49 +37,17 @@ pub(crate) struct Target<'a> {
     pub(crate) kind: Kind,
 }
 
-// Room for the names and values of the fields that tell where a record stands.
-const SENT_ROOM: usize = 96;
-
-// Appends to no fields those that tell where a record stands.
-fn fill_sent(
-    alloc: Global,
-    host: [u8; 8],
-    place: Place,
-    queue: u32,
-    fields: &mut Fields,
-) -> Result<(), AllocError>
-    requires { fields.old ≡ [] }
-    ensures { OnOk result (fields.new ≡ sent_fields_of host place.offset queue place.queue_offset) }
-{
-    let id = message_id(alloc, host, place.offset)?;
-    fields.push("msgId", id.as_str())?;
-    fields.push_number("queueId", u64::from(queue))?;
-    fields.push_number("queueOffset", place.queue_offset)?;
-    Ok(())
-}
-
-// The fields that tell where a record stands.
-fn sent_fields(alloc: Global, host: [u8; 8], place: Place, queue: u32) -> Result<Fields, AllocError>
-    ensures fields { IfOk result (λ fields. fields ≡ sent_fields_of host place.offset queue place.queue_offset) }
-    ensures ordered { IfOk result IsInOrder }
-    ensures short { IfOk result (λ fields. pairs_size fields ≤ 200) }
-{
-    let mut fields = Fields::with_room(alloc, 3, SENT_ROOM)?;
-    fill_sent(alloc, host, place, queue, &mut fields)?;
-    Ok(fields)
-}
-
 // The reply to a send whose record stands there.
-fn sent(alloc: Global, host: [u8; 8], place: Place, queue: u32) -> Result<Reply, AllocError>
-    ensures { IfOk result (λ reply. reply
-        ≡ record { code = pos 0; remark = []; ext = sent_fields_of host place.offset queue place.queue_offset; body = [] }) }
+fn sent(alloc: Global, host: [u8; 8], place: Place, queue: u32) -> Reply
+    ensures { result ≡ record { code = pos 0; remark = []; ext = sent_fields host place.offset queue place.queue_offset; body = [] } }
 {
-    Ok(Reply {
-        code: 0,
-        remark: Text::of(String::new(alloc)),
-        ext: sent_fields(alloc, host, place, queue)?,
-        body: Rows::of(Vec::new(alloc)),
-    })
+    let sent = Sent {
+        host,
+        place: place.offset,
+        queue,
+        queue_offset: place.queue_offset,
+    };
+    Reply::sent(alloc, sent)
 }
 
 /// The answer to a request that appends so many records: at once, or once the last of them is on the disk.
@@ -159,7 +125,7 @@ pub(crate) fn store(
 {
     let table = parts.make_ready(alloc, draft)?;
     let place = parts.next_place(table, size, now.max(parts.now));
-    let reply = sent(alloc, draft.store_host, place, target.queue)?;
+    let reply = sent(alloc, draft.store_host, place, target.queue);
     let said = answer(parts, waits(&draft.props), reply, 1);
     append_in(parts, alloc, target, table, draft, &place, size)?;
     Ok(said)

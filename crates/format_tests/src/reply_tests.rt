@@ -6,7 +6,7 @@ ghost use Rattle.reply_fields.specs.Slices.{slice_len, body_len};
 use mq_bytes::{LogFile, Rows, Text};
 use mq_outside::{Disk, DiskFault, Frozen, MemDisk, MemReader, Room};
 use remoting_frame::{Fields, Form};
-use reply_fields::{Reply, Slice, StoredRange};
+use reply_fields::{Ext, Reply, Sent, Slice, StoredRange};
 use std::alloc::{AllocError, Global};
 use std::test::Fail;
 
@@ -16,6 +16,11 @@ const MAX_OFFSET: [u8; 42] = [
     0, 6, 0x6F, 0x66, 0x66, 0x73, 0x65, 0x74, 0, 0, 0, 1, 0x31,
 ];
 
+// The reply to a SEND whose record is the first of its log and of queue 0, in JSON form.
+const SEND_REPLY: &[u8] =
+    b"\0\0\0\xBB\0\0\0\xB7{\"code\":0,\"extFields\":{\"msgId\":\"7F00000100002A9F0000000000000000\",\"queueId\":\"0\",\"queueOffset\":\"0\"},\
+\"flag\":1,\"language\":\"OTHER\",\"opaque\":7,\"serializeTypeCurrentRPC\":\"JSON\",\"version\":0}";
+
 // The offset 1, as a reply tells it.
 #[tactic(auto, using(reply_fields::proofs::ReplyLemmas::one_in_order))]
 fn max_offset(alloc: Global) -> Result<Reply, AllocError> {
@@ -24,7 +29,7 @@ fn max_offset(alloc: Global) -> Result<Reply, AllocError> {
     Ok(Reply {
         code: 0,
         remark: Text::of(String::new(alloc)),
-        ext,
+        ext: Ext::of(ext),
         body: Rows::of(Vec::new(alloc)),
     })
 }
@@ -62,7 +67,7 @@ fn reply_of(alloc: Global, slices: Vec<Slice>) -> Reply
     Reply {
         code: 0,
         remark: Text::of(String::new(alloc)),
-        ext: Fields::new(alloc),
+        ext: Ext::none(alloc),
         body: Rows::of(slices),
     }
 }
@@ -75,6 +80,24 @@ fn the_documented_reply_is_written(rt: HostRuntime) -> Result<(), Fail> {
     let done = reply.write(rt.alloc(), Form::Binary, 5, &mut reader, &mut out);
     assert!(rt; done.is_ok());
     assert!(rt; out.as_slice() == MAX_OFFSET.as_slice());
+    Ok(())
+}
+
+#[test]
+fn the_reply_to_a_send_is_made_when_it_is_written(rt: HostRuntime) -> Result<(), Fail> {
+    let mut reader = MemReader::new(Vec::new(rt.alloc()))?;
+    let mut out = Vec::new(rt.alloc());
+    let sent = Sent {
+        host: [127, 0, 0, 1, 0, 0, 0x2A, 0x9F],
+        place: 0,
+        queue: 0,
+        queue_offset: 0,
+    };
+    let reply = Reply::sent(rt.alloc(), sent);
+    assert!(rt; reply.ext.fits(200));
+    let done = reply.write(rt.alloc(), Form::Json, 7, &mut reader, &mut out);
+    assert!(rt; done.is_ok());
+    assert!(rt; out.as_slice() == SEND_REPLY);
     Ok(())
 }
 

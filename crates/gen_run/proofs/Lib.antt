@@ -4,3 +4,4 @@ mod FillLemmas
 mod SumLemmas
 mod RunLemmas
 mod EndLemmas
+mod SettlingLemmas

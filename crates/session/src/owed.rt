@@ -1,8 +1,7 @@
 //! What is owed to a link for a request: its reply, at once or once its record is on the disk.
 
-ghost use Rattle.std.specs.Prelude.{◌≡◌, ◌≤◌, ◌<◌, ◌^◌, ◌++◌, Some, OnOk, OnErr, IfOk, pos, codes};
+ghost use Rattle.std.specs.Prelude.{◌≡◌, ◌≤◌, ◌++◌, Some, OnOk, OnErr, IfOk, pos, codes};
 ghost use Rattle.mq_bytes.specs.Decimal.{digits_of};
-ghost use Rattle.remoting_frame.specs.Head.{pairs_size};
 ghost use Rattle.reply_fields.specs.Parts.{plain};
 ghost use Rattle.broker_events.specs.Shown.{Accepts};
 ghost use Rattle.broker_events.specs.declared.event.Event.TheVariants.{Look};
@@ -14,7 +13,6 @@ use crate::caller::Caller;
 use broker_events::{Awaited, Calls, Event, Said};
 use mq_bytes::{Rows, Text};
 use mq_outside::{DiskFault, Reader};
-use remoting_frame::Fields;
 use reply_fields::Reply;
 use request_fields::RequestFault;
 use std::alloc::{AllocError, Global};
@@ -68,19 +66,6 @@ pub fn apply<C: Calls>(alloc: Global, calls: &mut C, event: &Event) -> Result<Ap
     }
 }
 
-// How many bytes the fields have with their lengths.
-fn size_of(fields: &Fields) -> usize
-    requires { pairs_size fields.now < 2 ^ 31 }
-    ensures { result ≡ pairs_size fields.now }
-{
-    let mut size = 0;
-    for index in 0..fields.len() {
-        let (name, value) = fields.at(index);
-        size += 6 + name.len() + value.len();
-    }
-    size
-}
-
 /// The reply to a request whose record the disk failed to take, as its failure of this number: code 10, with the fields of the
 /// reply that was due. Fields that leave no room for the remark are left out; those of a send leave some.
 #[tactic(auto, using(crate::proofs::RemarkLemmas::length_flush_remark))]
@@ -88,7 +73,7 @@ pub fn not_flushed(alloc: Global, reply: Reply, count: u64) -> Result<Reply, All
     ensures { IfOk result (λ told. told ≡ not_flushed_of reply count) }
 {
     let remark = format!(in alloc; "flush {count}")?;
-    if size_of(&reply.ext) > 65000 {
+    if !reply.ext.fits(65000) {
         return Reply::plain(alloc, 10, remark.as_str());
     }
     Ok(Reply {

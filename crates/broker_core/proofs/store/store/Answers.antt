@@ -11,7 +11,8 @@ use Rattle.reply_fields.specs.Parts.{ReplyParts}
 use Rattle.core_log.specs.declared.parts.Parts.{Parts}
 use Rattle.core_log.specs.Represents.{Represents}
 use Rattle.client_tables.specs.declared.topics.Topics.{Topics}
-use Rattle.broker_core.specs.Stores.{sent_fields, stored_answer, IsTarget}
+use Rattle.reply_fields.specs.Sent.{sent_fields}
+use Rattle.broker_core.specs.Stores.{stored_answer, IsTarget}
 use Rattle.core_log.proofs.StoreLemmas.{found_place, is_next_record, on_err}
 use Rattle.broker_core.proofs.store.store.Goals as goal
 
@@ -52,8 +53,8 @@ returns-clause-stored c s are0 =
     let time = max c.args.now s.now in
     let is_record = is_next_record s d p time found.1.next found.2 in
     let told = reply_with (sent_fields d.store_host p.offset c.args.target.now.queue p.queue_offset) [] in
-    let is_reply : IsReplyOf c.in_ok-reply.reply told =
-    subst (λ (r : ReplyParts). IsReplyOf r told) (sym c.in_ok-reply.ensures) (record { code = refl; remark = refl; ext = refl; body = tt }) in
+    let is_reply : IsReplyOf c.sent-reply.result told =
+    subst (λ (r : ReplyParts). IsReplyOf r told) (sym c.sent-reply.ensures) (record { code = refl; remark = refl; ext = refl; body = tt }) in
     let target = c.args.target.now in
     let n = unwrap_or target.known target.made in
     record {
