@@ -4,7 +4,7 @@
 //! multiplies the register by x, modulo the polynomial of the checksum. So n bytes of 0 multiply it by x^(8n), which is
 //! called the shift of n here: `times` multiplies by it in the same 32 steps for any n, and `shift_over` finds it.
 
-ghost use Rattle.std.specs.Prelude.{◌≡◌, ℕ, ◌+◌, ◌*◌, ◌%◌, ◌^◌, ◌<◌, ◌++◌, List, length};
+ghost use Rattle.std.specs.Prelude.{◌≡◌, ℕ, ◌+◌, ◌*◌, ◌^◌, ◌<◌, ◌++◌, List, length};
 ghost use Rattle.mq_bytes.specs.Bytes.{AreBytes};
 ghost use Rattle.mq_bytes.specs.Crc.{bit_out, crc_of};
 ghost use Rattle.mq_bytes.specs.Tables.{after};
