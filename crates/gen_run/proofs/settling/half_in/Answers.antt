@@ -1,4 +1,4 @@
-use Rattle.std.proofs.Common.{◌≡◌, ◌∙◌, ap, sym}
+use Rattle.std.proofs.Common.{◌∙◌, ap, sym}
 use Rattle.reply_fields.specs.Parts.{ReplyParts}
 use Rattle.gen_run.proofs.SettlingLemmas.{names_half}
 use Rattle.gen_run.proofs.settling.half_in.Goals as goal
