@@ -28,6 +28,17 @@ pub stopped_foreign : (ended status : Status) → (ended.code ≡ status.code) �
 stopped_foreign ended status (inl same) six = omega (arith, same, six)
 stopped_foreign ended status (inr seven) six = absurd (omega (arith, seven, six))
 
+-- it has the name that the filling gave it
+pub stopped_named : (ended status : Status) (name : List ℕ) → (ended.code ≡ 7) ⊎ ((ended.place ≡ status.place) × (ended.name ≡ status.name)) → (status.code ≡ 6 → status.name ≡ name)
+    → status.code ≡ 6 → ended.code ≡ 6 → ended.name ≡ name
+stopped_named ended status name (inl seven) named was six = absurd (omega (arith, seven, six))
+stopped_named ended status name (inr told) named was six = told.1 ∙ named was
+
+-- an opening found it foreign
+pub unopened_foreign : (P : List ℕ → Type 0) (ended status : Status) → (ended ≡ status) ⊎ (ended.code ≡ 7) → (status.code ≡ 6 → P status.name) → ended.code ≡ 6 → P ended.name
+unopened_foreign P ended status (inl same) is six = subst (λ (s : Status). P s.name) (sym same) (is (sym (ap (λ (s : Status). s.code) same) ∙ six))
+unopened_foreign P ended status (inr seven) is six = absurd (omega (arith, seven, six))
+
 -- of the lines of the summary
 pub filled_apart : (status : Status) → (status.code ≡ 0) ⊎ ((status.code ≡ 4) ⊎ (status.code ≡ 7)) → (status.code ≢ 1) × (status.code ≢ 6) × (status.code ≢ 8)
 filled_apart status (inl none) = (λ e. omega (arith, none, e), λ e. omega (arith, none, e), λ e. omega (arith, none, e))

@@ -1,10 +1,11 @@
 -- A run from a log without records, and what it leaves of the disk.
 use Rattle.std.proofs.Common.{◌≡◌, ℕ, ◌+◌, List, [], ◌∷◌, length, take, refl, sym, subst, arith, length-take}
 use Rattle.mq_outside.specs.Disk.{DiskState, Rests}
+use Rattle.mq_outside.specs.Files.{Files}
 use Rattle.record_codec.specs.Entry.{Entry}
 use Rattle.log_model.specs.Bases.{Geometry, geometry, whole}
 use Rattle.log_model.specs.Numbered.{count_of}
-use Rattle.log_model.specs.Store.{IsHonest, StoresLog}
+use Rattle.log_model.specs.Store.{IsHonest, Keeps as KeepsOf, StoresLog}
 use Rattle.log_model.specs.Stored.{FlushTurn, stored}
 use Rattle.segment_files.specs.Turn.{Growing, IsReady, growing}
 use Rattle.segment_files.specs.declared.last_file.LastFile.{LastFile}
@@ -33,7 +34,7 @@ none_of [] short = refl
 none_of (r ∷ records) short = absurd (omega (arith, short))
 
 -- a log that was opened, and counts no record, has none
-counts_none : (segment : ℕ) (records : List Entry) (it : Opened) (counts : Counts) → OpensWith (gen_setup segment) no_saved records it
+pub counts_none : (segment : ℕ) (records : List Entry) (it : Opened) (counts : Counts) → OpensWith (gen_setup segment) no_saved records it
     → ((s : State) → Represents it.core s → AreCountsOf s counts) → counts.records ≡ 0 → records ≡ []
 counts_none segment records it counts opens told zero =
     let number : counts.records ≡ 0 + length records = (told _ opens.represents).records in
@@ -55,8 +56,9 @@ ready_empty segment flushed log disk it counts ours told zero =
 
 pub opened_empty : (tells : Type 0) (segment : ℕ) (it : Opened) (counts : Counts) (old new : DiskState) → OpensLog (gen_setup segment) it
     → (tells → (log : List Entry) (flushed : ℕ) → StoresLog (whole segment) log flushed old → IsHonest (whole segment) log flushed old.reads → OpensOurs (gen_setup segment) log flushed new it)
-    → ((s : State) → Represents it.core s → AreCountsOf s counts) → counts.records ≡ 0 → OpensEmpty tells segment old new it
-opened_empty tells segment it counts old new log ours told zero = record {
+    → ((s : State) → Represents it.core s → AreCountsOf s counts) → counts.records ≡ 0 → (tells → KeepsOf (whole segment) [] old.reads) → OpensEmpty tells segment old new it
+opened_empty tells segment it counts old new log ours told zero none = record {
+  none = none;
   opens = opens_empty segment it counts log told zero;
   ready = λ tell l flushed stores honest. ready_empty segment flushed l new it counts (ours tell l flushed stores honest) told zero;
 }
@@ -64,6 +66,7 @@ opened_empty tells segment it counts old new log ours told zero = record {
 -- the same of the disk before a reading that changed nothing
 pub opened_before : (tells : Type 0) (segment : ℕ) (it : Opened) (old mid new : DiskState) → (tells → Rests old mid) → OpensEmpty tells segment mid new it → OpensEmpty tells segment old new it
 opened_before tells segment it old mid new rests empty = record {
+  none = λ tell. subst (λ (files : Files). KeepsOf (whole segment) [] files) (rests tell).same (empty.none tell);
   opens = empty.opens;
   ready = λ tell l flushed stores honest.
       empty.ready tell l flushed (stores_rests (whole segment) l flushed _ _ (rests tell) stores) (honest_rests (whole segment) l flushed _ _ (rests tell) honest);
@@ -98,6 +101,7 @@ filled view segment items start found summary it x y old mid new after file open
     let sums = told led.reached led.represents in
     let flushed : led.reached.flushed ≡ count_of led.reached.log = omega (arith, sums.0, led.represents.state.dispatched, led.represents.state.flushed) in
     record {
+      none = opens.none;
       found = found;
       acts = acted.acts;
       reached = led.reached;

@@ -14,6 +14,7 @@ use Rattle.gen_run.specs.Rounds.{CountsStop}
 use Rattle.gen_run.specs.declared.stop.Stop.{Stop}
 use Rattle.gen_run.specs.declared.stop.Stop.TheVariants as stop
 use Rattle.gen_run.specs.declared.summary.Summary.{Summary}
+use Rattle.gen_run.proofs.DamageLemmas.{none_before}
 
 -- ---- why the generator stopped
 
@@ -137,6 +138,7 @@ stopped_causes ended status old new disk at (inr seven) counts = out_of_memory e
 pub filled_before : (tells : Type 0) (segment items start : ℕ) (summary : Summary) (old mid new : DiskState) → (tells → Rests old mid) → HasFilled tells segment items start summary mid new
     → HasFilled tells segment items start summary old new
 filled_before tells segment items start summary old mid new rests it = record {
+  none = λ tell. none_before segment old mid (rests tell) (it.none tell);
   found = it.found;
   acts = it.acts;
   reached = it.reached;

@@ -1,5 +1,5 @@
 -- What a run of the generator does, by the status with which it ends.
-use Rattle.std.specs.Prelude.{◌≡◌, ◌≢◌, ℕ, List}
+use Rattle.std.specs.Prelude.{◌≡◌, ◌≢◌, ℕ, List, codes}
 use Rattle.mq_outside.specs.Disk.{DiskState}
 use Rattle.store_open.specs.declared.format.Sizes.{Sizes}
 use Rattle.store_open.specs.declared.status.Status.{Status}
@@ -9,7 +9,7 @@ use Rattle.store_open.specs.GenWords.{IsGenCommand}
 use Rattle.store_open.specs.Openings.{IsOpened, StoreTold}
 use Rattle.tool_run.specs.Texts.{foreign_line, damaged_line}
 use Rattle.tool_run.specs.Tools.{Failed as SinkFailed, SinkSeen, TookAll, TookOrFailed}
-use Rattle.gen_run.specs.Fills.{HasFilled}
+use Rattle.gen_run.specs.Fills.{FindsDamage, HasFilled}
 use Rattle.gen_run.specs.Sums.{summary_text}
 use Rattle.gen_run.specs.declared.summary.Summary.{Summary}
 
@@ -31,3 +31,17 @@ pub record WroteLine (status : Status) (sink : SinkSeen) : Type 0 where
   pub foreign : status.code ≡ 6 → TookOrFailed sink (foreign_line status.name)
   pub damaged : status.code ≡ 8 → TookOrFailed sink (damaged_line status.name status.place)
   pub nothing : status.code ≢ 6 → status.code ≢ 8 → sink.taken_then ≡ sink.taken
+
+-- The store is this program's, was opened with these sizes, and is said to have records.
+pub record HasRecords (status : Status) (store : StoreTold) (keep : DiskState) : Type 0 where
+  pub named : status.name ≡ codes "records"
+  pub sizes : Sizes
+  pub opened_as : IsOpened no_sizes sizes store keep
+
+-- It was opened, and its log is damaged, or says something else than the items that the command asks for, which were given.
+pub record IsUnsound (words : List (List ℕ)) (status : Status) (old new : DiskState) (store : StoreTold) (keep : DiskState) : Type 0 where
+  pub command : GenCommand
+  pub asked : IsGenCommand words command
+  pub sizes : Sizes
+  pub opened_as : IsOpened no_sizes sizes store keep
+  pub damage : FindsDamage sizes.segment command.items command.start status old new

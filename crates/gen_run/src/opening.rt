@@ -1,17 +1,20 @@
 //! A store without records is opened and filled, and its log is read back.
 
-ghost use Rattle.std.specs.Prelude.{◌≡◌, ◌≢◌, ◌⊎◌, ◌≤◌, None, IfOk, IfErr, OnOk, true};
+ghost use Rattle.std.specs.Prelude.{◌≡◌, ◌≢◌, ◌⊎◌, ◌≤◌, [], None, IfOk, IfErr, OnOk, codes, true, false};
 ghost use Rattle.mq_outside.specs.Disk.{Rests};
+ghost use Rattle.log_model.specs.Bases.{whole};
 ghost use Rattle.log_model.specs.Log.{IsSegmentSize};
 ghost use Rattle.log_model.specs.Numbered.{count_of};
+ghost use Rattle.log_model.specs.Store.{IsDamagedAt, Keeps};
 ghost use Rattle.log_model.specs.Stored.{StaysOutside};
-ghost use Rattle.log_recovery.specs.Recovered.{CountsRecoverFault};
+ghost use Rattle.log_recovery.specs.Recovered.{CountsRecoverFault, OnDamage};
 ghost use Rattle.segment_files.specs.Turn.{IsInside};
 ghost use Rattle.store_open.specs.Statuses.{FitsTable};
 ghost use Rattle.broker_model.specs.State.{State};
 ghost use Rattle.core_log.specs.Represents.{Represents};
 ghost use Rattle.core_log.specs.Shows.{shown_of};
 ghost use Rattle.gen_run.specs.Fills.{CountsFill, HasFilled, LeavesRecords, OpensEmpty, StatusTellsStop};
+ghost use Rattle.gen_run.specs.Fills.{AreDamaged, AtDamage, FindsDamage, GivesOther, SaysOther, WereDamaged};
 ghost use Rattle.gen_run.specs.Sums.{IsSummaryOf};
 
 use crate::counting::summary_of;
@@ -35,14 +38,16 @@ use tool_run::Beside;
 // 127.0.0.1:10911
 const STORE_HOST: [u8; 8] = [127, 0, 0, 1, 0, 0, 42, 159];
 
-/// Looks whether there is a record: the first ends the reading.
+/// Looks whether there is a record: the first ends the reading, and none is taken.
 #[derive(Drop)]
 struct First {
     is_there: bool,
 }
 
 impl Visit for First {
-    ghost stands = { λ _ _ _. Unit {0} };
+    ghost use Rattle.std.specs.Prelude.{◌≡◌, []};
+
+    ghost stands = { λ _ _ records. records ≡ [] };
 
     fn record(&mut self, _view: &View<'_>) -> Result<(), AllocError> {
         self.is_there = true;
@@ -53,6 +58,8 @@ impl Visit for First {
 // Whether recovery keeps a record of the log's files. Nothing of the disk is changed.
 fn has_records<D: Disk>(alloc: Global, segment: u32, disk: &mut D) -> Result<bool, RecoverFault>
     requires { IsSegmentSize segment }
+    ensures none { D.tells → IfOk result (λ there. there ≡ false → Keeps (whole segment) [] (D.state disk.old).reads) }
+    ensures damaged { D.tells → OnDamage result (IsDamagedAt (whole segment) (D.state disk.old).reads) }
     ensures rests { D.tells → Rests (D.state disk.old) (D.state disk.new) }
     ensures cause { CountsRecoverFault result (D.faults disk.old) (D.faults disk.new) }
 {
@@ -75,6 +82,7 @@ fn is_equal<D: Disk>(
 ) -> Result<bool, RecoverFault>
     requires { IsSegmentSize segment }
     ensures seen { IfOk result (λ equal. equal ≡ true → (s : State) → Represents core.now s → s.dispatched ≡ count_of s.log) }
+    ensures damaged { D.tells → OnDamage result (IsDamagedAt (whole segment) (D.state disk.old).reads) }
     ensures rests { D.tells → Rests (D.state disk.old) (D.state disk.new) }
     ensures cause { CountsRecoverFault result (D.faults disk.old) (D.faults disk.new) }
 {
@@ -97,6 +105,7 @@ fn is_equal<D: Disk>(
 // The log's files say something else than the core does: the folder is damaged, or there is no memory to say so.
 fn unequal(alloc: Global) -> Status
     ensures code { (result.code ≡ 7) ⊎ (result.code ≡ 8) }
+    ensures place { result.code ≡ 8 → (result.place ≡ 0) × (result.name ≡ codes "commitlog") }
     ensures table { FitsTable result }
 {
     match String::from_str(alloc, "commitlog") {
@@ -119,6 +128,8 @@ fn status_of_stop(alloc: Global, stop: Stop) -> Status
 // Ends where the store has records. Nothing of the disk is changed.
 fn refuse_records<D: Disk>(alloc: Global, segment: u32, disk: &mut D) -> Result<(), Status>
     requires { IsSegmentSize segment }
+    ensures none { D.tells → OnOk result (Keeps (whole segment) [] (D.state disk.old).reads) }
+    ensures damaged { IfErr result (λ status. AtDamage D.tells status (AreDamaged segment status (D.state disk.old).reads)) }
     ensures rests { D.tells → Rests (D.state disk.old) (D.state disk.new) }
     ensures cause { IfErr result (λ status. CountsFill status (D.faults disk.old) (D.faults disk.new)) }
     ensures still { OnOk result (D.faults disk.new ≡ D.faults disk.old) }
@@ -139,6 +150,8 @@ fn refuse_records<D: Disk>(alloc: Global, segment: u32, disk: &mut D) -> Result<
 #[tactic(auto, using(log_model::proofs::OutsideLemmas::outside_start))]
 fn open_unfilled<D: Disk>(alloc: Global, segment: u32, disk: &mut D) -> Result<Opened, Status>
     requires { IsSegmentSize segment }
+    ensures damaged { (D.tells → Keeps (whole segment) [] (D.state disk.old).reads)
+        → IfErr result (λ status. AtDamage D.tells status (WereDamaged segment status (D.state disk.old) (D.state disk.new))) }
     ensures opens { IfOk result (OpensEmpty D.tells segment (D.state disk.old) (D.state disk.new)) }
     ensures inside { D.tells → IfOk result (λ it. IsInside it.flusher.file.base it.flusher.file.offset (D.state disk.new)) }
     ensures cause { IfErr result (λ status. CountsFill status (D.faults disk.old) (D.faults disk.new)) }
@@ -169,6 +182,7 @@ fn open_unfilled<D: Disk>(alloc: Global, segment: u32, disk: &mut D) -> Result<O
 #[tactic(auto, using(log_model::proofs::OutsideLemmas::outside_start))]
 fn open_empty<D: Disk>(alloc: Global, segment: u32, disk: &mut D) -> Result<Opened, Status>
     requires { IsSegmentSize segment }
+    ensures damaged { IfErr result (λ status. AtDamage D.tells status (WereDamaged segment status (D.state disk.old) (D.state disk.new))) }
     ensures opens { IfOk result (OpensEmpty D.tells segment (D.state disk.old) (D.state disk.new)) }
     ensures inside { D.tells → IfOk result (λ it. IsInside it.flusher.file.base it.flusher.file.offset (D.state disk.new)) }
     ensures cause { IfErr result (λ status. CountsFill status (D.faults disk.old) (D.faults disk.new)) }
@@ -199,6 +213,7 @@ fn checked<D: Disk>(
     requires { IsSegmentSize segment }
     ensures sums { IfOk result (λ summary. (s : State) → Represents core.now s → (s.dispatched ≡ count_of s.log)
         × IsSummaryOf items start found s.log summary) }
+    ensures damaged { IfErr result (λ status. AtDamage D.tells status (SaysOther segment status (D.state disk.old).reads)) }
     ensures rests { D.tells → Rests (D.state disk.old) (D.state disk.new) }
     ensures cause { IfErr result (λ status. CountsFill status (D.faults disk.old) (D.faults disk.new)) }
     ensures kept { IfErr result (λ status. status.code ≢ 6) }
@@ -232,6 +247,8 @@ fn fill_opened<D: Disk>(
     requires inside { D.tells → IsInside opened.flusher.file.base opened.flusher.file.offset (D.state disk.old) }
     ensures filled { (before : D) → OpensEmpty D.tells segment (D.state before) (D.state disk.old) opened
         → IfOk result (λ summary. HasFilled D.tells segment items start summary (D.state before) (D.state disk.new)) }
+    ensures damaged { (before : D) → OpensEmpty D.tells segment (D.state before) (D.state disk.old) opened
+        → IfErr result (λ status. AtDamage D.tells status (GivesOther segment items start status (D.state before) (D.state disk.new))) }
     ensures cause { IfErr result (λ status. CountsFill status (D.faults disk.old) (D.faults disk.new)) }
     ensures others { IfErr result (λ status. status.code ≢ 6) }
     ensures outside { D.tells → StaysOutside (D.state disk.old) (D.state disk.new) }
@@ -265,6 +282,8 @@ pub(crate) fn fill<D: Disk>(
     requires items { items ≤ 1000000 }
     requires start { start ≤ 1000000 }
     ensures filled { IfOk result (λ summary. HasFilled D.tells segment items start summary (D.state disk.old) (D.state disk.new)) }
+    ensures damaged { IfErr result (λ status. AtDamage D.tells status
+        (FindsDamage segment items start status (D.state disk.old) (D.state disk.new))) }
     ensures cause { IfErr result (λ status. CountsFill status (D.faults disk.old) (D.faults disk.new)) }
     ensures records { IfErr result (λ status. LeavesRecords D.tells status (D.state disk.old) (D.state disk.new)) }
     ensures outside { D.tells → StaysOutside (D.state disk.old) (D.state disk.new) }

@@ -1,16 +1,17 @@
 //! A run of the generator: the arguments, the store's format, the requests, and the lines of what they left.
 
 ghost use Rattle.std.specs.Prelude.{◌≡◌, ◌≢◌, ◌⊎◌, List, ℕ, Some};
-ghost use Rattle.mq_outside.specs.Disk.{Rests};
+ghost use Rattle.mq_outside.specs.Disk.{Moves, Rests};
+ghost use Rattle.mq_outside.specs.Files.{Same};
 ghost use Rattle.log_model.specs.Stored.{StaysOutside};
 ghost use Rattle.store_open.specs.Formats.{no_sizes};
 ghost use Rattle.store_open.specs.GenWords.{IsGenCommand, IsFirstWrongOfGen};
-ghost use Rattle.store_open.specs.Openings.{FORMAT, PutsOnly, own_format, store_told};
+ghost use Rattle.store_open.specs.Openings.{FORMAT, IsForeign, PutsOnly, own_format, store_told};
 ghost use Rattle.store_open.specs.Options.{texts_of};
 ghost use Rattle.store_open.specs.Statuses.{FitsTable};
 ghost use Rattle.store_open.specs.declared.gen_words.GenCommand.{GenCommand};
 ghost use Rattle.tool_run.specs.Tools.{Causes, Failed as SinkFailed, TookAll, seen_of};
-ghost use Rattle.gen_run.specs.Gens.{Fills, WroteLine};
+ghost use Rattle.gen_run.specs.Gens.{Fills, HasRecords, IsUnsound, WroteLine};
 ghost use Rattle.gen_run.specs.Sums.{summary_text};
 
 use crate::opening::fill;
@@ -89,8 +90,23 @@ pub fn run_gen<K: Sink + Drop, D: Disk, P: Keep>(
         (store_told D.tells (D.state disk.old).reads P.tells (P.state keep.old).reads) (P.state keep.new) }
     ensures puts { result.status.code ≢ 0 → result.status.code ≢ 4 → WroteLine result.status (seen_of K.Sink sink result.sink) }
 
-    // A store that is foreign, or has records, stays as it is.
+    // Status 6 comes where the store is foreign, with the name of what shows it, and its config files stay as they are; or where it is
+    // this program's, and is said to have records. Its disk stays as it is.
+    ensures foreign { D.tells → P.tells → result.status.code ≡ 6
+        → IsForeign (D.state disk.old).reads ((P.state keep.old).reads FORMAT) no_sizes result.status.name
+        ⊎ HasRecords result.status
+        (store_told D.tells (D.state disk.old).reads P.tells (P.state keep.old).reads) (P.state keep.new) }
+    ensures theirs { P.tells → result.status.code ≡ 6 → Moves Same (P.state keep.old) (P.state keep.new)
+        ⊎ HasRecords result.status
+        (store_told D.tells (D.state disk.old).reads P.tells (P.state keep.old).reads) (P.state keep.new) }
     ensures records { D.tells → result.status.code ≡ 6 → Rests (D.state disk.old) (D.state disk.new) }
+
+    // Status 8 comes where the log's files are damaged at this place, in this file, and then nothing of the disk was changed; or where all
+    // items were given, and what was read back then is damaged, or says something else.
+    ensures damaged { D.tells → result.status.code ≡ 8 → IsUnsound (texts_of words.now) result.status
+        (D.state disk.old) (D.state disk.new)
+        (store_told D.tells (D.state disk.old).reads P.tells (P.state keep.old).reads) (P.state keep.new) }
+
     // The disk's files outside the log's folder stay, and of the config files only the format is put, of a new store or as it stands.
     ensures outside { D.tells → StaysOutside (D.state disk.old) (D.state disk.new) }
     ensures format { P.tells → PutsOnly (own_format ((P.state keep.old).reads FORMAT) no_sizes) (P.state keep.old) (P.state keep.new) }

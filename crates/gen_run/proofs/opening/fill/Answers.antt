@@ -1,4 +1,4 @@
-use Rattle.std.proofs.Common.{ap}
+use Rattle.std.proofs.Common.{ap, inl, inr}
 use Rattle.broker_events.specs.Shown.{Shown}
 use Rattle.log_model.proofs.OutsideLemmas.{outside_then}
 use Rattle.gen_run.proofs.RunLemmas.{counts_then}
@@ -21,3 +21,9 @@ returns-in-Ok-fill_opened-clause-filled g c = c.in-Ok-fill_opened.ensures.filled
 
 pub returns-in-Ok-fill_opened-clause-outside : goal.returns-in-Ok-fill_opened-clause-outside
 returns-in-Ok-fill_opened-clause-outside g c = λ tells. outside_then (c.in-Ok.ensures.outside tells) (c.in-Ok-fill_opened.ensures.outside tells)
+
+pub returns-in-Err-clause-damaged : goal.returns-in-Err-clause-damaged
+returns-in-Err-clause-damaged g c = λ tells eight. inl (c.in-Err.ensures.damaged tells eight)
+
+pub returns-in-Err-fill_opened-clause-damaged : goal.returns-in-Err-fill_opened-clause-damaged
+returns-in-Err-fill_opened-clause-damaged g c = λ tells eight. inr (c.in-Err-fill_opened.ensures.damaged c.args.disk.now c.in-Ok.ensures.opens tells eight)

@@ -6,6 +6,7 @@ use Rattle.core_log.specs.Represents.{Represents}
 use Rattle.core_log.specs.Shows.{shown_of}
 use Rattle.core_log.specs.declared.parts.Parts.{Parts}
 use Rattle.worker_turns.specs.Acts.{view_of}
+use Rattle.gen_run.proofs.DamageLemmas.{gives_other, stop_sound}
 use Rattle.gen_run.proofs.FillLemmas.{filled}
 use Rattle.gen_run.proofs.RunLemmas.{counts_then, stop_counts, stop_not_foreign}
 use Rattle.gen_run.proofs.opening.fill_opened.Goals as goal
@@ -33,3 +34,12 @@ returns-in-Err-checked-clause-outside g c = λ tells. outside_then (c.in-Ok.ensu
 
 pub returns-clause-outside : goal.returns-clause-outside
 returns-clause-outside g c = λ tells. outside_then (c.in-Ok.ensures.outside tells) (stays_rests IsOutside _ _ (c.in-Ok-checked.ensures.rests tells))
+
+pub returns-in-Err-clause-damaged : goal.returns-in-Err-clause-damaged
+returns-in-Err-clause-damaged g c = λ before opens tells eight. absurd (stop_sound c.status_of_stop.result c.in-Err.stop c.status_of_stop.ensures.tells eight)
+
+pub returns-in-Err-checked-clause-damaged : goal.returns-in-Err-checked-clause-damaged
+returns-in-Err-checked-clause-damaged g c = λ before opens tells eight.
+    gives_other (view_of g.D.Disk.tells g.D.Disk.state g.D.Disk.faults g.D.Disk.syncs) c.args.segment c.args.items c.args.start c.in-Ok.found c.in-Err-checked.status c.args.opened c.new-calls.result
+    c.give_all.new.calls (g.D.Disk.state before) c.args.disk.now c.give_all.new.disk c.checked.new.disk c.give_all.new.flusher.file tells opens c.new-calls.ensures c.in-Ok.ensures.acted
+    (c.in-Err-checked.ensures.rests tells) (c.in-Err-checked.ensures.damaged tells eight)
