@@ -10,6 +10,7 @@ ghost use Rattle.event_loops.specs.Tales.{GoesOn, LeadsBy, loop_view};
 ghost use Rattle.event_loops.specs.Timing.{GoesTimed, clock_over};
 
 use crate::asks::{Picked, Takes};
+use crate::flushing::Flushes;
 use crate::links::Links;
 use crate::outside::{DOOR, Outside};
 use crate::shared::{NewLink, Port, Shared};
@@ -344,14 +345,15 @@ impl<P: Ready + Drop> EventLoop<P> {
         true
     }
 
-    // Serves what came on each link, rings for the flusher where a request was given to the broker, and sends what is due.
-    fn serve<W: Wait, C: Calls, R: Reader>(
+    // Serves what came on each link, has a flush turn made where a request was given to the broker, and sends what is due.
+    fn serve<W: Wait, C: Calls, R: Reader, F: Flushes>(
         &mut self,
         around: &Around<'_, W, P>,
         calls: &mut C,
         reader: &mut R,
         now: u64,
         failed: Option<u64>,
+        flusher: &mut F,
     )
         requires { now < 2 ^ 62 }
         ensures went { LeadsBy (at_reading now C.makes) calls.old calls.new
@@ -359,17 +361,16 @@ impl<P: Ready + Drop> EventLoop<P> {
             self.old.links acts self.new.links) }
     {
         let buffer = self.buffer.as_mut_slice();
-        if self
+        let given = self
             .links
-            .hear::<C, R>(around.alloc, calls, buffer, now, failed)
-        {
-            around.shared.ring();
-        }
+            .hear::<C, R>(around.alloc, calls, buffer, now, failed);
+        let made = given && self.flush_or_ring(around, flusher);
         if self.links.reply(around.alloc, around.shared, calls, reader)
             && let Some(port) = around.ports.first()
         {
             port.wake();
         }
+        self.ring_for_rest(around, made);
     }
 
     // How many milliseconds the loop may wait for reports, where more may have come or not. Where a link waits for a
@@ -458,7 +459,7 @@ impl<P: Ready + Drop> EventLoop<P> {
 
     // One pass: what was reported, the check-backs that have arrived, what came, and what is due. Answers how long the next one
     // may wait for reports.
-    fn pass<W: Wait, K: Clock + Drop, A: Takes, C: Calls, R: Reader>(
+    fn pass<W: Wait, K: Clock + Drop, A: Takes, C: Calls, R: Reader, F: Flushes>(
         &mut self,
         around: &Around<'_, W, P>,
         outside: &mut Outside<P, K>,
@@ -466,6 +467,7 @@ impl<P: Ready + Drop> EventLoop<P> {
         calls: &mut C,
         reader: &mut R,
         timeout: Option<u64>,
+        flusher: &mut F,
     ) -> Result<Option<u64>, LoopEnd>
         ensures went { LeadsTaking C.makes A.takes calls.old calls.new asks.old asks.new
             (λ acts. GoesTimed (loop_view P.Link.tells P.Link.given P.Link.taken P.Ends.tells P.Ends.entries) R.gives
@@ -478,18 +480,19 @@ impl<P: Ready + Drop> EventLoop<P> {
         let now = outside.now()?;
         let failed = self.note_turns(around.shared);
         let more_asks = self.take_asks(around, asks, calls, reader);
-        self.serve(around, calls, reader, now, failed);
+        self.serve(around, calls, reader, now, failed, flusher);
         Ok(self.timeout(around, more_came || more_asks))
     }
 
     // Serves links until the door is done and all of them have ended, or a fault of it or of another loop ends it.
-    fn go_on<W: Wait, K: Clock + Drop, A: Takes, C: Calls, R: Reader>(
+    fn go_on<W: Wait, K: Clock + Drop, A: Takes, C: Calls, R: Reader, F: Flushes>(
         &mut self,
         around: &Around<'_, W, P>,
         outside: &mut Outside<P, K>,
         asks: &mut A,
         calls: &mut C,
         reader: &mut R,
+        flusher: &mut F,
     ) -> LoopEnd
         ensures went { LeadsTaking C.makes A.takes calls.old calls.new asks.old asks.new
             (λ acts. GoesTimed (loop_view P.Link.tells P.Link.given P.Link.taken P.Ends.tells P.Ends.entries) R.gives
@@ -506,7 +509,7 @@ impl<P: Ready + Drop> EventLoop<P> {
             if self.is_done(around, outside) {
                 return LoopEnd::Done;
             }
-            match self.pass(around, outside, asks, calls, reader, timeout) {
+            match self.pass(around, outside, asks, calls, reader, timeout, flusher) {
                 Ok(next) => timeout = next,
                 Err(end) => return end,
             }
@@ -516,13 +519,14 @@ impl<P: Ready + Drop> EventLoop<P> {
 
     /// Serves links until the door is done and all of them have ended, or a fault of it or of another loop ends it; then it lets go of
     /// those that are left. Meanwhile it writes the check-backs that come. Whoever sends one wakes the loop.
-    pub fn run<W: Wait, K: Clock + Drop, A: Takes, C: Calls, R: Reader>(
+    pub fn run<W: Wait, K: Clock + Drop, A: Takes, C: Calls, R: Reader, F: Flushes>(
         &mut self,
         around: &Around<'_, W, P>,
         outside: &mut Outside<P, K>,
         asks: &mut A,
         calls: &mut C,
         reader: &mut R,
+        flusher: &mut F,
     ) -> LoopEnd
         // Each step is one of a link's pass, or its end. The requests of each pass are given to the broker at the reading that the
         // clock gave for it. What was written to links are some of the check-backs that were taken.
@@ -537,7 +541,7 @@ impl<P: Ready + Drop> EventLoop<P> {
         ensures cause { CountsEnd result (loop_faults P.faults P.Door.faults K.faults outside.old)
             (loop_faults P.faults P.Door.faults K.faults outside.new) }
     {
-        let end = self.go_on(around, outside, asks, calls, reader);
+        let end = self.go_on(around, outside, asks, calls, reader, flusher);
         self.links.let_go::<R>();
         end
     }

@@ -267,6 +267,14 @@ fn ask_slot<L: Link + Drop, C: Calls, R: Reader>(
     }
 }
 
+// Whether a link is here that waits for a flush turn.
+fn is_awaiting<L: Link + Drop>(slot: &Option<Numbered<L>>) -> bool {
+    match slot {
+        Some(numbered) => numbered.linked.awaits(),
+        None => false,
+    }
+}
+
 // The first free slot.
 fn free_in<L: Link + Drop>(slots: &[Option<Numbered<L>>]) -> Option<usize>
     ensures { IfSome result (λ at. slice_get slots.now at ≡ Some None) }
@@ -472,6 +480,20 @@ impl<L: Link + Drop, N: Ends<L> + Drop> Links<L, N> {
             }
         }
         outlook
+    }
+
+    /// How many of its links wait for a flush turn, counted up to two.
+    pub(crate) fn awaiting(&self) -> usize {
+        let mut count = 0;
+        for slot in &self.slots {
+            if is_awaiting(slot) {
+                if count > 0 {
+                    return 2;
+                }
+                count = 1;
+            }
+        }
+        count
     }
 
     /// Whether there is none.

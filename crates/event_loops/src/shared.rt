@@ -60,6 +60,11 @@ impl<P: Ready> Port<P> {
         self.awaits.store(1, Ordering::SeqCst);
     }
 
+    /// Whether the loop waits for a flush turn.
+    pub fn is_awaiting(&self) -> bool {
+        self.awaits.load(Ordering::SeqCst) == 1
+    }
+
     /// A flush turn has ended: wakes the loop if it waits for one.
     pub fn turn_ended(&self) {
         if self.awaits.swap(0, Ordering::SeqCst) == 1 {
@@ -76,8 +81,11 @@ impl<P: Ready> Port<P> {
 /// What all threads share.
 #[derive(Drop)]
 pub struct Shared {
-    // What the flusher sleeps on.
+    // What the flusher sleeps on, and 1 while it sleeps for long.
     bell: Parker,
+    dozes: AtomicU64,
+    // How many threads are at a flush turn, or wait to be.
+    turning: AtomicU64,
     // How many flush turns have ended.
     turns: AtomicU64,
     // A record that isn't below this number waits for another turn. A hint: it is at its maximum where none is known to.
@@ -99,6 +107,8 @@ impl Shared {
     pub fn new() -> Shared {
         Shared {
             bell: Parker::new(),
+            dozes: AtomicU64::new(0),
+            turning: AtomicU64::new(0),
             turns: AtomicU64::new(0),
             flushed: AtomicU64::new(u64::MAX),
             ending: AtomicU64::new(0),
@@ -121,6 +131,43 @@ impl Shared {
             Some(millis) => self.bell.park_timeout(rt, Duration::from_millis(millis)),
             None => self.bell.park(rt),
         }
+    }
+
+    /// The same, where the flusher may sleep for long. It looks from time to time what is due, and knows nothing of the turns that loops
+    /// make while it sleeps: so it doesn't sleep if more turns have ended than these, and the first one that a loop makes then wakes
+    /// it.
+    pub fn sleep_long<R: Wait>(&self, rt: &R, most: Option<u64>, turns: u64) {
+        self.dozes.store(1, Ordering::SeqCst);
+        // Looked at once a turn's end would wake it, so that no end falls between.
+        if self.turns() == turns {
+            self.sleep(rt, most);
+        }
+        self.dozes.store(0, Ordering::SeqCst);
+    }
+
+    /// Wakes the flusher if it sleeps for long: a loop has made a flush turn.
+    pub fn rouse(&self) {
+        if self.dozes.swap(0, Ordering::SeqCst) == 1 {
+            self.bell.unpark();
+        }
+    }
+
+    /// The flusher is at a flush turn now, or waits to be. That somebody is at one is a hint, by which no loop waits for another's
+    /// sync: what the turns share has a lock of its own, which keeps them in order.
+    pub fn begin_turn(&self) {
+        self.turning.fetch_add(1, Ordering::SeqCst);
+    }
+
+    /// A loop is at a flush turn now, if nobody else is. Answers whether it is.
+    pub fn try_begin_turn(&self) -> bool {
+        self.turning
+            .compare_exchange(0, 1, Ordering::SeqCst, Ordering::SeqCst)
+            .is_ok()
+    }
+
+    /// Whoever was at a flush turn isn't any more.
+    pub fn end_turn(&self) {
+        self.turning.fetch_sub(1, Ordering::SeqCst);
     }
 
     /// How many flush turns have ended, up to overflow.

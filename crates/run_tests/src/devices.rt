@@ -70,6 +70,7 @@ fn ended_as(status: &Status, disk: &MemDisk) -> Ended {
 
 fn with_keep(
     alloc: Global,
+    words: &[&str],
     source: &mut MemSource,
     sink: &mut MemSink,
     disk: &mut MemDisk,
@@ -78,12 +79,13 @@ fn with_keep(
 ) -> Result<Ended, AllocError> {
     let fails = numbers_of(alloc, calls)?;
     let mut keep = MemKeep::new(alloc, Vec::new(alloc), fails)?;
-    let status = run_pipe(alloc, &["pipe"], source, sink, disk, &mut keep, clock);
+    let status = run_pipe(alloc, words, source, sink, disk, &mut keep, clock);
     Ok(ended_as(&status, disk))
 }
 
 fn with_disk(
     alloc: Global,
+    words: &[&str],
     source: &mut MemSource,
     sink: &mut MemSink,
     clock: &mut MemClock,
@@ -96,11 +98,12 @@ fn with_disk(
     };
     let fails = numbers_of(alloc, failing.disk)?;
     let mut disk = MemDisk::new(alloc, Vec::new(alloc), room, fails)?;
-    with_keep(alloc, source, sink, &mut disk, clock, failing.keep)
+    with_keep(alloc, words, source, sink, &mut disk, clock, failing.keep)
 }
 
 fn with_clock(
     alloc: Global,
+    words: &[&str],
     source: &mut MemSource,
     sink: &mut MemSink,
     failing: &Failing,
@@ -108,25 +111,28 @@ fn with_clock(
     let readings = vec![in alloc; 2000]?;
     let fails = numbers_of(alloc, failing.clock)?;
     let mut clock = MemClock::new(alloc, readings, fails)?;
-    with_disk(alloc, source, sink, &mut clock, failing)
+    with_disk(alloc, words, source, sink, &mut clock, failing)
 }
 
 fn with_sink(
     alloc: Global,
+    words: &[&str],
     source: &mut MemSource,
     failing: &Failing,
     written: &mut Vec<u8>,
 ) -> Result<Ended, AllocError> {
     let fails = numbers_of(alloc, failing.sink)?;
     let mut sink = MemSink::new(alloc, 8192, 64, fails)?;
-    let ended = with_clock(alloc, source, &mut sink, failing)?;
+    let ended = with_clock(alloc, words, source, &mut sink, failing)?;
     written.extend_from_slice(sink.bytes())?;
     Ok(ended)
 }
 
-/// Serves these bytes over an empty store, and appends what is written. The source gives the bytes in one piece.
-pub(crate) fn serve(
+/// Serves these bytes over an empty store by a call with these arguments, and appends what is written. The source gives the bytes in one
+/// piece.
+pub(crate) fn serve_as(
     alloc: Global,
+    words: &[&str],
     bytes: Vec<u8>,
     failing: &Failing,
     written: &mut Vec<u8>,
@@ -137,5 +143,15 @@ pub(crate) fn serve(
     let pieces = vec![in alloc; bytes]?;
     let fails = numbers_of(alloc, failing.source)?;
     let mut source = MemSource::new(alloc, pieces, fails)?;
-    with_sink(alloc, &mut source, failing, written)
+    with_sink(alloc, words, &mut source, failing, written)
+}
+
+/// The same, by a call without options.
+pub(crate) fn serve(
+    alloc: Global,
+    bytes: Vec<u8>,
+    failing: &Failing,
+    written: &mut Vec<u8>,
+) -> Result<Ended, AllocError> {
+    serve_as(alloc, &["pipe"], bytes, failing, written)
 }

@@ -51,32 +51,32 @@ fn put_frame(out: &mut Vec<u8>, header: &[u8], body: u32) -> Result<(), AllocErr
 }
 
 /// Appends a send with a body of so many bytes.
-pub(crate) fn put_send(out: &mut Vec<u8>, body: u32) -> Result<(), AllocError> {
+pub fn put_send(out: &mut Vec<u8>, body: u32) -> Result<(), AllocError> {
     put_frame(out, SEND, body)
 }
 
 /// Appends a send with a body of two bytes that doesn't wait for the disk.
-pub(crate) fn put_hasty_send(out: &mut Vec<u8>) -> Result<(), AllocError> {
+pub fn put_hasty_send(out: &mut Vec<u8>) -> Result<(), AllocError> {
     put_frame(out, HASTY, 2)
 }
 
 /// Appends a send with a body of two bytes whose message is to be delivered a second later.
-pub(crate) fn put_delayed_send(out: &mut Vec<u8>) -> Result<(), AllocError> {
+pub fn put_delayed_send(out: &mut Vec<u8>) -> Result<(), AllocError> {
     put_frame(out, DELAYED, 2)
 }
 
 /// Appends a heartbeat of a producer of the group `P`.
-pub(crate) fn put_heartbeat(out: &mut Vec<u8>) -> Result<(), AllocError> {
+pub fn put_heartbeat(out: &mut Vec<u8>) -> Result<(), AllocError> {
     put_head(out, HEARTBEAT, CLIENT.len() as u32)?;
     out.extend_from_slice(CLIENT)
 }
 
 /// Appends a send of a half message with a body of two bytes, of the group `P`.
-pub(crate) fn put_half_send(out: &mut Vec<u8>) -> Result<(), AllocError> {
+pub fn put_half_send(out: &mut Vec<u8>) -> Result<(), AllocError> {
     put_frame(out, HALF, 2)
 }
 
 /// Appends a pull from the first message on.
-pub(crate) fn put_pull(out: &mut Vec<u8>) -> Result<(), AllocError> {
+pub fn put_pull(out: &mut Vec<u8>) -> Result<(), AllocError> {
     put_frame(out, PULL, 0)
 }

@@ -1,27 +1,15 @@
-//! Tests of calls of `pipe` and of `serve`, over devices in memory, and one over TCP.
+//! Tests of calls of `pipe`, over devices in memory; and what they have in common with those of `serve`: requests as bytes, what the
+//! first of them is answered with, and where a reply has a text.
 #![tactic(auto)]
 
 #[cfg(test)]
-mod delay_runs;
-#[cfg(test)]
 mod devices;
-#[cfg(test)]
 mod frames;
 #[cfg(test)]
-mod held_disk;
-#[cfg(test)]
-mod journal;
-#[cfg(test)]
-mod links;
-#[cfg(test)]
-mod peer;
-#[cfg(test)]
-mod peer_runs;
-#[cfg(test)]
 mod pipe_runs;
-#[cfg(test)]
 mod replies;
-#[cfg(test)]
-mod serve_runs;
-#[cfg(test)]
-mod tcp_runs;
+
+pub use frames::{
+    put_delayed_send, put_half_send, put_hasty_send, put_heartbeat, put_pull, put_send,
+};
+pub use replies::{FIRST_SENT, HOST, end_of};

@@ -1,8 +1,7 @@
 //! Calls of `pipe` over devices in memory: sends, a pull of what was sent, and devices that fail.
 
-use crate::devices::{Calls, Ended, Failing, NOTHING, serve};
-use crate::frames::{put_pull, put_send};
-use crate::replies::end_of;
+use crate::devices::{Calls, Ended, Failing, NOTHING, serve, serve_as};
+use crate::{FIRST_SENT, HOST, end_of, put_pull, put_send};
 use std::alloc::{AllocError, Global};
 use std::test::Fail;
 
@@ -42,6 +41,18 @@ fn what_was_sent_is_pulled_by_the_same_call(rt: HostRuntime) -> Result<(), Fail>
     let ended = serve(rt.alloc(), bytes, &NOTHING, &mut written)?;
     assert!(rt; (ended.code, ended.log) == (0, 2 * RECORD_LEN));
     assert!(rt; written.len() == 2 * SENT_LEN + PULLED_LEN + 2 * RECORD_LEN);
+    Ok(())
+}
+
+#[test]
+fn a_send_is_answered_with_what_a_client_of_serve_hears(rt: HostRuntime) -> Result<(), Fail> {
+    let mut bytes = Vec::new(rt.alloc());
+    put_send(&mut bytes, 2)?;
+    let mut written = Vec::new(rt.alloc());
+    let words = ["pipe", "--host", HOST];
+    let ended = serve_as(rt.alloc(), &words, bytes, &NOTHING, &mut written)?;
+    assert!(rt; (ended.code, ended.log) == (0, RECORD_LEN));
+    assert!(rt; written.as_slice() == FIRST_SENT);
     Ok(())
 }
 

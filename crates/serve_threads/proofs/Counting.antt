@@ -9,10 +9,7 @@ use Rattle.event_loops.specs.Doors.{AllCame, GaveAll, IsDoorDone, KeepsDoor}
 use Rattle.event_loops.specs.declared.entrance.Bounds.{Bounds}
 use Rattle.event_loops.specs.declared.entrance.Entrance.{Entrance}
 use Rattle.event_loops.specs.Causes.{door_faults, LoopFaults, GrowsAt, RisesAt, Blames, CountsEnd}
-use Rattle.worker_turns.specs.Turns.{CountsEnd as CountsTurn}
-use Rattle.worker_turns.specs.declared.flush.FlushEnd.{FlushEnd}
-use Rattle.worker_turns.specs.declared.flush.FlushEnd.TheVariants as flush
-use Rattle.serve_threads.specs.Causes.{WorldFaults, BlamesWorld, BlamesDisk, BlamesKeep, HasDoor, IsFirstFault, both_faults, count_in}
+use Rattle.serve_threads.specs.Causes.{WorldFaults, BlamesWorld, BlamesKeep, HasDoor, IsFirstFault, both_faults, count_in}
 
 -- ---- one device
 
@@ -20,28 +17,6 @@ pub disk_grows : {A : Type 0} (result : Result A DiskFault) (old new : ℕ) → 
 disk_grows (Ok done) old new counts = omega (arith, counts)
 disk_grows (Err device.Failed) old new counts = counts.0
 disk_grows (Err device.Memory) old new counts = omega (arith, counts)
-
-pub turn_grows : (end : FlushEnd) (old new : ℕ) → CountsTurn end old new → old ≤ new
-turn_grows flush.Idle old new counts = omega (arith, counts)
-turn_grows flush.Done old new counts = omega (arith, counts)
-turn_grows (flush.Failed count) old new counts = counts.0.0
-turn_grows flush.Misplaced old new counts = omega (arith, counts)
-turn_grows flush.Memory old new counts = omega (arith, counts)
-
--- a flush turn behind others
-pub turn_blamed : (end : FlushEnd) (old mid new : ℕ) → old ≤ mid → CountsTurn end mid new → BlamesDisk end old new
-turn_blamed flush.Idle old mid new grows counts = tt
-turn_blamed flush.Done old mid new grows counts = tt
-turn_blamed (flush.Failed count) old mid new grows counts = (omega (arith, grows, counts.0.0), omega (arith, grows, counts.0.1))
-turn_blamed flush.Misplaced old mid new grows counts = tt
-turn_blamed flush.Memory old mid new grows counts = tt
-
-pub disk_blamed : (end : FlushEnd) (old mid new : ℕ) → old ≤ mid → BlamesDisk end mid new → BlamesDisk end old new
-disk_blamed flush.Idle old mid new grows blames = tt
-disk_blamed flush.Done old mid new grows blames = tt
-disk_blamed (flush.Failed count) old mid new grows blames = (omega (arith, grows, blames.0), omega (arith, grows, blames.1))
-disk_blamed flush.Misplaced old mid new grows blames = tt
-disk_blamed flush.Memory old mid new grows blames = tt
 
 -- a replacement behind others
 pub keep_blamed : {A : Type 0} (kept : Result A DiskFault) (old mid new : ℕ) → old ≤ mid → CountsDiskFault kept mid new → BlamesKeep kept old new

@@ -33,14 +33,15 @@ use Rattle.segment_files.specs.declared.last_file.LastFile.{LastFile}
 use Rattle.worker_turns.specs.Acts as acts
 use Rattle.worker_turns.specs.Acts.{Acted, DiskView, Place, place_of, change_of}
 use Rattle.serve_threads.specs.Kept.{SeesAll}
-use Rattle.serve_threads.specs.Asking.{HasTaken, IsFrontOf}
+use Rattle.flush_rounds.specs.Asking.{HasTaken, IsFrontOf}
 use Rattle.serve_threads.specs.Links.{LoopLinks, loop_links, first_links, second_links, AreUpTo, WasAnswered, AreEntered, WorksFrom, Worked, Part, part_of}
-use Rattle.serve_threads.specs.declared.asks.LoopAsks.{LoopAsks}
-use Rattle.serve_threads.specs.Served.{FlushesTo, Write, first_clock, second_clock, AreLooks, IsMerged, Meets, Cuts, AreCut, AreMet, ByThread, HasMade, IsMadeBy, Views, by_thread}
-use Rattle.serve_threads.proofs.Asking.{got_more, front_some}
+use Rattle.flush_rounds.specs.declared.asks.LoopAsks.{LoopAsks}
+use Rattle.flush_rounds.specs.Flushing.{FlushesTo, Write}
+use Rattle.serve_threads.specs.Served.{first_clock, second_clock, AreLooks, IsMerged, Meets, Cuts, AreCut, AreMet, ByThread, HasMade, IsMadeBy, Views, by_thread}
+use Rattle.flush_rounds.proofs.Asking.{got_more, front_some}
 use Rattle.serve_threads.proofs.Keeping.{SeesAt, starts_then}
 use Rattle.serve_threads.proofs.Keys.{cut_numbers}
-use Rattle.serve_threads.proofs.Turns.{acts_make, acts_write}
+use Rattle.flush_rounds.proofs.Turns.{acts_make, acts_write}
 use Rattle.serve_threads.proofs.SharedStory.{leads_on}
 
 -- ---- what a loop made

@@ -23,7 +23,8 @@ use Rattle.flush_story.proofs.Keeps.{keeps_start, keeps_story}
 use Rattle.spine.specs.Stands.{StepsAlong, Along, Stands}
 use Rattle.reply_fields.specs.Parts.{AskParts}
 use Rattle.serve_threads.specs.Links.{LoopLinks, AreAnsweredFrom}
-use Rattle.serve_threads.specs.Served.{AreLooks, IsMerged, of_anybody, Write, LeadsOn}
+use Rattle.flush_rounds.specs.Flushing.{of_anybody, Write}
+use Rattle.serve_threads.specs.Served.{AreLooks, IsMerged, LeadsOn}
 use Rattle.serve_threads.proofs.Laid.{Laid, laid}
 
 -- ---- one step

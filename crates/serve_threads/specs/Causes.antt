@@ -7,7 +7,7 @@ use Rattle.event_loops.specs.Causes.{LoopFaults}
 use Rattle.event_loops.specs.declared.event_loop.LoopEnd.{LoopEnd}
 use Rattle.event_loops.specs.declared.event_loop.LoopEnd.TheVariants.{Done, Stopped, Clock, Door, Poll, Memory}
 use Rattle.worker_turns.specs.declared.flush.FlushEnd.{FlushEnd}
-use Rattle.worker_turns.specs.declared.flush.FlushEnd.TheVariants as flush
+use Rattle.flush_rounds.specs.Causes.{BlamesDisk}
 use Rattle.serve_threads.specs.declared.world.World.{World}
 
 -- how often what is around both loops has failed: the readiness of each, the clock of each, and the door
@@ -36,14 +36,6 @@ BlamesWorld Clock old new = OneRises old.clocks new.clocks
 BlamesWorld Door old new = Rises old.door new.door
 BlamesWorld Poll old new = OneRises old.ready new.ready
 BlamesWorld Memory old new = Unit {0}
-
--- a flush turn that ends so didn't fail, or the disk did
-abbrev pub BlamesDisk : FlushEnd → ℕ → ℕ → Type 0
-BlamesDisk flush.Idle old new = Unit {0}
-BlamesDisk flush.Done old new = Unit {0}
-BlamesDisk (flush.Failed count) old new = Rises old new
-BlamesDisk flush.Misplaced old new = Unit {0}
-BlamesDisk flush.Memory old new = Unit {0}
 
 -- a replacement of the kept files that ends so didn't fail, or the keep did
 abbrev pub BlamesKeep : {A : Type 0} → Result A DiskFault → ℕ → ℕ → Type 0

@@ -3,7 +3,6 @@ use Rattle.std.specs.Prelude.{◌≡◌, ◌⊎◌, ◌<◌, ◌≤◌, ◌+◌,
 use Rattle.mq_outside.specs.Readings.{Giving}
 use Rattle.mq_peers.specs.Ended.{LinkEnd}
 use Rattle.reply_fields.specs.Parts.{AskParts}
-use Rattle.ask_ways.specs.Ways.{taken_by}
 use Rattle.session.specs.Serving.{Made}
 use Rattle.event_loops.specs.Tales.{Act, steps_of, asks_of, made_for, asks_for, AreSome, DidNothing, loop_of}
 use Rattle.event_loops.specs.Tales.{IsEndOf, IsAnsweredInOrder, LoopView}
@@ -12,8 +11,8 @@ use Rattle.event_loops.specs.Timing.{ClockOver, GoesTimed, IsTimed}
 use Rattle.event_loops.specs.declared.event_loop.EventLoop.{EventLoop}
 use Rattle.event_loops.specs.declared.links.Links.{Links}
 use Rattle.worker_turns.specs.Turns.{Steps}
-use Rattle.serve_threads.specs.Asking.{HasTaken}
-use Rattle.serve_threads.specs.declared.asks.LoopAsks.{LoopAsks}
+use Rattle.flush_rounds.specs.Asking.{HasTaken}
+use Rattle.flush_rounds.specs.declared.asks.LoopAsks.{LoopAsks}
 
 -- ---- the links that have ended
 

@@ -10,7 +10,8 @@ ghost use Rattle.spine.specs.Stands.{Stands};
 ghost use Rattle.std.specs.Prelude.{List};
 ghost use Rattle.mq_peers.specs.Ended.{LinkEnd};
 ghost use Rattle.serve_threads.specs.Links.{AreAnsweredFrom, loop_links};
-ghost use Rattle.serve_threads.specs.Served.{AreLooks, IsMerged, LeadsOn, Write};
+ghost use Rattle.flush_rounds.specs.Flushing.{Write};
+ghost use Rattle.serve_threads.specs.Served.{AreLooks, IsMerged, LeadsOn};
 
 use mq_outside::{Disk, Reader};
 use mq_peers::{Ends, Link};

@@ -1,17 +1,14 @@
-//! The broker over many links, from the core that is opened to the core that is left: two loops serve the links, one flusher writes
-//! what they append, delivers delayed messages, checks half messages and asks back. And whose the entries of their history are, and
-//! which log the disk stores after it.
+//! The broker over many links, from the core that is opened to the core that is left: two loops serve the links, and a flusher writes
+//! what they append. And whose the entries of their history are, and which log the disk stores after it.
 #![tactic(auto)]
 
-mod asks;
-mod flusher;
+mod callers;
 mod keeper;
 mod laws;
 mod loops;
 mod served;
 mod starting;
 mod threads;
-mod timetable;
 mod world;
 
 pub use laws::a_shared_history_is_a_story;

@@ -6,12 +6,10 @@ ghost use Rattle.serve_threads.specs.Causes.{BlamesMaking, world_faults};
 
 use crate::world::World;
 use event_loops::{Bounds, EventLoop, LoopEnd, Port, watch_door};
+use flush_rounds::LOOPS;
 use mq_outside::Clock;
 use mq_peers::Ready;
 use std::alloc::{AllocError, Global};
-
-/// How many loops there are.
-pub(crate) const LOOPS: usize = 2;
 
 /// The loops, how other threads reach them, and what is around them.
 #[derive(Drop)]

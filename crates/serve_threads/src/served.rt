@@ -12,22 +12,24 @@ ghost use Rattle.event_loops.specs.Causes.{door_faults, loop_faults};
 ghost use Rattle.event_loops.specs.Doors.{GaveAll};
 ghost use Rattle.event_loops.specs.declared.event_loop.LoopEnd.TheVariants.{Done, Memory};
 ghost use Rattle.ask_ways.specs.Ways.{ArePair, put_by, taken_by};
-ghost use Rattle.serve_threads.specs.Asking.{HasNoneAsked, IsFrontOf};
+ghost use Rattle.flush_rounds.specs.Asking.{HasNoneAsked, IsFrontOf};
 ghost use Rattle.serve_threads.specs.Kept.{PutsAlong, keep_over};
 ghost use Rattle.serve_threads.specs.Links.{AreAllThatCame, AreLoops, AreWhole, links_over};
 ghost use Rattle.serve_threads.specs.Served.{AreCut, AreMet, Meets, HasMade, IsLeft, by_thread};
 ghost use Rattle.serve_threads.specs.Served.{clocks_over, readings_of, views_of};
-ghost use Rattle.serve_threads.specs.Causes.{BlamesDisk, BlamesKeep, BlamesWorld, HasCauses, HasDoor, IsFirstFault};
+ghost use Rattle.flush_rounds.specs.Causes.{BlamesDisk};
+ghost use Rattle.serve_threads.specs.Causes.{BlamesKeep, BlamesWorld, HasCauses, HasDoor, IsFirstFault};
 ghost use Rattle.serve_threads.specs.Causes.{both_faults, counts_of, world_faults};
 
-use crate::asks::{AskWays, LoopAsks, Ways};
+use crate::callers::CALLERS;
 use crate::loops::Loops;
-use crate::threads::{Flushing, Keeping, Ran, Worker, run_all};
+use crate::threads::{Keeping, Ran, Worker, run_all};
 use crate::world::World;
 use broker_core::Core;
 use event_loops::{
-    Around, EventLoop, LoopEnd, Outside, Shared, each_link_of_a_loop_is_answered_in_order,
+    Around, Bounds, EventLoop, LoopEnd, Outside, Shared, each_link_of_a_loop_is_answered_in_order,
 };
+use flush_rounds::{AskWays, FlushState, LoopAsks, Ways};
 use group_flush::Flusher;
 use keeper_turns::keep_core;
 use mq_outside::{Clock, Disk, DiskFault, Keep, Reader};
@@ -36,6 +38,7 @@ use spine::{Pass, Spine, SpinePass};
 use std::alloc::Global;
 use std::sync::Wait;
 use std::thread::Threads;
+use story_lock::Story;
 use worker_turns::FlushEnd;
 
 /// What is left of a run.
@@ -290,15 +293,15 @@ fn gather<
 {
     let Ran {
         flushing,
+        clock,
         keeping,
         first,
         second,
     } = ran;
-    let Flushing {
+    let FlushState {
         calls,
         flusher: _,
         disk,
-        clock,
         ways,
         last,
     } = flushing;
@@ -324,7 +327,43 @@ fn gather<
     }
 }
 
-// Runs all threads, each with a pass of its own, the flusher with the key. In the end these are one pass again.
+// What a run was to work with, and the pass that has the key, where there was no memory for the lock of the flush turns.
+fn unbegun<
+    W: Wait,
+    P: Ready + Drop,
+    K: Clock + Drop,
+    D: Disk + Drop,
+    R: Reader + Drop,
+    E: Keep + Drop,
+>(
+    state: FlushState<SpinePass<'_, W>, D>,
+    readers: (R, R),
+    keep: E,
+    world: World<P, K>,
+) -> (Pass, Unserved<P, K, D, R, E>)
+    ensures pass { state.entry.calls.pass ≡ Some result.0 }
+    ensures devices { result.1.devices ≡ record { flusher = state.entry.flusher; disk = state.entry.disk; readers = readers; keep = keep } }
+    ensures world { result.1.world ≡ world }
+{
+    let FlushState {
+        calls,
+        flusher,
+        disk,
+        ways,
+        last: _,
+    } = state;
+    drop(ways);
+    let devices = Devices {
+        flusher,
+        disk,
+        readers,
+        keep,
+    };
+    (calls.leave(), Unserved { devices, world })
+}
+
+// Runs all threads, each with a pass of its own, the flusher with the key, and three of them with one for flush turns. In the end the
+// passes are one again. At `Err` there is no memory to begin, and it gives the pass that has the key.
 fn run_seated<
     W: Wait + Threads + Sync,
     P: Ready + Send + Sync + Drop,
@@ -337,89 +376,90 @@ fn run_seated<
     spine: &Spine,
     pass: Pass,
     loops: (EventLoop<P>, EventLoop<P>),
-    outsides: (Outside<P, K>, Outside<P, K>, K),
+    world: World<P, K>,
+    bounds: Bounds,
     ways: Ways,
     devices: Devices<D, R, E>,
-) -> Left<P, K, D, R, E>
+) -> Result<Left<P, K, D, R, E>, (Pass, Unserved<P, K, D, R, E>)>
 where
     D::Reader: Send,
     requires of { IsPassOf spine.now.story pass }
     requires numbers { numbers_of pass ≡ 0 ∷ 1 ∷ 2 ∷ 3 ∷ [] }
     requires first { (seen_by pass ≡ []) × (mine_of pass ≡ []) }
     requires loops { AreLoops P.Ends.tells P.Ends.entries loops.0 loops.1 }
-    requires door { HasDoor (door_faults P.Door.faults outsides.0.entrance) × (door_faults P.Door.faults outsides.1.entrance ≡ None) }
     requires none_out { (shown_of (start_of spine.now.story).core).out ≡ None }
     requires pairs { ArePair ways.sends.first ways.first.way × ArePair ways.sends.second ways.second.way }
     requires none_asked { HasNoneAsked ways.sends × (taken_by ways.first.way ≡ []) × (taken_by ways.second.way ≡ []) }
     requires inside { D.tells → IsInside devices.flusher.file.base devices.flusher.file.offset (D.state devices.disk) }
-    ensures outside { D.tells → StaysOutside (D.state devices.disk) (D.state result.disk) }
-    ensures of { IsPassOf spine.now.story result.pass }
-    ensures made { HasMade (views_of (links_over P.Link.tells P.Ends.tells P.Ends.entries result.ends) R.gives
-        (clocks_over K.tells (readings_of K.readings (outsides.0.clock, outsides.1.clock)) (readings_of K.readings result.world.clocks))
+    ensures outside { D.tells → IfOk result (λ it. StaysOutside (D.state devices.disk) (D.state it.disk)) }
+    ensures of { IfOk result (λ it. IsPassOf spine.now.story it.pass) }
+    ensures made { IfOk result (λ it. HasMade (views_of (links_over P.Link.tells P.Ends.tells P.Ends.entries it.ends) R.gives
+        (clocks_over K.tells (readings_of K.readings world.clocks) (readings_of K.readings it.world.clocks))
         (view_of D.tells D.state D.faults D.syncs))
-        (place_of devices.flusher.file devices.disk) result.pass result.disk }
-    ensures kept { E.tells → PutsAlong (start_of spine.now.story).core (seen_by result.pass)
-        (E.state devices.keep) (E.state result.keep) }
-    ensures whole { result.end ≢ Memory → IsSome result.ends }
-    ensures all { IfSome outsides.0.entrance (λ e. e.came ≡ 0 → AreAllThatCame (P.Door.gave e.door) (P.Door.gave result.world.door)
-        (links_over P.Link.tells P.Ends.tells P.Ends.entries result.ends)) }
-    ensures came { result.end ≡ Done → IfSome outsides.0.entrance (λ e. e.came ≡ 0
-        → GaveAll e.bounds.most (P.Door.gave e.door) (P.Door.gave result.world.door)) }
-    ensures cause { BlamesWorld result.end (both_faults (loop_faults P.faults P.Door.faults K.faults outsides.0)
-        (loop_faults P.faults P.Door.faults K.faults outsides.1)) (world_faults P.faults P.Door.faults K.faults result.world) }
-    ensures disk_cause { BlamesDisk result.last (D.faults devices.disk) (D.faults result.disk) }
-    ensures keep_grows { E.faults devices.keep ≤ E.faults result.keep }
+        (place_of devices.flusher.file devices.disk) it.pass it.disk) }
+    ensures kept { E.tells → IfOk result (λ it. PutsAlong (start_of spine.now.story).core (seen_by it.pass)
+        (E.state devices.keep) (E.state it.keep)) }
+    ensures whole { IfOk result (λ it. it.end ≢ Memory → IsSome it.ends) }
+    ensures all { IfOk result (λ it. AreAllThatCame (P.Door.gave world.door) (P.Door.gave it.world.door)
+        (links_over P.Link.tells P.Ends.tells P.Ends.entries it.ends)) }
+    ensures came { IfOk result (λ it. it.end ≡ Done
+        → GaveAll bounds.most (P.Door.gave world.door) (P.Door.gave it.world.door)) }
+    ensures cause { IfOk result (λ it. BlamesWorld it.end (world_faults P.faults P.Door.faults K.faults world)
+        (world_faults P.faults P.Door.faults K.faults it.world)) }
+    ensures disk_cause { IfOk result (λ it. BlamesDisk it.last (D.faults devices.disk) (D.faults it.disk)) }
+    ensures keep_grows { IfOk result (λ it. E.faults devices.keep ≤ E.faults it.keep) }
+    ensures err { IfErr result (λ back. IsPassOf spine.now.story back.0 × (back.1.devices ≡ devices) × (back.1.world ≡ world)) }
 {
     let Devices {
         flusher,
         disk,
-        readers: (first_reader, second_reader),
+        readers,
         keep,
     } = devices;
-    let (first_loop, second_loop) = loops;
-    let (near, far, clock) = outsides;
-    let Ways {
-        sends,
-        first: first_asks,
-        second: second_asks,
-    } = ways;
     let Seats {
-        flusher: key,
+        flusher: calls,
         first,
         second,
         keeper,
     } = seats_of(spine, around.rt, pass);
+    let state = FlushState {
+        calls,
+        flusher,
+        disk,
+        ways: ways.sends,
+        last: FlushEnd::Idle,
+    };
+    let (lock, turns) = match Story::new(around.alloc, state, CALLERS) {
+        Ok(opened) => opened,
+        Err((state, _)) => {
+            drop(loops);
+            return Err(unbegun(state, readers, keep, world));
+        }
+    };
+    let (near, far, clock) = world.part(bounds);
     let first = Worker {
-        event_loop: first_loop,
+        event_loop: loops.0,
         outside: near,
-        asks: first_asks,
+        asks: ways.first,
         calls: first,
-        reader: first_reader,
+        reader: readers.0,
         end: LoopEnd::Done,
     };
     let second = Worker {
-        event_loop: second_loop,
+        event_loop: loops.1,
         outside: far,
-        asks: second_asks,
+        asks: ways.second,
         calls: second,
-        reader: second_reader,
+        reader: readers.1,
         end: LoopEnd::Done,
-    };
-    let flushing = Flushing {
-        calls: key,
-        flusher,
-        disk,
-        clock,
-        ways: sends,
-        last: FlushEnd::Idle,
     };
     let keeping = Keeping {
         calls: keeper,
         keep,
     };
-    let ran = run_all(around, first, second, flushing, keeping);
+    let ran = run_all(around, first, second, keeping, lock, turns, clock);
     each_link_of_a_loop_is_answered_in_order::<P::Link, R>();
-    gather(spine, around.rt, ran)
+    Ok(gather(spine, around.rt, ran))
 }
 
 // The core is taken out of the spine, and the kept files are replaced by its texts.
@@ -548,14 +588,20 @@ where
         shared: &shared,
         ports: ports.as_slice(),
     };
-    let left = run_seated(
+    match run_seated(
         &around,
         &spine,
         pass,
         (first, second),
-        world.part(bounds),
+        world,
+        bounds,
         ways,
         devices,
-    );
-    Ok(close(rt, alloc, spine, left))
+    ) {
+        Ok(left) => Ok(close(rt, alloc, spine, left)),
+        Err((pass, back)) => {
+            drop(spine.close(rt, pass));
+            Err(back)
+        }
+    }
 }

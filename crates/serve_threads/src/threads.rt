@@ -1,33 +1,28 @@
 //! The threads: each owns what it works with, and gives it back at its end.
 
-ghost use Rattle.std.specs.Prelude.{◌≡◌, ◌≤◌, [], None};
+ghost use Rattle.std.specs.Prelude.{◌≡◌, ◌≤◌, length};
 ghost use denote.Param.Send.{IsSync, IsSend};
-ghost use Rattle.log_model.specs.Stored.{StaysOutside};
-ghost use Rattle.segment_files.specs.Turn.{IsInside};
-ghost use Rattle.worker_turns.specs.Acts.{Acted, place_of, view_of, change_of};
+ghost use Rattle.story_lock.specs.Passes.{IsPassOf, numbers_of, start_of};
+ghost use Rattle.worker_turns.specs.Acts.{view_of};
 ghost use Rattle.event_loops.specs.Causes.{CountsEnd, loop_faults};
 ghost use Rattle.event_loops.specs.Doors.{AtDoor};
 ghost use Rattle.event_loops.specs.Tales.{loop_view};
 ghost use Rattle.event_loops.specs.Timing.{clock_over};
 ghost use Rattle.serve_threads.specs.Kept.{KeepsUp, keep_over};
-ghost use Rattle.serve_threads.specs.Asking.{AreSameWays, HasNoneAsked, put_of};
 ghost use Rattle.serve_threads.specs.Links.{Worked, part_of};
-ghost use Rattle.serve_threads.specs.Served.{FlushesTo};
-ghost use Rattle.serve_threads.specs.Causes.{BlamesDisk};
+ghost use Rattle.flush_rounds.specs.Working.{Worked as WorkedOn};
 
-use crate::asks::{AskWays, LoopAsks};
-use crate::flusher::keep_flushing;
+use crate::callers::{Callers, callers_of};
 use crate::keeper::keep_up;
-use crate::timetable::Timetable;
 use broker_core::Owner;
 use broker_events::Calls;
-use event_loops::{Around, EventLoop, LoopEnd, Outside};
-use group_flush::Flusher;
+use event_loops::{Around, EventLoop, Flushes, LoopEnd, Outside};
+use flush_rounds::{FlushState, LoopAsks};
 use mq_outside::{Clock, Disk, Keep, Reader};
 use mq_peers::Ready;
 use std::sync::Wait;
 use std::thread::{Parker, Threads, join};
-use worker_turns::FlushEnd;
+use story_lock::{Pass, Story};
 
 /// A loop with what is outside it, where check-backs come from, what it makes steps by, and what it reads pulls by.
 #[derive(Drop)]
@@ -52,8 +47,12 @@ fn tell_end<W: Wait, P: Ready>(around: &Around<'_, W, P>, end: LoopEnd) {
 }
 
 impl<P: Ready + Drop, K: Clock + Drop, C: Calls + Drop, R: Reader + Drop> Worker<P, K, C, R> {
-    // Runs the loop to its end.
-    fn run<W: Wait>(self, around: &Around<'_, W, P>) -> Worker<P, K, C, R>
+    // Runs the loop to its end. It makes flush turns by this caller.
+    fn run<W: Wait, H: Flushes + Drop>(
+        self,
+        around: &Around<'_, W, P>,
+        flusher: H,
+    ) -> Worker<P, K, C, R>
         ensures went { Worked C.makes (loop_view P.Link.tells P.Link.given P.Link.taken P.Ends.tells P.Ends.entries) R.gives
             (clock_over K.tells (K.readings self.outside.clock) (K.readings result.outside.clock))
             (part_of self.calls self.asks self.event_loop.links)
@@ -70,7 +69,16 @@ impl<P: Ready + Drop, K: Clock + Drop, C: Calls + Drop, R: Reader + Drop> Worker
             mut reader,
             end: _,
         } = self;
-        let end = event_loop.run(around, &mut outside, &mut asks, &mut calls, &mut reader);
+        let mut flusher = flusher;
+        let end = event_loop.run(
+            around,
+            &mut outside,
+            &mut asks,
+            &mut calls,
+            &mut reader,
+            &mut flusher,
+        );
+        drop(flusher);
         tell_end(around, end);
         Worker {
             event_loop,
@@ -79,59 +87,6 @@ impl<P: Ready + Drop, K: Clock + Drop, C: Calls + Drop, R: Reader + Drop> Worker
             calls,
             reader,
             end,
-        }
-    }
-}
-
-/// What the flusher works with, and how its last turn ended.
-#[derive(Drop)]
-pub(crate) struct Flushing<C: Owner + Drop, D: Disk + Drop, K: Clock + Drop> {
-    pub(crate) calls: C,
-    pub(crate) flusher: Flusher,
-    pub(crate) disk: D,
-    pub(crate) clock: K,
-    pub(crate) ways: AskWays,
-    pub(crate) last: FlushEnd,
-}
-
-impl<C: Owner + Drop, D: Disk + Drop, K: Clock + Drop> Flushing<C, D, K> {
-    // Flushes and delivers until the loops have ended, and flushes then what is left.
-    fn run<W: Wait, P: Ready + Drop>(self, around: &Around<'_, W, P>) -> Flushing<C, D, K>
-        requires key { C.has_key self.calls }
-        requires none_out { (C.shown self.calls).out ≡ None }
-        requires inside { D.tells → IsInside self.flusher.file.base self.flusher.file.offset (D.state self.disk) }
-        requires none_asked { HasNoneAsked self.ways }
-        ensures outside { D.tells → StaysOutside (D.state self.disk) (D.state result.disk) }
-        ensures acted { Acted C.makes (view_of D.tells D.state D.faults D.syncs) (FlushesTo (put_of result.ways))
-            (change_of self.calls (place_of self.flusher.file self.disk)
-            result.calls (place_of result.flusher.file result.disk)) }
-        ensures ways { AreSameWays self.ways result.ways }
-        ensures cause { BlamesDisk result.last (D.faults self.disk) (D.faults result.disk) }
-    {
-        let Flushing {
-            mut calls,
-            mut flusher,
-            mut disk,
-            clock,
-            mut ways,
-            last: _,
-        } = self;
-        let mut timetable = Timetable::new(clock);
-        let last = keep_flushing(
-            around,
-            &mut timetable,
-            &mut ways,
-            &mut calls,
-            &mut flusher,
-            &mut disk,
-        );
-        Flushing {
-            calls,
-            flusher,
-            disk,
-            clock: timetable.into_clock(),
-            ways,
-            last,
         }
     }
 }
@@ -176,11 +131,13 @@ fn run_loops<
     K: Clock + Send + Drop,
     C: Calls + Send + Drop,
     R: Reader + Send + Drop,
+    H: Flushes + Send + Drop,
 >(
     around: &Around<'_, W, P>,
     bell: &Parker,
     first: Worker<P, K, C, R>,
     second: Worker<P, K, C, R>,
+    flushers: (H, H),
 ) -> (Worker<P, K, C, R>, Worker<P, K, C, R>)
     ensures first { Worked C.makes (loop_view P.Link.tells P.Link.given P.Link.taken P.Ends.tells P.Ends.entries) R.gives
         (clock_over K.tells (K.readings first.outside.clock) (K.readings result.0.outside.clock))
@@ -196,6 +153,7 @@ fn run_loops<
     ensures second_cause { CountsEnd result.1.end (loop_faults P.faults P.Door.faults K.faults second.outside)
         (loop_faults P.faults P.Door.faults K.faults result.1.outside) }
 {
+    let (near, far) = flushers;
     let (mut first, mut second) = join(
         around.rt,
         move || -> Worker<P, K, C, R>
@@ -208,7 +166,7 @@ fn run_loops<
             ensures door { AtDoor P.Door.gave result.end first.outside.entrance result.outside.entrance }
             ensures cause { CountsEnd result.end (loop_faults P.faults P.Door.faults K.faults first.outside)
                 (loop_faults P.faults P.Door.faults K.faults result.outside) }
-        { first.run(around) },
+        { first.run(around, near) },
         move || -> Worker<P, K, C, R>
             requires { IsSend P.Link.row × IsSend P.Door.row × IsSend P.Ends.row × IsSend P.Waker.row × IsSync P.Waker.row
                 × IsSend K.row }
@@ -218,7 +176,7 @@ fn run_loops<
                 (part_of result.calls result.asks result.event_loop.links) }
             ensures cause { CountsEnd result.end (loop_faults P.faults P.Door.faults K.faults second.outside)
                 (loop_faults P.faults P.Door.faults K.faults result.outside) }
-        { second.run(around) },
+        { second.run(around, far) },
     );
     around.shared.loops_ended();
     bell.unpark();
@@ -236,11 +194,13 @@ fn run_kept<
     C: Owner + Send + Drop,
     R: Reader + Send + Drop,
     E: Keep + Send + Drop,
+    H: Flushes + Send + Drop,
 >(
     around: &Around<'_, W, P>,
     first: Worker<P, K, C, R>,
     second: Worker<P, K, C, R>,
     keeping: Keeping<C, E>,
+    flushers: (H, H),
 ) -> (Keeping<C, E>, (Worker<P, K, C, R>, Worker<P, K, C, R>))
     ensures kept { KeepsUp C.sees (keep_over E.tells (E.state keeping.keep) (E.state result.0.keep)) keeping.calls result.0.calls }
     ensures keep_grows { E.faults keeping.keep ≤ E.faults result.0.keep }
@@ -268,7 +228,7 @@ fn run_kept<
         { keeping.run(around, rings) },
         move || -> (Worker<P, K, C, R>, Worker<P, K, C, R>)
             requires { IsSync W.row × IsSend P.row × IsSync P.row × IsSend P.Link.row × IsSend P.Door.row × IsSend P.Waker.row
-                × IsSync P.Waker.row × IsSend K.row × IsSend C.row × IsSend R.row }
+                × IsSync P.Waker.row × IsSend K.row × IsSend C.row × IsSend R.row × IsSend H.row }
             ensures first { Worked C.makes (loop_view P.Link.tells P.Link.given P.Link.taken P.Ends.tells P.Ends.entries) R.gives
                 (clock_over K.tells (K.readings first.outside.clock) (K.readings result.0.outside.clock))
                 (part_of first.calls first.asks first.event_loop.links)
@@ -282,7 +242,7 @@ fn run_kept<
                 (loop_faults P.faults P.Door.faults K.faults result.0.outside) }
             ensures second_cause { CountsEnd result.1.end (loop_faults P.faults P.Door.faults K.faults second.outside)
                 (loop_faults P.faults P.Door.faults K.faults result.1.outside) }
-        { run_loops(around, rings, first, second) },
+        { run_loops(around, rings, first, second, flushers) },
     )
 }
 
@@ -296,13 +256,15 @@ pub(crate) struct Ran<
     R: Reader + Drop,
     E: Keep + Drop,
 > {
-    pub(crate) flushing: Flushing<C, D, K>,
+    pub(crate) flushing: FlushState<C, D>,
+    pub(crate) clock: K,
     pub(crate) keeping: Keeping<C, E>,
     pub(crate) first: Worker<P, K, C, R>,
     pub(crate) second: Worker<P, K, C, R>,
 }
 
-/// Runs both loops, the keeper and the flusher until the loops have ended and what they left is flushed.
+/// Runs both loops, the keeper and the flusher until the loops have ended and what they left is flushed. Then it takes the state of the
+/// flush turns out of its lock.
 pub(crate) fn run_all<
     W: Wait + Threads + Sync,
     P: Ready + Send + Sync + Drop,
@@ -315,20 +277,16 @@ pub(crate) fn run_all<
     around: &Around<'_, W, P>,
     first: Worker<P, K, C, R>,
     second: Worker<P, K, C, R>,
-    flushing: Flushing<C, D, K>,
     keeping: Keeping<C, E>,
+    lock: Story<FlushState<C, D>>,
+    turns: Pass<FlushState<C, D>>,
+    clock: K,
 ) -> Ran<P, D, K, C, R, E>
 where
     D::Reader: Send,
-    requires key { C.has_key flushing.calls }
-    requires none_out { (C.shown flushing.calls).out ≡ None }
-    requires inside { D.tells → IsInside flushing.flusher.file.base flushing.flusher.file.offset (D.state flushing.disk) }
-    requires none_asked { HasNoneAsked flushing.ways }
-    ensures outside { D.tells → StaysOutside (D.state flushing.disk) (D.state result.flushing.disk) }
-    ensures acted { Acted C.makes (view_of D.tells D.state D.faults D.syncs) (FlushesTo (put_of result.flushing.ways))
-        (change_of flushing.calls (place_of flushing.flusher.file flushing.disk)
-        result.flushing.calls (place_of result.flushing.flusher.file result.flushing.disk)) }
-    ensures ways { AreSameWays flushing.ways result.flushing.ways }
+    requires of { IsPassOf lock turns }
+    requires seats { length (numbers_of turns) ≡ 3 }
+    ensures worked { WorkedOn C.makes C.has_key C.shown (view_of D.tells D.state D.faults D.syncs) (start_of lock) result.flushing }
     ensures kept { KeepsUp C.sees (keep_over E.tells (E.state keeping.keep) (E.state result.keeping.keep)) keeping.calls
         result.keeping.calls }
     ensures first { Worked C.makes (loop_view P.Link.tells P.Link.given P.Link.taken P.Ends.tells P.Ends.entries) R.gives
@@ -344,25 +302,24 @@ where
         (loop_faults P.faults P.Door.faults K.faults result.first.outside) }
     ensures second_cause { CountsEnd result.second.end (loop_faults P.faults P.Door.faults K.faults second.outside)
         (loop_faults P.faults P.Door.faults K.faults result.second.outside) }
-    ensures disk_cause { BlamesDisk result.flushing.last (D.faults flushing.disk) (D.faults result.flushing.disk) }
     ensures keep_grows { E.faults keeping.keep ≤ E.faults result.keeping.keep }
 {
-    let (flushing, (keeping, (first, second))) = join(
+    let Callers {
+        flusher,
+        loops,
+        closing,
+    } = callers_of(&lock, around.rt, turns);
+    let (clock, (keeping, (first, second))) = join(
         around.rt,
-        move || -> Flushing<C, D, K>
-            requires { C.has_key flushing.calls × ((C.shown flushing.calls).out ≡ None)
-                × (D.tells → IsInside flushing.flusher.file.base flushing.flusher.file.offset (D.state flushing.disk))
-                × HasNoneAsked flushing.ways }
-            ensures outside { D.tells → StaysOutside (D.state flushing.disk) (D.state result.disk) }
-            ensures acted { Acted C.makes (view_of D.tells D.state D.faults D.syncs) (FlushesTo (put_of result.ways))
-                (change_of flushing.calls (place_of flushing.flusher.file flushing.disk)
-                result.calls (place_of result.flusher.file result.disk)) }
-            ensures ways { AreSameWays flushing.ways result.ways }
-            ensures cause { BlamesDisk result.last (D.faults flushing.disk) (D.faults result.disk) }
-        { flushing.run(around) },
+        move || -> K
+            requires { IsSend P.Link.row × IsSend P.Door.row × IsSend P.Ends.row × IsSend P.Waker.row }
+        {
+            let mut flusher = flusher;
+            flusher.keep_flushing(around, clock)
+        },
         move || -> (Keeping<C, E>, (Worker<P, K, C, R>, Worker<P, K, C, R>))
             requires { IsSync W.row × IsSend P.row × IsSync P.row × IsSend P.Link.row × IsSend P.Door.row × IsSend P.Waker.row
-                × IsSync P.Waker.row × IsSend K.row × IsSend C.row × IsSend R.row × IsSend E.row }
+                × IsSync P.Waker.row × IsSend K.row × IsSend C.row × IsSend R.row × IsSend E.row × IsSend D.row }
             ensures kept { KeepsUp C.sees (keep_over E.tells (E.state keeping.keep) (E.state result.0.keep)) keeping.calls result.0.calls }
             ensures keep_grows { E.faults keeping.keep ≤ E.faults result.0.keep }
             ensures first { Worked C.makes (loop_view P.Link.tells P.Link.given P.Link.taken P.Ends.tells P.Ends.entries) R.gives
@@ -378,10 +335,11 @@ where
                 (loop_faults P.faults P.Door.faults K.faults result.1.0.outside) }
             ensures second_cause { CountsEnd result.1.1.end (loop_faults P.faults P.Door.faults K.faults second.outside)
                 (loop_faults P.faults P.Door.faults K.faults result.1.1.outside) }
-        { run_kept(around, first, second, keeping) },
+        { run_kept(around, first, second, keeping, loops) },
     );
     Ran {
-        flushing,
+        flushing: lock.close(around.rt, closing),
+        clock,
         keeping,
         first,
         second,

@@ -1,7 +1,7 @@
 use Rattle.std.proofs.Common.{◌≡◌, ◌∙◌, IfSome, ap, sym, subst}
 use Rattle.ask_ways.specs.Ways.{ArePair, put_by, taken_by}
-use Rattle.serve_threads.specs.Asking.{IsFrontOf}
-use Rattle.serve_threads.specs.declared.asks.LoopAsks.{LoopAsks}
+use Rattle.flush_rounds.specs.Asking.{IsFrontOf}
+use Rattle.flush_rounds.specs.declared.asks.LoopAsks.{LoopAsks}
 use Rattle.event_loops.specs.Causes.{door_faults, loop_faults}
 use Rattle.serve_threads.proofs.Keys.{some_at}
 use Rattle.serve_threads.specs.Causes.{HasDoor, IsFirstFault}

@@ -4,8 +4,5 @@ use Rattle.event_loops.proofs.Timing.{led_whenever}
 use Rattle.event_loops.proofs.Told.{goes_leading}
 use Rattle.event_loops.proofs.event_loop.EventLoop.serve.Goals as goal
 
-pub returns-in-Some : goal.returns-in-Some
-returns-in-Some g c = record { went = goes_leading (loop_view g.P.Link.Link.tells g.P.Link.Link.given g.P.Link.Link.taken g.P.Ends.Ends.tells g.P.Ends.Ends.entries) g.R.Reader.gives (at_reading c.args.now g.C.Calls.makes) _ _ _ _ _ _ _ _ c.hear.ensures.went (led_whenever g.C.Calls.makes c.args.now _ _ _ _ c.reply.ensures.went) }
-
-pub returns-else-reply : goal.returns-else-reply
-returns-else-reply g c = record { went = goes_leading (loop_view g.P.Link.Link.tells g.P.Link.Link.given g.P.Link.Link.taken g.P.Ends.Ends.tells g.P.Ends.Ends.entries) g.R.Reader.gives (at_reading c.args.now g.C.Calls.makes) _ _ _ _ _ _ _ _ c.hear.ensures.went (led_whenever g.C.Calls.makes c.args.now _ _ _ _ c.reply.ensures.went) }
+pub returns : goal.returns
+returns g c = record { went = goes_leading (loop_view g.P.Link.Link.tells g.P.Link.Link.given g.P.Link.Link.taken g.P.Ends.Ends.tells g.P.Ends.Ends.entries) g.R.Reader.gives (at_reading c.args.now g.C.Calls.makes) _ _ _ _ _ _ _ _ c.hear-given.ensures.went (led_whenever g.C.Calls.makes c.args.now _ _ _ _ c.reply.ensures.went) }

@@ -1,0 +1,5 @@
+pub mod Asking
+pub mod Counting
+pub mod Delivering
+pub mod Turns
+pub mod Working

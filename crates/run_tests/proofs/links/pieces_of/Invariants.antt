@@ -1,5 +1,0 @@
-use Rattle.mq_outside.specs.MemSource.{HasNoEmptyPiece}
-use Rattle.run_tests.proofs.links.pieces_of.Given as goal
-
-abbrev pub invariant-loop-byte : goal.invariant-loop-byte
-invariant-loop-byte l = HasNoEmptyPiece l.pieces.items
