@@ -1,6 +1,6 @@
-//! Who makes a flush turn. A loop makes it itself where one of its links waits for it and no link of another loop does, so that no
-//! thread has to be woken for one request. Elsewhere the flusher makes it: a loop doesn't read while the disk syncs, and what came
-//! meanwhile would miss the next turn.
+//! Who makes a flush turn. A loop makes it itself where it has one link alone, which waits for it, and no link of another loop does, so
+//! that no thread has to be woken for one request. Elsewhere the flusher makes it: a loop serves nobody while the disk syncs, and what
+//! came meanwhile would miss the next turn.
 
 use crate::event_loop::{Around, EventLoop};
 use crate::shared::{Port, Shared};
@@ -33,10 +33,12 @@ fn is_other_awaiting<P: Ready>(ports: &[Port<P>], number: usize) -> bool {
 }
 
 impl<P: Ready + Drop> EventLoop<P> {
-    // Whether one of its links waits for a flush turn, and nobody else does. Asked before the replies: a link whose first reply waits
-    // for nothing doesn't count, and the flusher makes its turn.
+    // Whether its only link waits for a flush turn, and nobody else does. Asked before the replies: a link whose first reply waits for
+    // nothing doesn't count, and the flusher makes its turn.
     fn may_flush<W: Wait>(&self, around: &Around<'_, W, P>) -> bool {
-        self.links.awaiting() == 1 && !is_other_awaiting(around.ports, self.links.number)
+        self.links.has_one()
+            && self.links.is_awaiting()
+            && !is_other_awaiting(around.ports, self.links.number)
     }
 
     // Makes the flush turn for what was given to the broker, or rings for the flusher. Answers whether it made one.
@@ -60,7 +62,7 @@ impl<P: Ready + Drop> EventLoop<P> {
     // Rings for the flusher where a link still waits behind a turn that the loop made: it may have ended before the last record, or
     // had no memory.
     pub(crate) fn ring_for_rest<W: Wait>(&self, around: &Around<'_, W, P>, made: bool) {
-        if made && self.links.awaiting() > 0 {
+        if made && self.links.is_awaiting() {
             around.shared.ring();
         }
     }

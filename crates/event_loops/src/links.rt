@@ -482,18 +482,23 @@ impl<L: Link + Drop, N: Ends<L> + Drop> Links<L, N> {
         outlook
     }
 
-    /// How many of its links wait for a flush turn, counted up to two.
-    pub(crate) fn awaiting(&self) -> usize {
-        let mut count = 0;
+    /// Whether any of its links waits for a flush turn.
+    pub(crate) fn is_awaiting(&self) -> bool {
+        self.slots.iter().any(|slot| is_awaiting(slot))
+    }
+
+    /// Whether it has one link alone.
+    pub(crate) fn has_one(&self) -> bool {
+        let mut has = false;
         for slot in &self.slots {
-            if is_awaiting(slot) {
-                if count > 0 {
-                    return 2;
+            if slot.is_some() {
+                if has {
+                    return false;
                 }
-                count = 1;
+                has = true;
             }
         }
-        count
+        has
     }
 
     /// Whether there is none.

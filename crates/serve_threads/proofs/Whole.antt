@@ -1,7 +1,7 @@
 -- The ledgers of both loops have each link that came.
 use Rattle.std.specs.Prelude.{IsSome}
 use Rattle.std.specs.Option.{is_some}
-use Rattle.std.proofs.Common.{◌≡◌, ◌≢◌, Bool, refl, ℕ, ◌≤◌, ◌+◌, List, length, false, Option, Some, None, IfSome, ap, sym, subst, ◌∙◌, arith}
+use Rattle.std.proofs.Common.{◌≡◌, ◌≢◌, Bool, refl, ℕ, ◌≤◌, ◌+◌, List, false, Option, Some, None, IfSome, ap, sym, subst, arith}
 use Rattle.mq_peers.specs.Ended.{LinkEnd}
 use Rattle.event_loops.specs.Causes.{door_faults}
 use Rattle.event_loops.specs.Doors.{KeepsDoor}

@@ -1,4 +1,3 @@
-use Rattle.std.proofs.Common.{refl}
 use Rattle.link_service.specs.Clocks.{unasked}
 use Rattle.event_loops.specs.Tales.{link_view, loop_view}
 use Rattle.event_loops.proofs.Told.{slot_left}

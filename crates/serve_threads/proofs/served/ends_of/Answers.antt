@@ -1,4 +1,4 @@
-use Rattle.std.proofs.Common.{◌+◌, ◌≡◌, length, ap, ◌∙◌, subst, sym}
+use Rattle.std.proofs.Common.{◌+◌, ◌≡◌, length, subst, sym}
 use Rattle.serve_threads.proofs.served.ends_of.Goals as goal
 
 pub returns : goal.returns
