@@ -28,7 +28,7 @@ use Rattle.store_open.specs.declared.serve_words.ServeCommand.{ServeCommand}
 use Rattle.store_open.specs.declared.status.Status.{Status}
 use Rattle.exit_status.specs.Stores.{Misread, store_over}
 use Rattle.exit_status.proofs.KeepLemmas.{config_before, puts_still}
-use Rattle.broker_serve.specs.Serves.{BeginsOn, EndsOver, HasServed, IsAlike, LeavesCore, PutsAllAlong, PutsAllBy, ReplacesAllBy, RunOver, ServesLog, ServesStore}
+use Rattle.broker_serve.specs.Serves.{BeginsOn, EndsOver, HasServed, IsAlike, CountsReads, LeavesCore, PutsAllAlong, PutsAllBy, ReplacesAllBy, RunOver, ServesLog, ServesStore}
 use Rattle.broker_serve.specs.Serves.{before, behind, run_over, setup_by, store_of}
 use Rattle.worker_turns.specs.declared.flush.FlushEnd.{FlushEnd}
 use Rattle.event_loops.specs.declared.event_loop.LoopEnd.{LoopEnd}
@@ -46,17 +46,30 @@ module _ {D : Type 0} (views : Views D) where
   ends_unserved opened left run none disk keep = subst (λ o. EndsOver views opened o run) (sym none) (disk, keep)
 
   -- from the disk before the run on
-  pub ends_served : (opened : Opened) (left : Option Parts) (run : RunOver D) (core : Parts) (stopped : LoopEnd) (last : FlushEnd) (kept : Result (Unit {0}) DiskFault) (ended : Place D)
-      → left ≡ Some core → StatusLeft run.status stopped last kept → IsAlike views.disk ended.disk run.disk_then
-      → IsLeft views (change_of opened.core (place_of opened.flusher.file run.disk) core ended) run.keep kept → EndsOver views opened left run
-  ends_served opened left run core stopped last kept ended some tells back is =
-      subst (λ o. EndsOver views opened o run) (sym some)
-      (record { stopped = stopped; last = last; kept = kept; tells = tells; began = run.disk; ended = ended; back = back; left = is }, alike_start views.disk run.disk)
+  pub ends_served : (opened : Opened) (left : Option Parts) (run : RunOver D) (core : Parts) (stopped : LoopEnd) (last : FlushEnd) (kept : Result (Unit {0}) DiskFault) (ended : Place D) (failures : ℕ × ℕ)
+      → left ≡ Some core → StatusLeft run.status stopped last kept → IsAlike views.disk ended.disk run.disk_then → CountsReads run failures ended.disk
+      → IsLeft views failures (change_of opened.core (place_of opened.flusher.file run.disk) core ended) run.keep kept → EndsOver views opened left run
+  ends_served opened left run core stopped last kept ended failures some tells back counted is =
+      subst (λ o. EndsOver views opened o run) (sym some) (
+        record {
+          stopped = stopped;
+          last = last;
+          kept = kept;
+          tells = tells;
+          began = run.disk;
+          ended = ended;
+          back = back;
+          failures = failures;
+          counted = counted;
+          left = is;
+        },
+        alike_start views.disk run.disk,
+      )
 
   -- seen from before, whatever the disk was then
-  abbrev ends_with : (opened : Opened) (core : Parts) (status : Status) (disk other disk_then : D) (keep : KeepOver) → LeavesCore views opened core (run_over status disk disk_then keep)
-      → LeavesCore views opened core (run_over status other disk_then keep)
-  ends_with opened core status disk other disk_then keep ends = record {
+  abbrev ends_with : (reads : D → ℕ) (opened : Opened) (core : Parts) (status : Status) (disk other disk_then : D) (keep : KeepOver) → LeavesCore views opened core (run_over status disk disk_then reads keep)
+      → LeavesCore views opened core (run_over status other disk_then reads keep)
+  ends_with reads opened core status disk other disk_then keep ends = record {
     stopped = ends.stopped;
     last = ends.last;
     kept = ends.kept;
@@ -64,50 +77,52 @@ module _ {D : Type 0} (views : Views D) where
     began = ends.began;
     ended = ends.ended;
     back = ends.back;
+    failures = ends.failures;
+    counted = ends.counted;
     left = ends.left;
   }
 
   -- from before the disk was lent
-  pub ends_lent : (opened : Opened) (left : Option Parts) (status : Status) (disk lent disk_then : D) (keep : KeepOver) → IsAlike views.disk disk lent
-      → EndsOver views opened left (run_over status lent disk_then keep) → EndsOver views opened left (run_over status disk disk_then keep)
-  ends_lent opened None status disk lent disk_then keep alike ends = (λ told. rests_then (alike.rests told) (ends.0 told), ends.1)
-  ends_lent opened (Some core) status disk lent disk_then keep alike ends =
-      (ends_with opened core status lent disk disk_then keep ends.0, alike_then views.disk disk lent ends.0.began alike ends.1)
+  pub ends_lent : (reads : D → ℕ) (opened : Opened) (left : Option Parts) (status : Status) (disk lent disk_then : D) (keep : KeepOver) → IsAlike views.disk disk lent
+      → EndsOver views opened left (run_over status lent disk_then reads keep) → EndsOver views opened left (run_over status disk disk_then reads keep)
+  ends_lent reads opened None status disk lent disk_then keep alike ends = (λ told. rests_then (alike.rests told) (ends.0 told), ends.1)
+  ends_lent reads opened (Some core) status disk lent disk_then keep alike ends =
+      (ends_with reads opened core status lent disk disk_then keep ends.0, alike_then views.disk disk lent ends.0.began alike ends.1)
 
 module _ {D : Type 0} (views : Views D) (setup : Setup) where
   pub log_unserved : (saved : Saved) (left : Option Parts) (run : RunOver D) → left ≡ None → (run.keep.tells → Rests run.keep.old run.keep.new)
       → IfNone left (LeavesLog (whole setup.segment) views.disk.tells run.status (before views run) (behind views run)) → ServesLog views setup saved left run
   log_unserved saved left run none rests unserved = record { still = λ is. rests; unserved = unserved; served = none_of _ left none }
 
-  log_served : (saved : Saved) (left : Option Parts) (status : Status) (disk on disk_then : D) (keep : KeepOver) (opened : Opened) (failed failed_then : ℕ)
+  log_served : (reads : D → ℕ) (saved : Saved) (left : Option Parts) (status : Status) (disk on disk_then : D) (keep : KeepOver) (opened : Opened) (failed failed_then : ℕ)
       → (views.disk.tells → IsCrashImage (views.disk.state disk) (views.disk.state disk).reads) → OpensLogWith setup saved opened
       → (views.disk.tells → OpensKeptWith setup saved (views.disk.state disk).reads opened) → BeginsOn setup saved opened views.disk disk on
-      → IfNone left (ShutOut status failed failed_then) → EndsOver views opened left (run_over status on disk_then keep)
-      → ServesLog views setup saved left (run_over status disk disk_then keep)
-  log_served saved None status disk on disk_then keep opened failed failed_then image over kept begins why ends = record {
+      → IfNone left (ShutOut status failed failed_then) → EndsOver views opened left (run_over status on disk_then reads keep)
+      → ServesLog views setup saved left (run_over status disk disk_then reads keep)
+  log_served reads saved None status disk on disk_then keep opened failed failed_then image over kept begins why ends = record {
     still = λ is. ends.1;
     unserved = inr (unused setup saved views.disk opened status disk on disk_then failed failed_then image kept begins why ends.0);
     served = tt;
   }
-  log_served saved (Some core) status disk on disk_then keep opened failed failed_then image over kept begins why ends =
-      let left = ends_with views opened core status on disk disk_then keep ends.0 in
+  log_served reads saved (Some core) status disk on disk_then keep opened failed failed_then image over kept begins why ends =
+      let left = ends_with views reads opened core status on disk disk_then keep ends.0 in
       let from = begins_then setup saved opened views.disk disk on left.began begins ends.1 in
       record {
         still = λ is. absurd (cc is);
         unserved = tt;
-        served = (opened, over, kept, stores_left views setup saved opened core (run_over status disk disk_then keep) left from, left, from);
+        served = (opened, over, kept, stores_left views setup saved opened core (run_over status disk disk_then reads keep) left from, left, from);
       }
 
   -- the same with the rows as they were given
-  pub log_served_with : (offsets given_offsets : List OffsetRow) (topics given_topics : List TopicRow) (left : Option Parts) (status : Status) (disk on disk_then : D) (keep : KeepOver) (opened : Opened)
+  pub log_served_with : (reads : D → ℕ) (offsets given_offsets : List OffsetRow) (topics given_topics : List TopicRow) (left : Option Parts) (status : Status) (disk on disk_then : D) (keep : KeepOver) (opened : Opened)
       (failed failed_then : ℕ) → given_offsets ≡ offsets → given_topics ≡ topics → (views.disk.tells → IsCrashImage (views.disk.state disk) (views.disk.state disk).reads)
       → OpensLogWith setup (saved_as given_offsets given_topics) opened → (views.disk.tells → OpensKeptWith setup (saved_as given_offsets given_topics) (views.disk.state disk).reads opened)
       → BeginsOn setup (saved_as given_offsets given_topics) opened views.disk disk on → IfNone left (ShutOut status failed failed_then)
-      → EndsOver views opened left (run_over status on disk_then keep) → ServesLog views setup (saved_as offsets topics) left (run_over status disk disk_then keep)
-  log_served_with offsets given_offsets topics given_topics left status disk on disk_then keep opened failed failed_then offsets_are topics_are image over kept begins why ends =
-      subst (λ (o : List OffsetRow). ServesLog views setup (saved_as o topics) left (run_over status disk disk_then keep)) offsets_are
-      (subst (λ (t : List TopicRow). ServesLog views setup (saved_as given_offsets t) left (run_over status disk disk_then keep)) topics_are
-      (log_served (saved_as given_offsets given_topics) left status disk on disk_then keep opened failed failed_then image over kept begins why ends))
+      → EndsOver views opened left (run_over status on disk_then reads keep) → ServesLog views setup (saved_as offsets topics) left (run_over status disk disk_then reads keep)
+  log_served_with reads offsets given_offsets topics given_topics left status disk on disk_then keep opened failed failed_then offsets_are topics_are image over kept begins why ends =
+      subst (λ (o : List OffsetRow). ServesLog views setup (saved_as o topics) left (run_over status disk disk_then reads keep)) offsets_are
+      (subst (λ (t : List TopicRow). ServesLog views setup (saved_as given_offsets t) left (run_over status disk disk_then reads keep)) topics_are
+      (log_served reads (saved_as given_offsets given_topics) left status disk on disk_then keep opened failed failed_then image over kept begins why ends))
 
   pub store_unserved : (left : Option Parts) (run : RunOver D) → left ≡ None → (run.keep.tells → Rests run.keep.old run.keep.new)
       → IfNone left (Misread run.status (store_of views run) ⊎ LeavesLog (whole setup.segment) views.disk.tells run.status (before views run) (behind views run))
@@ -115,12 +130,12 @@ module _ {D : Type 0} (views : Views D) (setup : Setup) where
   store_unserved left run none rests unserved = record { still = λ is. rests; unserved = unserved; served = none_of _ left none }
 
   -- with what was loaded, which changed nothing
-  pub store_served : (left : Option Parts) (offsets : List OffsetRow) (topics : List TopicRow) (status : Status) (disk disk_then : D) (told : Type 0) (old loaded new : DiskState) → (told → Rests old loaded)
-      → (told → HasConfig old.reads offsets topics) → ServesLog views setup (saved_as offsets topics) left (run_over status disk disk_then (keep_over told loaded new))
-      → ServesStore views setup left (run_over status disk disk_then (keep_over told old new))
-  store_served None offsets topics status disk disk_then told old loaded new rests config it =
+  pub store_served : (reads : D → ℕ) (left : Option Parts) (offsets : List OffsetRow) (topics : List TopicRow) (status : Status) (disk disk_then : D) (told : Type 0) (old loaded new : DiskState) → (told → Rests old loaded)
+      → (told → HasConfig old.reads offsets topics) → ServesLog views setup (saved_as offsets topics) left (run_over status disk disk_then reads (keep_over told loaded new))
+      → ServesStore views setup left (run_over status disk disk_then reads (keep_over told old new))
+  store_served reads None offsets topics status disk disk_then told old loaded new rests config it =
       record { still = λ is t. rests_then (rests t) (it.still refl t); unserved = inr it.unserved; served = tt }
-  store_served (Some core) offsets topics status disk disk_then told old loaded new rests config it =
+  store_served reads (Some core) offsets topics status disk disk_then told old loaded new rests config it =
       let opened = it.served.0 in
       let over = it.served.1 in
       let kept = it.served.2 in
@@ -144,6 +159,8 @@ module _ {D : Type 0} (views : Views D) (setup : Setup) where
           begins = begins;
           ended = ends.ended;
           back = ends.back;
+          failures = ends.failures;
+          counted = ends.counted;
           made = left.made;
           stores = stores;
           put = λ t. puts_rested (IsTextAlong (λ s. offsets_text_of s.offsets) opened.core left.history) (IsTextAlong (λ s. topics_text_of s.topics) opened.core left.history)
@@ -210,14 +227,14 @@ opened_kept P Q asked sizes store opened new puts is = record {
 }
 
 -- a run over a store that was opened so
-pub run_served : {D : Type 0} (views : Views D) (left : Option Parts) (words : List (List ℕ)) (command : ServeCommand) (sizes : Sizes) (status : Status) (first disk disk_then : D) (told : Type 0)
+pub run_served : {D : Type 0} (reads : D → ℕ) (views : Views D) (left : Option Parts) (words : List (List ℕ)) (command : ServeCommand) (sizes : Sizes) (status : Status) (first disk disk_then : D) (told : Type 0)
     (old opened new : DiskState) → (views.disk.tells → Rests (views.disk.state first) (views.disk.state disk)) → views.disk.faults disk ≡ views.disk.faults first → IsServeCommand words command
     → IsOpened command.sizes sizes (store_told views.disk.tells (views.disk.state first).reads told old.reads) opened
-    → (told → PutsOnly (own_format (old.reads FORMAT) command.sizes) old opened) → ServesStore views (setup_by command sizes.segment) left (run_over status disk disk_then (keep_over told opened new))
+    → (told → PutsOnly (own_format (old.reads FORMAT) command.sizes) old opened) → ServesStore views (setup_by command sizes.segment) left (run_over status disk disk_then reads (keep_over told opened new))
     → IfSome left (λ core. (c : ServeCommand) × (s : Sizes) × (IsServeCommand words c × IsOpened c.sizes s (store_told views.disk.tells (views.disk.state first).reads told old.reads) new)
-    × HasServed views (setup_by c s.segment) (run_over status first disk_then (keep_over told old new)) (λ start history. PutsAllAlong (own_format (old.reads FORMAT) c.sizes) start history old new) core)
-run_served views None words command sizes status first disk disk_then told old opened new rests same asked is puts it = tt
-run_served views (Some core) words command sizes status first disk disk_then told old opened new rests same asked is puts it =
+    × HasServed views (setup_by c s.segment) (run_over status first disk_then reads (keep_over told old new)) (λ start history. PutsAllAlong (own_format (old.reads FORMAT) c.sizes) start history old new) core)
+run_served reads views None words command sizes status first disk disk_then told old opened new rests same asked is puts it = tt
+run_served reads views (Some core) words command sizes status first disk disk_then told old opened new rests same asked is puts it =
     let run = it.served in
     let setup = setup_by command sizes.segment in
     let saved = saved_as run.offsets run.topics in
@@ -240,6 +257,8 @@ run_served views (Some core) words command sizes status first disk disk_then tol
         begins = begins_before setup saved run.opened views.disk first disk run.began rests same run.begins;
         ended = run.ended;
         back = run.back;
+        failures = run.failures;
+        counted = run.counted;
         made = run.made;
         stores = λ t. ours_before sizes.segment (views.disk.state first) (views.disk.state disk) core (views.disk.state disk_then) (rests t) (run.stores t);
         put = λ t. puts_all format P Q old opened new (puts t) (run.put t);
@@ -253,12 +272,12 @@ run_served views (Some core) words command sizes status first disk disk_then tol
     )
 
 -- where no links were served
-pub run_unserved : {D : Type 0} (views : Views D) (left : Option Parts) (words : List (List ℕ)) (command : ServeCommand) (sizes : Sizes) (status : Status) (first disk disk_then : D) (told : Type 0)
+pub run_unserved : {D : Type 0} (reads : D → ℕ) (views : Views D) (left : Option Parts) (words : List (List ℕ)) (command : ServeCommand) (sizes : Sizes) (status : Status) (first disk disk_then : D) (told : Type 0)
     (old opened new : DiskState) → (views.disk.tells → Rests (views.disk.state first) (views.disk.state disk)) → IsServeCommand words command
     → IsOpened command.sizes sizes (store_told views.disk.tells (views.disk.state first).reads told old.reads) opened
-    → (told → PutsOnly (own_format (old.reads FORMAT) command.sizes) old opened) → ServesStore views (setup_by command sizes.segment) left (run_over status disk disk_then (keep_over told opened new))
+    → (told → PutsOnly (own_format (old.reads FORMAT) command.sizes) old opened) → ServesStore views (setup_by command sizes.segment) left (run_over status disk disk_then reads (keep_over told opened new))
     → IfNone left (ServesNobody words status (store_over views.disk.tells (views.disk.state first) (views.disk.state disk_then) told old new))
-run_unserved views None words command sizes status first disk disk_then told old opened new rests asked is puts it =
+run_unserved reads views None words command sizes status first disk disk_then told old opened new rests asked is puts it =
     let format = own_format (old.reads FORMAT) command.sizes in
     inr (
       command,
@@ -269,4 +288,4 @@ run_unserved views None words command sizes status first disk disk_then told old
         puts = λ t. puts_still format old opened new (puts t) (it.still refl t);
       },
     )
-run_unserved views (Some core) words command sizes status first disk disk_then told old opened new rests asked is puts it = tt
+run_unserved reads views (Some core) words command sizes status first disk disk_then told old opened new rests asked is puts it = tt

@@ -88,22 +88,22 @@ module _ {D : Type 0} (setup : Setup) (saved : Saved) (it : Opened) (view : Disk
 -- ---- the disk
 
 -- the state of the opening
-abbrev first_state : Setup → Saved → List Entry → State
+abbrev pub first_state : Setup → Saved → List Entry → State
 first_state setup saved records = opened (setup_of setup) (whole_log records) saved
 
 -- all of the log is flushed
-open_for : (setup : Setup) (saved : Saved) (records : List Entry) (at : Growing) → IsReady (stored (whole setup.segment) records (length records)) 0 at
+pub open_for : (setup : Setup) (saved : Saved) (records : List Entry) (at : Growing) → IsReady (stored (whole setup.segment) records (length records)) 0 at
     → IsOpenFor (first_state setup saved records) at
 open_for setup saved records at ready =
     let none : length records ≡ flushed_in (first_state setup saved records) = omega arith in
     record { behind = 0; few = λ no_zeros. omega arith; ready = subst (λ (n : ℕ). IsReady (stored (whole setup.segment) records n) 0 at) none ready }
 
 -- what the turns of a history flushed is stored, and stays where the disk is given back
-pub stores_opened : {D : Type 0} (views : Views D) (start : Parts) (file : LastFile) (began : D) (history : Made) (core : Parts) (ended : Place D) (new : DiskState)
-    → IsMadeBy views history (change_of start (place_of file began) core ended) → views.disk.tells
+pub stores_opened : {D : Type 0} (views : Views D) (failures : ℕ × ℕ) (start : Parts) (file : LastFile) (began : D) (history : Made) (core : Parts) (ended : Place D) (new : DiskState)
+    → IsMadeBy views failures history (change_of start (place_of file began) core ended) → views.disk.tells
     → ((S : Geometry) (log : List Entry) (flushed : ℕ) → StoresLog S log flushed (views.disk.state ended.disk) → StoresLog S log flushed new)
     → StoresOpened start file (views.disk.state began) core new
-stores_opened views start file began history core ended new made told back setup saved records represents ready =
+stores_opened views failures start file began history core ended new made told back setup saved records represents ready =
     let s = first_state setup saved records in
     let leads = made.leads s represents in
     let kept = leads.keeps told (open_for setup saved records (growing file (views.disk.state began)) ready) in
@@ -138,7 +138,7 @@ pub stores_left : {D : Type 0} (views : Views D) (setup : Setup) (saved : Saved)
     → BeginsOn setup saved it views.disk run.disk ends.began → views.disk.tells → StoresOurs setup.segment (before views run) core (behind views run)
 stores_left views setup saved it core run ends begins told log flushed was honest =
     stores_ours setup saved log flushed (views.disk.state ends.began) it core (behind views run) (begins.ours told log flushed was honest)
-    (stores_opened views it.core it.flusher.file ends.began ends.left.history core ends.ended (behind views run) ends.left.made told
+    (stores_opened views ends.failures it.core it.flusher.file ends.began ends.left.history core ends.ended (behind views run) ends.left.made told
     (λ S records number stores. stores_rests S records number (views.disk.state ends.ended.disk) (behind views run) (ends.back.rests told) stores))
 
 -- also from a call before that changed nothing

@@ -1,6 +1,7 @@
 -- What a run of `serve` leaves.
-use Rattle.std.specs.Prelude.{◌≡◌, ◌≢◌, ◌⊎◌, ℕ, ◌≤◌, ◌++◌, List, length, take}
+use Rattle.std.specs.Prelude.{◌≡◌, ◌≢◌, ◌⊎◌, ℕ, ◌+◌, ◌≤◌, ◌++◌, List, length, take}
 use Rattle.std.specs.Prelude.{Option, Some, None, IfSome, IfNone, OnOk, Result}
+use Rattle.mq_outside.specs.Counts.{Counted}
 use Rattle.mq_outside.specs.Files.{Files, OldOrNew}
 use Rattle.mq_outside.specs.Disk.{DiskState, IsCrashImage, Rests, Throughout}
 use Rattle.mq_outside.specs.declared.faults.DiskFault.{DiskFault}
@@ -107,15 +108,17 @@ pub record AllLinks (tells : Type 0) (status : Status) (gave : ℕ × ℕ) (link
 
 -- ---- a run
 
--- a run over a store: its status, the disk before the run and behind it, and the keep
+-- a run over a store: its status, the disk before the run and behind it, how often readers of such a disk failed, and the keep
 pub record RunOver (D : Type 0) : Type 1 where
   pub status : Status
   pub disk : D
   pub disk_then : D
+  pub read_faults : D → ℕ
   pub keep : KeepOver
 
-abbrev pub run_over : {D : Type 0} → Status → D → D → KeepOver → RunOver D
-run_over status disk disk_then keep = record { status = status; disk = disk; disk_then = disk_then; keep = keep }
+abbrev pub run_over : {D : Type 0} → Status → D → D → (D → ℕ) → KeepOver → RunOver D
+run_over status disk disk_then read_faults keep =
+    record { status = status; disk = disk; disk_then = disk_then; read_faults = read_faults; keep = keep }
 
 -- what the disk holds before the run, and behind it
 abbrev pub before : {D : Type 0} → Views D → RunOver D → DiskState
@@ -135,8 +138,13 @@ pub record IsAlike {D : Type 0} (view : DiskView D) (old new : D) : Type 0 where
   pub faults : view.faults new ≡ view.faults old
   pub syncs : view.syncs new ≡ view.syncs old
 
--- Links were served over this open log, and this core is left. The disk that they ended with is the one behind the run. Why the loops
--- ended, how the last flush turn did and the last replacement of the kept files tell the status.
+-- The readers of the two loops, which failed so often, were given back to this disk, and the one behind the run has counted that.
+abbrev pub CountsReads : {D : Type 0} → RunOver D → ℕ × ℕ → D → Type 0
+CountsReads run failures ended = Counted (failures.0 + failures.1) (run.read_faults ended) (run.read_faults run.disk_then)
+
+-- Links were served over this open log, and this core is left. The disk that they ended with is the one behind the run, which has
+-- counted the failures of the loops' readers. Why the loops ended, how the last flush turn did and the last replacement of the kept
+-- files tell the status.
 pub record LeavesCore {D : Type 0} (views : Views D) (opened : Opened) (core : Parts) (run : RunOver D) : Type 0 where
   pub stopped : LoopEnd
   pub last : FlushEnd
@@ -145,7 +153,9 @@ pub record LeavesCore {D : Type 0} (views : Views D) (opened : Opened) (core : P
   pub began : D
   pub ended : Place D
   pub back : IsAlike views.disk ended.disk run.disk_then
-  pub left : IsLeft views (change_of opened.core (place_of opened.flusher.file began) core ended) run.keep kept
+  pub failures : ℕ × ℕ
+  pub counted : CountsReads run failures ended.disk
+  pub left : IsLeft views failures (change_of opened.core (place_of opened.flusher.file began) core ended) run.keep kept
 
 -- the same where links were served, from the disk before the run on; else the disk and the keep stay
 abbrev pub EndsOver : {D : Type 0} → Views D → Opened → Option Parts → RunOver D → Type 0
@@ -167,9 +177,10 @@ pub record BeginsOn {D : Type 0} (setup : Setup) (saved : Saved) (opened : Opene
 -- A log was opened by this setup with what the kept files had, and the core stands for one history since, of which each entry is the
 -- flusher's, one of the loops' or the keeper's. Where the disk tells its files, it is the log that recovery keeps of them; and a log
 -- that it stored and was read of honestly it stores still, with what was flushed since. The history begins on the disk that the opening
--- left, and ends on the one behind the run. What was put into the kept files is told along this history. Why the loops ended, how the
--- last flush turn did and the last replacement of the kept files tell the status. Where that replacement ended Ok, as it did with
--- status 0, both have the texts of the core, and keep them through a crash.
+-- left, and ends on the one behind the run. A reply `read N` has a count of the failures of its loop's reader, which that disk has
+-- counted. What was put into the kept files is told along this history. Why the loops ended, how the last flush turn did and the last
+-- replacement of the kept files tell the status. Where that replacement ended Ok, as it did with status 0, both have the texts of the
+-- core, and keep them through a crash.
 pub record HasServed {D : Type 0} (views : Views D) (setup : Setup) (run : RunOver D)
     (puts : Parts → List (Event × Option Said) → Type 0) (core : Parts) : Type 0 where
   pub offsets : List OffsetRow
@@ -184,7 +195,9 @@ pub record HasServed {D : Type 0} (views : Views D) (setup : Setup) (run : RunOv
   pub begins : BeginsOn setup (saved_as offsets topics) opened views.disk run.disk began
   pub ended : Place D
   pub back : IsAlike views.disk ended.disk run.disk_then
-  pub made : IsMadeBy views history (change_of opened.core (place_of opened.flusher.file began) core ended)
+  pub failures : ℕ × ℕ
+  pub counted : CountsReads run failures ended.disk
+  pub made : IsMadeBy views failures history (change_of opened.core (place_of opened.flusher.file began) core ended)
   pub stores : views.disk.tells → StoresOurs setup.segment (before views run) core (behind views run)
   pub put : run.keep.tells → puts opened.core history
   pub stopped : LoopEnd

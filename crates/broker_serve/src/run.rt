@@ -1,7 +1,7 @@
 //! The whole run of `serve`: the words, the opening, the links, and the last flush.
 
-ghost use Rattle.std.specs.Prelude.{◌≡◌, ◌≢◌, ℕ, List, All, Some, None, IfSome, IfNone, IfOk, IfErr, codes};
-ghost use Rattle.mq_outside.specs.Counts.{CountsDiskFault};
+ghost use Rattle.std.specs.Prelude.{◌≡◌, ◌≢◌, ◌+◌, ℕ, List, All, Some, None, IfSome, IfNone, IfOk, IfErr, codes};
+ghost use Rattle.mq_outside.specs.Counts.{Counted, CountsDiskFault};
 ghost use Rattle.mq_outside.specs.Disk.{Moves, Rests};
 ghost use Rattle.mq_outside.specs.Files.{Same};
 ghost use Rattle.log_model.specs.Log.{IsSegmentSize};
@@ -123,7 +123,9 @@ fn readers_of<D: Disk>(alloc: Global, disk: &mut D) -> Result<(D::Reader, D::Rea
 
 // Gives the readers back to the disk.
 fn give_back<D: Disk>(disk: D, readers: (D::Reader, D::Reader)) -> D
-    ensures { IsAlike (view_of D.tells D.state D.faults D.syncs) disk result }
+    ensures alike { IsAlike (view_of D.tells D.state D.faults D.syncs) disk result }
+    ensures counted { Counted (D.Reader.faults readers.0 + D.Reader.faults readers.1) (D.reader_faults disk)
+        (D.reader_faults result) }
 {
     let mut disk = disk;
     let (one, two) = readers;
@@ -144,6 +146,8 @@ fn ended_of<P: Ready + Drop, K: Clock + Drop, D: Disk + Drop, E: Keep + Drop>(
     ensures world { result.world ≡ served.world }
     ensures ends { result.ends ≡ served.ends }
     ensures alike { IsAlike (view_of D.tells D.state D.faults D.syncs) served.disk result.store.disk }
+    ensures counted { Counted (D.Reader.faults served.readers.0 + D.Reader.faults served.readers.1) (D.reader_faults served.disk)
+        (D.reader_faults result.store.disk) }
     ensures cause { (before : TheFaults) → HasCauses served.end served.last served.kept before
         (counts_of (D.faults served.disk) (E.faults served.keep) (world_faults P.faults P.Door.faults K.faults served.world))
         → Causes result.status before (counts_of (D.faults result.store.disk) (E.faults result.store.keep)
@@ -196,7 +200,8 @@ where
     ensures ends { EndsOver (views_of (links_over P.Link.tells P.Ends.tells P.Ends.entries result.ends) D.Reader.gives
         (clocks_over K.tells (readings_of K.readings loops.world.clocks) (readings_of K.readings result.world.clocks))
         (view_of D.tells D.state D.faults D.syncs))
-        (record { core = core; flusher = devices.flusher }) result.core (run_over result.status devices.disk result.store.disk
+        (record { core = core; flusher = devices.flusher }) result.core
+        (run_over result.status devices.disk result.store.disk D.reader_faults
         (keep_over E.tells (E.state devices.keep) (E.state result.store.keep))) }
     ensures outside { D.tells → StaysOutside (D.state devices.disk) (D.state result.store.disk) }
     ensures came { IfSome result.core (λ core. result.status.code ≡ 0
@@ -250,7 +255,7 @@ where
     ensures ends { EndsOver (views_of (links_over P.Link.tells P.Ends.tells P.Ends.entries result.ends) D.Reader.gives
         (clocks_over K.tells (readings_of K.readings loops.world.clocks) (readings_of K.readings result.world.clocks))
         (view_of D.tells D.state D.faults D.syncs)) opened
-        result.core (run_over result.status store.disk result.store.disk
+        result.core (run_over result.status store.disk result.store.disk D.reader_faults
         (keep_over E.tells (E.state store.keep) (E.state result.store.keep))) }
     ensures outside { D.tells → StaysOutside (D.state store.disk) (D.state result.store.disk) }
     ensures came { IfSome result.core (λ core. result.status.code ≡ 0
@@ -333,7 +338,7 @@ where
     ensures ends { EndsOver (views_of (links_over P.Link.tells P.Ends.tells P.Ends.entries result.ends) D.Reader.gives
         (clocks_over K.tells (readings_of K.readings world.clocks) (readings_of K.readings result.world.clocks))
         (view_of D.tells D.state D.faults D.syncs)) opened
-        result.core (run_over result.status store.disk result.store.disk
+        result.core (run_over result.status store.disk result.store.disk D.reader_faults
         (keep_over E.tells (E.state store.keep) (E.state result.store.keep))) }
     ensures outside { D.tells → StaysOutside (D.state store.disk) (D.state result.store.disk) }
     ensures came { IfSome result.core (λ core. result.status.code ≡ 0
@@ -382,7 +387,7 @@ where
         (clocks_over K.tells (readings_of K.readings world.clocks) (readings_of K.readings result.world.clocks))
         (view_of D.tells D.state D.faults D.syncs))
         (setup_by command.now segment) (saved_as config.offsets.items config.topics.items) result.core
-        (run_over result.status store.disk result.store.disk
+        (run_over result.status store.disk result.store.disk D.reader_faults
         (keep_over E.tells (E.state store.keep) (E.state result.store.keep))) }
     ensures outside { D.tells → StaysOutside (D.state store.disk) (D.state result.store.disk) }
     ensures came { IfSome result.core (λ core. result.status.code ≡ 0
@@ -435,7 +440,7 @@ where
     ensures served { ServesStore (views_of (links_over P.Link.tells P.Ends.tells P.Ends.entries result.ends) D.Reader.gives
         (clocks_over K.tells (readings_of K.readings world.clocks) (readings_of K.readings result.world.clocks))
         (view_of D.tells D.state D.faults D.syncs))
-        (setup_by command.now segment) result.core (run_over result.status store.disk result.store.disk
+        (setup_by command.now segment) result.core (run_over result.status store.disk result.store.disk D.reader_faults
         (keep_over E.tells (E.state store.keep) (E.state result.store.keep))) }
     ensures outside { D.tells → StaysOutside (D.state store.disk) (D.state result.store.disk) }
     ensures came { IfSome result.core (λ core. result.status.code ≡ 0
@@ -497,7 +502,7 @@ where
         × HasServed (views_of (links_over P.Link.tells P.Ends.tells P.Ends.entries result.ends) D.Reader.gives
         (clocks_over K.tells (readings_of K.readings world.clocks) (readings_of K.readings result.world.clocks))
         (view_of D.tells D.state D.faults D.syncs))
-        (setup_by command sizes.segment) (run_over result.status store.disk result.store.disk
+        (setup_by command sizes.segment) (run_over result.status store.disk result.store.disk D.reader_faults
         (keep_over E.tells (E.state store.keep) (E.state result.store.keep)))
         (λ start history. PutsAllAlong (own_format ((E.state store.keep).reads FORMAT) command.sizes) start history
         (E.state store.keep) (E.state result.store.keep)) core) }

@@ -1,8 +1,8 @@
 -- How passes go together, each at one reading of the loop's clock.
 use Rattle.std.proofs.Common.{◌≡◌, ℕ, List, [], ◌∷◌, ◌++◌, refl, sym, ap, ◌∙◌, subst, append_assoc, append-nil}
-use Rattle.mq_outside.specs.Readings.{Giving}
 use Rattle.reply_fields.specs.Parts.{AskParts}
 use Rattle.session.specs.Owing.{Steps}
+use Rattle.session.specs.Readers.{ReaderView}
 use Rattle.session.specs.Serving.{Made}
 use Rattle.link_service.specs.Clocks.{AreAt, at_reading, unasked}
 use Rattle.link_service.proofs.Timing.{made_then, made_whenever}
@@ -53,10 +53,10 @@ module _ {C : Type 0} (makes : Steps C) where
 
     -- ---- passes
 
-    module _ {L N : Type 0} (view : LoopView L N) (gives : Giving) (told : Type 0) where
+    module _ {L N : Type 0} (view : LoopView L N) (reader : ReaderView) (told : Type 0) where
       -- a pass by which no step was made, and for which the clock gave no reading
-      pub timed_nothing : ((end : A) → takes end [] end) → (x : C) (old new : Links L N) (end : A) (r s : List ℕ) → GoesOn view gives old [] new
-          → (told → s ≡ r) → LeadsTaking makes takes x x end end (λ acts. GoesTimed view gives (clock_over told r s) old acts new)
+      pub timed_nothing : ((end : A) → takes end [] end) → (x : C) (old new : Links L N) (end : A) (r s : List ℕ) → GoesOn view reader old [] new
+          → (told → s ≡ r) → LeadsTaking makes takes x x end end (λ acts. GoesTimed view reader (clock_over told r s) old acts new)
       timed_nothing none x old new end r s went same = record {
         taken = [];
         took = none end;
@@ -70,8 +70,8 @@ module _ {C : Type 0} (makes : Steps C) where
 
       -- a pass at this reading
       pub timed_pass : (now : ℕ) (x y : C) (old new : Links L N) (before after : A) (r s : List ℕ)
-          → LeadsTaking (at_reading now makes) takes x y before after (λ acts. GoesOn view gives old acts new) → (told → s ≡ r ++ now ∷ [])
-          → LeadsTaking makes takes x y before after (λ acts. GoesTimed view gives (clock_over told r s) old acts new)
+          → LeadsTaking (at_reading now makes) takes x y before after (λ acts. GoesOn view reader old acts new) → (told → s ≡ r ++ now ∷ [])
+          → LeadsTaking makes takes x y before after (λ acts. GoesTimed view reader (clock_over told r s) old acts new)
       timed_pass now x y old new before after r s h gave =
           let acts = h.went.acts in
           let parts = made_then makes (λ at. at ≡ now) x (steps_of acts) y h.went.leads in
@@ -88,8 +88,8 @@ module _ {C : Type 0} (makes : Steps C) where
 
       -- and then links were let go of
       pub timed_off : (x y : C) (old mid new : Links L N) (before after : A) (r s : List ℕ)
-          → LeadsTaking makes takes x y before after (λ acts. GoesTimed view gives (clock_over told r s) old acts mid) → GoesOn view gives mid [] new
-          → LeadsTaking makes takes x y before after (λ acts. GoesTimed view gives (clock_over told r s) old acts new)
+          → LeadsTaking makes takes x y before after (λ acts. GoesTimed view reader (clock_over told r s) old acts mid) → GoesOn view reader mid [] new
+          → LeadsTaking makes takes x y before after (λ acts. GoesTimed view reader (clock_over told r s) old acts new)
       timed_off x y old mid new before after r s h k = record {
         taken = h.taken;
         took = h.took;
@@ -98,7 +98,7 @@ module _ {C : Type 0} (makes : Steps C) where
           leads = h.went.leads;
           wrote = h.went.wrote;
           so = record {
-            went = subst (λ (l : List Act). GoesOn view gives old l new) (append-nil h.went.acts) (goes_on view gives old mid new h.went.acts [] h.went.so.went k);
+            went = subst (λ (l : List Act). GoesOn view reader old l new) (append-nil h.went.acts) (goes_on view reader old mid new h.went.acts [] h.went.so.went k);
             timed = h.went.so.timed;
           };
         };
@@ -106,9 +106,9 @@ module _ {C : Type 0} (makes : Steps C) where
 
       module _ (more : (old : A) (first : List AskParts) (mid : A) (rest : List AskParts) (new : A) → takes old first mid → takes mid rest new → takes old (first ++ rest) new) where
         pub timed_on : (x y z : C) (old mid new : Links L N) (before at after : A) (r s t : List ℕ)
-            → LeadsTaking makes takes x y before at (λ acts. GoesTimed view gives (clock_over told r s) old acts mid)
-            → LeadsTaking makes takes y z at after (λ acts. GoesTimed view gives (clock_over told s t) mid acts new)
-            → LeadsTaking makes takes x z before after (λ acts. GoesTimed view gives (clock_over told r t) old acts new)
+            → LeadsTaking makes takes x y before at (λ acts. GoesTimed view reader (clock_over told r s) old acts mid)
+            → LeadsTaking makes takes y z at after (λ acts. GoesTimed view reader (clock_over told s t) mid acts new)
+            → LeadsTaking makes takes x z before after (λ acts. GoesTimed view reader (clock_over told r t) old acts new)
         timed_on x y z old mid new before at after r s t h k =
             let first = h.went.acts in
             let rest = k.went.acts in
@@ -117,10 +117,10 @@ module _ {C : Type 0} (makes : Steps C) where
               took = more before h.taken at k.taken after h.took k.took;
               went = record {
                 acts = first ++ rest;
-                leads = acts_lead view.links gives makes x y z first rest h.went.leads k.went.leads;
-                wrote = acts_write view.links gives makes first rest h.taken k.taken h.went.wrote k.went.wrote;
+                leads = acts_lead view.links reader makes x y z first rest h.went.leads k.went.leads;
+                wrote = acts_write view.links reader makes first rest h.taken k.taken h.went.wrote k.went.wrote;
                 so = record {
-                  went = goes_on view gives old mid new first rest h.went.so.went k.went.so.went;
+                  went = goes_on view reader old mid new first rest h.went.so.went k.went.so.went;
                   timed = λ tells. subst (λ (l : Made). IsTimedBy r l t) (sym (steps_append first rest))
                       (timed_then r s t (steps_of first) (steps_of rest) (h.went.so.timed tells) (k.went.so.timed tells));
                 };

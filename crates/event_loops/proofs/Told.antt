@@ -4,7 +4,6 @@ use Rattle.std.specs.Prelude.{slice_get}
 use Rattle.std.proofs.lemmas.Bool.{cases_Bool}
 use Rattle.std.proofs.lemmas.Bool.Decides.{Decides-eqb}
 use Rattle.std.proofs.lemmas.List.Elements.{filter-append}
-use Rattle.mq_outside.specs.Readings.{Giving}
 use Rattle.mq_peers.specs.Ended.{LinkEnd}
 use Rattle.broker_events.specs.Makes.{Makes}
 use Rattle.broker_events.proofs.Makes.{makes_append}
@@ -12,6 +11,7 @@ use Rattle.broker_events.specs.declared.event.Event.TheVariants.{Leave}
 use Rattle.broker_events.specs.declared.said.Said.{Said}
 use Rattle.reply_fields.specs.Parts.{AskParts}
 use Rattle.session.specs.Owing.{Steps}
+use Rattle.session.specs.Readers.{ReaderView}
 use Rattle.session.specs.Serving.{Made, Leads}
 use Rattle.link_service.specs.Transcripts.{Seen, WentOnWith, WentOn, WentOnUnread, IsFresh, if_asked}
 use Rattle.link_service.proofs.Went.{went_on, went_read, unread_same}
@@ -174,29 +174,29 @@ apart_at : {L : Type 0} (links : List (Option (Numbered L))) → ((i j link : �
     → (i j : ℕ) (n m : Numbered L) → slice_get links i ≡ Some (Some n) → slice_get links j ≡ Some (Some m) → n.number ≡ m.number → i ≡ j
 apart_at links apart i j n m got had same = apart i j n.number (n, got, refl) (m, had, sym same)
 
-module _ {L : Type 0} (view : LinkView L) (gives : Giving) where
+module _ {L : Type 0} (view : LinkView L) (reader : ReaderView) where
   -- ---- one link
 
   abbrev Served : Numbered L → Did → Seen → Type 0
-  Served link did now = IsServed view.tells gives link.number link.peer did.0 did.1 now
+  Served link did now = IsServed view.tells reader link.number link.peer did.0 did.1 now
 
   abbrev Tale : LinkEnd → Did → Type 0
-  Tale it did = IsTale view.tells gives it did.0 did.1
+  Tale it did = IsTale view.tells reader it did.0 did.1
 
-  served_on : (link : Numbered L) (did more : Did) (mid new : Seen) → Served link did mid → WentOnWith view.tells gives mid more.0 more.1 new
+  served_on : (link : Numbered L) (did more : Did) (mid new : Seen) → Served link did mid → WentOnWith view.tells reader mid more.0 more.1 new
       → Served link (joined did more) new
   served_on link did more mid new is went =
-      record { first = is.first; fresh = is.fresh; went = went_on view.tells gives is.first mid new did.0 more.0 did.1 more.1 is.went went }
+      record { first = is.first; fresh = is.fresh; went = went_on view.tells reader is.first mid new did.0 more.0 did.1 more.1 is.went went }
 
   served_first : (link : Numbered L) (new : Seen) → IsFresh view.tells link.number link.peer new → Served link idle new
   served_first link new fresh =
-      record { first = new; fresh = fresh; went = went_read view.tells gives new [] new (unread_same view.tells new) }
+      record { first = new; fresh = fresh; went = went_read view.tells reader new [] new (unread_same view.tells new) }
 
   -- it is served as the same link
   served_as : (old new : Numbered L) (did : Did) (now : Seen) → IsSame old new → Served old did now → Served new did now
   served_as old new did now same is =
-      subst (λ (p : List ℕ). IsServed view.tells gives new.number p did.0 did.1 now) (sym same.1)
-      (subst (λ (n : ℕ). IsServed view.tells gives n old.peer did.0 did.1 now) (sym same.0) is)
+      subst (λ (p : List ℕ). IsServed view.tells reader new.number p did.0 did.1 now) (sym same.1)
+      (subst (λ (n : ℕ). IsServed view.tells reader n old.peer did.0 did.1 now) (sym same.0) is)
 
   -- it is let go of
   tale_of : (link : Numbered L) (did : Did) (now : Seen) → Served link did now → Tale (end_as link now) did
@@ -214,7 +214,7 @@ module _ {L : Type 0} (view : LinkView L) (gives : Giving) where
   -- ---- the acts of one link, at its slot
 
   module _ (loop : LoopNumbers) (before : List Act) (links : List (Option (Numbered L))) (ended : List LinkEnd)
-      (told : IsTold view gives loop before links ended) (i : ℕ) where
+      (told : IsTold view reader loop before links ended) (i : ℕ) where
     -- what is in the slots once this one was written
     there : (old new : Option (Numbered L)) → slice_get links i ≡ Some old → (j : ℕ) (n : Numbered L) → slice_get (set links i new) j ≡ Some (Some n)
         → ((j ≡ i) × (new ≡ Some n)) ⊎ ((j ≢ i) × (slice_get links j ≡ Some (Some n)))
@@ -246,9 +246,9 @@ module _ {L : Type 0} (view : LinkView L) (gives : Giving) where
             subst (λ (d : Did). Tale it d) (sym (still it.number (λ same. told.ends.gone i k it.number (old, at, sym same) (it, got, refl)))) was.1,
           )
 
-      ends_kept : (new : Numbered L) → IsSame old new → AreEnded view gives loop (before ++ acts) (set links i (Some new)) (ended ++ [])
+      ends_kept : (new : Numbered L) → IsSame old new → AreEnded view reader loop (before ++ acts) (set links i (Some new)) (ended ++ [])
       ends_kept new same =
-          subst (λ (l : List LinkEnd). AreEnded view gives loop (before ++ acts) (set links i (Some new)) l) (sym (append-nil ended))
+          subst (λ (l : List LinkEnd). AreEnded view reader loop (before ++ acts) (set links i (Some new)) l) (sym (append-nil ended))
           (record {
             each = ended_still;
             once = told.ends.once;
@@ -259,7 +259,7 @@ module _ {L : Type 0} (view : LinkView L) (gives : Giving) where
 
       -- the link has ended
       ends_left : (it : LinkEnd) → it.number ≡ old.number → Tale it (joined (did_for old.number before) grown)
-          → AreEnded view gives loop (before ++ acts) (set links i None) (ended ++ it ∷ [])
+          → AreEnded view reader loop (before ++ acts) (set links i None) (ended ++ it ∷ [])
       ends_left it is tale = record {
         each = λ k e got. ⊎_elim (λ was. ended_still k e was)
             (λ new. subst (λ (x : LinkEnd). IsOwn loop x.number × Tale x (did_for x.number (before ++ acts))) new.1
@@ -279,7 +279,7 @@ module _ {L : Type 0} (view : LinkView L) (gives : Giving) where
       told_after : (new : Option (Numbered L)) (gone : List LinkEnd)
           → ((n : Numbered L) → new ≡ Some n → IsSame old n × Served n (joined (did_for old.number before) grown) (seen_in view n))
           → ((j : ℕ) × HasNumber (set links i new) j old.number) ⊎ ((k : ℕ) × IsEndOf (ended ++ gone) k old.number)
-          → AreEnded view gives loop (before ++ acts) (set links i new) (ended ++ gone) → IsTold view gives loop (before ++ acts) (set links i new) (ended ++ gone)
+          → AreEnded view reader loop (before ++ acts) (set links i new) (ended ++ gone) → IsTold view reader loop (before ++ acts) (set links i new) (ended ++ gone)
       told_after new gone is mine ends =
           let within = told.own i old at in
           let apart = apart_at links told.apart in
@@ -322,7 +322,7 @@ module _ {L : Type 0} (view : LinkView L) (gives : Giving) where
 
       -- the link is there still
       told_on : (new : Numbered L) → IsSame old new → Served old (joined (did_for old.number before) grown) (seen_in view new)
-          → IsTold view gives loop (before ++ acts) (set links i (Some new)) (ended ++ [])
+          → IsTold view reader loop (before ++ acts) (set links i (Some new)) (ended ++ [])
       told_on new same on =
           told_after (Some new) []
           (λ n is. let equal : new ≡ n = cc in
@@ -332,38 +332,38 @@ module _ {L : Type 0} (view : LinkView L) (gives : Giving) where
 
       -- it was let go of
       told_off : (it : LinkEnd) → it.number ≡ old.number → Tale it (joined (did_for old.number before) grown)
-          → IsTold view gives loop (before ++ acts) (set links i None) (ended ++ it ∷ [])
+          → IsTold view reader loop (before ++ acts) (set links i None) (ended ++ it ∷ [])
       told_off it is tale =
           told_after None (it ∷ []) (λ n some. absurd (cc)) (inr (length ended, (it, got_end ended it, is))) (ends_left it is tale)
 
     -- a slot in which there was none is free still, and nothing else changed
-    told_same : (acts : List Act) → slice_get links i ≡ Some None → acts ≡ [] → IsTold view gives loop (before ++ acts) (set links i None) (ended ++ [])
+    told_same : (acts : List Act) → slice_get links i ≡ Some None → acts ≡ [] → IsTold view reader loop (before ++ acts) (set links i None) (ended ++ [])
     told_same acts at none =
-        subst (λ (xs : List (Option (Numbered L))). IsTold view gives loop (before ++ acts) xs (ended ++ [])) (sym (set_same links i None at))
-        (subst (λ (b : List Act). IsTold view gives loop b links (ended ++ [])) (sym (ap (λ (l : List Act). before ++ l) none ∙ append-nil before))
-        (subst (λ (l : List LinkEnd). IsTold view gives loop before links l) (sym (append-nil ended)) told))
+        subst (λ (xs : List (Option (Numbered L))). IsTold view reader loop (before ++ acts) xs (ended ++ [])) (sym (set_same links i None at))
+        (subst (λ (b : List Act). IsTold view reader loop b links (ended ++ [])) (sym (ap (λ (l : List Act). before ++ l) none ∙ append-nil before))
+        (subst (λ (l : List LinkEnd). IsTold view reader loop before links l) (sym (append-nil ended)) told))
 
     -- what a pass did for one link
-    told_acts : (old new : Option (Numbered L)) (acts : List Act) → slice_get links i ≡ Some old → Acts view gives old acts new
-        → IsTold view gives loop (before ++ acts) (set links i new) (ended ++ [])
+    told_acts : (old new : Option (Numbered L)) (acts : List Act) → slice_get links i ≡ Some old → Acts view reader old acts new
+        → IsTold view reader loop (before ++ acts) (set links i new) (ended ++ [])
     told_acts None new acts at did =
-        subst (λ (x : Option (Numbered L)). IsTold view gives loop (before ++ acts) (set links i x) (ended ++ [])) (sym did.1) (told_same acts at did.0)
+        subst (λ (x : Option (Numbered L)). IsTold view reader loop (before ++ acts) (set links i x) (ended ++ [])) (sym did.1) (told_same acts at did.0)
     told_acts (Some old) None acts at did = absurd did
     told_acts (Some old) (Some new) acts at did =
         let one : Act = record { link = old.number; made = did.0; asks = did.1 } in
-        subst (λ (a : List Act). IsTold view gives loop (before ++ a) (set links i (Some new)) (ended ++ [])) (sym did.4)
+        subst (λ (a : List Act). IsTold view reader loop (before ++ a) (set links i (Some new)) (ended ++ [])) (sym did.4)
         (told_on old at (one ∷ []) (did.0, did.1) (did_own one) (λ k other. did_other k one other) new did.2
         (served_on old (did_for old.number before) (did.0, did.1) (seen_in view old) (seen_in view new) (told.present i old at) did.3))
 
     -- a pass and the end of one link, which was let go of
-    told_leaves : (old last : Numbered L) (acts : List Act) → slice_get links i ≡ Some (Some old) → Leaves view gives old acts last
-        → IsTold view gives loop (before ++ acts) (set links i None) (ended ++ end_as last (seen_in view last) ∷ [])
+    told_leaves : (old last : Numbered L) (acts : List Act) → slice_get links i ≡ Some (Some old) → Leaves view reader old acts last
+        → IsTold view reader loop (before ++ acts) (set links i None) (ended ++ end_as last (seen_in view last) ∷ [])
     told_leaves old last acts at did =
         let leave : Made = (Leave old.number, did.1) ∷ [] in
         let pass : Act = act old.number did.0 in
         let tell : Act = act old.number leave in
         let on = served_on old (did_for old.number before) (did.0, []) (seen_in view old) (seen_in view last) (told.present i old at) did.3 in
-        subst (λ (a : List Act). IsTold view gives loop (before ++ a) (set links i None) (ended ++ end_as last (seen_in view last) ∷ [])) (sym did.4)
+        subst (λ (a : List Act). IsTold view reader loop (before ++ a) (set links i None) (ended ++ end_as last (seen_in view last) ∷ [])) (sym did.4)
         (told_off old at (pass ∷ tell ∷ []) (did.0 ++ leave, [])
         (did_append old.number (pass ∷ []) (tell ∷ []) ∙ ap (λ (d : Did). joined d (did_for old.number (tell ∷ []))) (did_own pass)
         ∙ ap (λ (d : Did). joined (did.0, []) d) (did_own tell))
@@ -383,16 +383,16 @@ module _ {L : Type 0} (view : LinkView L) (gives : Giving) where
 
     -- either
     told_acting : (old new : Option (Numbered L)) (acts : List Act) (gone : List LinkEnd) → slice_get links i ≡ Some old
-        → ActsOrLeaves view gives old acts new gone → IsTold view gives loop (before ++ acts) (set links i new) (ended ++ gone)
+        → ActsOrLeaves view reader old acts new gone → IsTold view reader loop (before ++ acts) (set links i new) (ended ++ gone)
     told_acting old (Some new) acts gone at did =
-        subst (λ (l : List LinkEnd). IsTold view gives loop (before ++ acts) (set links i (Some new)) (ended ++ l)) (sym did.1) (told_acts old (Some new) acts at did.0)
+        subst (λ (l : List LinkEnd). IsTold view reader loop (before ++ acts) (set links i (Some new)) (ended ++ l)) (sym did.1) (told_acts old (Some new) acts at did.0)
     told_acting None None acts gone at did =
-        subst (λ (l : List LinkEnd). IsTold view gives loop (before ++ acts) (set links i None) (ended ++ l)) (sym did.1) (told_same acts at did.0)
+        subst (λ (l : List LinkEnd). IsTold view reader loop (before ++ acts) (set links i None) (ended ++ l)) (sym did.1) (told_same acts at did.0)
     told_acting (Some old) None acts gone at did =
-        subst (λ (l : List LinkEnd). IsTold view gives loop (before ++ acts) (set links i None) (ended ++ l)) (sym did.2) (told_leaves old did.0 acts at did.1)
+        subst (λ (l : List LinkEnd). IsTold view reader loop (before ++ acts) (set links i None) (ended ++ l)) (sym did.2) (told_leaves old did.0 acts at did.1)
 
     -- a link was let go of, as it was
-    told_gone : (old : Option (Numbered L)) → slice_get links i ≡ Some old → IsTold view gives loop (before ++ []) (set links i None) (ended ++ end_in view old)
+    told_gone : (old : Option (Numbered L)) → slice_get links i ≡ Some old → IsTold view reader loop (before ++ []) (set links i None) (ended ++ end_in view old)
     told_gone None at = told_same [] at refl
     told_gone (Some old) at =
         told_off old at [] idle refl (λ k other. refl) (end_as old (seen_in view old)) refl
@@ -401,9 +401,9 @@ module _ {L : Type 0} (view : LinkView L) (gives : Giving) where
 
     -- a link was reported
     told_seen : (old new : Option (Numbered L)) → slice_get links i ≡ Some old → IsSeenAs view old new
-        → IsTold view gives loop (before ++ []) (set links i new) (ended ++ [])
+        → IsTold view reader loop (before ++ []) (set links i new) (ended ++ [])
     told_seen None new at seen =
-        subst (λ (x : Option (Numbered L)). IsTold view gives loop (before ++ []) (set links i x) (ended ++ [])) (sym seen) (told_same [] at refl)
+        subst (λ (x : Option (Numbered L)). IsTold view reader loop (before ++ []) (set links i x) (ended ++ [])) (sym seen) (told_same [] at refl)
     told_seen (Some old) None at seen = absurd seen
     told_seen (Some old) (Some new) at seen =
         told_on old at [] idle refl (λ k other. refl) new seen.0
@@ -420,7 +420,7 @@ module _ {L : Type 0} (view : LinkView L) (gives : Giving) where
   own_new loop link above falls = record { some = omega (arith, above); within = omega arith; falls = falls }
 
   module _ (loop : LoopNumbers) (before : List Act) (links : List (Option (Numbered L))) (ended : List LinkEnd)
-      (told : IsTold view gives loop before links ended) (new : Numbered L) (above : loop.newest < new.number)
+      (told : IsTold view reader loop before links ended) (new : Numbered L) (above : loop.newest < new.number)
       (falls : loop_of loop.loops new.number ≡ loop.number) (fresh : IsFresh view.tells new.number new.peer (seen_in view new)) where
     none_did : did_for new.number before ≡ idle
     none_did =
@@ -432,13 +432,13 @@ module _ {L : Type 0} (view : LinkView L) (gives : Giving) where
 
     -- it is put into a free slot
     told_put : (i : ℕ) → slice_get links i ≡ Some None
-        → IsTold view gives (record loop { newest = new.number }) (before ++ []) (set links i (Some new)) (ended ++ [])
+        → IsTold view reader (record loop { newest = new.number }) (before ++ []) (set links i (Some new)) (ended ++ [])
     told_put i at =
         let there : (j : ℕ) (n : Numbered L) → slice_get (set links i (Some new)) j ≡ Some (Some n) → ((j ≡ i) × (new ≡ n)) ⊎ ((j ≢ i) × (slice_get links j ≡ Some (Some n))) =
         (λ j n got. ⊎_elim (λ h. inl (h.0, same_in new n (Some new) refl (same_in (Some new) (Some n) (slice_get (set links i (Some new)) j) h.1 got))) (λ h. inr (h.0, sym h.1 ∙ got))
         (got_set links i j None (Some new) at)) in
-        subst (λ (b : List Act). IsTold view gives (record loop { newest = new.number }) b (set links i (Some new)) (ended ++ [])) (sym (append-nil before))
-        (subst (λ (l : List LinkEnd). IsTold view gives (record loop { newest = new.number }) before (set links i (Some new)) l) (sym (append-nil ended))
+        subst (λ (b : List Act). IsTold view reader (record loop { newest = new.number }) b (set links i (Some new)) (ended ++ [])) (sym (append-nil before))
+        (subst (λ (l : List LinkEnd). IsTold view reader (record loop { newest = new.number }) before (set links i (Some new)) l) (sym (append-nil ended))
         (record {
           present = λ j n got. ⊎_elim
               (λ h. subst (λ (m : Numbered L). Served m (did_for m.number before) (seen_in view m)) h.1 new_served)
@@ -475,10 +475,10 @@ module _ {L : Type 0} (view : LinkView L) (gives : Giving) where
         }))
 
     -- it is let go of at once
-    told_refused : IsTold view gives (record loop { newest = new.number }) (before ++ []) links (ended ++ end_as new (seen_in view new) ∷ [])
+    told_refused : IsTold view reader (record loop { newest = new.number }) (before ++ []) links (ended ++ end_as new (seen_in view new) ∷ [])
     told_refused =
         let it : LinkEnd = end_as new (seen_in view new) in
-        subst (λ (b : List Act). IsTold view gives (record loop { newest = new.number }) b links (ended ++ it ∷ [])) (sym (append-nil before))
+        subst (λ (b : List Act). IsTold view reader (record loop { newest = new.number }) b links (ended ++ it ∷ [])) (sym (append-nil before))
         (record {
           present = told.present;
           apart = told.apart;
@@ -505,11 +505,11 @@ module _ {L : Type 0} (view : LinkView L) (gives : Giving) where
         })
 
   -- one more free slot
-  told_push : (loop : LoopNumbers) (before : List Act) (links : List (Option (Numbered L))) (ended : List LinkEnd) → IsTold view gives loop before links ended
-      → IsTold view gives loop (before ++ []) (links ++ None ∷ []) (ended ++ [])
+  told_push : (loop : LoopNumbers) (before : List Act) (links : List (Option (Numbered L))) (ended : List LinkEnd) → IsTold view reader loop before links ended
+      → IsTold view reader loop (before ++ []) (links ++ None ∷ []) (ended ++ [])
   told_push loop before links ended told =
-      subst (λ (b : List Act). IsTold view gives loop b (links ++ None ∷ []) (ended ++ [])) (sym (append-nil before))
-      (subst (λ (l : List LinkEnd). IsTold view gives loop before (links ++ None ∷ []) l) (sym (append-nil ended))
+      subst (λ (b : List Act). IsTold view reader loop b (links ++ None ∷ []) (ended ++ [])) (sym (append-nil before))
+      (subst (λ (l : List LinkEnd). IsTold view reader loop before (links ++ None ∷ []) l) (sym (append-nil ended))
       (record {
         present = λ j n got. told.present j n (got_front links j n got);
         apart = apart_by (links ++ None ∷ []) (λ j k n m got had same. apart_at links told.apart j k n m (got_front links j n got) (got_front links k m had) same);
@@ -525,8 +525,8 @@ module _ {L : Type 0} (view : LinkView L) (gives : Giving) where
       }))
 
   -- the last slot was free, and is gone
-  told_unpush : (loop : LoopNumbers) (before : List Act) (links : List (Option (Numbered L))) (ended : List LinkEnd) → IsTold view gives loop before (links ++ None ∷ []) ended
-      → IsTold view gives loop before links ended
+  told_unpush : (loop : LoopNumbers) (before : List Act) (links : List (Option (Numbered L))) (ended : List LinkEnd) → IsTold view reader loop before (links ++ None ∷ []) ended
+      → IsTold view reader loop before links ended
   told_unpush loop before links ended told =
       let more : (j : ℕ) (n : Numbered L) → slice_get links j ≡ Some (Some n) → slice_get (links ++ None ∷ []) j ≡ Some (Some n) =
       (λ j n got. got_more links (None ∷ []) j (Some n) got) in
@@ -546,23 +546,23 @@ module _ {L : Type 0} (view : LinkView L) (gives : Giving) where
 
   -- the last slot is gone, and its link was let go of
   told_pop : (loop : LoopNumbers) (before : List Act) (links : List (Option (Numbered L))) (ended : List LinkEnd) (last : Option (Numbered L))
-      → IsTold view gives loop before (links ++ last ∷ []) ended → IsTold view gives loop (before ++ []) links (ended ++ end_in view last)
+      → IsTold view reader loop before (links ++ last ∷ []) ended → IsTold view reader loop (before ++ []) links (ended ++ end_in view last)
   told_pop loop before links ended last told =
       told_unpush loop (before ++ []) links (ended ++ end_in view last)
-      (subst (λ (l : List (Option (Numbered L))). IsTold view gives loop (before ++ []) l (ended ++ end_in view last)) (set_last links last None)
+      (subst (λ (l : List (Option (Numbered L))). IsTold view reader loop (before ++ []) l (ended ++ end_in view last)) (set_last links last None)
       (told_gone loop before (links ++ last ∷ []) ended told (length links) last (got_end links last)))
 
   -- nothing was done
-  told_still : (loop : LoopNumbers) (before : List Act) (links : List (Option (Numbered L))) (ended : List LinkEnd) → IsTold view gives loop before links ended
-      → IsTold view gives loop (before ++ []) links (ended ++ [])
+  told_still : (loop : LoopNumbers) (before : List Act) (links : List (Option (Numbered L))) (ended : List LinkEnd) → IsTold view reader loop before links ended
+      → IsTold view reader loop (before ++ []) links (ended ++ [])
   told_still loop before links ended told =
-      subst (λ (b : List Act). IsTold view gives loop b links (ended ++ [])) (sym (append-nil before))
-      (subst (λ (l : List LinkEnd). IsTold view gives loop before links l) (sym (append-nil ended)) told)
+      subst (λ (b : List Act). IsTold view reader loop b links (ended ++ [])) (sym (append-nil before))
+      (subst (λ (l : List LinkEnd). IsTold view reader loop before links l) (sym (append-nil ended)) told)
 
   -- a loop begins without links
-  pub told_none : (loop : LoopNumbers) (links : List (Option (Numbered L))) → links ≡ [] → IsTold view gives loop [] links []
+  pub told_none : (loop : LoopNumbers) (links : List (Option (Numbered L))) → links ≡ [] → IsTold view reader loop [] links []
   told_none loop links none =
-      subst (λ (xs : List (Option (Numbered L))). IsTold view gives loop [] xs []) (sym none)
+      subst (λ (xs : List (Option (Numbered L))). IsTold view reader loop [] xs []) (sym none)
       (record {
         present = λ i at got. let empty : None ≡ Some (Some at) = got in cc;
         apart = apart_by [] (λ i j at other got had same. let empty : None ≡ Some (Some at) = got in cc);
@@ -576,7 +576,7 @@ module _ {L : Type 0} (view : LinkView L) (gives : Giving) where
         };
       })
 
-module _ {L N : Type 0} (view : LoopView L N) (gives : Giving) where
+module _ {L N : Type 0} (view : LoopView L N) (reader : ReaderView) where
   -- ---- a ledger
 
   pub enters_none : (ledger : Ledger N) → Enters view ledger [] ledger
@@ -601,8 +601,8 @@ module _ {L N : Type 0} (view : LoopView L N) (gives : Giving) where
   -- by what its links did, where those that were let go of were entered
   goes_with : (old new : Links L N) (acts : List Act) (gone : List LinkEnd) → (new.loops ≡ old.loops) × (new.number ≡ old.number)
       → Enters view old.ledger gone new.ledger
-      → ((before : List Act) (ended : List LinkEnd) → IsTold view.links gives (loop_numbers old) before old.slots.items ended
-      → IsTold view.links gives (loop_numbers new) (before ++ acts) new.slots.items (ended ++ gone)) → GoesOn view gives old acts new
+      → ((before : List Act) (ended : List LinkEnd) → IsTold view.links reader (loop_numbers old) before old.slots.items ended
+      → IsTold view.links reader (loop_numbers new) (before ++ acts) new.slots.items (ended ++ gone)) → GoesOn view reader old acts new
   goes_with old new acts gone same enters keeps = record {
     same = same;
     keeps = λ before told. record {
@@ -612,112 +612,113 @@ module _ {L N : Type 0} (view : LoopView L N) (gives : Giving) where
     };
   }
 
-  pub goes_on : (old mid new : Links L N) (first rest : List Act) → GoesOn view gives old first mid → GoesOn view gives mid rest new
-      → GoesOn view gives old (first ++ rest) new
+  pub goes_on : (old mid new : Links L N) (first rest : List Act) → GoesOn view reader old first mid → GoesOn view reader mid rest new
+      → GoesOn view reader old (first ++ rest) new
   goes_on old mid new first rest h k = record {
     same = (k.same.0 ∙ h.same.0, k.same.1 ∙ h.same.1);
     keeps = λ before told.
-        subst (λ (b : List Act). IsToldOf view gives b new) (append_assoc before first rest)
+        subst (λ (b : List Act). IsToldOf view reader b new) (append_assoc before first rest)
         (k.keeps (before ++ first) (h.keeps before told));
   }
 
   -- nothing was done
-  pub goes_nowhere : (links : Links L N) → GoesOn view gives links [] links
+  pub goes_nowhere : (links : Links L N) → GoesOn view reader links [] links
   goes_nowhere links = record {
     same = (refl, refl);
-    keeps = λ before told. subst (λ (b : List Act). IsToldOf view gives b links) (sym (append-nil before)) told;
+    keeps = λ before told. subst (λ (b : List Act). IsToldOf view reader b links) (sym (append-nil before)) told;
   }
 
-  pub goes_nowhere_to : (old new : Links L N) → new ≡ old → GoesOn view gives old [] new
-  goes_nowhere_to old new same = subst (λ (l : Links L N). GoesOn view gives old [] l) (sym same) (goes_nowhere old)
+  pub goes_nowhere_to : (old new : Links L N) → new ≡ old → GoesOn view reader old [] new
+  goes_nowhere_to old new same = subst (λ (l : Links L N). GoesOn view reader old [] l) (sym same) (goes_nowhere old)
 
   -- then nothing was done
-  pub goes_kept : (old mid new : Links L N) → GoesOn view gives old [] mid → new ≡ mid → GoesOn view gives old [] new
-  goes_kept old mid new h same = subst (λ (l : Links L N). GoesOn view gives old [] l) (sym same) h
+  pub goes_kept : (old mid new : Links L N) → GoesOn view reader old [] mid → new ≡ mid → GoesOn view reader old [] new
+  goes_kept old mid new h same = subst (λ (l : Links L N). GoesOn view reader old [] l) (sym same) h
 
   -- nothing was done at first
-  pub goes_from : (old mid new : Links L N) → mid ≡ old → GoesOn view gives mid [] new → GoesOn view gives old [] new
-  goes_from old mid new same h = subst (λ (l : Links L N). GoesOn view gives l [] new) same h
+  pub goes_from : (old mid new : Links L N) → mid ≡ old → GoesOn view reader mid [] new → GoesOn view reader old [] new
+  goes_from old mid new same h = subst (λ (l : Links L N). GoesOn view reader l [] new) same h
 
   -- no step was made, twice
-  pub goes_then : (old mid new : Links L N) → GoesOn view gives old [] mid → GoesOn view gives mid [] new → GoesOn view gives old [] new
+  pub goes_then : (old mid new : Links L N) → GoesOn view reader old [] mid → GoesOn view reader mid [] new → GoesOn view reader old [] new
   goes_then old mid new h k = goes_on old mid new [] [] h k
 
   -- the same links in the same slots, where one may be lost
   pub goes_entering : (old new : Links L N) → (new.loops ≡ old.loops) × (new.number ≡ old.number) × (new.newest ≡ old.newest) × (new.slots.items ≡ old.slots.items)
-      → Enters view old.ledger [] new.ledger → GoesOn view gives old [] new
+      → Enters view old.ledger [] new.ledger → GoesOn view reader old [] new
   goes_entering old new same enters = goes_with old new [] [] (same.0, same.1) enters
-      (λ before ended told. let after = told_still view.links gives (loop_numbers old) before old.slots.items ended told in rw (same.0, same.1, same.2, same.3) after)
+      (λ before ended told. let after = told_still view.links reader (loop_numbers old) before old.slots.items ended told in rw (same.0, same.1, same.2, same.3) after)
 
-  goes_still : (old new : Links L N) → (new.loops ≡ old.loops) × (new.number ≡ old.number) × (new.newest ≡ old.newest) × (new.slots.items ≡ old.slots.items)
-      → new.ledger ≡ old.ledger → GoesOn view gives old [] new
+  -- nothing was done for its links
+  pub goes_still : (old new : Links L N) → (new.loops ≡ old.loops) × (new.number ≡ old.number) × (new.newest ≡ old.newest) × (new.slots.items ≡ old.slots.items)
+      → new.ledger ≡ old.ledger → GoesOn view reader old [] new
   goes_still old new same ledger = goes_entering old new same (enters_still old.ledger new.ledger ledger)
 
   -- one is lost
   pub goes_lost : (old new : Links L N) → (new.loops ≡ old.loops) × (new.number ≡ old.number) × (new.newest ≡ old.newest) × (new.slots.items ≡ old.slots.items)
-      → new.ledger.lost ≡ true → GoesOn view gives old [] new
+      → new.ledger.lost ≡ true → GoesOn view reader old [] new
   goes_lost old new same lost = goes_entering old new same (enters_lost old.ledger new.ledger [] lost)
 
   -- a new link was put into a free slot
   pub goes_put : (old new : Links L N) (i : ℕ) (n : Numbered L)
       → (new.loops ≡ old.loops) × (new.number ≡ old.number) × (new.newest ≡ n.number) × (new.slots.items ≡ set old.slots.items i (Some n))
       → new.ledger ≡ old.ledger → slice_get old.slots.items i ≡ Some None → old.newest < n.number → loop_of old.loops n.number ≡ old.number
-      → IsFresh view.links.tells n.number n.peer (seen_in view.links n) → GoesOn view gives old [] new
+      → IsFresh view.links.tells n.number n.peer (seen_in view.links n) → GoesOn view reader old [] new
   goes_put old new i n same ledger at above falls fresh = goes_with old new [] [] (same.0, same.1) (enters_still old.ledger new.ledger ledger)
-      (λ before ended told. let after = told_put view.links gives (loop_numbers old) before old.slots.items ended told n above falls fresh i at in
+      (λ before ended told. let after = told_put view.links reader (loop_numbers old) before old.slots.items ended told n above falls fresh i at in
       rw (same.0, same.1, same.2, same.3) after)
 
   -- a new link was let go of at once
   pub goes_refusing : (old new : Links L N) (n : Numbered L)
       → (new.loops ≡ old.loops) × (new.number ≡ old.number) × (new.newest ≡ n.number) × (new.slots.items ≡ old.slots.items)
       → Enters view old.ledger (end_as n (seen_in view.links n) ∷ []) new.ledger → old.newest < n.number → loop_of old.loops n.number ≡ old.number
-      → IsFresh view.links.tells n.number n.peer (seen_in view.links n) → GoesOn view gives old [] new
+      → IsFresh view.links.tells n.number n.peer (seen_in view.links n) → GoesOn view reader old [] new
   goes_refusing old new n same enters above falls fresh = goes_with old new [] (end_as n (seen_in view.links n) ∷ []) (same.0, same.1) enters
-      (λ before ended told. let after = told_refused view.links gives (loop_numbers old) before old.slots.items ended told n above falls fresh in
+      (λ before ended told. let after = told_refused view.links reader (loop_numbers old) before old.slots.items ended told n above falls fresh in
       rw (same.0, same.1, same.2, same.3) after)
 
   -- there is one more free slot
   goes_pushed : (old new : Links L N) → (new.loops ≡ old.loops) × (new.number ≡ old.number) × (new.newest ≡ old.newest)
-      × (new.slots.items ≡ old.slots.items ++ None ∷ []) → new.ledger ≡ old.ledger → GoesOn view gives old [] new
+      × (new.slots.items ≡ old.slots.items ++ None ∷ []) → new.ledger ≡ old.ledger → GoesOn view reader old [] new
   goes_pushed old new same ledger = goes_with old new [] [] (same.0, same.1) (enters_still old.ledger new.ledger ledger)
-      (λ before ended told. let after = told_push view.links gives (loop_numbers old) before old.slots.items ended told in rw (same.0, same.1, same.2, same.3) after)
+      (λ before ended told. let after = told_push view.links reader (loop_numbers old) before old.slots.items ended told in rw (same.0, same.1, same.2, same.3) after)
 
   -- there is one more free slot, or there was no memory for it
   pub goes_pushing : (old new : Links L N) (done : Bool) → (new.loops ≡ old.loops) × (new.number ≡ old.number) × (new.newest ≡ old.newest)
-      × (new.slots.items ≡ cond done (old.slots.items ++ None ∷ []) old.slots.items) → new.ledger ≡ old.ledger → GoesOn view gives old [] new
+      × (new.slots.items ≡ cond done (old.slots.items ++ None ∷ []) old.slots.items) → new.ledger ≡ old.ledger → GoesOn view reader old [] new
   goes_pushing old new true same ledger = goes_pushed old new same ledger
   goes_pushing old new false same ledger = goes_still old new same ledger
 
   -- a link was reported
   pub goes_reported : (old new : Links L N) (i : ℕ) (o n : Option (Numbered L)) → (new.loops ≡ old.loops) × (new.number ≡ old.number) × (new.newest ≡ old.newest)
-      × (new.slots.items ≡ set old.slots.items i n) → new.ledger ≡ old.ledger → slice_get old.slots.items i ≡ Some o → IsSeenAs view.links o n → GoesOn view gives old [] new
+      × (new.slots.items ≡ set old.slots.items i n) → new.ledger ≡ old.ledger → slice_get old.slots.items i ≡ Some o → IsSeenAs view.links o n → GoesOn view reader old [] new
   goes_reported old new i o n same ledger at seen = goes_with old new [] [] (same.0, same.1) (enters_still old.ledger new.ledger ledger)
-      (λ before ended told. let after = told_seen view.links gives (loop_numbers old) before old.slots.items ended told i o n at seen in
+      (λ before ended told. let after = told_seen view.links reader (loop_numbers old) before old.slots.items ended told i o n at seen in
       rw (same.0, same.1, same.2, same.3) after)
 
   -- the last slot is gone, and its link was let go of
   pub goes_popped : (old new : Links L N) (last : Option (Numbered L)) → (new.loops ≡ old.loops) × (new.number ≡ old.number) × (new.newest ≡ old.newest)
-      → old.slots.items ≡ new.slots.items ++ last ∷ [] → Enters view old.ledger (end_in view.links last) new.ledger → GoesOn view gives old [] new
+      → old.slots.items ≡ new.slots.items ++ last ∷ [] → Enters view old.ledger (end_in view.links last) new.ledger → GoesOn view reader old [] new
   goes_popped old new last same at enters = goes_with old new [] (end_in view.links last) (same.0, same.1) enters
-      (λ before ended told. let after = told_pop view.links gives (loop_numbers old) before new.slots.items ended last
-      (subst (λ (l : List (Option (Numbered L))). IsTold view.links gives (loop_numbers old) before l ended) at told) in rw (same.0, same.1, same.2) after)
+      (λ before ended told. let after = told_pop view.links reader (loop_numbers old) before new.slots.items ended last
+      (subst (λ (l : List (Option (Numbered L))). IsTold view.links reader (loop_numbers old) before l ended) at told) in rw (same.0, same.1, same.2) after)
 
-module _ {L : Type 0} (view : LinkView L) (gives : Giving) where
+module _ {L : Type 0} (view : LinkView L) (reader : ReaderView) where
   -- ---- slots one after another
 
   -- what one slot did after others
   keeps_then : (first mid : List (Option (Numbered L))) (i : ℕ) (old new : Option (Numbered L)) (acts more : List Act) (gone late : List LinkEnd) → slice_get mid i ≡ Some old
-      → Keeps view gives first acts mid gone → ActsOrLeaves view gives old more new late → Keeps view gives first (acts ++ more) (set mid i new) (gone ++ late)
+      → Keeps view reader first acts mid gone → ActsOrLeaves view reader old more new late → Keeps view reader first (acts ++ more) (set mid i new) (gone ++ late)
   keeps_then first mid i old new acts more gone late at h k loop before ended told =
-      subst (λ (b : List Act). IsTold view gives loop b (set mid i new) (ended ++ (gone ++ late))) (append_assoc before acts more)
-      (subst (λ (l : List LinkEnd). IsTold view gives loop ((before ++ acts) ++ more) (set mid i new) l) (append_assoc ended gone late)
-      (told_acting view gives loop (before ++ acts) mid (ended ++ gone) (h loop before ended told) i old new more late at k))
+      subst (λ (b : List Act). IsTold view reader loop b (set mid i new) (ended ++ (gone ++ late))) (append_assoc before acts more)
+      (subst (λ (l : List LinkEnd). IsTold view reader loop ((before ++ acts) ++ more) (set mid i new) l) (append_assoc ended gone late)
+      (told_acting view reader loop (before ++ acts) mid (ended ++ gone) (h loop before ended told) i old new more late at k))
 
-  pub keeps_all : (links : List (Option (Numbered L))) → Keeps view gives links [] links []
-  keeps_all links loop before ended told = told_still view gives loop before links ended told
+  pub keeps_all : (links : List (Option (Numbered L))) → Keeps view reader links [] links []
+  keeps_all links loop before ended told = told_still view reader loop before links ended told
 
   -- a pass of a slot
-  passes_one : (old new : Option (Numbered L)) (acts : List Act) → Acts view gives old acts new → ActsOrLeaves view gives old acts new []
+  passes_one : (old new : Option (Numbered L)) (acts : List Act) → Acts view reader old acts new → ActsOrLeaves view reader old acts new []
   passes_one old (Some new) acts did = (did, refl)
   passes_one None None acts did = (did.0, refl)
   passes_one (Some old) None acts did = absurd did
@@ -734,8 +735,8 @@ module _ {L : Type 0} (view : LinkView L) (gives : Giving) where
 
     -- a pass of a link, in which a check-back may be written
     one_went : (x y : C) (o n : Numbered L) (asks all : List AskParts) → AreSome (asks ++ []) all → IsSame o n
-        → Leads makes x y (λ made. WentOnWith view.tells gives (seen_in view o) made asks (seen_in view n))
-        → LeadsWith makes x y all (λ acts. Acts view gives (Some o) acts (Some n))
+        → Leads makes x y (λ made. WentOnWith view.tells reader (seen_in view o) made asks (seen_in view n))
+        → LeadsWith makes x y all (λ acts. Acts view reader (Some o) acts (Some n))
     one_went x y o n asks all some same went = record {
       acts = record { link = o.number; made = went.made; asks = asks } ∷ [];
       leads = subst (λ (l : Made). Makes makes x l y) (sym (append-nil went.made)) went.leads;
@@ -744,22 +745,22 @@ module _ {L : Type 0} (view : LinkView L) (gives : Giving) where
     }
 
     pub one_asked : (x y : C) (o n : Numbered L) (ask : AskParts) (did : Bool) → IsSame o n
-        → Leads makes x y (λ made. WentOnWith view.tells gives (seen_in view o) made (if_asked did ask) (seen_in view n))
-        → LeadsWith makes x y (ask ∷ []) (λ acts. Acts view gives (Some o) acts (Some n))
+        → Leads makes x y (λ made. WentOnWith view.tells reader (seen_in view o) made (if_asked did ask) (seen_in view n))
+        → LeadsWith makes x y (ask ∷ []) (λ acts. Acts view reader (Some o) acts (Some n))
     one_asked x y o n ask did same went = one_went x y o n (if_asked did ask) (ask ∷ []) (some_one did ask) same went
 
-    pub one_replied : (x y : C) (o n : Numbered L) → IsSame o n → Leads makes x y (λ made. WentOn view.tells gives (seen_in view o) made (seen_in view n))
-        → LeadsBy makes x y (λ acts. Acts view gives (Some o) acts (Some n))
+    pub one_replied : (x y : C) (o n : Numbered L) → IsSame o n → Leads makes x y (λ made. WentOn view.tells reader (seen_in view o) made (seen_in view n))
+        → LeadsBy makes x y (λ acts. Acts view reader (Some o) acts (Some n))
     one_replied x y o n same went = one_went x y o n [] [] refl same went
 
     pub one_heard : (x y : C) (o n : Numbered L) → IsSame o n → Leads makes x y (λ made. WentOnUnread view.tells (seen_in view o) made (seen_in view n))
-        → LeadsBy makes x y (λ acts. Acts view gives (Some o) acts (Some n))
+        → LeadsBy makes x y (λ acts. Acts view reader (Some o) acts (Some n))
     one_heard x y o n same went =
-        one_replied x y o n same (record { made = went.made; leads = went.leads; so = went_read view.tells gives (seen_in view o) went.made (seen_in view n) went.so })
+        one_replied x y o n same (record { made = went.made; leads = went.leads; so = went_read view.tells reader (seen_in view o) went.made (seen_in view n) went.so })
 
     -- a pass of a link, and its end
-    pub one_left : (x y z : C) (o n : Numbered L) (said : Option Said) → IsSame o n → Leads makes x y (λ made. WentOn view.tells gives (seen_in view o) made (seen_in view n))
-        → makes y (Leave o.number) said z → LeadsBy makes x z (λ acts. Leaves view gives o acts n)
+    pub one_left : (x y z : C) (o n : Numbered L) (said : Option Said) → IsSame o n → Leads makes x y (λ made. WentOn view.tells reader (seen_in view o) made (seen_in view n))
+        → makes y (Leave o.number) said z → LeadsBy makes x z (λ acts. Leaves view reader o acts n)
     one_left x y z o n said same went leave = record {
       acts = act o.number went.made ∷ act o.number ((Leave o.number, said) ∷ []) ∷ [];
       leads = makes_append makes x went.made y ((Leave o.number, said) ∷ []) z went.leads (z, leave, refl);
@@ -769,18 +770,18 @@ module _ {L : Type 0} (view : LinkView L) (gives : Giving) where
 
     module _ {N : Type 0} (whole : LoopView L N) where
       -- a slot in which something was done, or nothing, and whose link is there still
-      pub slot_stays : (x y : C) (o n : Option (Numbered L)) (ledger : Ledger N) → LeadsBy makes x y (λ acts. Acts view gives o acts n)
-          → LeadsBy makes x y (λ acts. (gone : List LinkEnd) × Enters whole ledger gone ledger × ActsOrLeaves view gives o acts n gone)
+      pub slot_stays : (x y : C) (o n : Option (Numbered L)) (ledger : Ledger N) → LeadsBy makes x y (λ acts. Acts view reader o acts n)
+          → LeadsBy makes x y (λ acts. (gone : List LinkEnd) × Enters whole ledger gone ledger × ActsOrLeaves view reader o acts n gone)
       slot_stays x y o n ledger h =
-          record { acts = h.acts; leads = h.leads; wrote = h.wrote; so = ([], enters_none whole gives ledger, passes_one o n h.acts h.so) }
+          record { acts = h.acts; leads = h.leads; wrote = h.wrote; so = ([], enters_none whole reader ledger, passes_one o n h.acts h.so) }
 
       -- its link has ended, and was let go of
       pub slot_left : (x y : C) (s t taken : Option (Numbered L)) (o n : Numbered L) (old new : Ledger N) → s ≡ Some o → t ≡ None → taken ≡ Some n
-          → LeadsBy makes x y (λ acts. Leaves view gives o acts n) → Enters whole old (end_in view taken) new
-          → LeadsBy makes x y (λ acts. (gone : List LinkEnd) × Enters whole old gone new × ActsOrLeaves view gives s acts t gone)
+          → LeadsBy makes x y (λ acts. Leaves view reader o acts n) → Enters whole old (end_in view taken) new
+          → LeadsBy makes x y (λ acts. (gone : List LinkEnd) × Enters whole old gone new × ActsOrLeaves view reader s acts t gone)
       slot_left x y s t taken o n old new was free got h enters =
-          subst (λ (u : Option (Numbered L)). LeadsBy makes x y (λ acts. (gone : List LinkEnd) × Enters whole old gone new × ActsOrLeaves view gives u acts t gone)) (sym was)
-          (subst (λ (u : Option (Numbered L)). LeadsBy makes x y (λ acts. (gone : List LinkEnd) × Enters whole old gone new × ActsOrLeaves view gives (Some o) acts u gone)) (sym free)
+          subst (λ (u : Option (Numbered L)). LeadsBy makes x y (λ acts. (gone : List LinkEnd) × Enters whole old gone new × ActsOrLeaves view reader u acts t gone)) (sym was)
+          (subst (λ (u : Option (Numbered L)). LeadsBy makes x y (λ acts. (gone : List LinkEnd) × Enters whole old gone new × ActsOrLeaves view reader (Some o) acts u gone)) (sym free)
           (record {
             acts = h.acts;
             leads = h.leads;
@@ -790,30 +791,30 @@ module _ {L : Type 0} (view : LinkView L) (gives : Giving) where
 
       -- acts of one slot, and of others before it
       pub keeps_replying : (x y z : C) (first mid : List (Option (Numbered L))) (i : ℕ) (old new : Option (Numbered L)) (l m r : Ledger N) → slice_get mid i ≡ Some old
-          → LeadsBy makes x y (λ acts. (gone : List LinkEnd) × Enters whole l gone m × Keeps view gives first acts mid gone)
-          → LeadsBy makes y z (λ acts. (gone : List LinkEnd) × Enters whole m gone r × ActsOrLeaves view gives old acts new gone)
-          → LeadsBy makes x z (λ acts. (gone : List LinkEnd) × Enters whole l gone r × Keeps view gives first acts (set mid i new) gone)
+          → LeadsBy makes x y (λ acts. (gone : List LinkEnd) × Enters whole l gone m × Keeps view reader first acts mid gone)
+          → LeadsBy makes y z (λ acts. (gone : List LinkEnd) × Enters whole m gone r × ActsOrLeaves view reader old acts new gone)
+          → LeadsBy makes x z (λ acts. (gone : List LinkEnd) × Enters whole l gone r × Keeps view reader first acts (set mid i new) gone)
       keeps_replying x y z first mid i old new l m r at h k = record {
         acts = h.acts ++ k.acts;
         leads = acts_lead x y z h.acts k.acts h.leads k.leads;
         wrote = acts_write h.acts k.acts [] [] h.wrote k.wrote;
-        so = (h.so.0 ++ k.so.0, enters_then whole gives l m r h.so.0 k.so.0 h.so.1 k.so.1, keeps_then first mid i old new h.acts k.acts h.so.0 k.so.0 at h.so.2 k.so.2);
+        so = (h.so.0 ++ k.so.0, enters_then whole reader l m r h.so.0 k.so.0 h.so.1 k.so.1, keeps_then first mid i old new h.acts k.acts h.so.0 k.so.0 at h.so.2 k.so.2);
       }
 
       pub replying_first : (x : C) (links : List (Option (Numbered L))) (ledger : Ledger N)
-          → LeadsBy makes x x (λ acts. (gone : List LinkEnd) × Enters whole ledger gone ledger × Keeps view gives links acts links gone)
+          → LeadsBy makes x x (λ acts. (gone : List LinkEnd) × Enters whole ledger gone ledger × Keeps view reader links acts links gone)
       replying_first x links ledger =
-          record { acts = []; leads = refl; wrote = refl; so = ([], enters_none whole gives ledger, keeps_all links) }
+          record { acts = []; leads = refl; wrote = refl; so = ([], enters_none whole reader ledger, keeps_all links) }
 
     -- there is no link
-    pub none_asked : (x : C) (o : Option (Numbered L)) (asks : List AskParts) → o ≡ None → LeadsWith makes x x asks (λ acts. Acts view gives o acts o)
-    none_asked x o asks none = subst (λ (w : Option (Numbered L)). LeadsWith makes x x asks (λ acts. Acts view gives w acts w)) (sym none)
+    pub none_asked : (x : C) (o : Option (Numbered L)) (asks : List AskParts) → o ≡ None → LeadsWith makes x x asks (λ acts. Acts view reader o acts o)
+    none_asked x o asks none = subst (λ (w : Option (Numbered L)). LeadsWith makes x x asks (λ acts. Acts view reader w acts w)) (sym none)
         (record { acts = []; leads = refl; wrote = some_none asks; so = (refl, refl) })
 
     -- acts of one slot, and of others before it
     pub keeps_slot : (x y z : C) (first mid : List (Option (Numbered L))) (i : ℕ) (old new : Option (Numbered L)) → slice_get mid i ≡ Some old
-        → LeadsBy makes x y (λ acts. Keeps view gives first acts mid []) → LeadsBy makes y z (λ acts. Acts view gives old acts new)
-        → LeadsBy makes x z (λ acts. Keeps view gives first acts (set mid i new) [])
+        → LeadsBy makes x y (λ acts. Keeps view reader first acts mid []) → LeadsBy makes y z (λ acts. Acts view reader old acts new)
+        → LeadsBy makes x z (λ acts. Keeps view reader first acts (set mid i new) [])
     keeps_slot x y z first mid i old new at h k = record {
       acts = h.acts ++ k.acts;
       leads = acts_lead x y z h.acts k.acts h.leads k.leads;
@@ -821,71 +822,71 @@ module _ {L : Type 0} (view : LinkView L) (gives : Giving) where
       so = keeps_then first mid i old new h.acts k.acts [] [] at h.so (passes_one old new k.acts k.so);
     }
 
-    pub keeps_first : (x : C) (links : List (Option (Numbered L))) → LeadsBy makes x x (λ acts. Keeps view gives links acts links [])
+    pub keeps_first : (x : C) (links : List (Option (Numbered L))) → LeadsBy makes x x (λ acts. Keeps view reader links acts links [])
     keeps_first x links = record { acts = []; leads = refl; wrote = refl; so = keeps_all links }
 
-module _ {L N : Type 0} (view : LoopView L N) (gives : Giving) where
+module _ {L N : Type 0} (view : LoopView L N) (reader : ReaderView) where
   module _ {C : Type 0} (makes : Steps C) where
     -- a loop goes on by what its slots do
     pub goes_by : (x y : C) (old new : Links L N) (slots left : List (Option (Numbered L))) → slots ≡ old.slots.items → new.slots.items ≡ left
         → (new.loops ≡ old.loops) × (new.number ≡ old.number) × (new.newest ≡ old.newest)
-        → LeadsBy makes x y (λ acts. (gone : List LinkEnd) × Enters view old.ledger gone new.ledger × Keeps view.links gives slots acts left gone)
-        → LeadsBy makes x y (λ acts. GoesOn view gives old acts new)
+        → LeadsBy makes x y (λ acts. (gone : List LinkEnd) × Enters view old.ledger gone new.ledger × Keeps view.links reader slots acts left gone)
+        → LeadsBy makes x y (λ acts. GoesOn view reader old acts new)
     goes_by x y old new slots left are then same h = record {
       acts = h.acts;
       leads = h.leads;
       wrote = h.wrote;
-      so = goes_with view gives old new h.acts h.so.0 (same.0, same.1) h.so.1
-          (λ before ended told. let after = h.so.2 (loop_numbers old) before ended (subst (λ (l : List (Option (Numbered L))). IsTold view.links gives (loop_numbers old) before l ended) (sym are) told) in
+      so = goes_with view reader old new h.acts h.so.0 (same.0, same.1) h.so.1
+          (λ before ended told. let after = h.so.2 (loop_numbers old) before ended (subst (λ (l : List (Option (Numbered L))). IsTold view.links reader (loop_numbers old) before l ended) (sym are) told) in
           rw (same.0, same.1, same.2, then) after);
     }
 
     -- where no link is let go of
     pub goes_hearing : (x y : C) (old new : Links L N) (slots left : List (Option (Numbered L))) → slots ≡ old.slots.items → new.slots.items ≡ left
         → (new.loops ≡ old.loops) × (new.number ≡ old.number) × (new.newest ≡ old.newest) → new.ledger ≡ old.ledger
-        → LeadsBy makes x y (λ acts. Keeps view.links gives slots acts left []) → LeadsBy makes x y (λ acts. GoesOn view gives old acts new)
+        → LeadsBy makes x y (λ acts. Keeps view.links reader slots acts left []) → LeadsBy makes x y (λ acts. GoesOn view reader old acts new)
     goes_hearing x y old new slots left are then same ledger h =
-        goes_by x y old new slots left are then same (record { acts = h.acts; leads = h.leads; wrote = h.wrote; so = ([], enters_still view gives old.ledger new.ledger ledger, h.so) })
+        goes_by x y old new slots left are then same (record { acts = h.acts; leads = h.leads; wrote = h.wrote; so = ([], enters_still view reader old.ledger new.ledger ledger, h.so) })
 
     -- a loop goes on by what one of its slots does
     pub goes_at : (x y : C) (old new : Links L N) (i : ℕ) (o n : Option (Numbered L)) (asks : List AskParts)
         → (new.loops ≡ old.loops) × (new.number ≡ old.number) × (new.newest ≡ old.newest) × (new.slots.items ≡ set old.slots.items i n) → new.ledger ≡ old.ledger
-        → slice_get old.slots.items i ≡ Some o → LeadsWith makes x y asks (λ acts. Acts view.links gives o acts n) → LeadsWith makes x y asks (λ acts. GoesOn view gives old acts new)
+        → slice_get old.slots.items i ≡ Some o → LeadsWith makes x y asks (λ acts. Acts view.links reader o acts n) → LeadsWith makes x y asks (λ acts. GoesOn view reader old acts new)
     goes_at x y old new i o n asks same ledger at h = record {
       acts = h.acts;
       leads = h.leads;
       wrote = h.wrote;
-      so = goes_with view gives old new h.acts [] (same.0, same.1) (enters_still view gives old.ledger new.ledger ledger)
-          (λ before ended told. let after = told_acts view.links gives (loop_numbers old) before old.slots.items ended told i o n h.acts at h.so in
+      so = goes_with view reader old new h.acts [] (same.0, same.1) (enters_still view reader old.ledger new.ledger ledger)
+          (λ before ended told. let after = told_acts view.links reader (loop_numbers old) before old.slots.items ended told i o n h.acts at h.so in
           rw (same.0, same.1, same.2, same.3) after);
     }
 
-    pub goes_leading : (x y z : C) (old mid new : Links L N) (asks more : List AskParts) → LeadsWith makes x y asks (λ acts. GoesOn view gives old acts mid)
-        → LeadsWith makes y z more (λ acts. GoesOn view gives mid acts new) → LeadsWith makes x z (asks ++ more) (λ acts. GoesOn view gives old acts new)
+    pub goes_leading : (x y z : C) (old mid new : Links L N) (asks more : List AskParts) → LeadsWith makes x y asks (λ acts. GoesOn view reader old acts mid)
+        → LeadsWith makes y z more (λ acts. GoesOn view reader mid acts new) → LeadsWith makes x z (asks ++ more) (λ acts. GoesOn view reader old acts new)
     goes_leading x y z old mid new asks more h k = record {
       acts = h.acts ++ k.acts;
-      leads = acts_lead view.links gives makes x y z h.acts k.acts h.leads k.leads;
-      wrote = acts_write view.links gives makes h.acts k.acts asks more h.wrote k.wrote;
-      so = goes_on view gives old mid new h.acts k.acts h.so k.so;
+      leads = acts_lead view.links reader makes x y z h.acts k.acts h.leads k.leads;
+      wrote = acts_write view.links reader makes h.acts k.acts asks more h.wrote k.wrote;
+      so = goes_on view reader old mid new h.acts k.acts h.so k.so;
     }
 
     -- nothing is written, whatever was taken
-    pub goes_quietly : (x : C) (old new : Links L N) (asks : List AskParts) → GoesOn view gives old [] new → LeadsWith makes x x asks (λ acts. GoesOn view gives old acts new)
+    pub goes_quietly : (x : C) (old new : Links L N) (asks : List AskParts) → GoesOn view reader old [] new → LeadsWith makes x x asks (λ acts. GoesOn view reader old acts new)
     goes_quietly x old new asks went = record { acts = []; leads = refl; wrote = some_none asks; so = went }
 
     -- ---- check-backs that were taken
 
     module _ {A : Type 0} (takes : A → List AskParts → A → Type 0) where
       abbrev pub Taking : C → Links L N → A → C → Links L N → A → Type 0
-      Taking x old before y new after = LeadsTaking makes takes x y before after (λ acts. GoesOn view gives old acts new)
+      Taking x old before y new after = LeadsTaking makes takes x y before after (λ acts. GoesOn view reader old acts new)
 
       -- none was taken
-      pub taking_none : ((end : A) → takes end [] end) → (x y : C) (old new : Links L N) (end : A) → LeadsBy makes x y (λ acts. GoesOn view gives old acts new)
+      pub taking_none : ((end : A) → takes end [] end) → (x y : C) (old new : Links L N) (end : A) → LeadsBy makes x y (λ acts. GoesOn view reader old acts new)
           → Taking x old end y new end
       taking_none none x y old new end went = record { taken = []; took = none end; went = went }
 
       -- no step was made either
-      pub taking_nothing : ((end : A) → takes end [] end) → (x : C) (old new : Links L N) (end : A) → GoesOn view gives old [] new → Taking x old end x new end
+      pub taking_nothing : ((end : A) → takes end [] end) → (x : C) (old new : Links L N) (end : A) → GoesOn view reader old [] new → Taking x old end x new end
       taking_nothing none x old new end went = taking_none none x x old new end (goes_quietly x old new [] went)
 
       module _ (more : (old : A) (first : List AskParts) (mid : A) (rest : List AskParts) (new : A) → takes old first mid → takes mid rest new → takes old (first ++ rest) new) where
@@ -899,7 +900,7 @@ module _ {L N : Type 0} (view : LoopView L N) (gives : Giving) where
 
         -- one more was taken, and was written to its link or dropped
         pub taking_one : (x y z : C) (old mid new : Links L N) (before at after : A) (ask : AskParts) → Taking x old before y mid at → takes at (ask ∷ []) after
-            → LeadsWith makes y z (ask ∷ []) (λ acts. GoesOn view gives mid acts new) → Taking x old before z new after
+            → LeadsWith makes y z (ask ∷ []) (λ acts. GoesOn view reader mid acts new) → Taking x old before z new after
         taking_one x y z old mid new before at after ask h took went =
             taking_on x y z old mid new before at after h (record { taken = ask ∷ []; took = took; went = went })
 
@@ -912,8 +913,8 @@ module _ {L N : Type 0} (view : LoopView L N) (gives : Giving) where
         }
 
         -- no step was made at first, check-backs were taken, and then none
-        pub taking_serving : ((end : A) → takes end [] end) → (x y z : C) (old mid from given new : Links L N) (before after : A) → GoesOn view gives old [] mid
-            → from ≡ mid → Taking x from before y given after → LeadsBy makes y z (λ acts. GoesOn view gives given acts new) → Taking x old before z new after
+        pub taking_serving : ((end : A) → takes end [] end) → (x y z : C) (old mid from given new : Links L N) (before after : A) → GoesOn view reader old [] mid
+            → from ≡ mid → Taking x from before y given after → LeadsBy makes y z (λ acts. GoesOn view reader given acts new) → Taking x old before z new after
         taking_serving none x y z old mid from given new before after h same took served =
-            taking_on x x z old from new before before after (taking_nothing none x old from before (goes_kept view gives old mid from h same))
+            taking_on x x z old from new before before after (taking_nothing none x old from before (goes_kept view reader old mid from h same))
             (taking_on x y z from given new before after after took (taking_none none y z given new after served))

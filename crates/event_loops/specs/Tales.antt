@@ -1,12 +1,12 @@
 -- What a loop does for its links: the steps and check-backs of each, between those of the others.
 use Rattle.std.specs.Prelude.{◌≡◌, ◌⊎◌, ◌≤◌, ◌<◌, ◌==◌, ◌++◌, ◌%◌, ℕ, List, [], ◌∷◌, filter, max, slice_get, Option, Some, None, false}
-use Rattle.mq_outside.specs.Readings.{Giving}
 use Rattle.mq_peers.specs.Ended.{LinkEnd}
 use Rattle.reply_fields.specs.Parts.{AskParts}
 use Rattle.broker_events.specs.Makes.{Makes}
 use Rattle.broker_events.specs.declared.event.Event.TheVariants.{Leave}
 use Rattle.broker_events.specs.declared.said.Said.{Said}
 use Rattle.session.specs.Owing.{Steps}
+use Rattle.session.specs.Readers.{ReaderView}
 use Rattle.session.specs.Serving.{Made}
 use Rattle.link_service.specs.Transcripts.{Seen, WentOnWith, WentOn, IsFresh, IsTranscript, seen_of}
 use Rattle.event_loops.specs.declared.ledger.Ledger.{Ledger}
@@ -55,11 +55,11 @@ DidNothing link acts = (made_for link acts ≡ []) × (asks_for link acts ≡ []
 
 -- The link with this number, from this peer, went on from its beginning to how it is seen now, made these steps, and was sent these
 -- check-backs.
-pub record IsServed (tells : Type 0) (gives : Giving) (number : ℕ) (host : List ℕ) (made : Made) (asks : List AskParts) (now : Seen)
+pub record IsServed (tells : Type 0) (reader : ReaderView) (number : ℕ) (host : List ℕ) (made : Made) (asks : List AskParts) (now : Seen)
     : Type 0 where
   pub first : Seen
   pub fresh : IsFresh tells number host first
-  pub went : WentOnWith tells gives first made asks now
+  pub went : WentOnWith tells reader first made asks now
 
 -- nothing, or one step, which tells that the link has ended
 abbrev pub MayLeave : ℕ → Made → Type 0
@@ -68,25 +68,25 @@ MayLeave number (step ∷ steps) = (step.0 ≡ Leave number) × (steps ≡ [])
 
 -- What was done for a link that has ended so: its passes from its beginning on, by which it gave and took what it did, with their
 -- check-backs, and behind them at most its `Leave`.
-pub record IsTale (tells : Type 0) (gives : Giving) (it : LinkEnd) (made : Made) (asks : List AskParts) : Type 0 where
+pub record IsTale (tells : Type 0) (reader : ReaderView) (it : LinkEnd) (made : Made) (asks : List AskParts) : Type 0 where
   pub passes : Made
   pub end : Made
   pub both : made ≡ passes ++ end
   pub leaves : MayLeave it.number end
   pub now : Seen
-  pub served : IsServed tells gives it.number it.peer passes asks now
+  pub served : IsServed tells reader it.number it.peer passes asks now
   pub given : tells → now.given ≡ it.given
   pub taken : tells → now.taken ≡ it.taken
 
 -- The same, and so each reply is its request's: the passes are a transcript of the link, with these check-backs. What it heard is what
 -- the link gave, and what it sent is what the link took.
-pub record IsAnsweredInOrder (tells : Type 0) (gives : Giving) (it : LinkEnd) (made : Made) (asks : List AskParts) : Type 0 where
+pub record IsAnsweredInOrder (tells : Type 0) (reader : ReaderView) (it : LinkEnd) (made : Made) (asks : List AskParts) : Type 0 where
   pub passes : Made
   pub end : Made
   pub both : made ≡ passes ++ end
   pub leaves : MayLeave it.number end
   pub now : Seen
-  pub transcript : IsTranscript tells gives it.number it.peer passes asks now
+  pub transcript : IsTranscript tells reader it.number it.peer passes asks now
   pub given : tells → now.given ≡ it.given
   pub taken : tells → now.taken ≡ it.taken
 
@@ -133,30 +133,30 @@ pub record IsOwn (loop : LoopNumbers) (link : ℕ) : Type 0 where
   pub falls : loop_of loop.loops link ≡ loop.number
 
 -- Links that have ended, each with another number, which was the loop's own and no present link has: what was done for it is its tale.
-pub record AreEnded {L : Type 0} (view : LinkView L) (gives : Giving) (loop : LoopNumbers) (acts : List Act)
+pub record AreEnded {L : Type 0} (view : LinkView L) (reader : ReaderView) (loop : LoopNumbers) (acts : List Act)
     (links : List (Option (Numbered L))) (ended : List LinkEnd) : Type 0 where
   pub each : (k : ℕ) (it : LinkEnd) → slice_get ended k ≡ Some it → IsOwn loop it.number
-      × IsTale view.tells gives it (made_for it.number acts) (asks_for it.number acts)
+      × IsTale view.tells reader it (made_for it.number acts) (asks_for it.number acts)
   pub once : (j k link : ℕ) → IsEndOf ended j link → IsEndOf ended k link → j ≡ k
   pub gone : (i k link : ℕ) → HasNumber links i link → IsEndOf ended k link → ⊥
 
 -- What a loop has done for its links by these acts: for each link that it has now, and for each that has ended, what was done for it
 -- is its tale. Nothing was done for a number that isn't one of theirs.
-pub record IsTold {L : Type 0} (view : LinkView L) (gives : Giving) (loop : LoopNumbers) (acts : List Act)
+pub record IsTold {L : Type 0} (view : LinkView L) (reader : ReaderView) (loop : LoopNumbers) (acts : List Act)
     (links : List (Option (Numbered L))) (ended : List LinkEnd) : Type 0 where
   pub present : (i : ℕ) (at : Numbered L) → slice_get links i ≡ Some (Some at)
-      → IsServed view.tells gives at.number at.peer (made_for at.number acts) (asks_for at.number acts) (seen_in view at)
+      → IsServed view.tells reader at.number at.peer (made_for at.number acts) (asks_for at.number acts) (seen_in view at)
   pub apart : (i j link : ℕ) → HasNumber links i link → HasNumber links j link → i ≡ j
   pub own : (i : ℕ) (at : Numbered L) → slice_get links i ≡ Some (Some at) → IsOwn loop at.number
   pub later : (link : ℕ) → loop.newest < link → DidNothing link acts
   pub known : (link : ℕ) → DidNothing link acts ⊎ (((i : ℕ) × HasNumber links i link) ⊎ ((k : ℕ) × IsEndOf ended k link))
-  pub ends : AreEnded view gives loop acts links ended
+  pub ends : AreEnded view reader loop acts links ended
 
 -- What holds of a loop's acts and links still holds after these, by which these links ended.
-abbrev pub Keeps : {L : Type 0} → LinkView L → Giving → List (Option (Numbered L)) → List Act → List (Option (Numbered L))
+abbrev pub Keeps : {L : Type 0} → LinkView L → ReaderView → List (Option (Numbered L)) → List Act → List (Option (Numbered L))
     → List LinkEnd → Type 0
-Keeps view gives old acts new gone = (loop : LoopNumbers) (before : List Act) (ended : List LinkEnd)
-    → IsTold view gives loop before old ended → IsTold view gives loop (before ++ acts) new (ended ++ gone)
+Keeps view reader old acts new gone = (loop : LoopNumbers) (before : List Act) (ended : List LinkEnd)
+    → IsTold view reader loop before old ended → IsTold view reader loop (before ++ acts) new (ended ++ gone)
 
 -- in this slot is the link with this number
 abbrev pub IsLink : {L : Type 0} → Option (Numbered L) → ℕ → Type 0
@@ -176,25 +176,25 @@ abbrev pub IsSame : {L : Type 0} → Numbered L → Numbered L → Type 0
 IsSame old new = (new.number ≡ old.number) × (new.peer ≡ old.peer)
 
 -- what these acts did for one link, or where there is none: a pass, maybe with check-backs
-abbrev pub Acts : {L : Type 0} → LinkView L → Giving → Option (Numbered L) → List Act → Option (Numbered L) → Type 0
-Acts view gives None acts new = (acts ≡ []) × (new ≡ None)
-Acts view gives (Some old) acts None = ⊥
-Acts view gives (Some old) acts (Some new) = (made : Made) × (asks : List AskParts) × IsSame old new
-    × WentOnWith view.tells gives (seen_in view old) made asks (seen_in view new)
+abbrev pub Acts : {L : Type 0} → LinkView L → ReaderView → Option (Numbered L) → List Act → Option (Numbered L) → Type 0
+Acts view reader None acts new = (acts ≡ []) × (new ≡ None)
+Acts view reader (Some old) acts None = ⊥
+Acts view reader (Some old) acts (Some new) = (made : Made) × (asks : List AskParts) × IsSame old new
+    × WentOnWith view.tells reader (seen_in view old) made asks (seen_in view new)
     × (acts ≡ record { link = old.number; made = made; asks = asks } ∷ [])
 
 -- a pass of a link, and its end
-abbrev pub Leaves : {L : Type 0} → LinkView L → Giving → Numbered L → List Act → Numbered L → Type 0
-Leaves view gives old acts new = (made : Made) × (said : Option Said) × IsSame old new
-    × WentOn view.tells gives (seen_in view old) made (seen_in view new)
+abbrev pub Leaves : {L : Type 0} → LinkView L → ReaderView → Numbered L → List Act → Numbered L → Type 0
+Leaves view reader old acts new = (made : Made) × (said : Option Said) × IsSame old new
+    × WentOn view.tells reader (seen_in view old) made (seen_in view new)
     × (acts ≡ act old.number made ∷ act old.number ((Leave old.number, said) ∷ []) ∷ [])
 
 -- what these acts did for one link, or where there is none: a pass, or a pass and its end, after which it was let go of
-abbrev pub ActsOrLeaves : {L : Type 0} → LinkView L → Giving → Option (Numbered L) → List Act → Option (Numbered L) → List LinkEnd → Type 0
-ActsOrLeaves view gives old acts (Some new) gone = Acts view gives old acts (Some new) × (gone ≡ [])
-ActsOrLeaves view gives None acts None gone = (acts ≡ []) × (gone ≡ [])
-ActsOrLeaves {L} view gives (Some old) acts None gone =
-    (last : Numbered L) × Leaves view gives old acts last × (gone ≡ end_as last (seen_in view last) ∷ [])
+abbrev pub ActsOrLeaves : {L : Type 0} → LinkView L → ReaderView → Option (Numbered L) → List Act → Option (Numbered L) → List LinkEnd → Type 0
+ActsOrLeaves view reader old acts (Some new) gone = Acts view reader old acts (Some new) × (gone ≡ [])
+ActsOrLeaves view reader None acts None gone = (acts ≡ []) × (gone ≡ [])
+ActsOrLeaves {L} view reader (Some old) acts None gone =
+    (last : Numbered L) × Leaves view reader old acts last × (gone ≡ end_as last (seen_in view last) ∷ [])
 
 -- the link in a slot, as it is let go of
 abbrev pub end_in : {L : Type 0} → LinkView L → Option (Numbered L) → List LinkEnd
@@ -233,16 +233,16 @@ abbrev pub Enters : {L N : Type 0} → LoopView L N → Ledger N → List LinkEn
 Enters view old gone new = new.lost ≡ false → (old.lost ≡ false) × (view.told → view.entries new.ends ≡ view.entries old.ends ++ gone)
 
 -- What a loop has done for its links by these acts. The links that have ended are those of its ledger, unless one is lost.
-pub record IsToldOf {L N : Type 0} (view : LoopView L N) (gives : Giving) (acts : List Act) (links : Links L N) : Type 0 where
+pub record IsToldOf {L N : Type 0} (view : LoopView L N) (reader : ReaderView) (acts : List Act) (links : Links L N) : Type 0 where
   pub ended : List LinkEnd
   pub are : links.ledger.lost ≡ false → view.told → view.entries links.ledger.ends ≡ ended
-  pub so : IsTold view.links gives (loop_numbers links) acts links.slots.items ended
+  pub so : IsTold view.links reader (loop_numbers links) acts links.slots.items ended
 
 -- the loop went on by these acts
-pub record GoesOn {L N : Type 0} (view : LoopView L N) (gives : Giving) (old : Links L N) (acts : List Act) (new : Links L N)
+pub record GoesOn {L N : Type 0} (view : LoopView L N) (reader : ReaderView) (old : Links L N) (acts : List Act) (new : Links L N)
     : Type 0 where
   pub same : (new.loops ≡ old.loops) × (new.number ≡ old.number)
-  pub keeps : (before : List Act) → IsToldOf view gives before old → IsToldOf view gives (before ++ acts) new
+  pub keeps : (before : List Act) → IsToldOf view reader before old → IsToldOf view reader (before ++ acts) new
 
 -- the same link as before, which is seen as before
 abbrev pub IsSeenAs : {L : Type 0} → LinkView L → Option (Numbered L) → Option (Numbered L) → Type 0

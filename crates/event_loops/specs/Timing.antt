@@ -1,6 +1,6 @@
 -- A loop's passes, each at one reading of its clock.
 use Rattle.std.specs.Prelude.{◌≡◌, ℕ, ◌++◌, List, [], ◌∷◌}
-use Rattle.mq_outside.specs.Readings.{Giving}
+use Rattle.session.specs.Readers.{ReaderView}
 use Rattle.session.specs.Serving.{Made}
 use Rattle.link_service.specs.Clocks.{AreAt}
 use Rattle.event_loops.specs.Tales.{Act, GoesOn, LoopView, steps_of}
@@ -31,7 +31,7 @@ abbrev pub IsTimed : ClockOver → Made → Type 0
 IsTimed clock made = clock.tells → IsTimedBy clock.old made clock.new
 
 -- the loop went on by these acts, in passes that its clock timed
-pub record GoesTimed {L N : Type 0} (view : LoopView L N) (gives : Giving) (clock : ClockOver) (old : Links L N) (acts : List Act)
+pub record GoesTimed {L N : Type 0} (view : LoopView L N) (reader : ReaderView) (clock : ClockOver) (old : Links L N) (acts : List Act)
     (new : Links L N) : Type 0 where
-  pub went : GoesOn view gives old acts new
+  pub went : GoesOn view reader old acts new
   pub timed : IsTimed clock (steps_of acts)

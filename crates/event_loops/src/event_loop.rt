@@ -3,6 +3,7 @@
 
 ghost use Rattle.std.specs.Prelude.{length, ◌≡◌, ◌<◌, ◌≤◌, ◌^◌, [], true, false, Some, None, IfOk, IfSome, slice_get, vec_len};
 ghost use Rattle.link_service.specs.Clocks.{at_reading, unasked};
+ghost use Rattle.link_service.specs.Transcripts.{ByReader};
 ghost use Rattle.event_loops.specs.Causes.{CountsEnd, CountsLoop, Grow, loop_faults};
 ghost use Rattle.event_loops.specs.Doors.{AtDoor, IsDoorDone, KeepsDoor};
 ghost use Rattle.event_loops.specs.Takings.{LeadsTaking};
@@ -106,8 +107,9 @@ impl<P: Ready + Drop> EventLoop<P> {
         link: &mut P::Link,
     ) -> Option<usize>
         ensures free { IfSome result (λ at. slice_get self.new.links.slots.items at ≡ Some None) }
-        ensures went { GoesOn (loop_view P.Link.tells P.Link.given P.Link.taken P.Ends.tells P.Ends.entries) R.gives
-            self.old.links [] self.new.links }
+        ensures went { ByReader R.gives 0
+            (λ read. GoesOn (loop_view P.Link.tells P.Link.given P.Link.taken P.Ends.tells P.Ends.entries) read
+            self.old.links [] self.new.links) }
         ensures newest { self.new.links.newest ≡ self.old.links.newest }
         ensures same { link.new ≡ link.old }
         ensures clock { outside.new.clock ≡ outside.old.clock }
@@ -135,8 +137,9 @@ impl<P: Ready + Drop> EventLoop<P> {
         outside: &mut Outside<P, K>,
         new: NewLink<P::Link>,
     ) -> bool
-        ensures went { GoesOn (loop_view P.Link.tells P.Link.given P.Link.taken P.Ends.tells P.Ends.entries) R.gives
-            self.old.links [] self.new.links }
+        ensures went { ByReader R.gives 0
+            (λ read. GoesOn (loop_view P.Link.tells P.Link.given P.Link.taken P.Ends.tells P.Ends.entries) read
+            self.old.links [] self.new.links) }
         ensures clock { outside.new.clock ≡ outside.old.clock }
         ensures entrance { outside.new.entrance ≡ outside.old.entrance }
         ensures grow { Grow (loop_faults P.faults P.Door.faults K.faults outside.old)
@@ -166,8 +169,9 @@ impl<P: Ready + Drop> EventLoop<P> {
         outside: &mut Outside<P, K>,
         new: NewLink<P::Link>,
     )
-        ensures went { GoesOn (loop_view P.Link.tells P.Link.given P.Link.taken P.Ends.tells P.Ends.entries) R.gives
-            self.old.links [] self.new.links }
+        ensures went { ByReader R.gives 0
+            (λ read. GoesOn (loop_view P.Link.tells P.Link.given P.Link.taken P.Ends.tells P.Ends.entries) read
+            self.old.links [] self.new.links) }
         ensures clock { outside.new.clock ≡ outside.old.clock }
         ensures entrance { outside.new.entrance ≡ outside.old.entrance }
         ensures grow { Grow (loop_faults P.faults P.Door.faults K.faults outside.old)
@@ -221,8 +225,9 @@ impl<P: Ready + Drop> EventLoop<P> {
         around: &Around<'_, W, P>,
         outside: &mut Outside<P, K>,
     ) -> Result<(), LoopEnd>
-        ensures went { GoesOn (loop_view P.Link.tells P.Link.given P.Link.taken P.Ends.tells P.Ends.entries) R.gives
-            self.old.links [] self.new.links }
+        ensures went { ByReader R.gives 0
+            (λ read. GoesOn (loop_view P.Link.tells P.Link.given P.Link.taken P.Ends.tells P.Ends.entries) read
+            self.old.links [] self.new.links) }
         ensures clock { outside.new.clock ≡ outside.old.clock }
         ensures door { KeepsDoor P.Door.gave outside.old.entrance outside.new.entrance }
         ensures cause { CountsLoop result (loop_faults P.faults P.Door.faults K.faults outside.old)
@@ -245,8 +250,9 @@ impl<P: Ready + Drop> EventLoop<P> {
         around: &Around<'_, W, P>,
         outside: &mut Outside<P, K>,
     ) -> Result<(), LoopEnd>
-        ensures went { GoesOn (loop_view P.Link.tells P.Link.given P.Link.taken P.Ends.tells P.Ends.entries) R.gives
-            self.old.links [] self.new.links }
+        ensures went { ByReader R.gives 0
+            (λ read. GoesOn (loop_view P.Link.tells P.Link.given P.Link.taken P.Ends.tells P.Ends.entries) read
+            self.old.links [] self.new.links) }
         ensures clock { outside.new.clock ≡ outside.old.clock }
         ensures door { KeepsDoor P.Door.gave outside.old.entrance outside.new.entrance }
         ensures cause { CountsLoop result (loop_faults P.faults P.Door.faults K.faults outside.old)
@@ -266,8 +272,9 @@ impl<P: Ready + Drop> EventLoop<P> {
         around: &Around<'_, W, P>,
         outside: &mut Outside<P, K>,
     ) -> bool
-        ensures went { GoesOn (loop_view P.Link.tells P.Link.given P.Link.taken P.Ends.tells P.Ends.entries) R.gives
-            self.old.links [] self.new.links }
+        ensures went { ByReader R.gives 0
+            (λ read. GoesOn (loop_view P.Link.tells P.Link.given P.Link.taken P.Ends.tells P.Ends.entries) read
+            self.old.links [] self.new.links) }
         ensures clock { outside.new.clock ≡ outside.old.clock }
         ensures entrance { outside.new.entrance ≡ outside.old.entrance }
         ensures grow { Grow (loop_faults P.faults P.Door.faults K.faults outside.old)
@@ -290,8 +297,9 @@ impl<P: Ready + Drop> EventLoop<P> {
     // Notes what was reported of a link, or of the door.
     fn note_report<R: Reader>(&mut self, event: &Event)
         ensures events { vec_len self.new.events ≡ vec_len self.old.events }
-        ensures went { GoesOn (loop_view P.Link.tells P.Link.given P.Link.taken P.Ends.tells P.Ends.entries) R.gives
-            self.old.links [] self.new.links }
+        ensures went { ByReader R.gives 0
+            (λ read. GoesOn (loop_view P.Link.tells P.Link.given P.Link.taken P.Ends.tells P.Ends.entries) read
+            self.old.links [] self.new.links) }
     {
         if event.token == DOOR {
             self.at_door = true;
@@ -302,8 +310,9 @@ impl<P: Ready + Drop> EventLoop<P> {
 
     // Notes what was reported.
     fn note_reports<R: Reader>(&mut self)
-        ensures went { GoesOn (loop_view P.Link.tells P.Link.given P.Link.taken P.Ends.tells P.Ends.entries) R.gives
-            self.old.links [] self.new.links }
+        ensures went { ByReader R.gives 0
+            (λ read. GoesOn (loop_view P.Link.tells P.Link.given P.Link.taken P.Ends.tells P.Ends.entries) read
+            self.old.links [] self.new.links) }
     {
         for i in 0..self.events.len() {
             let event = self.events[i];
@@ -332,9 +341,11 @@ impl<P: Ready + Drop> EventLoop<P> {
         calls: &mut C,
         reader: &mut R,
     ) -> bool
-        ensures { LeadsTaking (unasked C.makes) A.takes calls.old calls.new asks.old asks.new
-            (λ acts. GoesOn (loop_view P.Link.tells P.Link.given P.Link.taken P.Ends.tells P.Ends.entries) R.gives
-            self.old.links acts self.new.links) }
+        ensures went { ByReader R.gives (R.faults reader.new)
+            (λ read. LeadsTaking (unasked C.makes) A.takes calls.old calls.new asks.old asks.new
+            (λ acts. GoesOn (loop_view P.Link.tells P.Link.given P.Link.taken P.Ends.tells P.Ends.entries) read
+            self.old.links acts self.new.links)) }
+        ensures grows { R.faults reader.old ≤ R.faults reader.new }
     {
         for _ in 0..ASKS_MAX {
             let Picked::Ask(next) = asks.take() else {
@@ -356,9 +367,10 @@ impl<P: Ready + Drop> EventLoop<P> {
         flusher: &mut F,
     )
         requires { now < 2 ^ 62 }
-        ensures went { LeadsBy (at_reading now C.makes) calls.old calls.new
-            (λ acts. GoesOn (loop_view P.Link.tells P.Link.given P.Link.taken P.Ends.tells P.Ends.entries) R.gives
-            self.old.links acts self.new.links) }
+        ensures went { ByReader R.gives (R.faults reader.new) (λ read. LeadsBy (at_reading now C.makes) calls.old calls.new
+            (λ acts. GoesOn (loop_view P.Link.tells P.Link.given P.Link.taken P.Ends.tells P.Ends.entries) read
+            self.old.links acts self.new.links)) }
+        ensures grows { R.faults reader.old ≤ R.faults reader.new }
     {
         let buffer = self.buffer.as_mut_slice();
         let given = self
@@ -444,8 +456,9 @@ impl<P: Ready + Drop> EventLoop<P> {
         outside: &mut Outside<P, K>,
         timeout: Option<u64>,
     ) -> Result<bool, LoopEnd>
-        ensures went { GoesOn (loop_view P.Link.tells P.Link.given P.Link.taken P.Ends.tells P.Ends.entries) R.gives
-            self.old.links [] self.new.links }
+        ensures went { ByReader R.gives 0
+            (λ read. GoesOn (loop_view P.Link.tells P.Link.given P.Link.taken P.Ends.tells P.Ends.entries) read
+            self.old.links [] self.new.links) }
         ensures clock { outside.new.clock ≡ outside.old.clock }
         ensures door { KeepsDoor P.Door.gave outside.old.entrance outside.new.entrance }
         ensures cause { CountsLoop result (loop_faults P.faults P.Door.faults K.faults outside.old)
@@ -469,9 +482,11 @@ impl<P: Ready + Drop> EventLoop<P> {
         timeout: Option<u64>,
         flusher: &mut F,
     ) -> Result<Option<u64>, LoopEnd>
-        ensures went { LeadsTaking C.makes A.takes calls.old calls.new asks.old asks.new
-            (λ acts. GoesTimed (loop_view P.Link.tells P.Link.given P.Link.taken P.Ends.tells P.Ends.entries) R.gives
-            (clock_over K.tells (K.readings outside.old.clock) (K.readings outside.new.clock)) self.old.links acts self.new.links) }
+        ensures went { ByReader R.gives (R.faults reader.new)
+            (λ read. LeadsTaking C.makes A.takes calls.old calls.new asks.old asks.new
+            (λ acts. GoesTimed (loop_view P.Link.tells P.Link.given P.Link.taken P.Ends.tells P.Ends.entries) read
+            (clock_over K.tells (K.readings outside.old.clock) (K.readings outside.new.clock)) self.old.links acts self.new.links)) }
+        ensures grows { R.faults reader.old ≤ R.faults reader.new }
         ensures door { KeepsDoor P.Door.gave outside.old.entrance outside.new.entrance }
         ensures cause { CountsLoop result (loop_faults P.faults P.Door.faults K.faults outside.old)
             (loop_faults P.faults P.Door.faults K.faults outside.new) }
@@ -494,9 +509,11 @@ impl<P: Ready + Drop> EventLoop<P> {
         reader: &mut R,
         flusher: &mut F,
     ) -> LoopEnd
-        ensures went { LeadsTaking C.makes A.takes calls.old calls.new asks.old asks.new
-            (λ acts. GoesTimed (loop_view P.Link.tells P.Link.given P.Link.taken P.Ends.tells P.Ends.entries) R.gives
-            (clock_over K.tells (K.readings outside.old.clock) (K.readings outside.new.clock)) self.old.links acts self.new.links) }
+        ensures went { ByReader R.gives (R.faults reader.new)
+            (λ read. LeadsTaking C.makes A.takes calls.old calls.new asks.old asks.new
+            (λ acts. GoesTimed (loop_view P.Link.tells P.Link.given P.Link.taken P.Ends.tells P.Ends.entries) read
+            (clock_over K.tells (K.readings outside.old.clock) (K.readings outside.new.clock)) self.old.links acts self.new.links)) }
+        ensures grows { R.faults reader.old ≤ R.faults reader.new }
         ensures door { AtDoor P.Door.gave result outside.old.entrance outside.new.entrance }
         ensures cause { CountsEnd result (loop_faults P.faults P.Door.faults K.faults outside.old)
             (loop_faults P.faults P.Door.faults K.faults outside.new) }
@@ -530,9 +547,11 @@ impl<P: Ready + Drop> EventLoop<P> {
     ) -> LoopEnd
         // Each step is one of a link's pass, or its end. The requests of each pass are given to the broker at the reading that the
         // clock gave for it. What was written to links are some of the check-backs that were taken.
-        ensures went { LeadsTaking C.makes A.takes calls.old calls.new asks.old asks.new
-            (λ acts. GoesTimed (loop_view P.Link.tells P.Link.given P.Link.taken P.Ends.tells P.Ends.entries) R.gives
-            (clock_over K.tells (K.readings outside.old.clock) (K.readings outside.new.clock)) self.old.links acts self.new.links) }
+        ensures went { ByReader R.gives (R.faults reader.new)
+            (λ read. LeadsTaking C.makes A.takes calls.old calls.new asks.old asks.new
+            (λ acts. GoesTimed (loop_view P.Link.tells P.Link.given P.Link.taken P.Ends.tells P.Ends.entries) read
+            (clock_over K.tells (K.readings outside.old.clock) (K.readings outside.new.clock)) self.old.links acts self.new.links)) }
+        ensures grows { R.faults reader.old ≤ R.faults reader.new }
         // Each link that it had is let go of.
         ensures none { self.new.links.slots.items ≡ [] }
         // No more links are let in than its door gave. It ends as done only where none is let in any more.
@@ -548,8 +567,9 @@ impl<P: Ready + Drop> EventLoop<P> {
 
     // Lets go of a link that was handed over and is served by nobody.
     fn refuse<R: Reader>(&mut self, alloc: Global, new: NewLink<P::Link>)
-        ensures went { GoesOn (loop_view P.Link.tells P.Link.given P.Link.taken P.Ends.tells P.Ends.entries) R.gives
-            self.old.links [] self.new.links }
+        ensures went { ByReader R.gives 0
+            (λ read. GoesOn (loop_view P.Link.tells P.Link.given P.Link.taken P.Ends.tells P.Ends.entries) read
+            self.old.links [] self.new.links) }
         ensures slots { self.new.links.slots ≡ self.old.links.slots }
     {
         let NewLink { number, link } = new;
@@ -562,8 +582,9 @@ impl<P: Ready + Drop> EventLoop<P> {
 
     /// Lets go of the links that were handed over to it and not served any more, once all loops have ended.
     pub fn refuse_left<W: Wait, R: Reader>(&mut self, around: &Around<'_, W, P>)
-        ensures went { GoesOn (loop_view P.Link.tells P.Link.given P.Link.taken P.Ends.tells P.Ends.entries) R.gives
-            self.old.links [] self.new.links }
+        ensures went { ByReader R.gives 0
+            (λ read. GoesOn (loop_view P.Link.tells P.Link.given P.Link.taken P.Ends.tells P.Ends.entries) read
+            self.old.links [] self.new.links) }
         ensures slots { self.new.links.slots ≡ self.old.links.slots }
     {
         let Some(port) = around.ports.get(self.links.number) else {

@@ -1,10 +1,11 @@
 //! The links of a loop: each is read and served, and then what is due on each is sent.
 
-ghost use Rattle.std.specs.Prelude.{◌≡◌, ◌<◌, ◌^◌, ◌∷◌, [], List, true, false, slice_get, Option, Some, None, IfSome};
+ghost use Rattle.std.specs.Prelude.{◌≡◌, ◌<◌, ◌≤◌, ◌^◌, ◌∷◌, [], List, true, false, slice_get, Option, Some, None, IfSome};
 ghost use Rattle.mq_peers.specs.Ended.{LinkEnd};
 ghost use Rattle.broker_events.specs.declared.event.Event.TheVariants.{Leave};
 ghost use Rattle.broker_events.specs.declared.said.Said.{Said};
 ghost use Rattle.link_service.specs.Clocks.{at_reading, unasked};
+ghost use Rattle.link_service.specs.Transcripts.{ByReader};
 ghost use Rattle.event_loops.specs.Tales.{Acts, ActsOrLeaves, Enters, Keeps, Leaves, LeadsWith, LeadsBy, GoesOn, IsSeenAs, IsLink, IsSlotOf};
 ghost use Rattle.event_loops.specs.Tales.{link_view, loop_view, loop_of as loop_of_link};
 
@@ -88,8 +89,8 @@ fn hear_one<L: Link + Drop, C: Calls, R: Reader>(
     failed: Option<u64>,
 ) -> bool
     requires { now < 2 ^ 62 }
-    ensures went { LeadsBy (at_reading now C.makes) calls.old calls.new
-        (λ acts. Acts (link_view L.tells L.given L.taken) R.gives (Some numbered.old) acts (Some numbered.new)) }
+    ensures went { ByReader R.gives 0 (λ read. LeadsBy (at_reading now C.makes) calls.old calls.new
+        (λ acts. Acts (link_view L.tells L.given L.taken) read (Some numbered.old) acts (Some numbered.new))) }
 {
     numbered.linked.hear(alloc, calls, buffer, now, failed)
 }
@@ -104,8 +105,8 @@ fn hear_slot<L: Link + Drop, C: Calls, R: Reader>(
     failed: Option<u64>,
 ) -> bool
     requires { now < 2 ^ 62 }
-    ensures went { LeadsBy (at_reading now C.makes) calls.old calls.new
-        (λ acts. Acts (link_view L.tells L.given L.taken) R.gives slot.old acts slot.new) }
+    ensures went { ByReader R.gives 0 (λ read. LeadsBy (at_reading now C.makes) calls.old calls.new
+        (λ acts. Acts (link_view L.tells L.given L.taken) read slot.old acts slot.new)) }
 {
     match slot {
         Some(numbered) => hear_one::<L, C, R>(alloc, calls, numbered, buffer, now, failed),
@@ -123,8 +124,8 @@ fn hear_each<L: Link + Drop, C: Calls, R: Reader>(
     failed: Option<u64>,
 ) -> bool
     requires { now < 2 ^ 62 }
-    ensures went { LeadsBy (at_reading now C.makes) calls.old calls.new
-        (λ acts. Keeps (link_view L.tells L.given L.taken) R.gives slots.old acts slots.new []) }
+    ensures went { ByReader R.gives 0 (λ read. LeadsBy (at_reading now C.makes) calls.old calls.new
+        (λ acts. Keeps (link_view L.tells L.given L.taken) read slots.old acts slots.new [])) }
 {
     let mut any = false;
     for i in 0..slots.len() {
@@ -149,10 +150,11 @@ fn reply_one<L: Link + Drop, C: Calls, R: Reader>(
     reader: &mut R,
     flushed: u64,
 ) -> bool
-    ensures replied { result ≡ false → LeadsBy (unasked C.makes) calls.old calls.new
-        (λ acts. Acts (link_view L.tells L.given L.taken) R.gives (Some numbered.old) acts (Some numbered.new)) }
-    ensures left { result ≡ true → LeadsBy (unasked C.makes) calls.old calls.new
-        (λ acts. Leaves (link_view L.tells L.given L.taken) R.gives numbered.old acts numbered.new) }
+    ensures replied { result ≡ false → ByReader R.gives (R.faults reader.new) (λ read. LeadsBy (unasked C.makes) calls.old calls.new
+        (λ acts. Acts (link_view L.tells L.given L.taken) read (Some numbered.old) acts (Some numbered.new))) }
+    ensures left { result ≡ true → ByReader R.gives (R.faults reader.new) (λ read. LeadsBy (unasked C.makes) calls.old calls.new
+        (λ acts. Leaves (link_view L.tells L.given L.taken) read numbered.old acts numbered.new)) }
+    ensures grows { R.faults reader.old ≤ R.faults reader.new }
 {
     numbered.linked.reply(alloc, calls, reader, flushed);
     if !numbered.linked.has_ended() {
@@ -171,9 +173,10 @@ fn reply_slot<L: Link + Drop, N: Ends<L> + Drop, C: Calls, R: Reader>(
     reader: &mut R,
     flushed: u64,
 ) -> bool
-    ensures went { LeadsBy (unasked C.makes) calls.old calls.new (λ acts. (gone : List LinkEnd)
-        × Enters (loop_view L.tells L.given L.taken N.tells N.entries) ledger.old gone ledger.new
-        × ActsOrLeaves (link_view L.tells L.given L.taken) R.gives slot.old acts slot.new gone) }
+    ensures went { ByReader R.gives (R.faults reader.new) (λ read. LeadsBy (unasked C.makes) calls.old calls.new
+        (λ acts. (gone : List LinkEnd) × Enters (loop_view L.tells L.given L.taken N.tells N.entries) ledger.old gone ledger.new
+        × ActsOrLeaves (link_view L.tells L.given L.taken) read slot.old acts slot.new gone)) }
+    ensures grows { R.faults reader.old ≤ R.faults reader.new }
 {
     let Some(numbered) = slot else {
         return false;
@@ -195,9 +198,10 @@ fn reply_each<L: Link + Drop, N: Ends<L> + Drop, C: Calls, R: Reader>(
     ledger: &mut Ledger<N>,
     reader: &mut R,
 ) -> bool
-    ensures went { LeadsBy (unasked C.makes) calls.old calls.new (λ acts. (gone : List LinkEnd)
-        × Enters (loop_view L.tells L.given L.taken N.tells N.entries) ledger.old gone ledger.new
-        × Keeps (link_view L.tells L.given L.taken) R.gives slots.old acts slots.new gone) }
+    ensures went { ByReader R.gives (R.faults reader.new) (λ read. LeadsBy (unasked C.makes) calls.old calls.new
+        (λ acts. (gone : List LinkEnd) × Enters (loop_view L.tells L.given L.taken N.tells N.entries) ledger.old gone ledger.new
+        × Keeps (link_view L.tells L.given L.taken) read slots.old acts slots.new gone)) }
+    ensures grows { R.faults reader.old ≤ R.faults reader.new }
 {
     let mut any = false;
     let flushed = shared.flushed();
@@ -243,8 +247,9 @@ fn ask_one<L: Link + Drop, C: Calls, R: Reader>(
     ask: &Ask,
 )
     requires { ask.now.link ≡ numbered.old.linked.session.talk.link }
-    ensures { LeadsWith (unasked C.makes) calls.old calls.new (ask.now ∷ [])
-        (λ acts. Acts (link_view L.tells L.given L.taken) R.gives (Some numbered.old) acts (Some numbered.new)) }
+    ensures went { ByReader R.gives (R.faults reader.new) (λ read. LeadsWith (unasked C.makes) calls.old calls.new (ask.now ∷ [])
+        (λ acts. Acts (link_view L.tells L.given L.taken) read (Some numbered.old) acts (Some numbered.new))) }
+    ensures grows { R.faults reader.old ≤ R.faults reader.new }
 {
     let _ = numbered.linked.ask(alloc, calls, reader, ask);
 }
@@ -258,8 +263,9 @@ fn ask_slot<L: Link + Drop, C: Calls, R: Reader>(
     ask: &Ask,
 )
     requires { IsLink slot.old ask.now.link }
-    ensures { LeadsWith (unasked C.makes) calls.old calls.new (ask.now ∷ [])
-        (λ acts. Acts (link_view L.tells L.given L.taken) R.gives slot.old acts slot.new) }
+    ensures went { ByReader R.gives (R.faults reader.new) (λ read. LeadsWith (unasked C.makes) calls.old calls.new (ask.now ∷ [])
+        (λ acts. Acts (link_view L.tells L.given L.taken) read slot.old acts slot.new)) }
+    ensures grows { R.faults reader.old ≤ R.faults reader.new }
 {
     match slot {
         Some(numbered) => ask_one(alloc, calls, numbered, reader, ask),
@@ -315,7 +321,8 @@ impl<L: Link + Drop, N: Ends<L> + Drop> Links<L, N> {
     // One more slot, if there is memory for it.
     fn add_slot<R: Reader>(&mut self) -> Option<usize>
         ensures free { IfSome result (λ at. slice_get self.new.slots.items at ≡ Some None) }
-        ensures went { GoesOn (loop_view L.tells L.given L.taken N.tells N.entries) R.gives self.old [] self.new }
+        ensures went { ByReader R.gives 0
+            (λ read. GoesOn (loop_view L.tells L.given L.taken N.tells N.entries) read self.old [] self.new) }
         ensures newest { self.new.newest ≡ self.old.newest }
     {
         let at = self.slots.len();
@@ -328,7 +335,8 @@ impl<L: Link + Drop, N: Ends<L> + Drop> Links<L, N> {
     /// A slot for one more link, if there is one.
     pub(crate) fn free_slot<R: Reader>(&mut self) -> Option<usize>
         ensures free { IfSome result (λ at. slice_get self.new.slots.items at ≡ Some None) }
-        ensures went { GoesOn (loop_view L.tells L.given L.taken N.tells N.entries) R.gives self.old [] self.new }
+        ensures went { ByReader R.gives 0
+            (λ read. GoesOn (loop_view L.tells L.given L.taken N.tells N.entries) read self.old [] self.new) }
         ensures newest { self.new.newest ≡ self.old.newest }
     {
         if let Some(at) = free_in(self.slots.as_slice()) {
@@ -347,7 +355,8 @@ impl<L: Link + Drop, N: Ends<L> + Drop> Links<L, N> {
         requires falls { loop_of_link self.old.loops number ≡ self.old.number }
         requires given { L.tells → L.given link ≡ [] }
         requires taken { L.tells → L.taken link ≡ [] }
-        ensures went { GoesOn (loop_view L.tells L.given L.taken N.tells N.entries) R.gives self.old [] self.new }
+        ensures went { ByReader R.gives 0
+            (λ read. GoesOn (loop_view L.tells L.given L.taken N.tells N.entries) read self.old [] self.new) }
     {
         let peer = link.peer();
         let linked = Linked::new(alloc, number, link);
@@ -365,7 +374,8 @@ impl<L: Link + Drop, N: Ends<L> + Drop> Links<L, N> {
         requires falls { loop_of_link self.old.loops number ≡ self.old.number }
         requires given { L.tells → L.given link ≡ [] }
         requires taken { L.tells → L.taken link ≡ [] }
-        ensures went { GoesOn (loop_view L.tells L.given L.taken N.tells N.entries) R.gives self.old [] self.new }
+        ensures went { ByReader R.gives 0
+            (λ read. GoesOn (loop_view L.tells L.given L.taken N.tells N.entries) read self.old [] self.new) }
         ensures slots { self.new.slots ≡ self.old.slots }
     {
         let peer = link.peer();
@@ -381,7 +391,8 @@ impl<L: Link + Drop, N: Ends<L> + Drop> Links<L, N> {
 
     /// A link is let go of that isn't entered.
     pub(crate) fn lose<R: Reader>(&mut self)
-        ensures went { GoesOn (loop_view L.tells L.given L.taken N.tells N.entries) R.gives self.old [] self.new }
+        ensures went { ByReader R.gives 0
+            (λ read. GoesOn (loop_view L.tells L.given L.taken N.tells N.entries) read self.old [] self.new) }
         ensures slots { self.new.slots ≡ self.old.slots }
     {
         self.ledger.lose();
@@ -389,7 +400,8 @@ impl<L: Link + Drop, N: Ends<L> + Drop> Links<L, N> {
 
     /// Lets go of all links.
     pub(crate) fn let_go<R: Reader>(&mut self)
-        ensures went { GoesOn (loop_view L.tells L.given L.taken N.tells N.entries) R.gives self.old [] self.new }
+        ensures went { ByReader R.gives 0
+            (λ read. GoesOn (loop_view L.tells L.given L.taken N.tells N.entries) read self.old [] self.new) }
         ensures none { self.new.slots.items ≡ [] }
     {
         while let Some(slot) = self.slots.pop() {
@@ -399,7 +411,8 @@ impl<L: Link + Drop, N: Ends<L> + Drop> Links<L, N> {
 
     /// The link with this token was reported.
     pub(crate) fn report<R: Reader>(&mut self, event: &Event)
-        ensures went { GoesOn (loop_view L.tells L.given L.taken N.tells N.entries) R.gives self.old [] self.new }
+        ensures went { ByReader R.gives 0
+            (λ read. GoesOn (loop_view L.tells L.given L.taken N.tells N.entries) read self.old [] self.new) }
     {
         let at = event.token as usize;
         if at < self.slots.len() {
@@ -419,8 +432,8 @@ impl<L: Link + Drop, N: Ends<L> + Drop> Links<L, N> {
         failed: Option<u64>,
     ) -> bool
         requires { now < 2 ^ 62 }
-        ensures went { LeadsBy (at_reading now C.makes) calls.old calls.new
-            (λ acts. GoesOn (loop_view L.tells L.given L.taken N.tells N.entries) R.gives self.old acts self.new) }
+        ensures went { ByReader R.gives 0 (λ read. LeadsBy (at_reading now C.makes) calls.old calls.new
+            (λ acts. GoesOn (loop_view L.tells L.given L.taken N.tells N.entries) read self.old acts self.new)) }
     {
         hear_each::<L, C, R>(alloc, calls, self.slots.as_mut_slice(), buffer, now, failed)
     }
@@ -433,8 +446,9 @@ impl<L: Link + Drop, N: Ends<L> + Drop> Links<L, N> {
         calls: &mut C,
         reader: &mut R,
     ) -> bool
-        ensures went { LeadsBy (unasked C.makes) calls.old calls.new
-            (λ acts. GoesOn (loop_view L.tells L.given L.taken N.tells N.entries) R.gives self.old acts self.new) }
+        ensures went { ByReader R.gives (R.faults reader.new) (λ read. LeadsBy (unasked C.makes) calls.old calls.new
+            (λ acts. GoesOn (loop_view L.tells L.given L.taken N.tells N.entries) read self.old acts self.new)) }
+        ensures grows { R.faults reader.old ≤ R.faults reader.new }
     {
         reply_each(
             alloc,
@@ -455,8 +469,10 @@ impl<L: Link + Drop, N: Ends<L> + Drop> Links<L, N> {
         reader: &mut R,
         ask: &Ask,
     )
-        ensures { LeadsWith (unasked C.makes) calls.old calls.new (ask.now ∷ [])
-            (λ acts. GoesOn (loop_view L.tells L.given L.taken N.tells N.entries) R.gives self.old acts self.new) }
+        ensures went { ByReader R.gives (R.faults reader.new)
+            (λ read. LeadsWith (unasked C.makes) calls.old calls.new (ask.now ∷ [])
+            (λ acts. GoesOn (loop_view L.tells L.given L.taken N.tells N.entries) read self.old acts self.new)) }
+        ensures grows { R.faults reader.old ≤ R.faults reader.new }
     {
         let Some(at) = slot_of(self.slots.as_slice(), ask.link) else {
             return;

@@ -1,6 +1,5 @@
 -- Each step of a link's passes is a request of the link, or a look.
 use Rattle.std.proofs.Common.{◌≡◌, ⊎_elim, inl, inr, ℕ, List, [], ◌∷◌, ◌++◌, Bool, true, false, Option, Some, None, Result, Ok, Err, refl, sym, ap, subst}
-use Rattle.mq_outside.specs.Readings.{Giving}
 use Rattle.reply_fields.specs.Parts.{ReplyParts, AskParts}
 use Rattle.session.specs.Readers.{ReaderView}
 use Rattle.session.specs.Serving.{Made, IsAsked, IsAnswered, ServesNext}
@@ -16,7 +15,7 @@ use Rattle.session.specs.declared.serving.Step.{Step}
 use Rattle.session.specs.declared.serving.Step.TheVariants as steps
 use Rattle.session.specs.declared.session.Session.{Session}
 use Rattle.session.specs.declared.talk.Talk.{Talk}
-use Rattle.link_service.specs.Transcripts.{Seen, AreOfLink, any_reader, IsCallOf, AreCallsOf, WentOnWith}
+use Rattle.link_service.specs.Transcripts.{Seen, AreOfLink, IsCallOf, AreCallsOf, WentOnWith}
 
 of_append : (link : ℕ) (xs ys : Made) → AreOfLink link xs → AreOfLink link ys → AreOfLink link (xs ++ ys)
 of_append link [] ys are more = more
@@ -83,30 +82,30 @@ broken_of link reader old made new is =
 -- ---- calls
 
 -- the steps of a call are the link's, and the link stays
-call_of : (gives : Giving) (old : Session) (call : Call) (broken : Bool) (new : Session) → IsCallOf gives old call broken new
+call_of : (reader : ReaderView) (old : Session) (call : Call) (broken : Bool) (new : Session) → IsCallOf reader old call broken new
     → AreOfLink old.talk.link (made_in call) × (new.talk.link ≡ old.talk.link)
-call_of gives old (fed piece) false new is = (tt, is.1.link.0)
-call_of gives old (fed piece) true new is = (tt, is.1.link.0)
-call_of gives old (served now made result) false new is = (serves_of now old made result new is.1, is.2.0)
-call_of gives old (served now made result) true new is = (serves_of now old made result new is.1, is.2.0)
-call_of gives old (gave_up count) false new is = (tt, ap (λ (t : Talk). t.link) is.2)
-call_of gives old (gave_up count) true new is = (tt, ap (λ (t : Talk). t.link) is.2)
-call_of gives old (settled made) false new is = (settled_of old.talk.link (any_reader gives) old made new is.0, ap (λ (t : Talk). t.link) is.2)
-call_of gives old (settled made) true new is = (broken_of old.talk.link (any_reader gives) old made new is.0, ap (λ (t : Talk). t.link) is.2)
-call_of gives old (sent count bytes) false new is = (tt, ap (λ (t : Talk). t.link) is.3)
-call_of gives old (sent count bytes) true new is = absurd is
-call_of gives old (asked ask) false new is = (tt, ap (λ (t : Talk). t.link) is.talk)
-call_of gives old (asked ask) true new is = absurd is
+call_of reader old (fed piece) false new is = (tt, is.1.link.0)
+call_of reader old (fed piece) true new is = (tt, is.1.link.0)
+call_of reader old (served now made result) false new is = (serves_of now old made result new is.1, is.2.0)
+call_of reader old (served now made result) true new is = (serves_of now old made result new is.1, is.2.0)
+call_of reader old (gave_up count) false new is = (tt, ap (λ (t : Talk). t.link) is.2)
+call_of reader old (gave_up count) true new is = (tt, ap (λ (t : Talk). t.link) is.2)
+call_of reader old (settled made) false new is = (settled_of old.talk.link reader old made new is.0, ap (λ (t : Talk). t.link) is.2)
+call_of reader old (settled made) true new is = (broken_of old.talk.link reader old made new is.0, ap (λ (t : Talk). t.link) is.2)
+call_of reader old (sent count bytes) false new is = (tt, ap (λ (t : Talk). t.link) is.3)
+call_of reader old (sent count bytes) true new is = absurd is
+call_of reader old (asked ask) false new is = (tt, ap (λ (t : Talk). t.link) is.talk)
+call_of reader old (asked ask) true new is = absurd is
 
-calls_of : (gives : Giving) (broken : Bool) (old : Session) (calls : List Call) (breaks : Bool) (new : Session) → AreCallsOf gives broken old calls breaks new
+calls_of : (reader : ReaderView) (broken : Bool) (old : Session) (calls : List Call) (breaks : Bool) (new : Session) → AreCallsOf reader broken old calls breaks new
     → AreOfLink old.talk.link (made_of calls)
-calls_of gives broken old [] breaks new are = tt
-calls_of gives broken old (call ∷ calls) breaks new are =
-    let first = call_of gives old call are.2 are.1 are.3 in
+calls_of reader broken old [] breaks new are = tt
+calls_of reader broken old (call ∷ calls) breaks new are =
+    let first = call_of reader old call are.2 are.1 are.3 in
     of_append old.talk.link (made_in call) (made_of calls) first.0
-    (subst (λ (link : ℕ). AreOfLink link (made_of calls)) first.1 (calls_of gives are.2 are.1 calls breaks new are.4))
+    (subst (λ (link : ℕ). AreOfLink link (made_of calls)) first.1 (calls_of reader are.2 are.1 calls breaks new are.4))
 
-pub went_of_link : (tells : Type 0) (gives : Giving) (old : Seen) (made : Made) (asks : List AskParts) (new : Seen) → WentOnWith tells gives old made asks new
+pub went_of_link : (tells : Type 0) (reader : ReaderView) (old : Seen) (made : Made) (asks : List AskParts) (new : Seen) → WentOnWith tells reader old made asks new
     → AreOfLink old.session.talk.link made
-went_of_link tells gives old made asks new went =
-    subst (λ (m : Made). AreOfLink old.session.talk.link m) (sym went.steps) (calls_of gives old.broken old.session went.calls new.broken new.session went.are)
+went_of_link tells reader old made asks new went =
+    subst (λ (m : Made). AreOfLink old.session.talk.link m) (sym went.steps) (calls_of reader old.broken old.session went.calls new.broken new.session went.are)

@@ -1,11 +1,11 @@
 -- How what passes do for a link goes together.
-use Rattle.std.proofs.Common.{◌≡◌, ℕ, List, [], ◌∷◌, ◌++◌, take, drop, Bool, true, false, Result, Ok, Err, refl, sym, ap, ◌∙◌, subst, append_assoc, append-nil}
+use Rattle.std.proofs.Common.{◌≡◌, ◌<◌, ◌≤◌, ◌+◌, ◌-◌, ◌^◌, min, ℕ, List, [], ◌∷◌, ◌++◌, take, drop, Bool, true, false, Result, Ok, Err, refl, sym, ap, ◌∙◌, subst, append_assoc, append-nil, arith}
 use Rattle.mq_outside.specs.Readings.{Giving}
 use Rattle.broker_events.proofs.Makes.{makes_append}
 use Rattle.reply_fields.specs.Parts.{AskParts}
 use Rattle.session.specs.Asking.{Asks, AsksOrNot}
 use Rattle.session.specs.Owing.{Steps}
-use Rattle.session.specs.Readers.{reader_view}
+use Rattle.session.specs.Readers.{ReaderView, FailedAt, reads_between}
 use Rattle.session.specs.Serving.{Made, Leads, ServesNext, KeepsLink, KeepsOut, KeepsRest}
 use Rattle.session.specs.Settling.{IsSettled, IsBroken, unsent_of}
 use Rattle.session.specs.Sessions.{Call, fed, served, gave_up, settled, sent, asked, HadMemory, IsCall, stream_in, sent_in, made_in, asks_in, stream_of, sent_of, made_of, asks_of}
@@ -15,7 +15,7 @@ use Rattle.session.specs.declared.serving.Step.{Step}
 use Rattle.session.specs.declared.serving.Halt.{Halt}
 use Rattle.session.specs.declared.serving.Halt.TheVariants as halts
 use Rattle.session.proofs.ReaderLemmas.{settled_wider, broken_wider}
-use Rattle.link_service.specs.Transcripts.{Seen, any_reader, FindsNoMemory, IsCallOf, AreCallsOf, WentOnWith, WentOn, WentOnUnread, NoneSettled, gives_nothing, if_asked}
+use Rattle.link_service.specs.Transcripts.{Seen, counted_to, FindsNoMemory, IsCallOf, AreCallsOf, WentOnWith, WentOn, WentOnUnread, NoneSettled, reads_nothing, if_asked}
 
 -- ---- what calls come to
 
@@ -47,29 +47,29 @@ none_append (asked ask ∷ xs) ys none more = none_append xs ys none more
 -- ---- one after another
 
 -- calls that begin with a link that broke are none
-are_from : (gives : Giving) (broken at end : Bool) (old new : Session) (more : List Call) → (broken ≡ true → at ≡ true) → AreCallsOf gives at old more end new
-    → AreCallsOf gives broken old more end new
-are_from gives broken at end old new [] stays are = (are.0, λ was. are.1 (stays was))
-are_from gives false at end old new (call ∷ calls) stays are = (refl, are.1, are.2, are.3, are.4)
-are_from gives true at end old new (call ∷ calls) stays are = let was = stays refl in let not = are.0 in cc
+are_from : (reader : ReaderView) (broken at end : Bool) (old new : Session) (more : List Call) → (broken ≡ true → at ≡ true) → AreCallsOf reader at old more end new
+    → AreCallsOf reader broken old more end new
+are_from reader broken at end old new [] stays are = (are.0, λ was. are.1 (stays was))
+are_from reader false at end old new (call ∷ calls) stays are = (refl, are.1, are.2, are.3, are.4)
+are_from reader true at end old new (call ∷ calls) stays are = let was = stays refl in let not = are.0 in cc
 
-are_on : (gives : Giving) (broken at end : Bool) (old mid new : Session) (calls more : List Call) → AreCallsOf gives broken old calls at mid → AreCallsOf gives at mid more end new
-    → AreCallsOf gives broken old (calls ++ more) end new
-are_on gives broken at end old mid new [] more first rest =
-    are_from gives broken at end old new more first.1 (subst (λ (s : Session). AreCallsOf gives at s more end new) first.0 rest)
-are_on gives broken at end old mid new (call ∷ calls) more first rest =
-    (first.0, first.1, first.2, first.3, are_on gives first.2 at end first.1 mid new calls more first.4 rest)
+are_on : (reader : ReaderView) (broken at end : Bool) (old mid new : Session) (calls more : List Call) → AreCallsOf reader broken old calls at mid → AreCallsOf reader at mid more end new
+    → AreCallsOf reader broken old (calls ++ more) end new
+are_on reader broken at end old mid new [] more first rest =
+    are_from reader broken at end old new more first.1 (subst (λ (s : Session). AreCallsOf reader at s more end new) first.0 rest)
+are_on reader broken at end old mid new (call ∷ calls) more first rest =
+    (first.0, first.1, first.2, first.3, are_on reader first.2 at end first.1 mid new calls more first.4 rest)
 
 -- what was given or taken before, then by the first calls, then by the others
 then_more : (old mid new xs ys all : List ℕ) → mid ≡ old ++ xs → new ≡ mid ++ ys → all ≡ xs ++ ys → new ≡ old ++ all
 then_more old mid new xs ys all first rest both =
     rest ∙ ap (λ (l : List ℕ). l ++ ys) first ∙ append_assoc old xs ys ∙ ap (λ (l : List ℕ). old ++ l) (sym both)
 
-pub went_on : (tells : Type 0) (gives : Giving) (old mid new : Seen) (first rest : Made) (asks more : List AskParts) → WentOnWith tells gives old first asks mid
-    → WentOnWith tells gives mid rest more new → WentOnWith tells gives old (first ++ rest) (asks ++ more) new
-went_on tells gives old mid new first rest asks more h k = record {
+pub went_on : (tells : Type 0) (reader : ReaderView) (old mid new : Seen) (first rest : Made) (asks more : List AskParts) → WentOnWith tells reader old first asks mid
+    → WentOnWith tells reader mid rest more new → WentOnWith tells reader old (first ++ rest) (asks ++ more) new
+went_on tells reader old mid new first rest asks more h k = record {
   calls = h.calls ++ k.calls;
-  are = are_on gives old.broken mid.broken new.broken old.session mid.session new.session h.calls k.calls h.are k.are;
+  are = are_on reader old.broken mid.broken new.broken old.session mid.session new.session h.calls k.calls h.are k.are;
   steps = ap (λ (l : Made). l ++ rest) h.steps ∙ ap (λ (l : Made). made_of h.calls ++ l) k.steps ∙ sym (made_append h.calls k.calls);
   asked = ap (λ (l : List AskParts). l ++ more) h.asked ∙ ap (λ (l : List AskParts). asks_of h.calls ++ l) k.asked ∙ sym (asks_append h.calls k.calls);
   given = λ told. then_more old.given mid.given new.given (stream_of h.calls) (stream_of k.calls) (stream_of (h.calls ++ k.calls)) (h.given told) (k.given told)
@@ -82,24 +82,24 @@ pub unread_on : (tells : Type 0) (old mid new : Seen) (first rest : Made) → We
     → WentOnUnread tells old (first ++ rest) new
 unfolding went_on
 unread_on tells old mid new first rest h k = record {
-  went = went_on tells gives_nothing old mid new first rest [] [] h.went k.went;
+  went = went_on tells reads_nothing old mid new first rest [] [] h.went k.went;
   none = none_append h.went.calls k.went.calls h.none k.none;
 }
 
 -- ---- whatever the reader gives
 
-call_read : (gives : Giving) (old new : Session) (call : Call) (breaks : Bool) → NoneSettled (call ∷ []) → IsCallOf gives_nothing old call breaks new → IsCallOf gives old call breaks new
-call_read gives old new (fed piece) false none h = h
-call_read gives old new (fed piece) true none h = h
-call_read gives old new (served now made result) false none h = h
-call_read gives old new (served now made result) true none h = h
-call_read gives old new (gave_up count) false none h = h
-call_read gives old new (gave_up count) true none h = h
-call_read gives old new (settled made) breaks none h = absurd none
-call_read gives old new (sent count bytes) false none h = h
-call_read gives old new (sent count bytes) true none h = absurd h
-call_read gives old new (asked ask) false none h = h
-call_read gives old new (asked ask) true none h = absurd h
+call_read : (reader : ReaderView) (old new : Session) (call : Call) (breaks : Bool) → NoneSettled (call ∷ []) → IsCallOf reads_nothing old call breaks new → IsCallOf reader old call breaks new
+call_read reader old new (fed piece) false none h = h
+call_read reader old new (fed piece) true none h = h
+call_read reader old new (served now made result) false none h = h
+call_read reader old new (served now made result) true none h = h
+call_read reader old new (gave_up count) false none h = h
+call_read reader old new (gave_up count) true none h = h
+call_read reader old new (settled made) breaks none h = absurd none
+call_read reader old new (sent count bytes) false none h = h
+call_read reader old new (sent count bytes) true none h = absurd h
+call_read reader old new (asked ask) false none h = h
+call_read reader old new (asked ask) true none h = absurd h
 
 none_first : (call : Call) (calls : List Call) → NoneSettled (call ∷ calls) → NoneSettled (call ∷ []) × NoneSettled calls
 none_first (fed piece) calls none = (tt, none)
@@ -109,17 +109,17 @@ none_first (settled made) calls none = absurd none
 none_first (sent count bytes) calls none = (tt, none)
 none_first (asked ask) calls none = (tt, none)
 
-are_read : (gives : Giving) (calls : List Call) (broken breaks : Bool) (old new : Session) → NoneSettled calls → AreCallsOf gives_nothing broken old calls breaks new
-    → AreCallsOf gives broken old calls breaks new
-are_read gives [] broken breaks old new none are = are
-are_read gives (call ∷ calls) broken breaks old new none are =
+are_read : (reader : ReaderView) (calls : List Call) (broken breaks : Bool) (old new : Session) → NoneSettled calls → AreCallsOf reads_nothing broken old calls breaks new
+    → AreCallsOf reader broken old calls breaks new
+are_read reader [] broken breaks old new none are = are
+are_read reader (call ∷ calls) broken breaks old new none are =
     let parts = none_first call calls none in
-    (are.0, are.1, are.2, call_read gives old are.1 call are.2 parts.0 are.3, are_read gives calls are.2 breaks are.1 new parts.1 are.4)
+    (are.0, are.1, are.2, call_read reader old are.1 call are.2 parts.0 are.3, are_read reader calls are.2 breaks are.1 new parts.1 are.4)
 
-pub went_read : (tells : Type 0) (gives : Giving) (old : Seen) (made : Made) (new : Seen) → WentOnUnread tells old made new → WentOn tells gives old made new
-went_read tells gives old made new h = record {
+pub went_read : (tells : Type 0) (reader : ReaderView) (old : Seen) (made : Made) (new : Seen) → WentOnUnread tells old made new → WentOn tells reader old made new
+went_read tells reader old made new h = record {
   calls = h.went.calls;
-  are = are_read gives h.went.calls old.broken new.broken old.session new.session h.none h.went.are;
+  are = are_read reader h.went.calls old.broken new.broken old.session new.session h.none h.went.are;
   steps = h.went.steps;
   asked = h.went.asked;
   given = h.went.given;
@@ -145,10 +145,10 @@ pub unread_same : (tells : Type 0) (link : Seen) → WentOnUnread tells link [] 
 unread_same tells link = unread_none tells link link refl (λ was. was) (λ told. sym (append-nil link.given)) (λ told. refl)
 
 -- one call was made
-pub went_by : (tells : Type 0) (gives : Giving) (old new : Seen) (call : Call) (made : Made) (asks : List AskParts) → asks ≡ asks_in call → old.broken ≡ false
-    → IsCallOf gives old.session call new.broken new.session → made ≡ made_in call → (tells → new.given ≡ old.given ++ stream_in call)
-    → (tells → new.taken ≡ old.taken ++ sent_in call) → WentOnWith tells gives old made asks new
-went_by tells gives old new call made asks wrote whole is steps given taken = record {
+pub went_by : (tells : Type 0) (reader : ReaderView) (old new : Seen) (call : Call) (made : Made) (asks : List AskParts) → asks ≡ asks_in call → old.broken ≡ false
+    → IsCallOf reader old.session call new.broken new.session → made ≡ made_in call → (tells → new.given ≡ old.given ++ stream_in call)
+    → (tells → new.taken ≡ old.taken ++ sent_in call) → WentOnWith tells reader old made asks new
+went_by tells reader old new call made asks wrote whole is steps given taken = record {
   calls = call ∷ [];
   are = (whole, new.session, new.broken, is, (refl, λ (was : new.broken ≡ true). was));
   steps = steps ∙ sym (append-nil (made_in call));
@@ -158,25 +158,25 @@ went_by tells gives old new call made asks wrote whole is steps given taken = re
 }
 
 pub unread_by : (tells : Type 0) (old new : Seen) (call : Call) (made : Made) → [] ≡ asks_in call → old.broken ≡ false
-    → IsCallOf gives_nothing old.session call new.broken new.session → NoneSettled (call ∷ []) → made ≡ made_in call
+    → IsCallOf reads_nothing old.session call new.broken new.session → NoneSettled (call ∷ []) → made ≡ made_in call
     → (tells → new.given ≡ old.given ++ stream_in call) → (tells → new.taken ≡ old.taken ++ sent_in call) → WentOnUnread tells old made new
 unfolding went_by
 unread_by tells old new call made no_ask whole is none steps given taken =
-    record { went = went_by tells gives_nothing old new call made [] no_ask whole is steps given taken; none = none }
+    record { went = went_by tells reads_nothing old new call made [] no_ask whole is steps given taken; none = none }
 
 -- one call was made, and the link is whole
-pub unread_whole : (tells : Type 0) (old new : Seen) (call : Call) (made : Made) → old.broken ≡ false → new.broken ≡ false → IsCall (any_reader gives_nothing) old.session call new.session
+pub unread_whole : (tells : Type 0) (old new : Seen) (call : Call) (made : Made) → old.broken ≡ false → new.broken ≡ false → IsCall reads_nothing old.session call new.session
     → NoneSettled (call ∷ []) → [] ≡ asks_in call → made ≡ made_in call → (tells → new.given ≡ old.given ++ stream_in call)
     → (tells → new.taken ≡ old.taken ++ sent_in call) → WentOnUnread tells old made new
 unread_whole tells old new call made was whole is none no_ask =
-    unread_by tells old new call made no_ask was (subst (λ (b : Bool). IsCallOf gives_nothing old.session call b new.session) (sym whole) is) none
+    unread_by tells old new call made no_ask was (subst (λ (b : Bool). IsCallOf reads_nothing old.session call b new.session) (sym whole) is) none
 
 -- one call was made, and found no memory
-pub unread_breaks : (tells : Type 0) (old new : Seen) (call : Call) (made : Made) → old.broken ≡ false → new.broken ≡ true → FindsNoMemory gives_nothing old.session call new.session
+pub unread_breaks : (tells : Type 0) (old new : Seen) (call : Call) (made : Made) → old.broken ≡ false → new.broken ≡ true → FindsNoMemory reads_nothing old.session call new.session
     → NoneSettled (call ∷ []) → [] ≡ asks_in call → made ≡ made_in call → (tells → new.given ≡ old.given ++ stream_in call)
     → (tells → new.taken ≡ old.taken ++ sent_in call) → WentOnUnread tells old made new
 unread_breaks tells old new call made was broken is none no_ask =
-    unread_by tells old new call made no_ask was (subst (λ (b : Bool). IsCallOf gives_nothing old.session call b new.session) (sym broken) is) none
+    unread_by tells old new call made no_ask was (subst (λ (b : Bool). IsCallOf reads_nothing old.session call b new.session) (sym broken) is) none
 
 -- bytes of the session were sent
 pub unread_sent : (tells : Type 0) (old new : Seen) (count : ℕ) (piece : List ℕ) → old.broken ≡ false → new.broken ≡ false → piece ≡ unsent_of old.session
@@ -188,33 +188,39 @@ unread_sent tells old new count piece was whole is rest held talk owed counted g
     (same_bytes tells old.given new.given given) taken
 
 -- a check-back was written, and nothing else was done
-went_asked : (tells : Type 0) (gives : Giving) (old new : Seen) (ask : AskParts) → old.broken ≡ false → new.broken ≡ false → Asks old.session ask new.session
-    → (tells → new.given ≡ old.given) → (tells → new.taken ≡ old.taken) → WentOnWith tells gives old [] (ask ∷ []) new
-went_asked tells gives old new ask was whole is given taken =
-    went_by tells gives old new (asked ask) [] (ask ∷ []) refl was (subst (λ (b : Bool). IsCallOf gives old.session (asked ask) b new.session) (sym whole) is) refl
+went_asked : (tells : Type 0) (reader : ReaderView) (old new : Seen) (ask : AskParts) → old.broken ≡ false → new.broken ≡ false → Asks old.session ask new.session
+    → (tells → new.given ≡ old.given) → (tells → new.taken ≡ old.taken) → WentOnWith tells reader old [] (ask ∷ []) new
+went_asked tells reader old new ask was whole is given taken =
+    went_by tells reader old new (asked ask) [] (ask ∷ []) refl was (subst (λ (b : Bool). IsCallOf reader old.session (asked ask) b new.session) (sym whole) is) refl
     (same_bytes tells old.given new.given given) (same_bytes tells old.taken new.taken taken)
 
 -- it was left out: it is as if nothing was fed
-went_unasked : (tells : Type 0) (gives : Giving) (old new : Seen) → old.broken ≡ false → new.broken ≡ false → new.session.talk ≡ old.session.talk
-    → KeepsRest old.session new.session → (tells → new.given ≡ old.given) → (tells → new.taken ≡ old.taken) → WentOn tells gives old [] new
-went_unasked tells gives old new was whole talk keeps given taken =
+went_unasked : (tells : Type 0) (reader : ReaderView) (old new : Seen) → old.broken ≡ false → new.broken ≡ false → new.session.talk ≡ old.session.talk
+    → KeepsRest old.session new.session → (tells → new.given ≡ old.given) → (tells → new.taken ≡ old.taken) → WentOn tells reader old [] new
+went_unasked tells reader old new was whole talk keeps given taken =
     let held = old.session.talk.cutter in
     let cut : new.session.talk.cutter ≡ record { at = held.at; bytes = held.bytes ++ [] } =
     ap (λ (t : Talk). t.cutter) talk ∙ ap (λ (l : List ℕ). record { at = held.at; bytes = l }) (sym (append-nil held.bytes)) in
-    went_by tells gives old new (fed []) [] [] refl was (subst (λ (b : Bool). IsCallOf gives old.session (fed []) b new.session) (sym whole) (cut, keeps)) refl
+    went_by tells reader old new (fed []) [] [] refl was (subst (λ (b : Bool). IsCallOf reader old.session (fed []) b new.session) (sym whole) (cut, keeps)) refl
     (same_bytes tells old.given new.given given) (same_bytes tells old.taken new.taken taken)
 
-pub went_asking : (tells : Type 0) (gives : Giving) (old new : Seen) (ask : AskParts) (did : Bool) → old.broken ≡ false → new.broken ≡ false
+pub went_asking : (tells : Type 0) (reader : ReaderView) (old new : Seen) (ask : AskParts) (did : Bool) → old.broken ≡ false → new.broken ≡ false
     → AsksOrNot old.session ask did new.session → (tells → new.given ≡ old.given) → (tells → new.taken ≡ old.taken)
-    → WentOnWith tells gives old [] (if_asked did ask) new
-went_asking tells gives old new ask true was whole is given taken = went_asked tells gives old new ask was whole is given taken
-went_asking tells gives old new ask false was whole is given taken = went_unasked tells gives old new was whole is.0 is.1 given taken
+    → WentOnWith tells reader old [] (if_asked did ask) new
+went_asking tells reader old new ask true was whole is given taken = went_asked tells reader old new ask was whole is given taken
+went_asking tells reader old new ask false was whole is given taken = went_unasked tells reader old new was whole is.0 is.1 given taken
 
 -- a link that can't answer is not asked
-pub went_silent : (tells : Type 0) (gives : Giving) (link : Seen) (ask : AskParts) → WentOnWith tells gives link [] (if_asked false ask) link
-went_silent tells gives link ask = went_read tells gives link [] link (unread_same tells link)
+pub went_silent : (tells : Type 0) (reader : ReaderView) (link : Seen) (ask : AskParts) → WentOnWith tells reader link [] (if_asked false ask) link
+went_silent tells reader link ask = went_read tells reader link [] link (unread_same tells link)
 
 -- ---- steps of the broker
+
+-- a count to which a reader rose meanwhile is above 0, and at most one that it has not passed since
+counts_up : {R : Type 0} (faults : R → ℕ) (before after : R) (most : ℕ) → faults after ≤ most → (count : ℕ) → FailedAt faults before after count
+    → (0 < count) × (count ≤ most)
+counts_up faults before after most high count at =
+    let rose : min (faults at.before + 1) (2 ^ 64 - 1) ≤ faults at.after = at.rose.1 in (omega (arith, rose, at.is), omega (arith, high, at.is, at.high))
 
 module _ {C : Type 0} (makes : Steps C) (tells : Type 0) where
   -- a link went on by steps that settled no reply
@@ -264,55 +270,56 @@ module _ {C : Type 0} (makes : Steps C) (tells : Type 0) where
         (same_bytes tells old.taken new.taken (λ told. taken));
   }
 
-  module _ (gives : Giving) where
+  module _ (reader : ReaderView) where
     -- a link went on by steps
     abbrev pub Goes : C → Seen → C → Seen → Type 0
-    Goes x old y new = Leads makes x y (λ made. WentOn tells gives old made new)
+    Goes x old y new = Leads makes x y (λ made. WentOn tells reader old made new)
 
     pub goes_on : (x y z : C) (old mid new : Seen) → Goes x old y mid → Goes y mid z new → Goes x old z new
     goes_on x y z old mid new h k = record {
       made = h.made ++ k.made;
       leads = makes_append makes x h.made y k.made z h.leads k.leads;
-      so = went_on tells gives old mid new h.made k.made [] [] h.so k.so;
+      so = went_on tells reader old mid new h.made k.made [] [] h.so k.so;
     }
 
     pub goes_quietly : (x : C) (old new : Seen) → WentOnUnread tells old [] new → Goes x old x new
-    goes_quietly x old new went = record { made = []; leads = refl; so = went_read tells gives old [] new went }
+    goes_quietly x old new went = record { made = []; leads = refl; so = went_read tells reader old [] new went }
 
     -- and then a check-back was written, or left out
-    pub goes_asking : (x y : C) (old mid new : Seen) (asks : List AskParts) → Goes x old y mid → WentOnWith tells gives mid [] asks new
-        → Leads makes x y (λ made. WentOnWith tells gives old made asks new)
+    pub goes_asking : (x y : C) (old mid new : Seen) (asks : List AskParts) → Goes x old y mid → WentOnWith tells reader mid [] asks new
+        → Leads makes x y (λ made. WentOnWith tells reader old made asks new)
     goes_asking x y old mid new asks h k = record {
       made = h.made;
       leads = h.leads;
-      so = subst (λ (m : Made). WentOnWith tells gives old m asks new) (append-nil h.made) (went_on tells gives old mid new h.made [] [] asks h.so k);
+      so = subst (λ (m : Made). WentOnWith tells reader old m asks new) (append-nil h.made) (went_on tells reader old mid new h.made [] [] asks h.so k);
     }
 
-    pub goes_silent : (x : C) (link : Seen) (ask : AskParts) → Leads makes x x (λ made. WentOnWith tells gives link made (if_asked false ask) link)
-    goes_silent x link ask = record { made = []; leads = refl; so = went_read tells gives link [] link (unread_same tells link) }
+    pub goes_silent : (x : C) (link : Seen) (ask : AskParts) → Leads makes x x (λ made. WentOnWith tells reader link made (if_asked false ask) link)
+    goes_silent x link ask = record { made = []; leads = refl; so = went_read tells reader link [] link (unread_same tells link) }
 
+  module _ (gives : Giving) {R : Type 0} (faults : R → ℕ) (before after : R) (most : ℕ) (high : faults after ≤ most) where
     -- replies were settled
-    pub settles_whole : (failed : ℕ → Type 0) (x y : C) (old new : Seen) → old.broken ≡ false → new.broken ≡ false → new.given ≡ old.given → new.taken ≡ old.taken
-        → Leads makes x y (λ made. IsSettled (reader_view gives failed) old.session made new.session) → new.session.held ≡ old.session.held → new.session.talk ≡ old.session.talk
-        → new.session.sent ≡ old.session.sent → new.session.asked ≡ old.session.asked → Goes x old y new
-    settles_whole failed x y old new was whole given taken h held talk sends counted = record {
+    pub settles_whole : (x y : C) (old new : Seen) → old.broken ≡ false → new.broken ≡ false → new.given ≡ old.given → new.taken ≡ old.taken
+        → Leads makes x y (λ made. IsSettled (reads_between gives faults before after) old.session made new.session) → new.session.held ≡ old.session.held → new.session.talk ≡ old.session.talk
+        → new.session.sent ≡ old.session.sent → new.session.asked ≡ old.session.asked → Goes (counted_to gives most) x old y new
+    settles_whole x y old new was whole given taken h held talk sends counted = record {
       made = h.made;
       leads = h.leads;
-      so = went_by tells gives old new (settled h.made) h.made [] refl was
-          (subst (λ (b : Bool). IsCallOf gives old.session (settled h.made) b new.session) (sym whole)
-          (settled_wider gives failed (λ count. Unit {0}) (λ count at. tt) old.session h.made new.session h.so, held, talk, sends, counted)) refl
+      so = went_by tells (counted_to gives most) old new (settled h.made) h.made [] refl was
+          (subst (λ (b : Bool). IsCallOf (counted_to gives most) old.session (settled h.made) b new.session) (sym whole)
+          (settled_wider gives (FailedAt faults before after) (λ count. (0 < count) × (count ≤ most)) (counts_up faults before after most high) old.session h.made new.session h.so, held, talk, sends, counted)) refl
           (same_bytes tells old.given new.given (λ told. given)) (same_bytes tells old.taken new.taken (λ told. taken));
     }
 
     -- there was no memory for one
-    pub settles_broken : (failed : ℕ → Type 0) (x y : C) (old new : Seen) → old.broken ≡ false → new.broken ≡ true → new.given ≡ old.given → new.taken ≡ old.taken
-        → Leads makes x y (λ made. IsBroken (reader_view gives failed) old.session made new.session) → new.session.held ≡ old.session.held → new.session.talk ≡ old.session.talk
-        → new.session.sent ≡ old.session.sent → Goes x old y new
-    settles_broken failed x y old new was broken given taken h held talk sends = record {
+    pub settles_broken : (x y : C) (old new : Seen) → old.broken ≡ false → new.broken ≡ true → new.given ≡ old.given → new.taken ≡ old.taken
+        → Leads makes x y (λ made. IsBroken (reads_between gives faults before after) old.session made new.session) → new.session.held ≡ old.session.held → new.session.talk ≡ old.session.talk
+        → new.session.sent ≡ old.session.sent → Goes (counted_to gives most) x old y new
+    settles_broken x y old new was broken given taken h held talk sends = record {
       made = h.made;
       leads = h.leads;
-      so = went_by tells gives old new (settled h.made) h.made [] refl was
-          (subst (λ (b : Bool). IsCallOf gives old.session (settled h.made) b new.session) (sym broken)
-          (broken_wider gives failed (λ count. Unit {0}) (λ count at. tt) old.session h.made new.session h.so, held, talk, sends)) refl
+      so = went_by tells (counted_to gives most) old new (settled h.made) h.made [] refl was
+          (subst (λ (b : Bool). IsCallOf (counted_to gives most) old.session (settled h.made) b new.session) (sym broken)
+          (broken_wider gives (FailedAt faults before after) (λ count. (0 < count) × (count ≤ most)) (counts_up faults before after most high) old.session h.made new.session h.so, held, talk, sends)) refl
           (same_bytes tells old.given new.given (λ told. given)) (same_bytes tells old.taken new.taken (λ told. taken));
     }

@@ -1,6 +1,6 @@
 -- What passes do for a link: the calls of its session, what these heard of the link and sent to it, and the steps of the broker that
 -- they made.
-use Rattle.std.specs.Prelude.{◌≡◌, ◌⊎◌, ◌++◌, ℕ, List, [], ◌∷◌, Bool, true, false, None, Err}
+use Rattle.std.specs.Prelude.{◌≡◌, ◌⊎◌, ◌<◌, ◌≤◌, ◌++◌, ℕ, List, [], ◌∷◌, Bool, true, false, None, Err}
 use Rattle.mq_outside.specs.Readings.{Giving}
 use Rattle.request_fields.specs.declared.request.Request.{Request}
 use Rattle.reply_fields.specs.Parts.{AskParts}
@@ -29,50 +29,56 @@ abbrev pub seen_of : {L : Type 0} → (L → List ℕ) → (L → List ℕ) → 
 seen_of given taken linked =
     record { session = linked.session; broken = linked.broken; given = given linked.link; taken = taken linked.link }
 
--- ---- calls
+-- ---- readers
 
--- a reader of which it is known what it gives, and not when it failed
-abbrev pub any_reader : Giving → ReaderView
-any_reader gives = reader_view gives (λ count. Unit {0})
+-- a reader that gives these bytes, whose count of failures rose to this one, and not above; none failed where it is 0
+abbrev pub counted_to : Giving → ℕ → ReaderView
+counted_to gives most = reader_view gives (λ count. (0 < count) × (count ≤ most))
+
+-- Of a reader that gives these bytes this is so, once it has failed so often; and it stays so, however often it fails later.
+abbrev pub ByReader : Giving → ℕ → (ReaderView → Type 0) → Type 0
+ByReader gives count P = (most : ℕ) → count ≤ most → P (counted_to gives most)
+
+-- ---- calls
 
 -- What a call that found no memory leaves. Nothing of the piece was fed; the next request is not heard yet, or its answer is lost; what
 -- found no room is not answered; or the next reply has left and has no bytes.
-abbrev pub FindsNoMemory : Giving → Session → Call → Session → Type 0
-FindsNoMemory gives old (fed piece) new = (new.talk.cutter ≡ old.talk.cutter) × KeepsRest old new
-FindsNoMemory gives old (served now made result) new =
+abbrev pub FindsNoMemory : ReaderView → Session → Call → Session → Type 0
+FindsNoMemory reader old (fed piece) new = (new.talk.cutter ≡ old.talk.cutter) × KeepsRest old new
+FindsNoMemory reader old (served now made result) new =
     (result ≡ Err halts.Memory) × ServesNext now old made result new × KeepsLink old new × KeepsOut old new
-FindsNoMemory gives old (gave_up count) new =
+FindsNoMemory reader old (gave_up count) new =
     ((halt : Halt) × GivesUp old.held count old (Err halt) new) × (new.held ≡ None) × (new.talk ≡ old.talk) × KeepsOut old new
-FindsNoMemory gives old (settled made) new =
-    IsBroken (any_reader gives) old made new × (new.held ≡ old.held) × (new.talk ≡ old.talk) × (new.sent ≡ old.sent)
-FindsNoMemory gives old (sent count bytes) new = ⊥
-FindsNoMemory gives old (asked ask) new = ⊥
+FindsNoMemory reader old (settled made) new =
+    IsBroken reader old made new × (new.held ≡ old.held) × (new.talk ≡ old.talk) × (new.sent ≡ old.sent)
+FindsNoMemory reader old (sent count bytes) new = ⊥
+FindsNoMemory reader old (asked ask) new = ⊥
 
 -- what a call of a link's session leaves, by whether the link is broken then
-abbrev pub IsCallOf : Giving → Session → Call → Bool → Session → Type 0
-IsCallOf gives old call false new = IsCall (any_reader gives) old call new
-IsCallOf gives old call true new = FindsNoMemory gives old call new
+abbrev pub IsCallOf : ReaderView → Session → Call → Bool → Session → Type 0
+IsCallOf reader old call false new = IsCall reader old call new
+IsCallOf reader old call true new = FindsNoMemory reader old call new
 
 -- These calls, in this order, lead from the old session to the new one, and from a link that is broken or not to one that is or not.
 -- One that is broken stays so, and makes no call. A call that finds no memory breaks it, and it may break without a call.
-abbrev pub AreCallsOf : Giving → Bool → Session → List Call → Bool → Session → Type 0
-AreCallsOf gives broken old [] breaks new = (new ≡ old) × (broken ≡ true → breaks ≡ true)
-AreCallsOf gives broken old (call ∷ calls) breaks new = (broken ≡ false) × (after : Session) × (breaks_at : Bool)
-    × IsCallOf gives old call breaks_at after × AreCallsOf gives breaks_at after calls breaks new
+abbrev pub AreCallsOf : ReaderView → Bool → Session → List Call → Bool → Session → Type 0
+AreCallsOf reader broken old [] breaks new = (new ≡ old) × (broken ≡ true → breaks ≡ true)
+AreCallsOf reader broken old (call ∷ calls) breaks new = (broken ≡ false) × (after : Session) × (breaks_at : Bool)
+    × IsCallOf reader old call breaks_at after × AreCallsOf reader breaks_at after calls breaks new
 
 -- The link went on by calls of its session, which made these steps and wrote these check-backs. What they fed is what it gave, and what
 -- they sent is what it took, where it tells so.
-pub record WentOnWith (tells : Type 0) (gives : Giving) (old : Seen) (made : Made) (asks : List AskParts) (new : Seen) : Type 0 where
+pub record WentOnWith (tells : Type 0) (reader : ReaderView) (old : Seen) (made : Made) (asks : List AskParts) (new : Seen) : Type 0 where
   pub calls : List Call
-  pub are : AreCallsOf gives old.broken old.session calls new.broken new.session
+  pub are : AreCallsOf reader old.broken old.session calls new.broken new.session
   pub steps : made ≡ made_of calls
   pub asked : asks ≡ asks_of calls
   pub given : tells → new.given ≡ old.given ++ stream_of calls
   pub taken : tells → new.taken ≡ old.taken ++ sent_of calls
 
 -- the same without a check-back
-abbrev pub WentOn : Type 0 → Giving → Seen → Made → Seen → Type 0
-WentOn tells gives old made new = WentOnWith tells gives old made [] new
+abbrev pub WentOn : Type 0 → ReaderView → Seen → Made → Seen → Type 0
+WentOn tells reader old made new = WentOnWith tells reader old made [] new
 
 -- the check-back, where it was written
 abbrev pub if_asked : Bool → AskParts → List AskParts
@@ -89,13 +95,13 @@ NoneSettled (settled made ∷ calls) = ⊥
 NoneSettled (sent count bytes ∷ calls) = NoneSettled calls
 NoneSettled (asked ask ∷ calls) = NoneSettled calls
 
--- a reader that gives nothing
-abbrev pub gives_nothing : Giving
-gives_nothing piece at bytes = ⊥
+-- a reader that gives nothing, and never failed
+abbrev pub reads_nothing : ReaderView
+reads_nothing = reader_view (λ piece at bytes. ⊥) (λ count. ⊥)
 
--- the same by calls that settled no reply, so that it holds whatever a reader gives
+-- the same by calls that settled no reply, so that it holds of every reader
 pub record WentOnUnread (tells : Type 0) (old : Seen) (made : Made) (new : Seen) : Type 0 where
-  pub went : WentOn tells gives_nothing old made new
+  pub went : WentOn tells reads_nothing old made new
   pub none : NoneSettled went.calls
 
 -- ---- steps of a link
@@ -121,22 +127,22 @@ pub record IsFresh (tells : Type 0) (number : ℕ) (host : List ℕ) (first : Se
   pub taken : tells → first.taken ≡ []
 
 -- no call is left, or one that found no memory, and the link is broken
-abbrev pub Ends : Giving → Session → List Call → Bool → Session → Type 0
-Ends gives last [] broken new = new ≡ last
-Ends gives last (call ∷ more) broken new = (more ≡ []) × (broken ≡ true) × FindsNoMemory gives last call new
+abbrev pub Ends : ReaderView → Session → List Call → Bool → Session → Type 0
+Ends reader last [] broken new = new ≡ last
+Ends reader last (call ∷ more) broken new = (more ≡ []) × (broken ≡ true) × FindsNoMemory reader last call new
 
 -- What passes did for a link from its beginning on: calls of its session, and at the end maybe one that found no memory. What it was sent
 -- are the replies to the first requests of what it gave, in order, and between them, whole, these check-backs, each for this link; and
 -- each step is a request of the link, or a look.
-pub record IsTranscript (tells : Type 0) (gives : Giving) (number : ℕ) (host : List ℕ) (made : Made) (asks : List AskParts) (now : Seen)
+pub record IsTranscript (tells : Type 0) (reader : ReaderView) (number : ℕ) (host : List ℕ) (made : Made) (asks : List AskParts) (now : Seen)
     : Type 0 where
   pub first : Seen
   pub fresh : IsFresh tells number host first
   pub calls : List Call
   pub last : Session
-  pub replies : RepliesInOrder (any_reader gives) first.session calls last
+  pub replies : RepliesInOrder reader first.session calls last
   pub end : List Call
-  pub ends : Ends gives last end now.broken now.session
+  pub ends : Ends reader last end now.broken now.session
   pub steps : made ≡ made_of (calls ++ end)
   pub given : tells → now.given ≡ stream_of (calls ++ end)
   pub taken : tells → now.taken ≡ sent_of calls

@@ -3,10 +3,10 @@
 //! `whole -> broken [read, serve, settle, write, hear]`, where the link fails or there is no memory. A broken link makes no further call.
 //! `whole -> garbled [serve]`, where what it says is no frame: nothing more is served. `drain.rt` says how it ends.
 
-ghost use Rattle.std.specs.Prelude.{◌≡◌, ◌<◌, ◌^◌, [], false, true, IfOk};
+ghost use Rattle.std.specs.Prelude.{◌≡◌, ◌<◌, ◌≤◌, ◌^◌, [], false, true, IfOk};
 ghost use Rattle.session.specs.Serving.{Leads};
 ghost use Rattle.link_service.specs.Clocks.{at_reading, unasked};
-ghost use Rattle.link_service.specs.Transcripts.{WentOn, WentOnWith, WentOnUnread, IsFresh, if_asked, seen_of};
+ghost use Rattle.link_service.specs.Transcripts.{ByReader, WentOn, WentOnWith, WentOnUnread, IsFresh, if_asked, seen_of};
 
 use broker_events::Calls;
 use mq_outside::Reader;
@@ -234,8 +234,9 @@ impl<L: Link + Drop> Linked<L> {
     // Writes the replies that are due.
     fn settle<C: Calls, R: Reader>(&mut self, alloc: Global, calls: &mut C, reader: &mut R)
         requires whole { self.old.broken ≡ false }
-        ensures went { Leads (unasked C.makes) calls.old calls.new
-            (λ made. WentOn L.tells R.gives (seen_of L.given L.taken self.old) made (seen_of L.given L.taken self.new)) }
+        ensures went { ByReader R.gives (R.faults reader.new) (λ read. Leads (unasked C.makes) calls.old calls.new
+            (λ made. WentOn L.tells read (seen_of L.given L.taken self.old) made (seen_of L.given L.taken self.new))) }
+        ensures grows { R.faults reader.old ≤ R.faults reader.new }
         ensures talk { self.new.session.talk ≡ self.old.session.talk }
     {
         match self.session.settle(alloc, calls, reader) {
@@ -253,8 +254,9 @@ impl<L: Link + Drop> Linked<L> {
         flushed: u64,
     )
         requires whole { self.old.broken ≡ false }
-        ensures went { Leads (unasked C.makes) calls.old calls.new
-            (λ made. WentOn L.tells R.gives (seen_of L.given L.taken self.old) made (seen_of L.given L.taken self.new)) }
+        ensures went { ByReader R.gives (R.faults reader.new) (λ read. Leads (unasked C.makes) calls.old calls.new
+            (λ made. WentOn L.tells read (seen_of L.given L.taken self.old) made (seen_of L.given L.taken self.new))) }
+        ensures grows { R.faults reader.old ≤ R.faults reader.new }
     {
         if !self.session.is_due_below(flushed) {
             return;
@@ -302,8 +304,9 @@ impl<L: Link + Drop> Linked<L> {
         reader: &mut R,
         flushed: u64,
     )
-        ensures went { Leads (unasked C.makes) calls.old calls.new
-            (λ made. WentOn L.tells R.gives (seen_of L.given L.taken self.old) made (seen_of L.given L.taken self.new)) }
+        ensures went { ByReader R.gives (R.faults reader.new) (λ read. Leads (unasked C.makes) calls.old calls.new
+            (λ made. WentOn L.tells read (seen_of L.given L.taken self.old) made (seen_of L.given L.taken self.new))) }
+        ensures grows { R.faults reader.old ≤ R.faults reader.new }
     {
         self.owes = false;
         for _ in 0..WRITES_MAX {
@@ -333,8 +336,8 @@ impl<L: Link + Drop> Linked<L> {
     // Puts a check-back behind what is to be sent. Answers whether it did.
     fn put_ask<R: Reader>(&mut self, alloc: Global, ask: &Ask) -> bool
         requires { ask.now.link ≡ self.old.session.talk.link }
-        ensures { WentOnWith L.tells R.gives (seen_of L.given L.taken self.old) [] (if_asked result ask.now)
-            (seen_of L.given L.taken self.new) }
+        ensures { ByReader R.gives 0 (λ read. WentOnWith L.tells read (seen_of L.given L.taken self.old) []
+            (if_asked result ask.now) (seen_of L.given L.taken self.new)) }
     {
         if !self.can_answer() {
             return false;
@@ -353,9 +356,10 @@ impl<L: Link + Drop> Linked<L> {
         ask: &Ask,
     ) -> bool
         requires { ask.now.link ≡ self.old.session.talk.link }
-        ensures { Leads (unasked C.makes) calls.old calls.new
-            (λ made. WentOnWith L.tells R.gives (seen_of L.given L.taken self.old) made (if_asked result ask.now)
-            (seen_of L.given L.taken self.new)) }
+        ensures went { ByReader R.gives (R.faults reader.new) (λ read. Leads (unasked C.makes) calls.old calls.new
+            (λ made. WentOnWith L.tells read (seen_of L.given L.taken self.old) made (if_asked result ask.now)
+            (seen_of L.given L.taken self.new))) }
+        ensures grows { R.faults reader.old ≤ R.faults reader.new }
     {
         if !self.can_answer() {
             return false;

@@ -51,12 +51,14 @@ pub record Pipes {D : Type 0} (words : List (List ℕ)) (status : Status) (seen 
 
 -- ---- links
 
--- A run over links: what is seen of it, the disk before it and behind it, the keep, the core that is left, where links were served, that
--- the ledgers of links that have ended tell, and how many links the door gave before it and behind it.
+-- A run over links: what is seen of it, the disk before it and behind it, how often readers of such a disk failed, the keep, the core
+-- that is left, where links were served, that the ledgers of links that have ended tell, and how many links the door gave before it and
+-- behind it.
 pub record ServeSeen (D : Type 0) : Type 1 where
   pub views : Views D
   pub old : D
   pub new : D
+  pub read_faults : D → ℕ
   pub keep : KeepOver
   pub core : Option Parts
   pub ends : Type 0
@@ -70,7 +72,7 @@ pub record Serves {D : Type 0} (words : List (List ℕ)) (status : Status) (seen
       × IsOpened command.sizes sizes
       (store_told seen.views.disk.tells (seen.views.disk.state seen.old).reads seen.keep.tells seen.keep.old.reads) seen.keep.new)
       × HasServed seen.views (setup_by command sizes.segment)
-      (run_over status seen.old seen.new seen.keep)
+      (run_over status seen.old seen.new seen.read_faults seen.keep)
       (λ start history. PutsAllAlong (own_format (seen.keep.old.reads FORMAT) command.sizes) start history seen.keep.old seen.keep.new)
       left)
   pub unserved : IfNone seen.core (ServesNobody words status

@@ -155,6 +155,7 @@ where
               (view_of D.tells D.state D.faults D.syncs);
           old = store.disk;
           new = result.ended.store.disk;
+          read_faults = D.reader_faults;
           keep = keep_over E.tells (E.state store.keep) (E.state result.ended.store.keep);
           core = result.ended.core;
           ends = P.Ends.tells;

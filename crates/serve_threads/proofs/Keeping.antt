@@ -137,10 +137,10 @@ module _ {chronicle : Ghosts Shared Event (Option Said)} {C V : Type 0} (pass_of
 -- ---- the end
 
 -- the core that is left stands for the whole history, and its texts were put last
-pub left_at : {D : Type 0} (views : Views D) (change : Change Parts (Place D)) (history seen : List (Event × Option Said)) (keep : KeepOver) (mid : DiskState) (kept : Result (Unit {0}) DiskFault)
-    → Stands change.calls history change.calls_then → IsMadeBy views history change → StartsWith history seen → (keep.tells → PutsAlong change.calls seen keep.old mid)
-    → HasKeptOf keep.tells change.calls_then kept mid keep.new → IsLeft views change keep kept
-left_at views change history seen keep mid kept stands made begins puts last =
+pub left_at : {D : Type 0} (views : Views D) (failures : ℕ × ℕ) (change : Change Parts (Place D)) (history seen : List (Event × Option Said)) (keep : KeepOver) (mid : DiskState) (kept : Result (Unit {0}) DiskFault)
+    → Stands change.calls history change.calls_then → IsMadeBy views failures history change → StartsWith history seen → (keep.tells → PutsAlong change.calls seen keep.old mid)
+    → HasKeptOf keep.tells change.calls_then kept mid keep.new → IsLeft views failures change keep kept
+left_at views failures change history seen keep mid kept stands made begins puts last =
     let start = change.calls in
     let now = change.calls_then in
     let offsets = λ (s : State). offsets_text_of s.offsets in

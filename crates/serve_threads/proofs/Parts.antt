@@ -1,14 +1,15 @@
 -- Whose the entries of the history are: those of four passes that met again.
 use Rattle.std.proofs.Common.{◌≡◌, ◌⊎◌, ⊎_elim, inl, inr, ℕ, zero, suc, ◌<◌, ◌≤◌, List, [], ◌∷◌, ◌++◌, length, false, Option, Some, None, IfSome, refl, sym, ap, ◌∙◌, subst, arith, append-nil}
 use Rattle.std.specs.Prelude.{slice_get}
-use Rattle.mq_outside.specs.Readings.{Giving}
 use Rattle.broker_events.specs.Makes.{Makes}
 use Rattle.broker_events.specs.declared.event.Event.{Event}
 use Rattle.broker_events.specs.declared.said.Said.{Said}
 use Rattle.broker_core.specs.Owner.{plain_look}
 use Rattle.core_log.specs.declared.parts.Parts.{Parts}
 use Rattle.session.specs.Owing.{Steps}
+use Rattle.session.specs.Readers.{ReaderView}
 use Rattle.session.specs.Serving.{Made, Leads}
+use Rattle.link_service.specs.Transcripts.{counted_to}
 use Rattle.reply_fields.specs.Parts.{AskParts}
 use Rattle.ask_ways.specs.Ways.{taken_by}
 use Rattle.mq_peers.specs.Ended.{LinkEnd}
@@ -52,13 +53,13 @@ nothing_in slots i x none got =
     let there : slice_get [] i ≡ Some (Some x) = subst (λ (l : List (Option _)). slice_get l i ≡ Some (Some x)) none got in
     let empty : None ≡ Some (Some x) = there in cc
 
-module _ {L N C : Type 0} (view : LoopView L N) (gives : Giving) (makes : Steps C) (number : ℕ) (clock : ClockOver) (old new : Part C L N)
+module _ {L N C : Type 0} (view : LoopView L N) (reader : ReaderView) (makes : Steps C) (number : ℕ) (clock : ClockOver) (old new : Part C L N)
     (loops : (old.links.loops ≡ 2) × (old.links.number ≡ number)) (begins : old.links.slots.items ≡ [])
-    (fresh : view.told → view.entries old.links.ledger.ends ≡ []) (work : Worked makes view gives clock old new) where
+    (fresh : view.told → view.entries old.links.ledger.ends ≡ []) (work : Worked makes view reader clock old new) where
   -- what a loop did from its beginning on
-  all_told : IsToldOf view gives work.went.went.acts new.links
+  all_told : IsToldOf view reader work.went.went.acts new.links
   all_told = work.went.went.so.went.keeps []
-      (record { ended = []; are = λ kept told. fresh told; so = told_none view.links gives (loop_numbers old.links) old.links.slots.items begins })
+      (record { ended = []; are = λ kept told. fresh told; so = told_none view.links reader (loop_numbers old.links) old.links.slots.items begins })
 
   -- the numbers of the links that have ended are at most the greatest that it had
   pub up_to : (came : ℕ) → view.told → new.links.ledger.lost ≡ false → new.links.newest ≤ came → AreUpTo came (view.entries new.links.ledger.ends)
@@ -66,9 +67,9 @@ module _ {L N C : Type 0} (view : LoopView L N) (gives : Giving) (makes : Steps 
       subst (λ (l : List LinkEnd). AreUpTo came l) (sym (all_told.are kept told))
       (λ k it got. let own = (all_told.so.ends.each k it got).0 in (own.some, omega (arith, own.within, most)))
 
-  module _ (law : (it : LinkEnd) (made : Made) (asks : List AskParts) → IsTale view.links.tells gives it made asks → IsAnsweredInOrder view.links.tells gives it made asks) where
+  module _ (law : (it : LinkEnd) (made : Made) (asks : List AskParts) → IsTale view.links.tells reader it made asks → IsAnsweredInOrder view.links.tells reader it made asks) where
     -- what it did for a link that has ended
-    was_answered : (k : ℕ) (it : LinkEnd) → slice_get all_told.ended k ≡ Some it → WasAnswered view.links.tells gives number work.went.went.acts it
+    was_answered : (k : ℕ) (it : LinkEnd) → slice_get all_told.ended k ≡ Some it → WasAnswered view.links.tells reader number work.went.went.acts it
     was_answered k it got =
         let is = all_told.so.ends.each k it got in
         let same = work.went.went.so.went.same in (
@@ -85,7 +86,7 @@ module _ {L N C : Type 0} (view : LoopView L N) (gives : Giving) (makes : Steps 
     -- where it tells and has them all
     pub answered : (told : Type 0) (ended : List LinkEnd) → taken_by old.asks.way ≡ []
         → (told → view.told × (new.links.ledger.lost ≡ false) × (view.entries new.links.ledger.ends ≡ ended))
-        → Leads makes old.calls new.calls (WorksFrom (loop_links view.links.tells told ended) gives clock number (taken_by new.asks.way))
+        → Leads makes old.calls new.calls (WorksFrom (loop_links view.links.tells told ended) reader clock number (taken_by new.asks.way))
     answered told ended none whole =
         let went = work.went.went in
         let all : work.went.taken ≡ taken_by new.asks.way = sym (work.went.took.all ∙ ap (λ (l : List AskParts). l ++ work.went.taken) none) in
@@ -103,7 +104,7 @@ module _ {L N C : Type 0} (view : LoopView L N) (gives : Giving) (makes : Steps 
                 each = λ link. ⊎_elim (λ nothing. inl nothing) (λ end. inr (end.1.0, end.1.2, was_answered end.0 end.1.0 end.1.1)) (known_ended link);
                 ended = λ is_told.
                     let is = whole is_told in
-                    subst (λ (l : List LinkEnd). AreEntered view.links.tells gives number went.acts l) (sym (all_told.are is.1 is.0) ∙ is.2)
+                    subst (λ (l : List LinkEnd). AreEntered view.links.tells reader number went.acts l) (sym (all_told.are is.1 is.0) ∙ is.2)
                     (record { each = was_answered; once = all_told.so.ends.once; known = known_ended });
               },
             );
@@ -112,22 +113,22 @@ module _ {L N C : Type 0} (view : LoopView L N) (gives : Giving) (makes : Steps 
         }
 
 -- the steps of a loop
-pub worked_leads : {L N C : Type 0} (makes : Steps C) (view : LoopView L N) (gives : Giving) (clock : ClockOver) (old new : Part C L N) → Worked makes view gives clock old new
+pub worked_leads : {L N C : Type 0} (makes : Steps C) (view : LoopView L N) (reader : ReaderView) (clock : ClockOver) (old new : Part C L N) → Worked makes view reader clock old new
     → Leads makes old.calls new.calls (λ made. Unit {0})
-worked_leads makes view gives clock old new work = record { made = steps_of work.went.went.acts; leads = work.went.went.leads; so = tt }
+worked_leads makes view reader clock old new work = record { made = steps_of work.went.went.acts; leads = work.went.went.leads; so = tt }
 
 -- and then it let go of what was handed over to it
-pub worked_then : {L N C : Type 0} (makes : Steps C) (view : LoopView L N) (gives : Giving) (clock : ClockOver) (old mid : Part C L N) (new : Links L N) → Worked makes view gives clock old mid
-    → GoesOn view gives mid.links [] new → new.slots ≡ mid.links.slots → Worked makes view gives clock old (part_of mid.calls mid.asks new)
-worked_then makes view gives clock old mid new work went same = record {
-  went = timed_off makes (λ (from : LoopAsks) taken to. HasTaken from.way taken to.way) view gives clock.tells old.calls mid.calls old.links mid.links new old.asks mid.asks clock.old clock.new work.went went;
+pub worked_then : {L N C : Type 0} (makes : Steps C) (view : LoopView L N) (reader : ReaderView) (clock : ClockOver) (old mid : Part C L N) (new : Links L N) → Worked makes view reader clock old mid
+    → GoesOn view reader mid.links [] new → new.slots ≡ mid.links.slots → Worked makes view reader clock old (part_of mid.calls mid.asks new)
+worked_then makes view reader clock old mid new work went same = record {
+  went = timed_off makes (λ (from : LoopAsks) taken to. HasTaken from.way taken to.way) view reader clock.tells old.calls mid.calls old.links mid.links new old.asks mid.asks clock.old clock.new work.went went;
   none = ap (λ slots. slots.items) same ∙ work.none;
 }
 
 -- it took the first of what was put on its way
-pub took_first : {C : Type 0} (makes : Steps C) (links : LoopLinks) (gives : Giving) (clock : ClockOver) (number : ℕ) (x y : C) (taken put : List AskParts) → IsFrontOf taken put
-    → Leads makes x y (WorksFrom links gives clock number taken) → Leads makes x y (WorksFrom links gives clock number put)
-took_first makes links gives clock number x y taken put front went =
+pub took_first : {C : Type 0} (makes : Steps C) (links : LoopLinks) (reader : ReaderView) (clock : ClockOver) (number : ℕ) (x y : C) (taken put : List AskParts) → IsFrontOf taken put
+    → Leads makes x y (WorksFrom links reader clock number taken) → Leads makes x y (WorksFrom links reader clock number put)
+took_first makes links reader clock number x y taken put front went =
     let was = went.so.answered in
     record {
       made = went.made;
@@ -242,11 +243,11 @@ module _ {chronicle : Ghosts Shared Event (Option Said)} where
       → StartsWith (seen_by new) (seen_by are.looks)
   met_last new are = (joined are.meets.late are.looks new are.meets.at_last).1
 
-  module _ {D : Type 0} (views : Views D) where
+  module _ {D : Type 0} (views : Views D) (failures : ℕ × ℕ) where
     met : (put : List AskParts × List AskParts) (p : Place D) (file : LastFile) (disk : D) (whole k a b e kt at bt et new : Pass Shared Event (Option Said) chronicle) → mine_of whole ≡ [] → numbers_of whole ≡ 0 ∷ 1 ∷ 2 ∷ 3 ∷ []
-        → Cuts whole k a b e → GainsTurns views.disk (FlushesTo put) k p kt (place_of file disk) → Gains a (WorksFrom (first_links views.links) views.gives (first_clock views.clocks) 0 put.0) at
-        → Gains b (WorksFrom (second_links views.links) views.gives (second_clock views.clocks) 1 put.1) bt
-        → Gains e AreLooks et → Meets kt at bt et new → HasMade views p new disk
+        → Cuts whole k a b e → GainsTurns views.disk (FlushesTo put) k p kt (place_of file disk) → Gains a (WorksFrom (first_links views.links) (counted_to views.gives failures.0) (first_clock views.clocks) 0 put.0) at
+        → Gains b (WorksFrom (second_links views.links) (counted_to views.gives failures.1) (second_clock views.clocks) 1 put.1) bt
+        → Gains e AreLooks et → Meets kt at bt et new → HasMade views failures p new disk
     met put p file disk whole k a b e kt at bt et new none numbers cuts turns one two three meets =
         let early = joined kt at meets.early meets.first in
         let mid = joined meets.early bt meets.late meets.then in
@@ -306,16 +307,16 @@ module _ {chronicle : Ghosts Shared Event (Option Said)} where
     pub made_of : {C : Type 0} (pass_of : C → Option (Pass Shared Event (Option Said) chronicle)) (put : List AskParts × List AskParts) (p : Place D) (file : LastFile) (disk : D) (story : Story Shared Event (Option Said))
         (whole new : Pass Shared Event (Option Said) chronicle) (k a b e kt at bt et : C) → mine_of whole ≡ [] → numbers_of whole ≡ 0 ∷ 1 ∷ 2 ∷ 3 ∷ []
         → AreCut story whole (by_thread (pass_of k) (pass_of a) (pass_of b) (pass_of e)) → AreMet (by_thread (pass_of kt) (pass_of at) (pass_of bt) (pass_of et)) new
-        → Acted (StepsBy pass_of) views.disk (FlushesTo put) (change_of k p kt (place_of file disk)) → Leads (StepsBy pass_of) a at (WorksFrom (first_links views.links) views.gives (first_clock views.clocks) 0 put.0)
-        → Leads (StepsBy pass_of) b bt (WorksFrom (second_links views.links) views.gives (second_clock views.clocks) 1 put.1) → Leads (StepsBy pass_of) e et AreLooks → HasMade views p new disk
+        → Acted (StepsBy pass_of) views.disk (FlushesTo put) (change_of k p kt (place_of file disk)) → Leads (StepsBy pass_of) a at (WorksFrom (first_links views.links) (counted_to views.gives failures.0) (first_clock views.clocks) 0 put.0)
+        → Leads (StepsBy pass_of) b bt (WorksFrom (second_links views.links) (counted_to views.gives failures.1) (second_clock views.clocks) 1 put.1) → Leads (StepsBy pass_of) e et AreLooks → HasMade views failures p new disk
     made_of pass_of put p file disk story whole new k a b e kt at bt et none numbers cut are acted first second looks =
         met put p file disk whole cut.turns cut.first cut.second cut.looks are.turns are.first are.second are.looks new none numbers cut.cuts
         (gains_turns pass_of views.disk (FlushesTo put) k kt p (place_of file disk) cut.turns are.turns cut.are.0 are.are.0 acted)
-        (gains pass_of (WorksFrom (first_links views.links) views.gives (first_clock views.clocks) 0 put.0) a at cut.first are.first cut.are.1 are.are.1 first)
-        (gains pass_of (WorksFrom (second_links views.links) views.gives (second_clock views.clocks) 1 put.1) b bt cut.second are.second cut.are.2 are.are.2 second)
+        (gains pass_of (WorksFrom (first_links views.links) (counted_to views.gives failures.0) (first_clock views.clocks) 0 put.0) a at cut.first are.first cut.are.1 are.are.1 first)
+        (gains pass_of (WorksFrom (second_links views.links) (counted_to views.gives failures.1) (second_clock views.clocks) 1 put.1) b bt cut.second are.second cut.are.2 are.are.2 second)
         (gains pass_of AreLooks e et cut.looks are.looks cut.are.3 are.are.3 looks) are.meets
 
-    merged_of : {p : Place D} {disk : D} (pass : Pass Shared Event (Option Said) chronicle) (history : Made) (made : HasMade views p pass disk) → seen_by pass ≡ history → IsDistinct (mine_of pass)
+    merged_of : {p : Place D} {disk : D} (pass : Pass Shared Event (Option Said) chronicle) (history : Made) (made : HasMade views failures p pass disk) → seen_by pass ≡ history → IsDistinct (mine_of pass)
         → ((k : ℕ) → k < length history → 0 < times k (mine_of pass)) → IsMerged history (acts.steps_of made.turns) made.first made.second made.looks
     merged_of pass history made whole once all = record {
       turns_at = made.turns_at;
@@ -333,8 +334,8 @@ module _ {chronicle : Ghosts Shared Event (Option Said)} where
 
     -- whose the entries of the history are that the pass had seen, once the core is out
     pub made_by : (old : Place D) (disk : D) (story : Story Shared Event (Option Said)) (pass : Pass Shared Event (Option Said) chronicle) (history : Made) (core : Parts) → seats_of story ≡ 4
-        → (made : HasMade views old pass disk) → StandsFor story pass history core → Stands (start_of story).core history core
-        → IsMadeBy views history (change_of (start_of story).core old core (place_of made.file disk))
+        → (made : HasMade views failures old pass disk) → StandsFor story pass history core → Stands (start_of story).core history core
+        → IsMadeBy views failures history (change_of (start_of story).core old core (place_of made.file disk))
     made_by old disk story pass history core four made finds stands =
         let whole = finds.whole (λ k less. made.seats k (subst (λ (n : ℕ). k < n) four less)) in
         let merged : IsMerged history (acts.steps_of made.turns) made.first made.second made.looks = merged_of pass history made whole.0 finds.distinct whole.1 in
@@ -350,6 +351,6 @@ module _ {chronicle : Ghosts Shared Event (Option Said)} where
           timed = made.timed;
           keeper = made.keeper;
           write = made.write;
-          leads = leads_on views.disk (first_links views.links) (second_links views.links) views.gives made.put (change_of (start_of story).core old core (place_of made.file disk)) history made.turns made.first made.second made.looks
+          leads = leads_on views.disk (first_links views.links) (second_links views.links) (counted_to views.gives failures.0) (counted_to views.gives failures.1) made.put (change_of (start_of story).core old core (place_of made.file disk)) history made.turns made.first made.second made.looks
               stands merged made.links made.keeper made.write;
         }

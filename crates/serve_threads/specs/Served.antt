@@ -14,6 +14,7 @@ use Rattle.flush_story.specs.Story.{Happening, Story, span_of}
 use Rattle.flush_story.specs.Keeping.{IsOpenFor, Keeps}
 use Rattle.reply_fields.specs.Parts.{AskParts}
 use Rattle.session.specs.Serving.{Made}
+use Rattle.link_service.specs.Transcripts.{counted_to}
 use Rattle.event_loops.specs.Timing.{ClockOver, IsTimed, clock_over}
 use Rattle.spine.specs.declared.shared.Shared.{Shared}
 use Rattle.worker_turns.specs.Acts as acts
@@ -140,9 +141,9 @@ module _ {chronicle : Ghosts Shared Event (Option Said)} where
         × (passes.keeper ≡ Some looks)
     pub meets : Meets turns first second looks new
 
-  -- The pass has each seat number of four, and its entries are the flusher's, those of the two loops and the keeper's. What the
-  -- flusher's turns did to the disk leads from the first place to this disk.
-  pub record HasMade {D : Type 0} (views : Views D) (old : Place D) (pass : Pass Shared Event (Option Said) chronicle) (disk : D)
+  -- The pass has each seat number of four, and its entries are the flusher's, those of the two loops, whose readers failed so often,
+  -- and the keeper's. What the flusher's turns did to the disk leads from the first place to this disk.
+  pub record HasMade {D : Type 0} (views : Views D) (failures : ℕ × ℕ) (old : Place D) (pass : Pass Shared Event (Option Said) chronicle) (disk : D)
       : Type 0 where
     pub turns : List acts.Act
     pub first : Made
@@ -160,8 +161,8 @@ module _ {chronicle : Ghosts Shared Event (Option Said)} where
     pub flusher : FlushesTo put turns
     pub file : LastFile
     pub write : Write views.disk turns old (place_of file disk)
-    pub links : AreAnsweredFrom (first_links views.links) views.gives 0 put.0 first
-        × AreAnsweredFrom (second_links views.links) views.gives 1 put.1 second
+    pub links : AreAnsweredFrom (first_links views.links) (counted_to views.gives failures.0) 0 put.0 first
+        × AreAnsweredFrom (second_links views.links) (counted_to views.gives failures.1) 1 put.1 second
     pub timed : AreTimed views.clocks first second
     pub keeper : AreLooks looks
     pub seats : (k : ℕ) → k < 4 → 0 < times k (numbers_of pass)
@@ -182,9 +183,9 @@ pub record LeadsOn {D : Type 0} (view : DiskView D) (history : Made) (change : C
 
 -- Of this history, which leads from the first core to the second: the entries are the flusher's, whose turns wrote what was pending,
 -- what the loops made for each link, and the looks of the keeper. A loop gave the requests of each pass to the broker at the reading
--- that its clock gave for this pass. Each check-back that a loop wrote is one that the flusher handed out for its loop, and was
--- written to the link that it names.
-pub record IsMadeBy {D : Type 0} (views : Views D) (history : Made) (change : Change Parts (Place D)) : Type 0 where
+-- that its clock gave for this pass, and answered `read N` only with counts to which its reader's failures, so many, had come. Each
+-- check-back that a loop wrote is one that the flusher handed out for its loop, and was written to the link that it names.
+pub record IsMadeBy {D : Type 0} (views : Views D) (failures : ℕ × ℕ) (history : Made) (change : Change Parts (Place D)) : Type 0 where
   pub turns : List acts.Act
   pub first : Made
   pub second : Made
@@ -192,8 +193,8 @@ pub record IsMadeBy {D : Type 0} (views : Views D) (history : Made) (change : Ch
   pub put : List AskParts × List AskParts
   pub merged : IsMerged history (acts.steps_of turns) first second looks
   pub flusher : FlushesTo put turns
-  pub links : AreAnsweredFrom (first_links views.links) views.gives 0 put.0 first
-      × AreAnsweredFrom (second_links views.links) views.gives 1 put.1 second
+  pub links : AreAnsweredFrom (first_links views.links) (counted_to views.gives failures.0) 0 put.0 first
+      × AreAnsweredFrom (second_links views.links) (counted_to views.gives failures.1) 1 put.1 second
   pub timed : AreTimed views.clocks first second
   pub keeper : AreLooks looks
   pub write : Write views.disk turns change.place change.place_then
@@ -202,10 +203,10 @@ pub record IsMadeBy {D : Type 0} (views : Views D) (history : Made) (change : Ch
 -- The second core stands for one history that begins with the first: a run of steps, each with the answer that was said, made by the
 -- threads and by nobody else. Meanwhile each of the two kept files had its old text or that of a state of this history; and where
 -- their last replacement ended Ok, both have the texts of the second core, and keep them through a crash.
-pub record IsLeft {D : Type 0} (views : Views D) (change : Change Parts (Place D)) (keep : KeepOver)
+pub record IsLeft {D : Type 0} (views : Views D) (failures : ℕ × ℕ) (change : Change Parts (Place D)) (keep : KeepOver)
     (kept : Result (Unit {0}) DiskFault) : Type 0 where
   pub history : Made
   pub stands : Stands change.calls history change.calls_then
-  pub made : IsMadeBy views history change
+  pub made : IsMadeBy views failures history change
   pub puts : keep.tells → PutsAlong change.calls history keep.old keep.new
   pub done : keep.tells → OnOk kept (KeepsBy (IsOffsetsOf change.calls_then) (IsTopicsOf change.calls_then) keep.new)

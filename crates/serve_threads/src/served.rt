@@ -157,6 +157,7 @@ fn left_of<W: Wait, P: Ready + Drop, K: Clock + Drop, R: Reader + Drop>(
     worker: Worker<P, K, SpinePass<'_, W>, R>,
 ) -> (Pass, R, Outside<P, K>, LoopEnd, LoopAsks, EventLoop<P>)
     ensures pass { worker.entry.calls.pass ≡ Some result.0 }
+    ensures reader { result.1 ≡ worker.entry.reader }
     ensures outside { result.2 ≡ worker.entry.outside }
     ensures end { result.3 ≡ worker.entry.end }
     ensures asks { result.4 ≡ worker.entry.asks }
@@ -277,6 +278,7 @@ fn gather<
     ensures met { AreMet (by_thread ran.entry.flushing.calls.pass ran.entry.first.calls.pass ran.entry.second.calls.pass
         ran.entry.keeping.calls.pass) result.pass }
     ensures disk { result.disk ≡ ran.entry.flushing.disk }
+    ensures readers { (result.readers.0 ≡ ran.entry.first.reader) × (result.readers.1 ≡ ran.entry.second.reader) }
     ensures keep { result.keep ≡ ran.entry.keeping.keep }
     ensures last { result.last ≡ ran.entry.flushing.last }
     ensures end { IsFirstFault ran.entry.first.end ran.entry.second.end result.end }
@@ -395,7 +397,7 @@ where
     ensures of { IfOk result (λ it. IsPassOf spine.now.story it.pass) }
     ensures made { IfOk result (λ it. HasMade (views_of (links_over P.Link.tells P.Ends.tells P.Ends.entries it.ends) R.gives
         (clocks_over K.tells (readings_of K.readings world.clocks) (readings_of K.readings it.world.clocks))
-        (view_of D.tells D.state D.faults D.syncs))
+        (view_of D.tells D.state D.faults D.syncs)) (R.faults it.readers.0, R.faults it.readers.1)
         (place_of devices.flusher.file devices.disk) it.pass it.disk) }
     ensures kept { E.tells → IfOk result (λ it. PutsAlong (start_of spine.now.story).core (seen_by it.pass)
         (E.state devices.keep) (E.state it.keep)) }
@@ -477,13 +479,15 @@ fn close<
     ensures left { (place : Place D) (before : E) (given : List ℕ × List ℕ)
         → HasMade (views_of (links_over P.Link.tells P.Ends.tells P.Ends.entries left.ends) R.gives
         (clocks_over K.tells given (readings_of K.readings left.world.clocks)) (view_of D.tells D.state D.faults D.syncs))
-        place left.pass left.disk
+        (R.faults left.readers.0, R.faults left.readers.1) place left.pass left.disk
         → (E.tells → PutsAlong (start_of spine.story).core (seen_by left.pass) (E.state before) (E.state left.keep))
         → (file : LastFile) × IsLeft (views_of (links_over P.Link.tells P.Ends.tells P.Ends.entries left.ends) R.gives
         (clocks_over K.tells given (readings_of K.readings left.world.clocks)) (view_of D.tells D.state D.faults D.syncs))
+        (R.faults left.readers.0, R.faults left.readers.1)
         (change_of (start_of spine.story).core place result.core (place_of file result.disk))
         (keep_over E.tells (E.state before) (E.state result.keep)) result.kept }
     ensures ends { (result.end ≡ left.end) × (result.last ≡ left.last) × (result.world ≡ left.world) × (result.ends ≡ left.ends) }
+    ensures readers { result.readers ≡ left.readers }
     ensures cause { (before : ℕ) → before ≤ E.faults left.keep → BlamesKeep result.kept before (E.faults result.keep) }
 {
     let Left {
@@ -535,7 +539,7 @@ where
     ensures left { IfOk result (λ it. (file : LastFile) × IsLeft
         (views_of (links_over P.Link.tells P.Ends.tells P.Ends.entries it.ends) R.gives
         (clocks_over K.tells (readings_of K.readings loops.world.clocks) (readings_of K.readings it.world.clocks))
-        (view_of D.tells D.state D.faults D.syncs))
+        (view_of D.tells D.state D.faults D.syncs)) (R.faults it.readers.0, R.faults it.readers.1)
         (change_of core (place_of devices.flusher.file devices.disk) it.core (place_of file it.disk))
         (keep_over E.tells (E.state devices.keep) (E.state it.keep)) it.kept) }
     ensures outside { D.tells → IfOk result (λ it. StaysOutside (D.state devices.disk) (D.state it.disk)) }

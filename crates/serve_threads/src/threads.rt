@@ -4,6 +4,7 @@ ghost use Rattle.std.specs.Prelude.{◌≡◌, ◌≤◌, length};
 ghost use denote.Param.Send.{IsSync, IsSend};
 ghost use Rattle.story_lock.specs.Passes.{IsPassOf, numbers_of, start_of};
 ghost use Rattle.worker_turns.specs.Acts.{view_of};
+ghost use Rattle.link_service.specs.Transcripts.{counted_to};
 ghost use Rattle.event_loops.specs.Causes.{CountsEnd, loop_faults};
 ghost use Rattle.event_loops.specs.Doors.{AtDoor};
 ghost use Rattle.event_loops.specs.Tales.{loop_view};
@@ -53,7 +54,8 @@ impl<P: Ready + Drop, K: Clock + Drop, C: Calls + Drop, R: Reader + Drop> Worker
         around: &Around<'_, W, P>,
         flusher: H,
     ) -> Worker<P, K, C, R>
-        ensures went { Worked C.makes (loop_view P.Link.tells P.Link.given P.Link.taken P.Ends.tells P.Ends.entries) R.gives
+        ensures went { Worked C.makes (loop_view P.Link.tells P.Link.given P.Link.taken P.Ends.tells P.Ends.entries)
+            (counted_to R.gives (R.faults result.reader))
             (clock_over K.tells (K.readings self.outside.clock) (K.readings result.outside.clock))
             (part_of self.calls self.asks self.event_loop.links)
             (part_of result.calls result.asks result.event_loop.links) }
@@ -139,11 +141,13 @@ fn run_loops<
     second: Worker<P, K, C, R>,
     flushers: (H, H),
 ) -> (Worker<P, K, C, R>, Worker<P, K, C, R>)
-    ensures first { Worked C.makes (loop_view P.Link.tells P.Link.given P.Link.taken P.Ends.tells P.Ends.entries) R.gives
+    ensures first { Worked C.makes (loop_view P.Link.tells P.Link.given P.Link.taken P.Ends.tells P.Ends.entries)
+        (counted_to R.gives (R.faults result.0.reader))
         (clock_over K.tells (K.readings first.outside.clock) (K.readings result.0.outside.clock))
         (part_of first.calls first.asks first.event_loop.links)
         (part_of result.0.calls result.0.asks result.0.event_loop.links) }
-    ensures second { Worked C.makes (loop_view P.Link.tells P.Link.given P.Link.taken P.Ends.tells P.Ends.entries) R.gives
+    ensures second { Worked C.makes (loop_view P.Link.tells P.Link.given P.Link.taken P.Ends.tells P.Ends.entries)
+        (counted_to R.gives (R.faults result.1.reader))
         (clock_over K.tells (K.readings second.outside.clock) (K.readings result.1.outside.clock))
         (part_of second.calls second.asks second.event_loop.links)
         (part_of result.1.calls result.1.asks result.1.event_loop.links) }
@@ -159,7 +163,8 @@ fn run_loops<
         move || -> Worker<P, K, C, R>
             requires { IsSend P.Link.row × IsSend P.Door.row × IsSend P.Ends.row × IsSend P.Waker.row × IsSync P.Waker.row
                 × IsSend K.row }
-            ensures went { Worked C.makes (loop_view P.Link.tells P.Link.given P.Link.taken P.Ends.tells P.Ends.entries) R.gives
+            ensures went { Worked C.makes (loop_view P.Link.tells P.Link.given P.Link.taken P.Ends.tells P.Ends.entries)
+                (counted_to R.gives (R.faults result.reader))
                 (clock_over K.tells (K.readings first.outside.clock) (K.readings result.outside.clock))
                 (part_of first.calls first.asks first.event_loop.links)
                 (part_of result.calls result.asks result.event_loop.links) }
@@ -170,7 +175,8 @@ fn run_loops<
         move || -> Worker<P, K, C, R>
             requires { IsSend P.Link.row × IsSend P.Door.row × IsSend P.Ends.row × IsSend P.Waker.row × IsSync P.Waker.row
                 × IsSend K.row }
-            ensures went { Worked C.makes (loop_view P.Link.tells P.Link.given P.Link.taken P.Ends.tells P.Ends.entries) R.gives
+            ensures went { Worked C.makes (loop_view P.Link.tells P.Link.given P.Link.taken P.Ends.tells P.Ends.entries)
+                (counted_to R.gives (R.faults result.reader))
                 (clock_over K.tells (K.readings second.outside.clock) (K.readings result.outside.clock))
                 (part_of second.calls second.asks second.event_loop.links)
                 (part_of result.calls result.asks result.event_loop.links) }
@@ -204,11 +210,13 @@ fn run_kept<
 ) -> (Keeping<C, E>, (Worker<P, K, C, R>, Worker<P, K, C, R>))
     ensures kept { KeepsUp C.sees (keep_over E.tells (E.state keeping.keep) (E.state result.0.keep)) keeping.calls result.0.calls }
     ensures keep_grows { E.faults keeping.keep ≤ E.faults result.0.keep }
-    ensures first { Worked C.makes (loop_view P.Link.tells P.Link.given P.Link.taken P.Ends.tells P.Ends.entries) R.gives
+    ensures first { Worked C.makes (loop_view P.Link.tells P.Link.given P.Link.taken P.Ends.tells P.Ends.entries)
+        (counted_to R.gives (R.faults result.1.0.reader))
         (clock_over K.tells (K.readings first.outside.clock) (K.readings result.1.0.outside.clock))
         (part_of first.calls first.asks first.event_loop.links)
         (part_of result.1.0.calls result.1.0.asks result.1.0.event_loop.links) }
-    ensures second { Worked C.makes (loop_view P.Link.tells P.Link.given P.Link.taken P.Ends.tells P.Ends.entries) R.gives
+    ensures second { Worked C.makes (loop_view P.Link.tells P.Link.given P.Link.taken P.Ends.tells P.Ends.entries)
+        (counted_to R.gives (R.faults result.1.1.reader))
         (clock_over K.tells (K.readings second.outside.clock) (K.readings result.1.1.outside.clock))
         (part_of second.calls second.asks second.event_loop.links)
         (part_of result.1.1.calls result.1.1.asks result.1.1.event_loop.links) }
@@ -229,11 +237,13 @@ fn run_kept<
         move || -> (Worker<P, K, C, R>, Worker<P, K, C, R>)
             requires { IsSync W.row × IsSend P.row × IsSync P.row × IsSend P.Link.row × IsSend P.Door.row × IsSend P.Waker.row
                 × IsSync P.Waker.row × IsSend K.row × IsSend C.row × IsSend R.row × IsSend H.row }
-            ensures first { Worked C.makes (loop_view P.Link.tells P.Link.given P.Link.taken P.Ends.tells P.Ends.entries) R.gives
+            ensures first { Worked C.makes (loop_view P.Link.tells P.Link.given P.Link.taken P.Ends.tells P.Ends.entries)
+                (counted_to R.gives (R.faults result.0.reader))
                 (clock_over K.tells (K.readings first.outside.clock) (K.readings result.0.outside.clock))
                 (part_of first.calls first.asks first.event_loop.links)
                 (part_of result.0.calls result.0.asks result.0.event_loop.links) }
-            ensures second { Worked C.makes (loop_view P.Link.tells P.Link.given P.Link.taken P.Ends.tells P.Ends.entries) R.gives
+            ensures second { Worked C.makes (loop_view P.Link.tells P.Link.given P.Link.taken P.Ends.tells P.Ends.entries)
+                (counted_to R.gives (R.faults result.1.reader))
                 (clock_over K.tells (K.readings second.outside.clock) (K.readings result.1.outside.clock))
                 (part_of second.calls second.asks second.event_loop.links)
                 (part_of result.1.calls result.1.asks result.1.event_loop.links) }
@@ -289,11 +299,13 @@ where
     ensures worked { WorkedOn C.makes C.has_key C.shown (view_of D.tells D.state D.faults D.syncs) (start_of lock) result.flushing }
     ensures kept { KeepsUp C.sees (keep_over E.tells (E.state keeping.keep) (E.state result.keeping.keep)) keeping.calls
         result.keeping.calls }
-    ensures first { Worked C.makes (loop_view P.Link.tells P.Link.given P.Link.taken P.Ends.tells P.Ends.entries) R.gives
+    ensures first { Worked C.makes (loop_view P.Link.tells P.Link.given P.Link.taken P.Ends.tells P.Ends.entries)
+        (counted_to R.gives (R.faults result.first.reader))
         (clock_over K.tells (K.readings first.outside.clock) (K.readings result.first.outside.clock))
         (part_of first.calls first.asks first.event_loop.links)
         (part_of result.first.calls result.first.asks result.first.event_loop.links) }
-    ensures second { Worked C.makes (loop_view P.Link.tells P.Link.given P.Link.taken P.Ends.tells P.Ends.entries) R.gives
+    ensures second { Worked C.makes (loop_view P.Link.tells P.Link.given P.Link.taken P.Ends.tells P.Ends.entries)
+        (counted_to R.gives (R.faults result.second.reader))
         (clock_over K.tells (K.readings second.outside.clock) (K.readings result.second.outside.clock))
         (part_of second.calls second.asks second.event_loop.links)
         (part_of result.second.calls result.second.asks result.second.event_loop.links) }
@@ -322,11 +334,13 @@ where
                 × IsSync P.Waker.row × IsSend K.row × IsSend C.row × IsSend R.row × IsSend E.row × IsSend D.row }
             ensures kept { KeepsUp C.sees (keep_over E.tells (E.state keeping.keep) (E.state result.0.keep)) keeping.calls result.0.calls }
             ensures keep_grows { E.faults keeping.keep ≤ E.faults result.0.keep }
-            ensures first { Worked C.makes (loop_view P.Link.tells P.Link.given P.Link.taken P.Ends.tells P.Ends.entries) R.gives
+            ensures first { Worked C.makes (loop_view P.Link.tells P.Link.given P.Link.taken P.Ends.tells P.Ends.entries)
+                (counted_to R.gives (R.faults result.1.0.reader))
                 (clock_over K.tells (K.readings first.outside.clock) (K.readings result.1.0.outside.clock))
                 (part_of first.calls first.asks first.event_loop.links)
                 (part_of result.1.0.calls result.1.0.asks result.1.0.event_loop.links) }
-            ensures second { Worked C.makes (loop_view P.Link.tells P.Link.given P.Link.taken P.Ends.tells P.Ends.entries) R.gives
+            ensures second { Worked C.makes (loop_view P.Link.tells P.Link.given P.Link.taken P.Ends.tells P.Ends.entries)
+                (counted_to R.gives (R.faults result.1.1.reader))
                 (clock_over K.tells (K.readings second.outside.clock) (K.readings result.1.1.outside.clock))
                 (part_of second.calls second.asks second.event_loop.links)
                 (part_of result.1.1.calls result.1.1.asks result.1.1.event_loop.links) }

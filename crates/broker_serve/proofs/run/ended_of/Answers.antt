@@ -11,5 +11,5 @@ returns-clause-tells g c = left_tells _ _ _ _ _ c.last_status.ensures.tells c.st
 pub returns-clause-cause : goal.returns-clause-cause
 returns-clause-cause g c = λ before causes.
     subst (λ (n : ℕ). Causes c.status_kept.result before (counts_of n (g.E.Keep.faults c.args.served.keep)
-    (world_faults g.P.Ready.faults g.P.Door.Door.faults g.K.Clock.faults c.args.served.world))) (sym c.give_back.ensures.faults)
+    (world_faults g.P.Ready.faults g.P.Door.Door.faults g.K.Clock.faults c.args.served.world))) (sym c.give_back.ensures.alike.faults)
     (served_causes c.status_kept.result before _ _ _ _ (returns-clause-tells g c) causes)

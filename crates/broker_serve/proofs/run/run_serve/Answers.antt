@@ -70,12 +70,12 @@ returns-in-Err-open_format-clause-outside g c = λ tells.
 
 pub returns-in-Ok-open_format-clause-served : goal.returns-in-Ok-open_format-clause-served
 returns-in-Ok-open_format-clause-served g c =
-    run_served _ _ _ _ _ _ _ _ _ _ _ _ _ (λ tells. rests_call (rests_start _) (c.in-Ok-open_format.ensures.rests tells)) c.in-Ok-open_format.ensures.disk_still c.in-Ok.ensures.fits
+    run_served g.D.Disk.reader_faults _ _ _ _ _ _ _ _ _ _ _ _ _ (λ tells. rests_call (rests_start _) (c.in-Ok-open_format.ensures.rests tells)) c.in-Ok-open_format.ensures.disk_still c.in-Ok.ensures.fits
     c.in-Ok-open_format.ensures.opened c.in-Ok-open_format.ensures.puts c.serve_store.ensures.served
 
 pub returns-in-Ok-open_format-clause-unserved : goal.returns-in-Ok-open_format-clause-unserved
 returns-in-Ok-open_format-clause-unserved g c =
-    run_unserved _ _ _ _ _ _ _ _ _ _ _ _ _ (λ tells. rests_call (rests_start _) (c.in-Ok-open_format.ensures.rests tells)) c.in-Ok.ensures.fits
+    run_unserved g.D.Disk.reader_faults _ _ _ _ _ _ _ _ _ _ _ _ _ (λ tells. rests_call (rests_start _) (c.in-Ok-open_format.ensures.rests tells)) c.in-Ok.ensures.fits
     c.in-Ok-open_format.ensures.opened c.in-Ok-open_format.ensures.puts c.serve_store.ensures.served
 
 pub returns-in-Ok-open_format-clause-outside : goal.returns-in-Ok-open_format-clause-outside

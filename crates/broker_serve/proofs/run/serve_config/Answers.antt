@@ -30,7 +30,7 @@ returns-in-Err-clause-outside g c = λ tells.
 pub returns-clause-served : goal.returns-clause-served
 returns-clause-served g c =
     let disk = g.met.D.Disk g.world.𝓛 g.world.𝓜 g.world.𝓡 ((λ s x. x), (λ x. x), (λ x. x), λ x. x) in
-    log_served_with _ _ _ c.as_slice-offsets.result.now _ c.as_slice-topics.result.now c.serve_log.result.core _ _ _ _ _ c.with_zeros-opened.result _ _
+    log_served_with _ _ g.D.Disk.reader_faults _ c.as_slice-offsets.result.now _ c.as_slice-topics.result.now c.serve_log.result.core _ _ _ _ _ c.with_zeros-opened.result _ _
     c.as_slice-offsets.ensures.value c.as_slice-topics.ensures.value (λ tells. disk.reads_is_image c.args.store.disk tells)
     (c.with_zeros-opened.ensures.over _ _ c.in-Ok.ensures.represents) (λ tells. c.with_zeros-opened.ensures.kept _ _ _ (c.in-Ok.ensures.kept tells))
     (record {

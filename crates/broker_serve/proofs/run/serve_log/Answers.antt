@@ -43,7 +43,7 @@ returns-in-Ok-clause-ends g c =
     let readings = g.K.Clock.readings in
     let now = readings_of readings c.serve_loops.result.world.clocks in
     let keep = keep_over g.E.Keep.tells (g.E.Keep.state c.args.store.keep) (g.E.Keep.state c.serve_loops.result.store.keep) in
-    let run = run_over c.serve_loops.result.status c.args.store.disk c.serve_loops.result.store.disk keep in
+    let run = run_over c.serve_loops.result.status c.args.store.disk c.serve_loops.result.store.disk g.D.Disk.reader_faults keep in
     subst (λ (was : List ℕ × List ℕ). EndsOver (views_of (links_over g.P.Link.Link.tells g.P.Ends.Ends.tells g.P.Ends.Ends.entries c.serve_loops.result.ends) g.D.Reader.Reader.gives (clocks_over g.K.Clock.tells was now)
     (view_of g.D.Disk.tells g.D.Disk.state g.D.Disk.faults g.D.Disk.syncs)) c.args.opened c.serve_loops.result.core run)
     (ap (λ k. readings_of readings k) c.in-Ok.ensures.clocks) c.serve_loops.ensures.ends

@@ -20,7 +20,7 @@ returns-in-Err-clause-ends g c =
 
 pub returns-in-Ok-clause-ends : goal.returns-in-Ok-clause-ends
 returns-in-Ok-clause-ends g c =
-    ends_lent _ c.args.opened _ _ _ _ _ _ (record { rests = c.in-Ok.ensures.rests; faults = c.in-Ok.ensures.cause; syncs = c.in-Ok.ensures.syncs }) c.serve_open.ensures.ends
+    ends_lent _ g.D.Disk.reader_faults c.args.opened _ _ _ _ _ _ (record { rests = c.in-Ok.ensures.rests; faults = c.in-Ok.ensures.cause; syncs = c.in-Ok.ensures.syncs }) c.serve_open.ensures.ends
 
 pub serve_open-requires-clause-inside : goal.serve_open-requires-clause-inside
 serve_open-requires-clause-inside g c κs within = λ tells. inside_rests _ _ _ _ (c.in-Ok.ensures.rests tells) (c.requires.inside tells)

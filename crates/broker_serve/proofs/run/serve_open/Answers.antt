@@ -19,14 +19,14 @@ returns-in-Err-clause-ends g c =
     let same = ap (λ s. s.keep) c.unserved.ensures.store ∙ ap (λ d. d.keep) c.in-Err.ensures.err.0 in
     ends_unserved _ _ _ _ c.unserved.ensures.core
     (λ tells. subst (λ d. Rests (g.D.Disk.state c.args.devices.disk) (g.D.Disk.state d)) (sym (ap (λ s. s.disk) c.unserved.ensures.store))
-    (subst (λ d. Rests (g.D.Disk.state d) (g.D.Disk.state c.give_back.result)) (ap (λ d. d.disk) c.in-Err.ensures.err.0) (c.give_back.ensures.rests tells)))
+    (subst (λ d. Rests (g.D.Disk.state d) (g.D.Disk.state c.give_back.result)) (ap (λ d. d.disk) c.in-Err.ensures.err.0) (c.give_back.ensures.alike.rests tells)))
     (λ told. subst (λ k. Rests (g.E.Keep.state c.args.devices.keep) (g.E.Keep.state k)) (sym same) (rests_start _))
 
 pub returns-in-Err-clause-outside : goal.returns-in-Err-clause-outside
 returns-in-Err-clause-outside g c = λ tells.
     subst (λ d. StaysOutside (g.D.Disk.state c.args.devices.disk) (g.D.Disk.state d)) (sym (ap (λ s. s.disk) c.unserved.ensures.store))
     (subst (λ d. StaysOutside (g.D.Disk.state d) (g.D.Disk.state c.give_back.result)) (ap (λ d. d.disk) c.in-Err.ensures.err.0)
-    (stays_rests IsOutside _ _ (c.give_back.ensures.rests tells)))
+    (stays_rests IsOutside _ _ (c.give_back.ensures.alike.rests tells)))
 
 pub returns-in-Ok-clause-ends : goal.returns-in-Ok-clause-ends
 returns-in-Ok-clause-ends g c =
@@ -38,12 +38,13 @@ returns-in-Ok-clause-ends g c =
     (view_of g.D.Disk.tells g.D.Disk.state g.D.Disk.faults g.D.Disk.syncs) in
     let now = readings_of readings c.ended_of.result.world.clocks in
     let ended = place_of c.in-Ok.ensures.left.0 served.disk in
-    ends_served (seen (over c.ended_of.result.ends) now) (record { core = c.args.core; flusher = c.args.devices.flusher }) _ _ _ served.end served.last _ ended c.ended_of.ensures.core c.ended_of.ensures.tells c.ended_of.ensures.alike
-    (subst (λ x. IsLeft (seen (over x) now) (change_of c.args.core (place_of c.args.devices.flusher.file c.args.devices.disk) served.core ended)
+    let failed : ℕ × ℕ = (g.D.Reader.Reader.faults served.readers.0, g.D.Reader.Reader.faults served.readers.1) in
+    ends_served (seen (over c.ended_of.result.ends) now) (record { core = c.args.core; flusher = c.args.devices.flusher }) _ _ _ served.end served.last _ ended failed c.ended_of.ensures.core c.ended_of.ensures.tells c.ended_of.ensures.alike c.ended_of.ensures.counted
+    (subst (λ x. IsLeft (seen (over x) now) failed (change_of c.args.core (place_of c.args.devices.flusher.file c.args.devices.disk) served.core ended)
     (keep_over g.E.Keep.tells (g.E.Keep.state c.args.devices.keep) (g.E.Keep.state c.ended_of.result.store.keep)) served.kept) (sym c.ended_of.ensures.ends)
-    (subst (λ w. IsLeft (seen (over served.ends) (readings_of readings w.clocks)) (change_of c.args.core (place_of c.args.devices.flusher.file c.args.devices.disk) served.core ended)
+    (subst (λ w. IsLeft (seen (over served.ends) (readings_of readings w.clocks)) failed (change_of c.args.core (place_of c.args.devices.flusher.file c.args.devices.disk) served.core ended)
     (keep_over g.E.Keep.tells (g.E.Keep.state c.args.devices.keep) (g.E.Keep.state c.ended_of.result.store.keep)) served.kept) (sym c.ended_of.ensures.world)
-    (subst (λ k. IsLeft (seen (over served.ends) (readings_of readings served.world.clocks)) (change_of c.args.core (place_of c.args.devices.flusher.file c.args.devices.disk) served.core ended)
+    (subst (λ k. IsLeft (seen (over served.ends) (readings_of readings served.world.clocks)) failed (change_of c.args.core (place_of c.args.devices.flusher.file c.args.devices.disk) served.core ended)
     (keep_over g.E.Keep.tells (g.E.Keep.state c.args.devices.keep) (g.E.Keep.state k)) served.kept) (sym c.ended_of.ensures.keep) c.in-Ok.ensures.left.1)))
 
 pub returns-in-Ok-clause-outside : goal.returns-in-Ok-clause-outside

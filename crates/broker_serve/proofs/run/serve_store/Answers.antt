@@ -31,7 +31,7 @@ returns-in-Err-clause-outside g c = λ tells.
 
 pub returns-in-Ok-clause-served : goal.returns-in-Ok-clause-served
 returns-in-Ok-clause-served g c =
-    store_served _ _ _ _ _ _ _ _ _ _ _ _ c.in-Ok.ensures.rests c.in-Ok.ensures.read c.serve_config.ensures.served
+    store_served _ _ g.D.Disk.reader_faults _ _ _ _ _ _ _ _ _ _ c.in-Ok.ensures.rests c.in-Ok.ensures.read c.serve_config.ensures.served
 
 pub returns-in-Err-clause-why : goal.returns-in-Err-clause-why
 returns-in-Err-clause-why g c =

@@ -26,13 +26,18 @@ returns-in-Ok-run_seated-clause-left g c =
     let was = readings_of readings c.args.loops.world.clocks in
     let now = readings_of readings seated.left.world.clocks in
     let keep = keep_over g.E.Keep.tells (g.E.Keep.state devices.keep) (g.E.Keep.state c.close.result.keep) in
+    let faults = g.R.Reader.faults in
+    let failed : ℕ × ℕ = (faults c.close.result.readers.0, faults c.close.result.readers.1) in
+    let readers = c.close.ensures.readers in
     subst (λ x. (file : LastFile) × IsLeft (views_of (over x) g.R.Reader.gives
-    (clocks_over g.K.Clock.tells was (readings_of readings c.close.result.world.clocks)) (view_of g.D.Disk.tells g.D.Disk.state g.D.Disk.faults g.D.Disk.syncs))
+    (clocks_over g.K.Clock.tells was (readings_of readings c.close.result.world.clocks)) (view_of g.D.Disk.tells g.D.Disk.state g.D.Disk.faults g.D.Disk.syncs)) failed
     (change_of c.args.core place c.close.result.core (place_of file c.close.result.disk)) keep c.close.result.kept) (sym c.close.ensures.ends.3)
-    (subst (λ w. (file : LastFile) × IsLeft (views was (readings_of readings w.clocks)) (change_of c.args.core place c.close.result.core (place_of file c.close.result.disk)) keep
+    (subst (λ w. (file : LastFile) × IsLeft (views was (readings_of readings w.clocks)) failed (change_of c.args.core place c.close.result.core (place_of file c.close.result.disk)) keep
     c.close.result.kept) (sym c.close.ensures.ends.2)
-    (subst (λ (core : Parts). (file : LastFile) × IsLeft (views was now) (change_of core place c.close.result.core (place_of file c.close.result.disk)) keep c.close.result.kept)
-    c.in-Ok-open.ensures.spine.0 (c.close.ensures.left place devices.keep was seated.ensures.made seated.ensures.kept)))
+    (subst (λ r. (file : LastFile) × IsLeft (views was now) (faults r.0, faults r.1) (change_of c.args.core place c.close.result.core (place_of file c.close.result.disk)) keep c.close.result.kept)
+    (sym readers)
+    (subst (λ (core : Parts). (file : LastFile) × IsLeft (views was now) (faults seated.left.readers.0, faults seated.left.readers.1) (change_of core place c.close.result.core (place_of file c.close.result.disk)) keep c.close.result.kept)
+    c.in-Ok-open.ensures.spine.0 (c.close.ensures.left place devices.keep was seated.ensures.made seated.ensures.kept))))
 
 pub returns-in-Ok-run_seated-clause-outside : goal.returns-in-Ok-run_seated-clause-outside
 returns-in-Ok-run_seated-clause-outside g c = λ tells.

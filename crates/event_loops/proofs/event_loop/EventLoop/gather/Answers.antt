@@ -1,3 +1,4 @@
+use Rattle.link_service.specs.Transcripts.{counted_to}
 use Rattle.std.proofs.Common.{◌∙◌}
 use Rattle.event_loops.proofs.Counting.{grow_none, grow_then, passed_on}
 use Rattle.event_loops.proofs.Entering.{door_same, door_then}
@@ -7,7 +8,7 @@ use Rattle.event_loops.proofs.event_loop.EventLoop.gather.Goals as goal
 
 pub returns-in_err-wait : goal.returns-in_err-wait
 returns-in_err-wait g c = record {
-  went = goes_nowhere_to (loop_view g.P.Link.Link.tells g.P.Link.Link.given g.P.Link.Link.taken g.P.Ends.Ends.tells g.P.Ends.Ends.entries) g.R.Reader.gives _ _ c.wait.ensures.links;
+  went = λ most high. goes_nowhere_to (loop_view g.P.Link.Link.tells g.P.Link.Link.given g.P.Link.Link.taken g.P.Ends.Ends.tells g.P.Ends.Ends.entries) (counted_to g.R.Reader.gives most) _ _ c.wait.ensures.links;
   clock = c.wait.ensures.clock;
   door = door_same g.P.Door.Door.gave _ _ c.wait.ensures.entrance;
   cause = passed_on c.from_residual.result _ _ _ _ c.from_residual.ensures.1 (grow_none _) c.in_err-wait.ensures.cause;
@@ -15,8 +16,8 @@ returns-in_err-wait g c = record {
 
 pub returns-in_err-ask_door : goal.returns-in_err-ask_door
 returns-in_err-ask_door g c = record {
-  went = goes_from (loop_view g.P.Link.Link.tells g.P.Link.Link.given g.P.Link.Link.taken g.P.Ends.Ends.tells g.P.Ends.Ends.entries) g.R.Reader.gives _ _ _ c.wait.ensures.links
-      (goes_then (loop_view g.P.Link.Link.tells g.P.Link.Link.given g.P.Link.Link.taken g.P.Ends.Ends.tells g.P.Ends.Ends.entries) g.R.Reader.gives _ _ _ c.note_reports.ensures.went c.ask_door.ensures.went);
+  went = λ most high. goes_from (loop_view g.P.Link.Link.tells g.P.Link.Link.given g.P.Link.Link.taken g.P.Ends.Ends.tells g.P.Ends.Ends.entries) (counted_to g.R.Reader.gives most) _ _ _ c.wait.ensures.links
+      (goes_then (loop_view g.P.Link.Link.tells g.P.Link.Link.given g.P.Link.Link.taken g.P.Ends.Ends.tells g.P.Ends.Ends.entries) (counted_to g.R.Reader.gives most) _ _ _ (c.note_reports.ensures.went most high) (c.ask_door.ensures.went most high));
   clock = c.ask_door.ensures.clock ∙ c.wait.ensures.clock;
   door = door_then g.P.Door.Door.gave _ _ _ (door_same g.P.Door.Door.gave _ _ c.wait.ensures.entrance) c.ask_door.ensures.door;
   cause = passed_on c.from_residual-in_err-ask_door.result _ _ _ _ c.from_residual-in_err-ask_door.ensures.1 c.in_ok-wait.ensures.cause c.in_err-ask_door.ensures.cause;
@@ -24,9 +25,9 @@ returns-in_err-ask_door g c = record {
 
 pub returns : goal.returns
 returns g c = record {
-  went = goes_from (loop_view g.P.Link.Link.tells g.P.Link.Link.given g.P.Link.Link.taken g.P.Ends.Ends.tells g.P.Ends.Ends.entries) g.R.Reader.gives _ _ _ c.wait.ensures.links
-      (goes_then (loop_view g.P.Link.Link.tells g.P.Link.Link.given g.P.Link.Link.taken g.P.Ends.Ends.tells g.P.Ends.Ends.entries) g.R.Reader.gives _ _ _
-      (goes_then (loop_view g.P.Link.Link.tells g.P.Link.Link.given g.P.Link.Link.taken g.P.Ends.Ends.tells g.P.Ends.Ends.entries) g.R.Reader.gives _ _ _ c.note_reports.ensures.went c.ask_door.ensures.went) c.take_in.ensures.went);
+  went = λ most high. goes_from (loop_view g.P.Link.Link.tells g.P.Link.Link.given g.P.Link.Link.taken g.P.Ends.Ends.tells g.P.Ends.Ends.entries) (counted_to g.R.Reader.gives most) _ _ _ c.wait.ensures.links
+      (goes_then (loop_view g.P.Link.Link.tells g.P.Link.Link.given g.P.Link.Link.taken g.P.Ends.Ends.tells g.P.Ends.Ends.entries) (counted_to g.R.Reader.gives most) _ _ _
+      (goes_then (loop_view g.P.Link.Link.tells g.P.Link.Link.given g.P.Link.Link.taken g.P.Ends.Ends.tells g.P.Ends.Ends.entries) (counted_to g.R.Reader.gives most) _ _ _ (c.note_reports.ensures.went most high) (c.ask_door.ensures.went most high)) (c.take_in.ensures.went most high));
   clock = c.take_in.ensures.clock ∙ (c.ask_door.ensures.clock ∙ c.wait.ensures.clock);
   door = door_then g.P.Door.Door.gave _ _ _ (door_then g.P.Door.Door.gave _ _ _ (door_same g.P.Door.Door.gave _ _ c.wait.ensures.entrance) c.ask_door.ensures.door) (door_same g.P.Door.Door.gave _ _ c.take_in.ensures.entrance);
   cause = grow_then _ _ _ (grow_then _ _ _ c.in_ok-wait.ensures.cause c.in_ok-ask_door.ensures.cause) c.take_in.ensures.grow;

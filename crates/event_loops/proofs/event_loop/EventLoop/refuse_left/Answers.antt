@@ -1,3 +1,4 @@
+use Rattle.link_service.specs.Transcripts.{counted_to}
 use Rattle.std.proofs.Common.{refl, ◌∙◌}
 use Rattle.event_loops.specs.Tales.{loop_view}
 use Rattle.event_loops.proofs.Told.{goes_nowhere, goes_then}
@@ -7,7 +8,7 @@ pub loop-init : goal.loop-init
 loop-init g c = record {
   next = tt;
   finite = tt;
-  went = goes_nowhere (loop_view g.P.Link.Link.tells g.P.Link.Link.given g.P.Link.Link.taken g.P.Ends.Ends.tells g.P.Ends.Ends.entries) g.R.Reader.gives _;
+  went = λ most high. goes_nowhere (loop_view g.P.Link.Link.tells g.P.Link.Link.given g.P.Link.Link.taken g.P.Ends.Ends.tells g.P.Ends.Ends.entries) (counted_to g.R.Reader.gives most) _;
   slots = refl;
 }
 
@@ -15,6 +16,6 @@ pub loop-preserved : goal.loop-preserved
 loop-preserved g c = record {
   next = tt;
   finite = tt;
-  went = goes_then (loop_view g.P.Link.Link.tells g.P.Link.Link.given g.P.Link.Link.taken g.P.Ends.Ends.tells g.P.Ends.Ends.entries) g.R.Reader.gives _ _ _ c.loop.invariant.went c.refuse.ensures.went;
+  went = λ most high. goes_then (loop_view g.P.Link.Link.tells g.P.Link.Link.given g.P.Link.Link.taken g.P.Ends.Ends.tells g.P.Ends.Ends.entries) (counted_to g.R.Reader.gives most) _ _ _ (c.loop.invariant.went most high) (c.refuse.ensures.went most high);
   slots = c.refuse.ensures.slots ∙ c.loop.invariant.slots;
 }

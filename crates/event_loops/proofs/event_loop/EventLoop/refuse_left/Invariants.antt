@@ -1,4 +1,5 @@
 use Rattle.std.proofs.Common.{◌≡◌, []}
+use Rattle.link_service.specs.Transcripts.{ByReader}
 use Rattle.event_loops.specs.Tales.{GoesOn, loop_view}
 use Rattle.event_loops.proofs.event_loop.EventLoop.refuse_left.Given as goal
 
@@ -6,6 +7,6 @@ abbrev pub invariant-loop : goal.invariant-loop
 invariant-loop g l = record {
   next : (goal.iterator-loop g).can_next l.iterator';
   finite : (goal.iterator-loop g).is_finite l.iterator';
-  went : GoesOn (loop_view g.P.Link.Link.tells g.P.Link.Link.given g.P.Link.Link.taken g.P.Ends.Ends.tells g.P.Ends.Ends.entries) g.R.Reader.gives l.fn.self.links [] l.self.links;
+  went : ByReader g.R.Reader.gives 0 (λ read. GoesOn (loop_view g.P.Link.Link.tells g.P.Link.Link.given g.P.Link.Link.taken g.P.Ends.Ends.tells g.P.Ends.Ends.entries) read l.fn.self.links [] l.self.links);
   slots : l.self.links.slots ≡ l.fn.self.links.slots;
 }

@@ -1,8 +1,9 @@
+use Rattle.link_service.specs.Transcripts.{counted_to}
 use Rattle.std.proofs.Common.{ap, refl}
 use Rattle.event_loops.specs.Tales.{loop_view}
 use Rattle.event_loops.proofs.Told.{goes_lost}
 use Rattle.event_loops.proofs.links.Links.lose.Goals as goal
 
 pub returns-clause-went : goal.returns-clause-went
-returns-clause-went g c = goes_lost (loop_view g.L.Link.tells g.L.Link.given g.L.Link.taken g.N.Ends.tells g.N.Ends.entries) g.R.Reader.gives c.args.self.now _
+returns-clause-went g c = λ most high. goes_lost (loop_view g.L.Link.tells g.L.Link.given g.L.Link.taken g.N.Ends.tells g.N.Ends.entries) (counted_to g.R.Reader.gives most) c.args.self.now _
     (refl, refl, refl, refl) (ap (λ ledger. ledger.lost) c.lose.ensures)
