@@ -9,7 +9,6 @@ use Rattle.remoting_frame.specs.declared.frame.Frame.{Frame}
 use Rattle.log_model.specs.Bases.{Geometry}
 use Rattle.log_model.specs.Log.{IsWellFormed}
 use Rattle.log_model.specs.Stored.{FlushTurn, HasFirst, turned_by, turned_in}
-use Rattle.log_model.proofs.StoredLemmas.{first_keeps, has_less}
 use Rattle.reply_fields.specs.Parts.{AskParts}
 use Rattle.request_fields.specs.Reading.{request_of}
 use Rattle.request_fields.specs.Requests.{SendSaid}
@@ -27,10 +26,11 @@ use Rattle.pipe_stream.specs.declared.stop.Halt.{Halt}
 use Rattle.pipe_stream.specs.declared.stop.Halt.TheVariants.{BadFrame, Read, Stopped}
 use Rattle.pipe_stream.specs.declared.stop.Stop.{Stop}
 use Rattle.pipe_stream.specs.declared.stop.Stop.TheVariants.{Clock, Sink, Memory, Misplaced}
+use Rattle.program_run.specs.Acknowledged.{last_moment}
 use Rattle.program_run.specs.Sent.{IsSent}
 use Rattle.program_run.specs.Stand.{Answered, answered, answers_bytes, AreOnDisk, IsAccepted, IsOnDisk, IsWritten, StandsFrom}
-use Rattle.program_run.proofs.Moments.{last_moment, last_then, order_first, order_high, order_later, order_low, turned_front}
-use Rattle.program_run.proofs.OnDisk.{first_stand}
+use Rattle.program_run.proofs.Moments.{last_then, order_first, order_high, order_later, order_low}
+use Rattle.program_run.proofs.OnDisk.{turned_keeps, turned_stands}
 use Rattle.program_run.proofs.Walks.{turns_append}
 
 -- each send among the requests of a run that waits for the disk and is answered with 0 is in the run's log
@@ -173,10 +173,7 @@ module _ (gives : Giving) (S : Geometry) (opened opening : ℕ) (reached : State
   in_order : (front later : List Act) → acts ≡ front ++ later → AreInOrder opening (turns_of front ++ turns_of later) disk.moment
   in_order front later are = subst (λ (l : List FlushTurn). AreInOrder opening l disk.moment) (ap turns_of are ∙ turns_append front later) order
 
-  -- the last of the turns of acts at the front ended between the opening and the end
-  began : (front later : List Act) → acts ≡ front ++ later → opening ≤ moment_at opening front
-  began front later are = order_low opening (moment_at opening front) (turns_of front) (order_first opening disk.moment (turns_of front) (turns_of later) (in_order front later are))
-
+  -- the last of the turns of acts at the front ended by the end
   ended : (front later : List Act) → acts ≡ front ++ later → moment_at opening front ≤ disk.moment
   ended front later are =
       let behind = order_later opening disk.moment (turns_of front) (turns_of later) (in_order front later are) in
@@ -195,24 +192,18 @@ module _ (gives : Giving) (S : Geometry) (opened opening : ℕ) (reached : State
       → StandsFrom S reached.log.records number (moment_at opening front) disk
   stands_at front later number r are is flushed =
       let log : List Entry = reached.log.records in
-      let enough : (m : ℕ) → moment_at opening front ≤ m → number + 1 ≤ opened + turned_by (turns_of acts) m = λ m low.
-      let here = turned_front opening disk.moment m (turns_of front) (turns_of later) (in_order front later are) low in
-      let there = subst (λ (l : List FlushTurn). turned_in (turns_of front) ≤ turned_by l m) (sym (ap turns_of are ∙ turns_append front later)) here in
-      omega (arith, flushed, there) in
-      let begins = began front later are in
+      let parts : turns_of acts ≡ turns_of front ++ turns_of later = ap turns_of are ∙ turns_append front later in
       record {
         r = r;
         is = is;
-        stands = λ m files low high image. first_stand S log (opened + turned_by (turns_of acts) m) number files r well (leaves m files (omega (arith, begins, low)) high image)
-            (omega (arith, enough m low)) is;
-        kept = λ m files low high image. first_keeps S log (number + 1) files well
-            (has_less S log (opened + turned_by (turns_of acts) m) (number + 1) files (enough m low) (leaves m files (omega (arith, begins, low)) high image));
+        stands = turned_stands S log opened opening (turns_of acts) (turns_of front) (turns_of later) disk number r well parts order leaves is flushed;
+        kept = turned_keeps S log opened opening (turns_of acts) (turns_of front) (turns_of later) disk number r well parts order leaves is flushed;
       }
 
   -- a message that was accepted is on the disk from the last flush turn before its answer on
   accepted_stands : (asks : List AskParts) (it : Served) (answer : Answer) (faults : FaultCounts) (front later : List Act) → acts ≡ front ++ (it.acts ++ later) → (is : IsAnswered gives it answer faults)
       → (send : SendSaid) → IsAccepted (answered it.frame asks is.reply it.bytes) send
-      → IsOnDisk S reached.log.records (answered it.frame asks is.reply it.bytes) send (moment_at opening (front ++ it.acts)) disk
+      → IsOnDisk S reached.log.records is.reply send (moment_at opening (front ++ it.acts)) disk
   unfolding stands_at
   accepted_stands asks it answer faults front later are is send accepted =
       let found = sent it answer faults front later send are is accepted.asked accepted.awaited accepted.code in
@@ -245,7 +236,7 @@ module _ (gives : Giving) (S : Geometry) (opened opening : ℕ) (reached : State
         stand = (
           moment_at opening (front ++ (before ++ first)),
           goes_on front (before ++ first) later are,
-          λ send accepted. subst (λ (l : List Act). IsOnDisk S reached.log.records it send (moment_at opening l) disk) (append_assoc front before first)
+          λ send accepted. subst (λ (l : List Act). IsOnDisk S reached.log.records is.reply send (moment_at opening l) disk) (append_assoc front before first)
               (accepted_stands asks (served_as frame reading first bytes) answer faults (front ++ before) later apart is send accepted),
           rest.stand,
         );

@@ -8,3 +8,7 @@ pub mod SendAnswers
 pub mod SendSteps
 pub mod Sent
 pub mod Stands
+pub mod Histories
+pub mod LinkSteps
+pub mod LinkReplies
+pub mod Acknowledging

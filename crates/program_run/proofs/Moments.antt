@@ -4,11 +4,7 @@ use Rattle.std.proofs.lemmas.Bool.{le-leb}
 use Rattle.std.proofs.lemmas.List.Sums.{sum_by-cons}
 use Rattle.log_model.specs.Stored.{FlushTurn, turned_by, turned_in}
 use Rattle.flush_story.specs.Keeping.{AreInOrder}
-
--- the moment at which the last of these turns ended, or this one where there is none
-abbrev pub last_moment : ℕ → List FlushTurn → ℕ
-last_moment low [] = low
-last_moment low (turn ∷ turns) = last_moment turn.moment turns
+use Rattle.program_run.specs.Acknowledged.{last_moment}
 
 -- of turns behind others
 pub last_then : (low : ℕ) (first later : List FlushTurn) → last_moment low (first ++ later) ≡ last_moment (last_moment low first) later

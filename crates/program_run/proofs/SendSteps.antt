@@ -1,5 +1,5 @@
 -- What a step with a message leaves, by what was said to it, and what a look at its record finds.
-use Rattle.std.proofs.Common.{◌≡◌, ◌⊎◌, ⊎_elim, inl, inr, ℕ, ◌+◌, ◌-◌, ◌<◌, [], ◌∷◌, true, Option, Some, None, sym, ap, ◌∙◌, subst, arith}
+use Rattle.std.proofs.Common.{◌≡◌, ◌⊎◌, ⊎_elim, inl, inr, ℕ, ◌+◌, ◌-◌, ◌<◌, List, [], ◌∷◌, true, Option, Some, None, sym, ap, ◌∙◌, subst, arith}
 use Rattle.std.specs.Prelude.{pos}
 use Rattle.log_model.specs.Numbered.{count_of, with_appended}
 use Rattle.request_fields.specs.Requests.{SendSaid}
@@ -25,11 +25,15 @@ use Rattle.session.specs.Owing.{applied_of}
 use Rattle.session.specs.declared.owed.Applied.{Applied}
 use Rattle.session.specs.declared.owed.Applied.TheVariants.{Owes}
 use Rattle.session.specs.declared.owed.Awaits.{Awaits}
-use Rattle.pipe_stream.specs.Asking.{born_host, event_for, IsDue}
+use Rattle.pipe_stream.specs.Asking.{IsDue}
 use Rattle.flush_story.specs.Story.{StepsAs}
 use Rattle.flush_story.proofs.Steps.{step_flushed}
 use Rattle.core_laws.proofs.Acknowledged.{step_flushed as looked_flushed}
 use Rattle.program_run.proofs.SendAnswers.{TellsNone, IsTaken, record_for, send_taken, waiting_reply}
+
+-- a message that came on this link from this host, at this reading
+abbrev pub sends : ℕ → List ℕ → ℕ → SendSaid → Event
+sends link host now send = events.Request link host now (Send send)
 
 -- ---- codes
 
@@ -41,7 +45,7 @@ fault_code (faults.BadNumber field) is = cc
 fault_code faults.BadBody is = cc
 fault_code faults.Memory is = cc
 
-same_code : (m n : ℕ) → pos m ≡ pos n → m ≡ n
+pub same_code : (m n : ℕ) → pos m ≡ pos n → m ≡ n
 same_code m n is = cc
 
 -- nor is a message that was not taken
@@ -70,20 +74,20 @@ step_said : (s t : State) (e : Event) (what : Said) → StepsAs s e (Some what) 
 step_said s t e what step = said_by s t e what step.answer step.says step.step
 
 -- a message that waits for the disk is not answered with 0 at once
-replied_code : (s t : State) (now : ℕ) (send : SendSaid) (reply : ReplyParts) → s.setup.sync ≡ true → waits (kept_props send.props) ≡ true
-    → StepsAs s (event_for now (Send send)) (Some (said.Reply reply)) t → reply.code ≡ pos 0 → ⊥
-replied_code s t now send reply sync waiting step code =
-    let told = step_said s t (event_for now (Send send)) (said.Reply reply) step in
+replied_code : (s t : State) (link : ℕ) (host : List ℕ) (now : ℕ) (send : SendSaid) (reply : ReplyParts) → s.setup.sync ≡ true → waits (kept_props send.props) ≡ true
+    → StepsAs s (sends link host now send) (Some (said.Reply reply)) t → reply.code ≡ pos 0 → ⊥
+replied_code s t link host now send reply sync waiting step code =
+    let told = step_said s t (sends link host now send) (said.Reply reply) step in
     ⊎_elim
-    (λ (none : TellsNone (answer_of s (event_of (event_for now (Send send))))). told_code (answer_of s (event_of (event_for now (Send send)))) reply told.0 none code)
-    (λ (taken : IsTaken s 0 born_host now send). subst (λ (a : model.Answer). IsToldAs reply a) taken.answer told.0)
-    (send_taken s 0 born_host now send sync waiting)
+    (λ (none : TellsNone (answer_of s (event_of (sends link host now send)))). told_code (answer_of s (event_of (sends link host now send))) reply told.0 none code)
+    (λ (taken : IsTaken s link host now send). subst (λ (a : model.Answer). IsToldAs reply a) taken.answer told.0)
+    (send_taken s link host now send sync waiting)
 
 -- the message's record was appended, the answer waits for it, and the reply names it
-pub record IsAppended (s : State) (now : ℕ) (send : SendSaid) (reply : ReplyParts) (number : ℕ) (t : State) : Type 0 where
-  pub log : t.log ≡ with_appended s.log (record_for s born_host now send ∷ [])
+pub record IsAppended (s : State) (host : List ℕ) (now : ℕ) (send : SendSaid) (reply : ReplyParts) (number : ℕ) (t : State) : Type 0 where
+  pub log : t.log ≡ with_appended s.log (record_for s host now send ∷ [])
   pub number_is : number ≡ count_of s.log
-  pub named : reply.ext ≡ send_ext send (record_for s born_host now send ∷ [])
+  pub named : reply.ext ≡ send_ext send (record_for s host now send ∷ [])
 
 same_reply : (a b : model.Reply) (m n j k : ℕ) → model.After a m j ≡ model.After b n k → a ≡ b
 same_reply a b m n j k is = cc
@@ -92,21 +96,21 @@ same_number : (a b : model.Reply) (m n j k : ℕ) → model.After a m j ≡ mode
 same_number a b m n j k is = cc
 
 -- so it is where the reply is to wait
-pub waiting_appended : (s t : State) (now : ℕ) (send : SendSaid) (reply : ReplyParts) (number turn : ℕ) → s.setup.sync ≡ true → waits (kept_props send.props) ≡ true
-    → StepsAs s (event_for now (Send send)) (Some (said.After reply number turn)) t → IsAppended s now send reply number t
-waiting_appended s t now send reply number turn sync waiting step =
-    let told = step_said s t (event_for now (Send send)) (said.After reply number turn) step in
+pub waiting_appended : (s t : State) (link : ℕ) (host : List ℕ) (now : ℕ) (send : SendSaid) (reply : ReplyParts) (number turn : ℕ) → s.setup.sync ≡ true → waits (kept_props send.props) ≡ true
+    → StepsAs s (sends link host now send) (Some (said.After reply number turn)) t → IsAppended s host now send reply number t
+waiting_appended s t link host now send reply number turn sync waiting step =
+    let told = step_said s t (sends link host now send) (said.After reply number turn) step in
     ⊎_elim
-    (λ (none : TellsNone (answer_of s (event_of (event_for now (Send send))))). absurd (subst (λ (a : model.Answer). TellsNone a) told.0.1 none))
-    (λ (taken : IsTaken s 0 born_host now send).
+    (λ (none : TellsNone (answer_of s (event_of (sends link host now send)))). absurd (subst (λ (a : model.Answer). TellsNone a) told.0.1 none))
+    (λ (taken : IsTaken s link host now send).
     let same = sym told.0.1 ∙ taken.answer in
-    let numbers = same_number told.0.0 (waiting_reply s born_host now send) number (count_of s.log + 1 - 1) turn s.turns same in
+    let numbers = same_number told.0.0 (waiting_reply s host now send) number (count_of s.log + 1 - 1) turn s.turns same in
     record {
       log = ap (λ (u : State). u.log) told.1 ∙ taken.log;
       number_is = omega (arith, numbers);
-      named = told.0.2.ext ∙ ap (λ (r : model.Reply). r.ext) (same_reply told.0.0 (waiting_reply s born_host now send) number (count_of s.log + 1 - 1) turn s.turns same);
+      named = told.0.2.ext ∙ ap (λ (r : model.Reply). r.ext) (same_reply told.0.0 (waiting_reply s host now send) number (count_of s.log + 1 - 1) turn s.turns same);
     })
-    (send_taken s 0 born_host now send sync waiting)
+    (send_taken s link host now send sync waiting)
 
 -- ---- what is owed for it
 
@@ -121,10 +125,10 @@ pub record IsWaiting (what : Option Said) (reply : ReplyParts) (awaits : Option 
   pub said_is : what ≡ Some (said.After reply number turn)
   pub awaits_is : awaits ≡ Some (record { number = number; turn = turn })
 
-same_owed : (a b : ReplyParts) (x y : Option Awaits) → ◌≡◌ {A = Option Applied} (Some (Owes a x)) (Some (Owes b y)) → a ≡ b
+pub same_owed : (a b : ReplyParts) (x y : Option Awaits) → ◌≡◌ {A = Option Applied} (Some (Owes a x)) (Some (Owes b y)) → a ≡ b
 same_owed a b x y is = cc
 
-same_awaits : (a b : ReplyParts) (x y : Option Awaits) → ◌≡◌ {A = Option Applied} (Some (Owes a x)) (Some (Owes b y)) → x ≡ y
+pub same_awaits : (a b : ReplyParts) (x y : Option Awaits) → ◌≡◌ {A = Option Applied} (Some (Owes a x)) (Some (Owes b y)) → x ≡ y
 same_awaits a b x y is = cc
 
 pub owed_cases : (what : Option Said) (reply : ReplyParts) (awaits : Option Awaits) → applied_of what ≡ Some (Owes reply awaits)
@@ -150,16 +154,17 @@ owed_cases (Some (said.Delivered what)) reply awaits is = absurd (cc)
 owed_cases (Some (said.Checked what)) reply awaits is = absurd (cc)
 
 -- what is owed at once for a message that waits for the disk is no 0
-pub once_code : (s t : State) (now : ℕ) (send : SendSaid) (what : Option Said) (reply : ReplyParts) → s.setup.sync ≡ true → waits (kept_props send.props) ≡ true
-    → StepsAs s (event_for now (Send send)) what t → IsAtOnce what reply → reply.code ≡ pos 0 → ⊥
-once_code s t now send what reply sync waiting step once code = ⊎_elim
-    (λ (is : what ≡ Some (said.Reply reply)). replied_code s t now send reply sync waiting (subst (λ (w : Option Said). StepsAs s (event_for now (Send send)) w t) is step) code)
+pub once_code : (s t : State) (link : ℕ) (host : List ℕ) (now : ℕ) (send : SendSaid) (what : Option Said) (reply : ReplyParts) → s.setup.sync ≡ true → waits (kept_props send.props) ≡ true
+    → StepsAs s (sends link host now send) what t → IsAtOnce what reply → reply.code ≡ pos 0 → ⊥
+once_code s t link host now send what reply sync waiting step once code = ⊎_elim
+    (λ (is : what ≡ Some (said.Reply reply)). replied_code s t link host now send reply sync waiting (subst (λ (w : Option Said). StepsAs s (sends link host now send) w t) is step) code)
     (λ (is : reply ≡ fault_reply faults.Memory). fault_code faults.Memory (ap (λ (r : ReplyParts). r.code) (sym is) ∙ code))
     once
 
 -- ---- a look
 
-found_by : (s t : State) (number turn : ℕ) (answer : Option model.Answer) → SaysIn (Some (said.Awaited awaited.Flushed)) answer → Step s (model.Look number turn) answer t → number < s.flushed
+-- it finds on the disk what is flushed
+pub found_by : (s t : State) (number turn : ℕ) (answer : Option model.Answer) → SaysIn (Some (said.Awaited awaited.Flushed)) answer → Step s (model.Look number turn) answer t → number < s.flushed
 found_by s t number turn None says step = absurd says
 found_by s t number turn (Some answer) says step = looked_flushed s t number turn (subst (λ (a : model.Answer). Step s (model.Look number turn) (Some a) t) says step)
 

@@ -1,5 +1,5 @@
 -- A message that was answered with 0 once it was on the disk: its record stands in the log of the run, and flush turns flushed it.
-use Rattle.std.proofs.Common.{◌≡◌, ◌⊎◌, ⊎_elim, inl, inr, ℕ, ◌+◌, ◌<◌, List, [], ◌∷◌, ◌++◌, length, slice_get, Bool, true, false, Option, Some, None, Result, Ok, Err, refl, sym, ap, ◌∙◌, subst, arith}
+use Rattle.std.proofs.Common.{◌≡◌, ◌⊎◌, ⊎_elim, inl, inr, ℕ, ◌+◌, ◌<◌, List, [], ◌∷◌, ◌++◌, length, slice_get, true, Option, Some, None, Result, Ok, Err, refl, sym, ap, ◌∙◌, subst, arith}
 use Rattle.std.specs.Prelude.{ℤ, pos}
 use Rattle.mq_outside.specs.Readings.{Giving}
 use Rattle.record_codec.specs.Entry.{Entry}
@@ -10,7 +10,6 @@ use Rattle.request_fields.specs.Requests.{SendSaid}
 use Rattle.request_fields.specs.declared.request.Request.{Request}
 use Rattle.request_fields.specs.declared.request.Request.TheVariants.{Send}
 use Rattle.request_fields.specs.declared.fault.RequestFault.{RequestFault}
-use Rattle.request_fields.specs.declared.fault.RequestFault.TheVariants as faults
 use Rattle.reply_fields.specs.Parts.{ReplyParts}
 use Rattle.broker_model.specs.State.{State, Saved, Setup as ModelSetup}
 use Rattle.broker_model.specs.Sends.{kept_props, waits}
@@ -43,10 +42,10 @@ get_last [] x = refl
 get_last (y ∷ xs) x = get_last xs x
 
 -- a record that was appended stands where its number says, in each log that this one grows into
-appended_stands : (s t reached : State) (now : ℕ) (send : SendSaid) (reply : ReplyParts) (number : ℕ) → s.log.base.records ≡ 0 → IsAppended s now send reply number t → Grows t reached
-    → slice_get reached.log.records number ≡ Some (record_for s born_host now send)
-appended_stands s t reached now send reply number base appended grows =
-    let r : Entry = record_for s born_host now send in
+pub appended_stands : (s t reached : State) (host : List ℕ) (now : ℕ) (send : SendSaid) (reply : ReplyParts) (number : ℕ) → s.log.base.records ≡ 0 → IsAppended s host now send reply number t
+    → Grows t reached → slice_get reached.log.records number ≡ Some (record_for s host now send)
+appended_stands s t reached host now send reply number base appended grows =
+    let r : Entry = record_for s host now send in
     let here : length s.log.records ≡ number = omega (arith, appended.number_is, base) in
     let log : reached.log.records ≡ (s.log.records ++ r ∷ []) ++ grows.more = ap (λ (l : Log). l.records) grows.log ∙ ap (λ (l : Log). l.records ++ grows.more) appended.log in
     subst (λ (l : List Entry). slice_get l number ≡ Some r) (sym log)
@@ -70,7 +69,7 @@ settled_once answer reply settled none is = let once = subst (λ (a : Option Awa
 
 -- ---- how it was given
 
-same_request : (x y : Request) → ◌≡◌ {A = Result Request RequestFault} (Ok x) (Ok y) → x ≡ y
+pub same_request : (x y : Request) → ◌≡◌ {A = Result Request RequestFault} (Ok x) (Ok y) → x ≡ y
 same_request x y is = cc
 
 -- a message that was read was given to the broker, and else it was refused
@@ -88,7 +87,7 @@ refused_code fault answer reply given settled refused is code =
     let once = settled_once (refusal fault) reply settled refl (subst (λ (a : Answer). IsSettled a.reply a.awaits reply settled) refused.told is) in
     fault_code fault (ap (λ (r : ReplyParts). r.code) (sym once) ∙ code)
 
-one_is_zero : pos 1 ≡ pos 0 → ⊥
+pub one_is_zero : pos 1 ≡ pos 0 → ⊥
 one_is_zero is = cc
 
 -- nor what was given up
@@ -117,17 +116,17 @@ module _ (opened : ℕ) (s t reached : State) (turns : List FlushTurn) (now : �
       ⊎_elim
       (λ (once : IsAtOnce told.what answer.reply × (answer.awaits ≡ None)).
       let same = settled_once answer reply settled once.1 is in
-      absurd (once_code from mid now send told.what answer.reply synced waiting step once.0 (ap (λ (r : ReplyParts). r.code) (sym same) ∙ code)))
+      absurd (once_code from mid 0 born_host now send told.what answer.reply synced waiting step once.0 (ap (λ (r : ReplyParts). r.code) (sym same) ∙ code)))
       (λ (waits_for : IsWaiting told.what answer.reply answer.awaits).
       let awaits : Awaits = record { number = waits_for.number; turn = waits_for.turn } in
       let looked : IsLooked answer.reply awaits reply settled = subst (λ (a : Option Awaits). IsSettled answer.reply a reply settled) waits_for.awaits_is is in
-      let appended = waiting_appended from mid now send answer.reply waits_for.number waits_for.turn synced waiting
+      let appended = waiting_appended from mid 0 born_host now send answer.reply waits_for.number waits_for.turn synced waiting
       (subst (λ (w : Option Said). StepsAs from (event_for now (Send send)) w mid) waits_for.said_is step) in
       let found = looked_found mid t answer.reply reply awaits settled later looked code in
       record {
         number = waits_for.number;
         r = record_for from born_host now send;
-        is = appended_stands from mid reached now send answer.reply waits_for.number whole appended (grows_then mid t reached (walks_grows mid settled t later) grows);
+        is = appended_stands from mid reached born_host now send answer.reply waits_for.number whole appended (grows_then mid t reached (walks_grows mid settled t later) grows);
         flushed = omega (arith, found.0, total);
         message = is_message from born_host now send;
         named = ap (λ (r : ReplyParts). r.ext) found.1 ∙ appended.named;

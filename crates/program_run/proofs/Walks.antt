@@ -117,7 +117,7 @@ pub record Parted (s : State) (first later : List Act) (t : State) : Type 0 wher
   pub before : Walks s first mid
   pub behind : Walks mid later t
 
-reaches_parted : (first later : List (Event × Option Said)) (s u : State) → Reaches s (first ++ later) u → (t : State) × Reaches s first t × Reaches t later u
+pub reaches_parted : (first later : List (Event × Option Said)) (s u : State) → Reaches s (first ++ later) u → (t : State) × Reaches s first t × Reaches t later u
 reaches_parted [] later s u reaches = (s, refl, reaches)
 reaches_parted (it ∷ first) later s u reaches =
     let rest = reaches_parted first later reaches.0 u reaches.2 in

@@ -91,17 +91,17 @@ pub record StandsFrom (S : Geometry) (log : List Entry) (number moment : ℕ) (d
   pub kept : (m : ℕ) (files : Files) → moment ≤ m → m ≤ disk.moment → disk.image_at m files → KeepsIfHonest S log (number + 1) files
 
 -- the message's record stands in the log, the reply names its place and its queue offset, and it stands on the disk from this moment on
-pub record IsOnDisk (S : Geometry) (log : List Entry) (it : Answered) (send : SendSaid) (moment : ℕ) (disk : DiskState) : Type 0 where
+pub record IsOnDisk (S : Geometry) (log : List Entry) (reply : ReplyParts) (send : SendSaid) (moment : ℕ) (disk : DiskState) : Type 0 where
   pub number : ℕ
   pub stands : StandsFrom S log number moment disk
   pub message : IsMessage send stands.r
-  pub named : it.reply.ext ≡ send_ext send (stands.r ∷ [])
+  pub named : reply.ext ≡ send_ext send (stands.r ∷ [])
 
 -- Each message that was accepted is on the disk from a moment on. These moments come one behind another, in the order of the answers.
 abbrev pub AreOnDisk : Geometry → List Entry → ℕ → List Answered → DiskState → Type 0
 AreOnDisk S log low [] disk = low ≤ disk.moment
 AreOnDisk S log low (it ∷ answers) disk = (moment : ℕ) × (low ≤ moment)
-    × ((send : SendSaid) → IsAccepted it send → IsOnDisk S log it send moment disk)
+    × ((send : SendSaid) → IsAccepted it send → IsOnDisk S log it.reply send moment disk)
     × AreOnDisk S log moment answers disk
 
 -- ---- a call

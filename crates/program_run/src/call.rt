@@ -1,12 +1,13 @@
 //! One run: the first word says whether it serves a stream or links.
 
-ghost use Rattle.std.specs.Prelude.{◌≡◌, ◌≢◌, true, false, None};
+ghost use Rattle.std.specs.Prelude.{◌≡◌, ◌≢◌, true, false, None, IfSome};
 ghost use Rattle.worker_turns.specs.Acts.{view_of};
 ghost use Rattle.store_open.specs.Words.{texts_of};
 ghost use Rattle.serve_threads.specs.Kept.{keep_over};
 ghost use Rattle.serve_threads.specs.Links.{links_over};
 ghost use Rattle.serve_threads.specs.Served.{clocks_over, readings_of, views_of};
 ghost use Rattle.serve_threads.specs.Causes.{counts_of, world_faults};
+ghost use Rattle.program_run.specs.Acknowledged.{KeepsServed};
 ghost use Rattle.program_run.specs.Stand.{KeepsAnswers};
 ghost use Rattle.program_run.specs.Runs.{AsksLinks, Pipes, Serves};
 
@@ -165,6 +166,22 @@ where
         (counts_of (D.faults result.ended.store.disk) (E.faults result.ended.store.keep)
         (world_faults P.faults P.Door.faults K.faults result.ended.world)) }
     ensures streams { AsksLinks (texts_of words.now) → result.streams ≡ streams }
+    // Each message that a link sent and that was answered with 0 stood on the disk before, whatever crashes.
+    ensures acknowledged { AsksLinks (texts_of words.now) → IfSome result.ended.core (λ left. KeepsServed (texts_of words.now)
+        result.ended.status
+        (record {
+          views = views_of (links_over P.Link.tells P.Ends.tells P.Ends.entries result.ended.ends) D.Reader.gives
+              (clocks_over K.tells (readings_of K.readings world.clocks) (readings_of K.readings result.ended.world.clocks))
+              (view_of D.tells D.state D.faults D.syncs);
+          old = store.disk;
+          new = result.ended.store.disk;
+          read_faults = D.reader_faults;
+          keep = keep_over E.tells (E.state store.keep) (E.state result.ended.store.keep);
+          core = result.ended.core;
+          ends = P.Ends.tells;
+          gave = (P.Door.gave world.door, P.Door.gave result.ended.world.door);
+        })
+        left) }
 {
     if asks_links(words) {
         return Ran {
