@@ -1,4 +1,4 @@
--- What was answered with 0 to a link stood on the disk before.
+-- What was answered with 0 to a link was found on the disk, and stands there.
 use Rattle.std.proofs.Common.{◌≡◌, ℕ, ◌+◌, ◌<◌, ◌≤◌, List, ◌∷◌, ◌++◌, length, take, drop, pos, true, Option, Some, None, IfSome, refl, sym, ap, ◌∙◌, subst, arith, length-take, take-append-drop}
 use Rattle.mq_outside.specs.Disk.{DiskState, Rests}
 use Rattle.mq_outside.specs.Files.{Files}
@@ -191,7 +191,7 @@ module _ {D : Type 0} (words : List (List ℕ)) (status : Status) (seen : ServeS
       (λ start history. PutsAllAlong (own_format (seen.keep.old.reads FORMAT) command.sizes) start history seen.keep.old seen.keep.new)
       left
 
-  -- each message that was answered with 0 stood on the disk before
+  -- each message that was answered with 0 was found on the disk, and stands there
   keeps_served : (command : ServeCommand) (sizes : Sizes) (left : Parts) → IsServeCommand words command → ServedBy command sizes left → KeepsServed words status seen left
   keeps_served command sizes left asked served = record {
     command = command;

@@ -42,7 +42,7 @@ use Rattle.program_run.proofs.SendSteps.{IsAtOnce, IsWaiting, fault_code, owed_c
 use Rattle.program_run.proofs.Sent.{one_is_zero, same_request}
 
 -- What is known of each message of a history that waits for the disk: what is owed for it at once is no 0; and where its reply
--- waited for a record, and a look found this on the disk, the message was on the disk before.
+-- waited for a record, and a look found this on the disk, the message is acknowledged.
 pub record Knows (past : Past) (disk : DiskState) : Type 0 where
   pub at_once : (link : ℕ) (host : List ℕ) (now : ℕ) (send : SendSaid) (what : Option Said) (reply : ReplyParts) → waits (kept_props send.props) ≡ true
       → IsIn past.history (sends link host now send, what) → IsAtOnce what reply → reply.code ≡ pos 0 → ⊥
@@ -204,7 +204,7 @@ module _ (past : Past) (disk : DiskState) (knows : Knows past disk) where
     heard_as : (bytes : List ℕ) (heard others : List Heard) (held : Held) → heard ≡ others → HasHeard 0 bytes heard held → HasHeard 0 bytes others held
     heard_as bytes heard others held same it = subst (λ (l : List Heard). HasHeard 0 bytes l held) same it
 
-    -- each reply is its request's, and the message of one that accepted it was on the disk before
+    -- each reply is its request's, and the message of one that accepted it is acknowledged
     link_stands : (tells : Type 0) (it : LinkEnd) (made : Made) (asks : List AskParts) → tells → IsAnsweredInOrder tells reader it made asks → AllByRecursion (IsIn past.history) made
         → LinkStands reader past disk it
     link_stands tells it made asks told is each =

@@ -1,4 +1,5 @@
--- What a client of `serve` may rely on: a message that was answered with 0 stood on the disk before, at the place that the reply names.
+-- What a client of `serve` may rely on: a message that was answered with 0 was found on the disk, and stands there, at the place that
+-- the reply names.
 use Rattle.std.specs.Prelude.{◌≡◌, ℕ, ◌++◌, List, [], ◌∷◌, length, map, take, pos, slice_get, All, true, Ok, Some}
 use Rattle.mq_outside.specs.Disk.{DiskState}
 use Rattle.mq_peers.specs.Ended.{LinkEnd}
@@ -127,7 +128,7 @@ pub record IsAcknowledged (past : Past) (disk : DiskState) (reply : ReplyParts) 
 -- ---- a run
 
 -- What a link gave begins with requests: the first of them were answered, in order, and what it took is a front of the bytes of these
--- answers, with check-backs between them. Each message among them that was accepted was on the disk before.
+-- answers, with check-backs between them. Each message among them that was accepted was found on the disk, and stands there.
 pub record LinkStands (reader : ReaderView) (past : Past) (disk : DiskState) (it : LinkEnd) : Type 0 where
   pub read : List ℕ
   pub unread : List ℕ
@@ -147,7 +148,8 @@ LinksStand reader past disk links = (k : ℕ) (it : LinkEnd) → slice_get links
 
 -- Links were served, with this history. Where messages are synced, the disk tells what it holds, had stored a log before the run and was
 -- read of honestly: behind the run it stores the log of this history, whose flush turns ended one behind the other. Where the links that
--- ended are told, with what they gave and took, each accepted message of each of them was on the disk before its reply.
+-- ended are told, with what they gave and took, each accepted message of each of them was found on the disk by a look of this history,
+-- and stands there since the flush turn before that look.
 pub record KeepsServed {D : Type 0} (words : List (List ℕ)) (status : Status) (seen : ServeSeen D) (core : Parts) : Type 0 where
   pub command : ServeCommand
   pub asked : IsServeCommand words command

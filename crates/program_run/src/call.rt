@@ -166,7 +166,8 @@ where
         (counts_of (D.faults result.ended.store.disk) (E.faults result.ended.store.keep)
         (world_faults P.faults P.Door.faults K.faults result.ended.world)) }
     ensures streams { AsksLinks (texts_of words.now) → result.streams ≡ streams }
-    // Each message that a link sent and that was answered with 0 stood on the disk before, whatever crashes.
+    // Each message that a link sent and that was answered with 0 was found on the disk by a look of the history, and stands there
+    // since the flush turn before that look, whatever crashes.
     ensures acknowledged { AsksLinks (texts_of words.now) → IfSome result.ended.core (λ left. KeepsServed (texts_of words.now)
         result.ended.status
         (record {
