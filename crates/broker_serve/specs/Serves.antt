@@ -177,10 +177,10 @@ pub record BeginsOn {D : Type 0} (setup : Setup) (saved : Saved) (opened : Opene
 -- A log was opened by this setup with what the kept files had, and the core stands for one history since, of which each entry is the
 -- flusher's, one of the loops' or the keeper's. Where the disk tells its files, it is the log that recovery keeps of them; and a log
 -- that it stored and was read of honestly it stores still, with what was flushed since. The history begins on the disk that the opening
--- left, and ends on the one behind the run. A reply `read N` has a count of the failures of its loop's reader, which that disk has
--- counted. What was put into the kept files is told along this history. Why the loops ended, how the last flush turn did and the last
--- replacement of the kept files tell the status. Where that replacement ended Ok, as it did with status 0, both have the texts of the
--- core, and keep them through a crash.
+-- left, and ends on the one behind the run. All replies `read N` of a loop are at most as many as the failures of its reader, each has a
+-- count of them, and that disk has counted them. What was put into the kept files is told along this history. Why the loops ended, how
+-- the last flush turn did and the last replacement of the kept files tell the status. Where that replacement ended Ok, as it did with
+-- status 0, both have the texts of the core, and keep them through a crash.
 pub record HasServed {D : Type 0} (views : Views D) (setup : Setup) (run : RunOver D)
     (puts : Parts → List (Event × Option Said) → Type 0) (core : Parts) : Type 0 where
   pub offsets : List OffsetRow

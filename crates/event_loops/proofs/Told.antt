@@ -1,5 +1,5 @@
 -- How acts go together, and what they keep of a loop's links.
-use Rattle.std.proofs.Common.{◌≡◌, ◌≢◌, ◌⊎◌, ⊎_elim, inl, inr, ℕ, zero, suc, ◌<◌, ◌≤◌, ◌==◌, List, [], ◌∷◌, ◌++◌, length, set, cond, Bool, true, false, Option, Some, None, refl, sym, ap, ◌∙◌, subst, arith, append_assoc, append-nil}
+use Rattle.std.proofs.Common.{◌≡◌, ◌≢◌, ◌⊎◌, ⊎_elim, inl, inr, ℕ, zero, suc, ◌<◌, ◌≤◌, ◌+◌, ◌==◌, List, [], ◌∷◌, ◌++◌, length, set, cond, Bool, true, false, Option, Some, None, refl, sym, ap, ◌∙◌, subst, arith, append_assoc, append-nil}
 use Rattle.std.specs.Prelude.{slice_get}
 use Rattle.std.proofs.lemmas.Bool.{cases_Bool}
 use Rattle.std.proofs.lemmas.Bool.Decides.{Decides-eqb}
@@ -12,14 +12,14 @@ use Rattle.broker_events.specs.declared.said.Said.{Said}
 use Rattle.reply_fields.specs.Parts.{AskParts}
 use Rattle.session.specs.Owing.{Steps}
 use Rattle.session.specs.Readers.{ReaderView}
-use Rattle.session.specs.Serving.{Made, Leads}
+use Rattle.session.specs.Serving.{Made, Leads, LeadsReading}
 use Rattle.link_service.specs.Transcripts.{Seen, WentOnWith, WentOn, WentOnUnread, IsFresh, if_asked}
 use Rattle.link_service.proofs.Went.{went_on, went_read, unread_same}
 use Rattle.event_loops.specs.declared.links.Numbered.{Numbered}
 use Rattle.event_loops.specs.declared.ledger.Ledger.{Ledger}
 use Rattle.event_loops.specs.declared.links.Links.{Links}
-use Rattle.event_loops.specs.Takings.{TakesNone, LeadsTaking}
-use Rattle.event_loops.specs.Tales.{Act, act, steps_of, asks_of, acts_for, made_for, asks_for, DidNothing, IsServed, IsTale, loop_of, LinkView, seen_in, LoopNumbers, loop_numbers, HasNumber, IsOwn, IsEndOf, AreEnded, IsTold, Keeps, IsSame, Acts, Leaves, ActsOrLeaves, end_as, end_in, AreSome, LeadsWith, LeadsBy}
+use Rattle.event_loops.specs.Takings.{LeadsTaking}
+use Rattle.event_loops.specs.Tales.{Act, steps_of, asks_of, reads_of, acts_for, made_for, asks_for, reads_for, DidNothing, HasLeft, IsServed, IsTale, loop_of, LinkView, seen_in, LoopNumbers, loop_numbers, HasNumber, IsOwn, IsEndOf, AreEnded, IsTold, Keeps, IsSame, Acts, leave_of, Leaves, ActsOrLeaves, LetsGo, end_as, end_in, AreSome, LeadsWith, LeadsBy}
 use Rattle.event_loops.specs.Tales.{LoopView, Enters, IsToldOf, GoesOn, IsSeenAs}
 
 -- ---- steps by links
@@ -31,6 +31,13 @@ steps_append (x ∷ xs) ys = ap (λ (l : Made). x.made ++ l) (steps_append xs ys
 pub asks_append : (xs ys : List Act) → asks_of (xs ++ ys) ≡ asks_of xs ++ asks_of ys
 asks_append [] ys = refl
 asks_append (x ∷ xs) ys = ap (λ (l : List AskParts). x.asks ++ l) (asks_append xs ys) ∙ sym (append_assoc x.asks (asks_of xs) (asks_of ys))
+
+sum_append : (a b c d : ℕ) → b ≡ c + d → a + b ≡ (a + c) + d
+sum_append a b c d h = omega (arith, h)
+
+pub reads_append : (xs ys : List Act) → reads_of (xs ++ ys) ≡ reads_of xs + reads_of ys
+reads_append [] ys = omega arith
+reads_append (x ∷ xs) ys = sum_append x.reads (reads_of (xs ++ ys)) (reads_of xs) (reads_of ys) (reads_append xs ys)
 
 acts_append : (link : ℕ) (xs ys : List Act) → acts_for link (xs ++ ys) ≡ acts_for link xs ++ acts_for link ys
 acts_append link xs ys = filter-append (λ (one : Act). one.link == link) xs ys
@@ -51,51 +58,91 @@ pub made_one : (link : ℕ) (one : Act)
 made_one link one =
     ⊎_elim (λ own. inl (own.0, ap steps_of own.1 ∙ append-nil one.made)) (λ other. inr (other.0, ap steps_of other.1)) (acts_one link one)
 
--- ---- what was done for a link: its steps, and its check-backs
+-- ---- what was done for a link: its steps, its check-backs, and how many replies `read N` it was sent
 
 abbrev Did : Type 0
-Did = Made × List AskParts
+Did = Made × List AskParts × ℕ
 
 -- nothing
 abbrev idle : Did
-idle = ([], [])
+idle = ([], [], 0)
 
 -- the one and then the other
 abbrev joined : Did → Did → Did
-joined d e = (d.0 ++ e.0, d.1 ++ e.1)
+joined d e = (d.0 ++ e.0, d.1 ++ e.1, d.2 + e.2)
 
 abbrev did_for : ℕ → List Act → Did
-did_for link acts = (made_for link acts, asks_for link acts)
+did_for link acts = (made_for link acts, asks_for link acts, reads_for link acts)
 
-pair_same : {A B : Type 0} (a b : A) (c d : B) → a ≡ b → c ≡ d → ◌≡◌ {A = A × B} (a, c) (b, d)
-pair_same a b c d first second = rw (first, second) refl
+did_same : (a b : Made) (c d : List AskParts) (n m : ℕ) → a ≡ b → c ≡ d → n ≡ m → ◌≡◌ {A = Did} (a, c, n) (b, d, m)
+did_same a b c d n m first second third = rw (first, second, third) refl
 
 joined_idle : (d : Did) → joined d idle ≡ d
-joined_idle d = pair_same (d.0 ++ []) d.0 (d.1 ++ []) d.1 (append-nil d.0) (append-nil d.1)
+joined_idle d = did_same (d.0 ++ []) d.0 (d.1 ++ []) d.1 (d.2 + 0) d.2 (append-nil d.0) (append-nil d.1) (omega arith)
 
 did_append : (link : ℕ) (xs ys : List Act) → did_for link (xs ++ ys) ≡ joined (did_for link xs) (did_for link ys)
 did_append link xs ys =
-    pair_same (made_for link (xs ++ ys)) (made_for link xs ++ made_for link ys) (asks_for link (xs ++ ys)) (asks_for link xs ++ asks_for link ys)
+    did_same (made_for link (xs ++ ys)) (made_for link xs ++ made_for link ys) (asks_for link (xs ++ ys)) (asks_for link xs ++ asks_for link ys)
+    (reads_for link (xs ++ ys)) (reads_for link xs + reads_for link ys)
     (made_append link xs ys) (ap asks_of (acts_append link xs ys) ∙ asks_append (acts_for link xs) (acts_for link ys))
+    (ap reads_of (acts_append link xs ys) ∙ reads_append (acts_for link xs) (acts_for link ys))
 
 -- what these acts did
 abbrev did_by : List Act → Did
-did_by acts = (steps_of acts, asks_of acts)
+did_by acts = (steps_of acts, asks_of acts, reads_of acts)
 
 did_as : (link : ℕ) (acts all : List Act) → acts_for link acts ≡ all → did_for link acts ≡ did_by all
 did_as link acts all is = ap did_by is
 
-did_own : (one : Act) → did_for one.link (one ∷ []) ≡ (one.made, one.asks)
+did_own : (one : Act) → did_for one.link (one ∷ []) ≡ (one.made, one.asks, one.reads)
 did_own one =
-    ⊎_elim (λ own. did_as one.link (one ∷ []) (one ∷ []) own.1 ∙ pair_same (one.made ++ []) one.made (one.asks ++ []) one.asks (append-nil one.made) (append-nil one.asks))
+    ⊎_elim (λ own. did_as one.link (one ∷ []) (one ∷ []) own.1
+    ∙ did_same (one.made ++ []) one.made (one.asks ++ []) one.asks (one.reads + 0) one.reads (append-nil one.made) (append-nil one.asks) (omega arith))
     (λ other. absurd (other.0 refl)) (acts_one one.link one)
 
 did_other : (link : ℕ) (one : Act) → link ≢ one.link → did_for link (one ∷ []) ≡ idle
 did_other link one other = ⊎_elim (λ own. absurd (other (sym own.0))) (λ not. did_as link (one ∷ []) [] not.1) (acts_one link one)
 
--- where none came, none was written
-pub none_taken : {A C : Type 0} (makes : Steps C) (x y : C) (old new : A) (P : List Act → Type 0) → LeadsTaking makes TakesNone x y old new P → LeadsBy makes x y P
-none_taken makes x y old new P h = subst (λ (l : List AskParts). LeadsWith makes x y l P) h.took h.went
+-- the step that tells the end of a link, as it is let go of
+abbrev leave_made : ℕ → Option Said → Made
+leave_made link said = (Leave link, said) ∷ []
+
+left_as : (number link : ℕ) (said : Option Said) → link ≡ number → HasLeft link (leave_made number said)
+left_as number link said same = (said, subst (λ (k : ℕ). leave_made number said ≡ leave_made k said) (sym same) refl)
+
+-- a pass, and then that step
+left_then : (made leave : Made) (reads : ℕ) → joined (made, [], reads) (leave, [], 0) ≡ (made ++ leave, [], reads)
+left_then made leave reads = did_same (made ++ leave) (made ++ leave) [] [] (reads + 0) reads refl refl (omega arith)
+
+-- ---- how many replies `read N` were written
+
+counted_none : (low : ℕ) → low + 0 ≤ low
+counted_none low = omega arith
+
+-- none, whatever the count of the reader's failures is
+pub counted_any : (low : ℕ) (acts : List Act) → 0 + reads_of acts ≤ 0 → low + reads_of acts ≤ low
+counted_any low acts none = omega (arith, none)
+
+pub counted_on : (low at high : ℕ) (first rest : List Act) → low + reads_of first ≤ at → at + reads_of rest ≤ high → low + reads_of (first ++ rest) ≤ high
+counted_on low at high first rest h k = let both = reads_append first rest in omega (arith, both, h, k)
+
+-- those of one act
+counted_one : (low high reads : ℕ) → low + reads ≤ high → low + (reads + 0) ≤ high
+counted_one low high reads h = omega (arith, h)
+
+-- ---- the end of a link
+
+-- it is told of the link in a slot, if there is one
+pub leaves_none : {L C : Type 0} (makes : Steps C) (x : C) (slot : Option (Numbered L)) → slot ≡ None → LeadsBy makes x x 0 0 (λ acts. LetsGo slot acts)
+leaves_none {L} makes x slot none =
+    subst (λ (w : Option (Numbered L)). LeadsBy makes x x 0 0 (λ acts. LetsGo w acts)) (sym none)
+    (record { acts = []; leads = refl; wrote = refl; counted = counted_none 0; so = refl })
+
+pub leaves_some : {L C : Type 0} (makes : Steps C) (x y : C) (slot : Option (Numbered L)) (n : Numbered L) (said : Option Said) → slot ≡ Some n
+    → makes x (Leave n.number) said y → LeadsBy makes x y 0 0 (λ acts. LetsGo slot acts)
+leaves_some {L} makes x y slot n said some leave =
+    subst (λ (w : Option (Numbered L)). LeadsBy makes x y 0 0 (λ acts. LetsGo w acts)) (sym some)
+    (record { acts = leave_of n.number said ∷ []; leads = (y, leave, refl); wrote = refl; counted = counted_none 0; so = (said, refl) })
 
 -- ---- some of a list
 
@@ -178,15 +225,15 @@ module _ {L : Type 0} (view : LinkView L) (reader : ReaderView) where
   -- ---- one link
 
   abbrev Served : Numbered L → Did → Seen → Type 0
-  Served link did now = IsServed view.tells reader link.number link.peer did.0 did.1 now
+  Served link did now = IsServed view.tells reader link.number link.peer did.0 did.1 did.2 now
 
   abbrev Tale : LinkEnd → Did → Type 0
-  Tale it did = IsTale view.tells reader it did.0 did.1
+  Tale it did = IsTale view.tells reader it did.0 did.1 did.2
 
-  served_on : (link : Numbered L) (did more : Did) (mid new : Seen) → Served link did mid → WentOnWith view.tells reader mid more.0 more.1 new
+  served_on : (link : Numbered L) (did more : Did) (mid new : Seen) → Served link did mid → WentOnWith view.tells reader mid more.0 more.1 more.2 new
       → Served link (joined did more) new
   served_on link did more mid new is went =
-      record { first = is.first; fresh = is.fresh; went = went_on view.tells reader is.first mid new did.0 more.0 did.1 more.1 is.went went }
+      record { first = is.first; fresh = is.fresh; went = went_on view.tells reader is.first mid new did.0 more.0 did.1 more.1 did.2 more.2 is.went went }
 
   served_first : (link : Numbered L) (new : Seen) → IsFresh view.tells link.number link.peer new → Served link idle new
   served_first link new fresh =
@@ -195,16 +242,17 @@ module _ {L : Type 0} (view : LinkView L) (reader : ReaderView) where
   -- it is served as the same link
   served_as : (old new : Numbered L) (did : Did) (now : Seen) → IsSame old new → Served old did now → Served new did now
   served_as old new did now same is =
-      subst (λ (p : List ℕ). IsServed view.tells reader new.number p did.0 did.1 now) (sym same.1)
-      (subst (λ (n : ℕ). IsServed view.tells reader n old.peer did.0 did.1 now) (sym same.0) is)
+      subst (λ (p : List ℕ). IsServed view.tells reader new.number p did.0 did.1 did.2 now) (sym same.1)
+      (subst (λ (n : ℕ). IsServed view.tells reader n old.peer did.0 did.1 did.2 now) (sym same.0) is)
 
-  -- it is let go of
-  tale_of : (link : Numbered L) (did : Did) (now : Seen) → Served link did now → Tale (end_as link now) did
-  tale_of link did now is = record {
-    passes = did.0;
-    end = [];
-    both = sym (append-nil did.0);
-    leaves = tt;
+  -- its end was told, and it is let go of
+  tale_left : (link : Numbered L) (number : ℕ) (did more : Did) (said : Option Said) (now : Seen) → link.number ≡ number → Served link (joined did more) now
+      → Tale (end_as link now) (joined did (more.0 ++ leave_made number said, more.1, more.2))
+  tale_left link number did more said now same is = record {
+    passes = did.0 ++ more.0;
+    end = leave_made number said;
+    both = sym (append_assoc did.0 more.0 (leave_made number said));
+    left = left_as number link.number said same;
     now = now;
     served = is;
     given = λ told. refl;
@@ -298,13 +346,13 @@ module _ {L : Type 0} (view : LinkView L) (reader : ReaderView) where
             own = λ j n got. ⊎_elim (λ h. subst (λ (k : ℕ). IsOwn loop k) (sym (is n h.1).0.0) within) (λ h. told.own j n h.1)
                 (there (Some old) new at j n got);
             later = λ link above.
-                subst (λ (d : Did). (d.0 ≡ []) × (d.1 ≡ [])) (sym (still link (λ same. omega (arith, within.within, same, above)))) (told.later link above);
+                subst (λ (d : Did). (d.0 ≡ []) × (d.1 ≡ []) × (d.2 ≡ 0)) (sym (still link (λ same. omega (arith, within.within, same, above)))) (told.later link above);
             known = λ link. ⊎_elim
                 (λ (same : (link == old.number) ≡ true). let equal : link ≡ old.number = (Decides-eqb link old.number).0 same in
                 subst (λ (k : ℕ). DidNothing k (before ++ acts) ⊎ (((j : ℕ) × HasNumber (set links i new) j k) ⊎ ((j : ℕ) × IsEndOf (ended ++ gone) j k))) (sym equal) (inr mine))
                 (λ (other : (link == old.number) ≡ false).
                 let differs : link ≢ old.number = (λ equal. let yes = (Decides-eqb link old.number).1 equal in cc) in
-                ⊎_elim (λ none. inl (subst (λ (d : Did). (d.0 ≡ []) × (d.1 ≡ [])) (sym (still link differs)) none))
+                ⊎_elim (λ none. inl (subst (λ (d : Did). (d.0 ≡ []) × (d.1 ≡ []) × (d.2 ≡ 0)) (sym (still link differs)) none))
                 (λ some. inr (⊎_elim
                 (λ h. inl (
                   h.0,
@@ -350,36 +398,28 @@ module _ {L : Type 0} (view : LinkView L) (reader : ReaderView) where
         subst (λ (x : Option (Numbered L)). IsTold view reader loop (before ++ acts) (set links i x) (ended ++ [])) (sym did.1) (told_same acts at did.0)
     told_acts (Some old) None acts at did = absurd did
     told_acts (Some old) (Some new) acts at did =
-        let one : Act = record { link = old.number; made = did.0; asks = did.1 } in
-        subst (λ (a : List Act). IsTold view reader loop (before ++ a) (set links i (Some new)) (ended ++ [])) (sym did.4)
-        (told_on old at (one ∷ []) (did.0, did.1) (did_own one) (λ k other. did_other k one other) new did.2
-        (served_on old (did_for old.number before) (did.0, did.1) (seen_in view old) (seen_in view new) (told.present i old at) did.3))
+        let one : Act = record { link = old.number; made = did.0; asks = did.1; reads = did.2 } in
+        subst (λ (a : List Act). IsTold view reader loop (before ++ a) (set links i (Some new)) (ended ++ [])) (sym did.5)
+        (told_on old at (one ∷ []) (did.0, did.1, did.2) (did_own one) (λ k other. did_other k one other) new did.3
+        (served_on old (did_for old.number before) (did.0, did.1, did.2) (seen_in view old) (seen_in view new) (told.present i old at) did.4))
 
     -- a pass and the end of one link, which was let go of
     told_leaves : (old last : Numbered L) (acts : List Act) → slice_get links i ≡ Some (Some old) → Leaves view reader old acts last
         → IsTold view reader loop (before ++ acts) (set links i None) (ended ++ end_as last (seen_in view last) ∷ [])
     told_leaves old last acts at did =
-        let leave : Made = (Leave old.number, did.1) ∷ [] in
-        let pass : Act = act old.number did.0 in
-        let tell : Act = act old.number leave in
-        let on = served_on old (did_for old.number before) (did.0, []) (seen_in view old) (seen_in view last) (told.present i old at) did.3 in
-        subst (λ (a : List Act). IsTold view reader loop (before ++ a) (set links i None) (ended ++ end_as last (seen_in view last) ∷ [])) (sym did.4)
-        (told_off old at (pass ∷ tell ∷ []) (did.0 ++ leave, [])
+        let leave : Made = leave_made old.number did.2 in
+        let pass : Act = record { link = old.number; made = did.0; asks = []; reads = did.1 } in
+        let tell : Act = leave_of old.number did.2 in
+        let on = served_on old (did_for old.number before) (did.0, [], did.1) (seen_in view old) (seen_in view last) (told.present i old at) did.4 in
+        subst (λ (a : List Act). IsTold view reader loop (before ++ a) (set links i None) (ended ++ end_as last (seen_in view last) ∷ [])) (sym did.5)
+        (told_off old at (pass ∷ tell ∷ []) (did.0 ++ leave, [], did.1)
         (did_append old.number (pass ∷ []) (tell ∷ []) ∙ ap (λ (d : Did). joined d (did_for old.number (tell ∷ []))) (did_own pass)
-        ∙ ap (λ (d : Did). joined (did.0, []) d) (did_own tell))
+        ∙ ap (λ (d : Did). joined (did.0, [], did.1) d) (did_own tell) ∙ left_then did.0 leave did.1)
         (λ k other. did_append k (pass ∷ []) (tell ∷ []) ∙ ap (λ (d : Did). joined d (did_for k (tell ∷ []))) (did_other k pass other)
         ∙ ap (λ (d : Did). joined idle d) (did_other k tell other))
-        (end_as last (seen_in view last)) did.2.0
-        (record {
-          passes = made_for old.number before ++ did.0;
-          end = leave;
-          both = sym (append_assoc (made_for old.number before) did.0 leave);
-          leaves = (ap (λ (n : ℕ). Leave n) (sym did.2.0), refl);
-          now = seen_in view last;
-          served = served_as old last (joined (did_for old.number before) (did.0, [])) (seen_in view last) did.2 on;
-          given = λ tells. refl;
-          taken = λ tells. refl;
-        }))
+        (end_as last (seen_in view last)) did.3.0
+        (tale_left last old.number (did_for old.number before) (did.0, [], did.1) did.2 (seen_in view last) did.3.0
+        (served_as old last (joined (did_for old.number before) (did.0, [], did.1)) (seen_in view last) did.3 on)))
 
     -- either
     told_acting : (old new : Option (Numbered L)) (acts : List Act) (gone : List LinkEnd) → slice_get links i ≡ Some old
@@ -391,13 +431,16 @@ module _ {L : Type 0} (view : LinkView L) (reader : ReaderView) where
     told_acting (Some old) None acts gone at did =
         subst (λ (l : List LinkEnd). IsTold view reader loop (before ++ acts) (set links i None) (ended ++ l)) (sym did.2) (told_leaves old did.0 acts at did.1)
 
-    -- a link was let go of, as it was
-    told_gone : (old : Option (Numbered L)) → slice_get links i ≡ Some old → IsTold view reader loop (before ++ []) (set links i None) (ended ++ end_in view old)
-    told_gone None at = told_same [] at refl
-    told_gone (Some old) at =
-        told_off old at [] idle refl (λ k other. refl) (end_as old (seen_in view old)) refl
-        (subst (λ (d : Did). Tale (end_as old (seen_in view old)) d) (sym (joined_idle (did_for old.number before)))
-        (tale_of old (did_for old.number before) (seen_in view old) (told.present i old at)))
+    -- the end of a link was told, and it was let go of, as it was
+    told_gone : (old : Option (Numbered L)) (acts : List Act) → slice_get links i ≡ Some old → LetsGo old acts
+        → IsTold view reader loop (before ++ acts) (set links i None) (ended ++ end_in view old)
+    told_gone None acts at did = told_same acts at did
+    told_gone (Some old) acts at did =
+        let tell : Act = leave_of old.number did.0 in
+        subst (λ (a : List Act). IsTold view reader loop (before ++ a) (set links i None) (ended ++ end_as old (seen_in view old) ∷ [])) (sym did.1)
+        (told_off old at (tell ∷ []) (leave_made old.number did.0, [], 0) (did_own tell) (λ k other. did_other k tell other) (end_as old (seen_in view old)) refl
+        (tale_left old old.number (did_for old.number before) idle did.0 (seen_in view old) refl
+        (subst (λ (d : Did). Served old d (seen_in view old)) (sym (joined_idle (did_for old.number before))) (told.present i old at))))
 
     -- a link was reported
     told_seen : (old new : Option (Numbered L)) → slice_get links i ≡ Some old → IsSeenAs view old new
@@ -425,7 +468,7 @@ module _ {L : Type 0} (view : LinkView L) (reader : ReaderView) where
     none_did : did_for new.number before ≡ idle
     none_did =
         let nothing = told.later new.number above in
-        pair_same (made_for new.number before) [] (asks_for new.number before) [] nothing.0 nothing.1
+        did_same (made_for new.number before) [] (asks_for new.number before) [] (reads_for new.number before) 0 nothing.0 nothing.1 nothing.2
 
     new_served : Served new (did_for new.number before) (seen_in view new)
     new_served = subst (λ (d : Did). Served new d (seen_in view new)) (sym none_did) (served_first new (seen_in view new) fresh)
@@ -474,36 +517,6 @@ module _ {L : Type 0} (view : LinkView L) (reader : ReaderView) where
           };
         }))
 
-    -- it is let go of at once
-    told_refused : IsTold view reader (record loop { newest = new.number }) (before ++ []) links (ended ++ end_as new (seen_in view new) ∷ [])
-    told_refused =
-        let it : LinkEnd = end_as new (seen_in view new) in
-        subst (λ (b : List Act). IsTold view reader (record loop { newest = new.number }) b links (ended ++ it ∷ [])) (sym (append-nil before))
-        (record {
-          present = told.present;
-          apart = told.apart;
-          own = λ j n got. own_still loop new.number n.number (omega (arith, above)) (told.own j n got);
-          later = λ link past. told.later link (omega (arith, past, above));
-          known = λ link. ⊎_elim (λ none. inl none) (λ some. inr (⊎_elim (λ h. inl h) (λ h. inr (h.0, (h.1.0, got_more ended (it ∷ []) h.0 h.1.0 h.1.1, h.1.2))) some)) (told.known link);
-          ends = record {
-            each = λ k e got. ⊎_elim
-                (λ was. let had = told.ends.each k e was in (own_still loop new.number e.number (omega (arith, above)) had.0, had.1))
-                (λ last. subst (λ (x : LinkEnd). IsOwn (record loop { newest = new.number }) x.number × Tale x (did_for x.number before)) last.1
-                (own_new loop new.number above falls, tale_of new (did_for new.number before) (seen_in view new) new_served)) (got_last ended it k e got);
-            once = λ j k link one other. ⊎_elim
-                (λ h. ⊎_elim (λ g. told.ends.once j k link (one.0, h, one.2) (other.0, g, other.2))
-                (λ g. let low = (told.ends.each j one.0 h).0 in let is : new.number ≡ one.0.number = ap (λ (x : LinkEnd). x.number) g.1 ∙ other.2 ∙ sym one.2 in absurd (omega (arith, low.within, is, above)))
-                (got_last ended it k other.0 other.1))
-                (λ h. ⊎_elim
-                (λ g. let low = (told.ends.each k other.0 g).0 in let is : new.number ≡ other.0.number = ap (λ (x : LinkEnd). x.number) h.1 ∙ one.2 ∙ sym other.2 in absurd (omega (arith, low.within, is, above)))
-                (λ g. h.0 ∙ sym g.0) (got_last ended it k other.0 other.1)) (got_last ended it j one.0 one.1);
-            gone = λ j k link has end. ⊎_elim (λ g. told.ends.gone j k link has (end.0, g, end.2))
-                (λ g. let low = told.own j has.0 has.1 in
-                let is : new.number ≡ has.0.number = ap (λ (x : LinkEnd). x.number) g.1 ∙ end.2 ∙ sym has.2 in omega (arith, low.within, is, above))
-                (got_last ended it k end.0 end.1);
-          };
-        })
-
   -- one more free slot
   told_push : (loop : LoopNumbers) (before : List Act) (links : List (Option (Numbered L))) (ended : List LinkEnd) → IsTold view reader loop before links ended
       → IsTold view reader loop (before ++ []) (links ++ None ∷ []) (ended ++ [])
@@ -545,12 +558,27 @@ module _ {L : Type 0} (view : LinkView L) (reader : ReaderView) where
       }
 
   -- the last slot is gone, and its link was let go of
-  told_pop : (loop : LoopNumbers) (before : List Act) (links : List (Option (Numbered L))) (ended : List LinkEnd) (last : Option (Numbered L))
-      → IsTold view reader loop before (links ++ last ∷ []) ended → IsTold view reader loop (before ++ []) links (ended ++ end_in view last)
-  told_pop loop before links ended last told =
-      told_unpush loop (before ++ []) links (ended ++ end_in view last)
-      (subst (λ (l : List (Option (Numbered L))). IsTold view reader loop (before ++ []) l (ended ++ end_in view last)) (set_last links last None)
-      (told_gone loop before (links ++ last ∷ []) ended told (length links) last (got_end links last)))
+  told_pop : (loop : LoopNumbers) (before : List Act) (links : List (Option (Numbered L))) (ended : List LinkEnd) (last : Option (Numbered L)) (acts : List Act)
+      → IsTold view reader loop before (links ++ last ∷ []) ended → LetsGo last acts → IsTold view reader loop (before ++ acts) links (ended ++ end_in view last)
+  told_pop loop before links ended last acts told did =
+      told_unpush loop (before ++ acts) links (ended ++ end_in view last)
+      (subst (λ (l : List (Option (Numbered L))). IsTold view reader loop (before ++ acts) l (ended ++ end_in view last)) (set_last links last None)
+      (told_gone loop before (links ++ last ∷ []) ended told (length links) last acts (got_end links last) did))
+
+  -- a new link is let go of at once: it is as if it had been put into one more slot
+  told_refused : (loop : LoopNumbers) (before : List Act) (links : List (Option (Numbered L))) (ended : List LinkEnd) → IsTold view reader loop before links ended
+      → (new : Numbered L) → loop.newest < new.number → loop_of loop.loops new.number ≡ loop.number → IsFresh view.tells new.number new.peer (seen_in view new)
+      → (acts : List Act) → LetsGo (Some new) acts
+      → IsTold view reader (record loop { newest = new.number }) (before ++ acts) links (ended ++ end_as new (seen_in view new) ∷ [])
+  told_refused loop before links ended told new above falls fresh acts did =
+      let after : LoopNumbers = record loop { newest = new.number } in
+      let put = told_put loop (before ++ []) (links ++ None ∷ []) (ended ++ []) (told_push loop before links ended told) new above falls fresh (length links) (got_end links None) in
+      let there : IsTold view reader after ((before ++ []) ++ []) (links ++ Some new ∷ []) ((ended ++ []) ++ []) =
+      subst (λ (l : List (Option (Numbered L))). IsTold view reader after ((before ++ []) ++ []) l ((ended ++ []) ++ [])) (set_last links None (Some new)) put in
+      let kept : IsTold view reader after before (links ++ Some new ∷ []) ended =
+      subst (λ (b : List Act). IsTold view reader after b (links ++ Some new ∷ []) ended) (append-nil (before ++ []) ∙ append-nil before)
+      (subst (λ (e : List LinkEnd). IsTold view reader after ((before ++ []) ++ []) (links ++ Some new ∷ []) e) (append-nil (ended ++ []) ∙ append-nil ended) there) in
+      told_pop after before links ended (Some new) acts kept did
 
   -- nothing was done
   told_still : (loop : LoopNumbers) (before : List Act) (links : List (Option (Numbered L))) (ended : List LinkEnd) → IsTold view reader loop before links ended
@@ -567,8 +595,8 @@ module _ {L : Type 0} (view : LinkView L) (reader : ReaderView) where
         present = λ i at got. let empty : None ≡ Some (Some at) = got in cc;
         apart = apart_by [] (λ i j at other got had same. let empty : None ≡ Some (Some at) = got in cc);
         own = λ i at got. let empty : None ≡ Some (Some at) = got in cc;
-        later = λ link above. (refl, refl);
-        known = λ link. inl (refl, refl);
+        later = λ link above. (refl, refl, refl);
+        known = λ link. inl (refl, refl, refl);
         ends = record {
           each = λ k it got. let empty : None ≡ Some it = got in cc;
           once = λ j k link one other. let empty : None ≡ Some one.0 = one.1 in cc;
@@ -631,10 +659,6 @@ module _ {L N : Type 0} (view : LoopView L N) (reader : ReaderView) where
   pub goes_nowhere_to : (old new : Links L N) → new ≡ old → GoesOn view reader old [] new
   goes_nowhere_to old new same = subst (λ (l : Links L N). GoesOn view reader old [] l) (sym same) (goes_nowhere old)
 
-  -- then nothing was done
-  pub goes_kept : (old mid new : Links L N) → GoesOn view reader old [] mid → new ≡ mid → GoesOn view reader old [] new
-  goes_kept old mid new h same = subst (λ (l : Links L N). GoesOn view reader old [] l) (sym same) h
-
   -- nothing was done at first
   pub goes_from : (old mid new : Links L N) → mid ≡ old → GoesOn view reader mid [] new → GoesOn view reader old [] new
   goes_from old mid new same h = subst (λ (l : Links L N). GoesOn view reader l [] new) same h
@@ -669,12 +693,12 @@ module _ {L N : Type 0} (view : LoopView L N) (reader : ReaderView) where
       rw (same.0, same.1, same.2, same.3) after)
 
   -- a new link was let go of at once
-  pub goes_refusing : (old new : Links L N) (n : Numbered L)
+  pub goes_refusing : (old new : Links L N) (n : Numbered L) (acts : List Act) → LetsGo (Some n) acts
       → (new.loops ≡ old.loops) × (new.number ≡ old.number) × (new.newest ≡ n.number) × (new.slots.items ≡ old.slots.items)
       → Enters view old.ledger (end_as n (seen_in view.links n) ∷ []) new.ledger → old.newest < n.number → loop_of old.loops n.number ≡ old.number
-      → IsFresh view.links.tells n.number n.peer (seen_in view.links n) → GoesOn view reader old [] new
-  goes_refusing old new n same enters above falls fresh = goes_with old new [] (end_as n (seen_in view.links n) ∷ []) (same.0, same.1) enters
-      (λ before ended told. let after = told_refused view.links reader (loop_numbers old) before old.slots.items ended told n above falls fresh in
+      → IsFresh view.links.tells n.number n.peer (seen_in view.links n) → GoesOn view reader old acts new
+  goes_refusing old new n acts did same enters above falls fresh = goes_with old new acts (end_as n (seen_in view.links n) ∷ []) (same.0, same.1) enters
+      (λ before ended told. let after = told_refused view.links reader (loop_numbers old) before old.slots.items ended told n above falls fresh acts did in
       rw (same.0, same.1, same.2, same.3) after)
 
   -- there is one more free slot
@@ -697,11 +721,12 @@ module _ {L N : Type 0} (view : LoopView L N) (reader : ReaderView) where
       rw (same.0, same.1, same.2, same.3) after)
 
   -- the last slot is gone, and its link was let go of
-  pub goes_popped : (old new : Links L N) (last : Option (Numbered L)) → (new.loops ≡ old.loops) × (new.number ≡ old.number) × (new.newest ≡ old.newest)
-      → old.slots.items ≡ new.slots.items ++ last ∷ [] → Enters view old.ledger (end_in view.links last) new.ledger → GoesOn view reader old [] new
-  goes_popped old new last same at enters = goes_with old new [] (end_in view.links last) (same.0, same.1) enters
-      (λ before ended told. let after = told_pop view.links reader (loop_numbers old) before new.slots.items ended last
-      (subst (λ (l : List (Option (Numbered L))). IsTold view.links reader (loop_numbers old) before l ended) at told) in rw (same.0, same.1, same.2) after)
+  pub goes_popped : (old new : Links L N) (last : Option (Numbered L)) (acts : List Act) → LetsGo last acts
+      → (new.loops ≡ old.loops) × (new.number ≡ old.number) × (new.newest ≡ old.newest)
+      → old.slots.items ≡ new.slots.items ++ last ∷ [] → Enters view old.ledger (end_in view.links last) new.ledger → GoesOn view reader old acts new
+  goes_popped old new last acts did same at enters = goes_with old new acts (end_in view.links last) (same.0, same.1) enters
+      (λ before ended told. let after = told_pop view.links reader (loop_numbers old) before new.slots.items ended last acts
+      (subst (λ (l : List (Option (Numbered L))). IsTold view.links reader (loop_numbers old) before l ended) at told) did in rw (same.0, same.1, same.2) after)
 
 module _ {L : Type 0} (view : LinkView L) (reader : ReaderView) where
   -- ---- slots one after another
@@ -733,109 +758,139 @@ module _ {L : Type 0} (view : LinkView L) (reader : ReaderView) where
     acts_write first rest asks more h k =
         subst (λ (l : List AskParts). AreSome l (asks ++ more)) (sym (asks_append first rest)) (some_append (asks_of first) asks (asks_of rest) more h k)
 
+    -- the count of the reader's failures doesn't matter where no reply `read N` was written
+    pub led_any : (x y : C) (asks : List AskParts) (low : ℕ) (P : List Act → Type 0) → LeadsWith makes x y asks 0 0 P → LeadsWith makes x y asks low low P
+    led_any x y asks low P h =
+        record { acts = h.acts; leads = h.leads; wrote = h.wrote; counted = counted_any low h.acts h.counted; so = h.so }
+
     -- a pass of a link, in which a check-back may be written
-    one_went : (x y : C) (o n : Numbered L) (asks all : List AskParts) → AreSome (asks ++ []) all → IsSame o n
-        → Leads makes x y (λ made. WentOnWith view.tells reader (seen_in view o) made asks (seen_in view n))
-        → LeadsWith makes x y all (λ acts. Acts view reader (Some o) acts (Some n))
-    one_went x y o n asks all some same went = record {
-      acts = record { link = o.number; made = went.made; asks = asks } ∷ [];
+    one_went : (x y : C) (o n : Numbered L) (asks all : List AskParts) (low high : ℕ) → AreSome (asks ++ []) all → IsSame o n
+        → LeadsReading makes x y low high (λ made reads. WentOnWith view.tells reader (seen_in view o) made asks reads (seen_in view n))
+        → LeadsWith makes x y all low high (λ acts. Acts view reader (Some o) acts (Some n))
+    one_went x y o n asks all low high some same went = record {
+      acts = record { link = o.number; made = went.made; asks = asks; reads = went.reads } ∷ [];
       leads = subst (λ (l : Made). Makes makes x l y) (sym (append-nil went.made)) went.leads;
       wrote = some;
-      so = (went.made, asks, same, went.so, refl);
+      counted = counted_one low high went.reads went.counted;
+      so = (went.made, asks, went.reads, same, went.so, refl);
     }
 
-    pub one_asked : (x y : C) (o n : Numbered L) (ask : AskParts) (did : Bool) → IsSame o n
-        → Leads makes x y (λ made. WentOnWith view.tells reader (seen_in view o) made (if_asked did ask) (seen_in view n))
-        → LeadsWith makes x y (ask ∷ []) (λ acts. Acts view reader (Some o) acts (Some n))
-    one_asked x y o n ask did same went = one_went x y o n (if_asked did ask) (ask ∷ []) (some_one did ask) same went
+    pub one_asked : (x y : C) (o n : Numbered L) (ask : AskParts) (did : Bool) (low high : ℕ) → IsSame o n
+        → LeadsReading makes x y low high (λ made reads. WentOnWith view.tells reader (seen_in view o) made (if_asked did ask) reads (seen_in view n))
+        → LeadsWith makes x y (ask ∷ []) low high (λ acts. Acts view reader (Some o) acts (Some n))
+    one_asked x y o n ask did low high same went = one_went x y o n (if_asked did ask) (ask ∷ []) low high (some_one did ask) same went
 
-    pub one_replied : (x y : C) (o n : Numbered L) → IsSame o n → Leads makes x y (λ made. WentOn view.tells reader (seen_in view o) made (seen_in view n))
-        → LeadsBy makes x y (λ acts. Acts view reader (Some o) acts (Some n))
-    one_replied x y o n same went = one_went x y o n [] [] refl same went
+    pub one_replied : (x y : C) (o n : Numbered L) (low high : ℕ) → IsSame o n
+        → LeadsReading makes x y low high (λ made reads. WentOn view.tells reader (seen_in view o) made reads (seen_in view n))
+        → LeadsBy makes x y low high (λ acts. Acts view reader (Some o) acts (Some n))
+    one_replied x y o n low high same went = one_went x y o n [] [] low high refl same went
 
     pub one_heard : (x y : C) (o n : Numbered L) → IsSame o n → Leads makes x y (λ made. WentOnUnread view.tells (seen_in view o) made (seen_in view n))
-        → LeadsBy makes x y (λ acts. Acts view reader (Some o) acts (Some n))
+        → LeadsBy makes x y 0 0 (λ acts. Acts view reader (Some o) acts (Some n))
     one_heard x y o n same went =
-        one_replied x y o n same (record { made = went.made; leads = went.leads; so = went_read view.tells reader (seen_in view o) went.made (seen_in view n) went.so })
+        one_replied x y o n 0 0 same (record {
+          made = went.made;
+          leads = went.leads;
+          reads = 0;
+          counted = counted_none 0;
+          so = went_read view.tells reader (seen_in view o) went.made (seen_in view n) went.so;
+        })
 
     -- a pass of a link, and its end
-    pub one_left : (x y z : C) (o n : Numbered L) (said : Option Said) → IsSame o n → Leads makes x y (λ made. WentOn view.tells reader (seen_in view o) made (seen_in view n))
-        → makes y (Leave o.number) said z → LeadsBy makes x z (λ acts. Leaves view reader o acts n)
-    one_left x y z o n said same went leave = record {
-      acts = act o.number went.made ∷ act o.number ((Leave o.number, said) ∷ []) ∷ [];
+    pub one_left : (x y z : C) (o n : Numbered L) (said : Option Said) (low high : ℕ) → IsSame o n
+        → LeadsReading makes x y low high (λ made reads. WentOn view.tells reader (seen_in view o) made reads (seen_in view n))
+        → makes y (Leave o.number) said z → LeadsBy makes x z low high (λ acts. Leaves view reader o acts n)
+    one_left x y z o n said low high same went leave = record {
+      acts = record { link = o.number; made = went.made; asks = []; reads = went.reads } ∷ leave_of o.number said ∷ [];
       leads = makes_append makes x went.made y ((Leave o.number, said) ∷ []) z went.leads (z, leave, refl);
       wrote = refl;
-      so = (went.made, said, same, went.so, refl);
+      counted = counted_one low high went.reads went.counted;
+      so = (went.made, went.reads, said, same, went.so, refl);
     }
 
     module _ {N : Type 0} (whole : LoopView L N) where
       -- a slot in which something was done, or nothing, and whose link is there still
-      pub slot_stays : (x y : C) (o n : Option (Numbered L)) (ledger : Ledger N) → LeadsBy makes x y (λ acts. Acts view reader o acts n)
-          → LeadsBy makes x y (λ acts. (gone : List LinkEnd) × Enters whole ledger gone ledger × ActsOrLeaves view reader o acts n gone)
-      slot_stays x y o n ledger h =
-          record { acts = h.acts; leads = h.leads; wrote = h.wrote; so = ([], enters_none whole reader ledger, passes_one o n h.acts h.so) }
+      pub slot_stays : (x y : C) (o n : Option (Numbered L)) (ledger : Ledger N) (low high : ℕ) → LeadsBy makes x y low high (λ acts. Acts view reader o acts n)
+          → LeadsBy makes x y low high (λ acts. (gone : List LinkEnd) × Enters whole ledger gone ledger × ActsOrLeaves view reader o acts n gone)
+      slot_stays x y o n ledger low high h = record {
+        acts = h.acts;
+        leads = h.leads;
+        wrote = h.wrote;
+        counted = h.counted;
+        so = ([], enters_none whole reader ledger, passes_one o n h.acts h.so);
+      }
 
       -- its link has ended, and was let go of
-      pub slot_left : (x y : C) (s t taken : Option (Numbered L)) (o n : Numbered L) (old new : Ledger N) → s ≡ Some o → t ≡ None → taken ≡ Some n
-          → LeadsBy makes x y (λ acts. Leaves view reader o acts n) → Enters whole old (end_in view taken) new
-          → LeadsBy makes x y (λ acts. (gone : List LinkEnd) × Enters whole old gone new × ActsOrLeaves view reader s acts t gone)
-      slot_left x y s t taken o n old new was free got h enters =
-          subst (λ (u : Option (Numbered L)). LeadsBy makes x y (λ acts. (gone : List LinkEnd) × Enters whole old gone new × ActsOrLeaves view reader u acts t gone)) (sym was)
-          (subst (λ (u : Option (Numbered L)). LeadsBy makes x y (λ acts. (gone : List LinkEnd) × Enters whole old gone new × ActsOrLeaves view reader (Some o) acts u gone)) (sym free)
+      pub slot_left : (x y : C) (s t taken : Option (Numbered L)) (o n : Numbered L) (old new : Ledger N) (low high : ℕ) → s ≡ Some o → t ≡ None → taken ≡ Some n
+          → LeadsBy makes x y low high (λ acts. Leaves view reader o acts n) → Enters whole old (end_in view taken) new
+          → LeadsBy makes x y low high (λ acts. (gone : List LinkEnd) × Enters whole old gone new × ActsOrLeaves view reader s acts t gone)
+      slot_left x y s t taken o n old new low high was free got h enters =
+          subst (λ (u : Option (Numbered L)). LeadsBy makes x y low high (λ acts. (gone : List LinkEnd) × Enters whole old gone new × ActsOrLeaves view reader u acts t gone)) (sym was)
+          (subst (λ (u : Option (Numbered L)). LeadsBy makes x y low high (λ acts. (gone : List LinkEnd) × Enters whole old gone new × ActsOrLeaves view reader (Some o) acts u gone)) (sym free)
           (record {
             acts = h.acts;
             leads = h.leads;
             wrote = h.wrote;
+            counted = h.counted;
             so = (end_as n (seen_in view n) ∷ [], subst (λ (u : Option (Numbered L)). Enters whole old (end_in view u) new) got enters, (n, h.so, refl));
           }))
 
       -- acts of one slot, and of others before it
-      pub keeps_replying : (x y z : C) (first mid : List (Option (Numbered L))) (i : ℕ) (old new : Option (Numbered L)) (l m r : Ledger N) → slice_get mid i ≡ Some old
-          → LeadsBy makes x y (λ acts. (gone : List LinkEnd) × Enters whole l gone m × Keeps view reader first acts mid gone)
-          → LeadsBy makes y z (λ acts. (gone : List LinkEnd) × Enters whole m gone r × ActsOrLeaves view reader old acts new gone)
-          → LeadsBy makes x z (λ acts. (gone : List LinkEnd) × Enters whole l gone r × Keeps view reader first acts (set mid i new) gone)
-      keeps_replying x y z first mid i old new l m r at h k = record {
+      pub keeps_replying : (x y z : C) (first mid : List (Option (Numbered L))) (i : ℕ) (old new : Option (Numbered L)) (l m r : Ledger N) (low here high : ℕ)
+          → slice_get mid i ≡ Some old
+          → LeadsBy makes x y low here (λ acts. (gone : List LinkEnd) × Enters whole l gone m × Keeps view reader first acts mid gone)
+          → LeadsBy makes y z here high (λ acts. (gone : List LinkEnd) × Enters whole m gone r × ActsOrLeaves view reader old acts new gone)
+          → LeadsBy makes x z low high (λ acts. (gone : List LinkEnd) × Enters whole l gone r × Keeps view reader first acts (set mid i new) gone)
+      keeps_replying x y z first mid i old new l m r low here high at h k = record {
         acts = h.acts ++ k.acts;
         leads = acts_lead x y z h.acts k.acts h.leads k.leads;
         wrote = acts_write h.acts k.acts [] [] h.wrote k.wrote;
+        counted = counted_on low here high h.acts k.acts h.counted k.counted;
         so = (h.so.0 ++ k.so.0, enters_then whole reader l m r h.so.0 k.so.0 h.so.1 k.so.1, keeps_then first mid i old new h.acts k.acts h.so.0 k.so.0 at h.so.2 k.so.2);
       }
 
-      pub replying_first : (x : C) (links : List (Option (Numbered L))) (ledger : Ledger N)
-          → LeadsBy makes x x (λ acts. (gone : List LinkEnd) × Enters whole ledger gone ledger × Keeps view reader links acts links gone)
-      replying_first x links ledger =
-          record { acts = []; leads = refl; wrote = refl; so = ([], enters_none whole reader ledger, keeps_all links) }
+      pub replying_first : (x : C) (links : List (Option (Numbered L))) (ledger : Ledger N) (low : ℕ)
+          → LeadsBy makes x x low low (λ acts. (gone : List LinkEnd) × Enters whole ledger gone ledger × Keeps view reader links acts links gone)
+      replying_first x links ledger low = record {
+        acts = [];
+        leads = refl;
+        wrote = refl;
+        counted = counted_none low;
+        so = ([], enters_none whole reader ledger, keeps_all links);
+      }
 
     -- there is no link
-    pub none_asked : (x : C) (o : Option (Numbered L)) (asks : List AskParts) → o ≡ None → LeadsWith makes x x asks (λ acts. Acts view reader o acts o)
-    none_asked x o asks none = subst (λ (w : Option (Numbered L)). LeadsWith makes x x asks (λ acts. Acts view reader w acts w)) (sym none)
-        (record { acts = []; leads = refl; wrote = some_none asks; so = (refl, refl) })
+    pub none_asked : (x : C) (o : Option (Numbered L)) (asks : List AskParts) (low : ℕ) → o ≡ None → LeadsWith makes x x asks low low (λ acts. Acts view reader o acts o)
+    none_asked x o asks low none = subst (λ (w : Option (Numbered L)). LeadsWith makes x x asks low low (λ acts. Acts view reader w acts w)) (sym none)
+        (record { acts = []; leads = refl; wrote = some_none asks; counted = counted_none low; so = (refl, refl) })
 
     -- acts of one slot, and of others before it
     pub keeps_slot : (x y z : C) (first mid : List (Option (Numbered L))) (i : ℕ) (old new : Option (Numbered L)) → slice_get mid i ≡ Some old
-        → LeadsBy makes x y (λ acts. Keeps view reader first acts mid []) → LeadsBy makes y z (λ acts. Acts view reader old acts new)
-        → LeadsBy makes x z (λ acts. Keeps view reader first acts (set mid i new) [])
+        → LeadsBy makes x y 0 0 (λ acts. Keeps view reader first acts mid []) → LeadsBy makes y z 0 0 (λ acts. Acts view reader old acts new)
+        → LeadsBy makes x z 0 0 (λ acts. Keeps view reader first acts (set mid i new) [])
     keeps_slot x y z first mid i old new at h k = record {
       acts = h.acts ++ k.acts;
       leads = acts_lead x y z h.acts k.acts h.leads k.leads;
       wrote = acts_write h.acts k.acts [] [] h.wrote k.wrote;
+      counted = counted_on 0 0 0 h.acts k.acts h.counted k.counted;
       so = keeps_then first mid i old new h.acts k.acts [] [] at h.so (passes_one old new k.acts k.so);
     }
 
-    pub keeps_first : (x : C) (links : List (Option (Numbered L))) → LeadsBy makes x x (λ acts. Keeps view reader links acts links [])
-    keeps_first x links = record { acts = []; leads = refl; wrote = refl; so = keeps_all links }
+    pub keeps_first : (x : C) (links : List (Option (Numbered L))) → LeadsBy makes x x 0 0 (λ acts. Keeps view reader links acts links [])
+    keeps_first x links = record { acts = []; leads = refl; wrote = refl; counted = counted_none 0; so = keeps_all links }
 
 module _ {L N : Type 0} (view : LoopView L N) (reader : ReaderView) where
   module _ {C : Type 0} (makes : Steps C) where
     -- a loop goes on by what its slots do
-    pub goes_by : (x y : C) (old new : Links L N) (slots left : List (Option (Numbered L))) → slots ≡ old.slots.items → new.slots.items ≡ left
+    pub goes_by : (x y : C) (old new : Links L N) (slots left : List (Option (Numbered L))) (low high : ℕ) → slots ≡ old.slots.items → new.slots.items ≡ left
         → (new.loops ≡ old.loops) × (new.number ≡ old.number) × (new.newest ≡ old.newest)
-        → LeadsBy makes x y (λ acts. (gone : List LinkEnd) × Enters view old.ledger gone new.ledger × Keeps view.links reader slots acts left gone)
-        → LeadsBy makes x y (λ acts. GoesOn view reader old acts new)
-    goes_by x y old new slots left are then same h = record {
+        → LeadsBy makes x y low high (λ acts. (gone : List LinkEnd) × Enters view old.ledger gone new.ledger × Keeps view.links reader slots acts left gone)
+        → LeadsBy makes x y low high (λ acts. GoesOn view reader old acts new)
+    goes_by x y old new slots left low high are then same h = record {
       acts = h.acts;
       leads = h.leads;
       wrote = h.wrote;
+      counted = h.counted;
       so = goes_with view reader old new h.acts h.so.0 (same.0, same.1) h.so.1
           (λ before ended told. let after = h.so.2 (loop_numbers old) before ended (subst (λ (l : List (Option (Numbered L))). IsTold view.links reader (loop_numbers old) before l ended) (sym are) told) in
           rw (same.0, same.1, same.2, then) after);
@@ -844,77 +899,139 @@ module _ {L N : Type 0} (view : LoopView L N) (reader : ReaderView) where
     -- where no link is let go of
     pub goes_hearing : (x y : C) (old new : Links L N) (slots left : List (Option (Numbered L))) → slots ≡ old.slots.items → new.slots.items ≡ left
         → (new.loops ≡ old.loops) × (new.number ≡ old.number) × (new.newest ≡ old.newest) → new.ledger ≡ old.ledger
-        → LeadsBy makes x y (λ acts. Keeps view.links reader slots acts left []) → LeadsBy makes x y (λ acts. GoesOn view reader old acts new)
+        → LeadsBy makes x y 0 0 (λ acts. Keeps view.links reader slots acts left []) → LeadsBy makes x y 0 0 (λ acts. GoesOn view reader old acts new)
     goes_hearing x y old new slots left are then same ledger h =
-        goes_by x y old new slots left are then same (record { acts = h.acts; leads = h.leads; wrote = h.wrote; so = ([], enters_still view reader old.ledger new.ledger ledger, h.so) })
+        goes_by x y old new slots left 0 0 are then same (record {
+          acts = h.acts;
+          leads = h.leads;
+          wrote = h.wrote;
+          counted = h.counted;
+          so = ([], enters_still view reader old.ledger new.ledger ledger, h.so);
+        })
 
     -- a loop goes on by what one of its slots does
-    pub goes_at : (x y : C) (old new : Links L N) (i : ℕ) (o n : Option (Numbered L)) (asks : List AskParts)
+    pub goes_at : (x y : C) (old new : Links L N) (i : ℕ) (o n : Option (Numbered L)) (asks : List AskParts) (low high : ℕ)
         → (new.loops ≡ old.loops) × (new.number ≡ old.number) × (new.newest ≡ old.newest) × (new.slots.items ≡ set old.slots.items i n) → new.ledger ≡ old.ledger
-        → slice_get old.slots.items i ≡ Some o → LeadsWith makes x y asks (λ acts. Acts view.links reader o acts n) → LeadsWith makes x y asks (λ acts. GoesOn view reader old acts new)
-    goes_at x y old new i o n asks same ledger at h = record {
+        → slice_get old.slots.items i ≡ Some o → LeadsWith makes x y asks low high (λ acts. Acts view.links reader o acts n)
+        → LeadsWith makes x y asks low high (λ acts. GoesOn view reader old acts new)
+    goes_at x y old new i o n asks low high same ledger at h = record {
       acts = h.acts;
       leads = h.leads;
       wrote = h.wrote;
+      counted = h.counted;
       so = goes_with view reader old new h.acts [] (same.0, same.1) (enters_still view reader old.ledger new.ledger ledger)
           (λ before ended told. let after = told_acts view.links reader (loop_numbers old) before old.slots.items ended told i o n h.acts at h.so in
           rw (same.0, same.1, same.2, same.3) after);
     }
 
-    pub goes_leading : (x y z : C) (old mid new : Links L N) (asks more : List AskParts) → LeadsWith makes x y asks (λ acts. GoesOn view reader old acts mid)
-        → LeadsWith makes y z more (λ acts. GoesOn view reader mid acts new) → LeadsWith makes x z (asks ++ more) (λ acts. GoesOn view reader old acts new)
-    goes_leading x y z old mid new asks more h k = record {
+    pub goes_leading : (x y z : C) (old mid new : Links L N) (asks more : List AskParts) (low here high : ℕ) → LeadsWith makes x y asks low here (λ acts. GoesOn view reader old acts mid)
+        → LeadsWith makes y z more here high (λ acts. GoesOn view reader mid acts new) → LeadsWith makes x z (asks ++ more) low high (λ acts. GoesOn view reader old acts new)
+    goes_leading x y z old mid new asks more low here high h k = record {
       acts = h.acts ++ k.acts;
       leads = acts_lead view.links reader makes x y z h.acts k.acts h.leads k.leads;
       wrote = acts_write view.links reader makes h.acts k.acts asks more h.wrote k.wrote;
+      counted = counted_on low here high h.acts k.acts h.counted k.counted;
       so = goes_on view reader old mid new h.acts k.acts h.so k.so;
     }
 
     -- nothing is written, whatever was taken
-    pub goes_quietly : (x : C) (old new : Links L N) (asks : List AskParts) → GoesOn view reader old [] new → LeadsWith makes x x asks (λ acts. GoesOn view reader old acts new)
-    goes_quietly x old new asks went = record { acts = []; leads = refl; wrote = some_none asks; so = went }
+    pub goes_quietly : (x : C) (old new : Links L N) (asks : List AskParts) (low : ℕ) → GoesOn view reader old [] new
+        → LeadsWith makes x x asks low low (λ acts. GoesOn view reader old acts new)
+    goes_quietly x old new asks low went = record { acts = []; leads = refl; wrote = some_none asks; counted = counted_none low; so = went }
+
+    -- ---- links that are let go of
+
+    -- some acts by which no reply was written
+    abbrev pub Quietly : C → Links L N → C → Links L N → Type 0
+    Quietly x old y new = LeadsBy makes x y 0 0 (λ acts. GoesOn view reader old acts new)
+
+    pub quiet_then : (x y z : C) (old mid new : Links L N) → Quietly x old y mid → Quietly y mid z new → Quietly x old z new
+    quiet_then x y z old mid new h k = goes_leading x y z old mid new [] [] 0 0 0 h k
+
+    -- no step was made at first
+    pub quiet_first : (x y : C) (old mid new : Links L N) → GoesOn view reader old [] mid → Quietly x mid y new → Quietly x old y new
+    quiet_first x y old mid new h k = quiet_then x x y old mid new (goes_quietly x old mid [] 0 h) k
+
+    -- and then none
+    pub quiet_last : (x y : C) (old mid new : Links L N) → Quietly x old y mid → GoesOn view reader mid [] new → Quietly x old y new
+    quiet_last x y old mid new h k = quiet_then x y y old mid new h (goes_quietly y mid new [] 0 k)
+
+    -- and then nothing changed
+    pub quiet_kept : (x y : C) (old mid new : Links L N) → Quietly x old y mid → new ≡ mid → Quietly x old y new
+    quiet_kept x y old mid new h same = subst (λ (l : Links L N). Quietly x old y l) (sym same) h
+
+    pub quiet_none : (x : C) (links : Links L N) → Quietly x links x links
+    quiet_none x links = goes_quietly x links links [] 0 (goes_nowhere view reader links)
+
+    -- a new link was let go of at once
+    pub quiet_refusing : (x y : C) (old new : Links L N) (n : Numbered L)
+        → (new.loops ≡ old.loops) × (new.number ≡ old.number) × (new.newest ≡ n.number) × (new.slots.items ≡ old.slots.items)
+        → Enters view old.ledger (end_as n (seen_in view.links n) ∷ []) new.ledger → old.newest < n.number → loop_of old.loops n.number ≡ old.number
+        → IsFresh view.links.tells n.number n.peer (seen_in view.links n) → LeadsBy makes x y 0 0 (λ acts. LetsGo (Some n) acts) → Quietly x old y new
+    quiet_refusing x y old new n same enters above falls fresh h = record {
+      acts = h.acts;
+      leads = h.leads;
+      wrote = h.wrote;
+      counted = h.counted;
+      so = goes_refusing view reader old new n h.acts h.so same enters above falls fresh;
+    }
+
+    -- the last slot is gone, and its link was let go of
+    pub quiet_popped : (x y : C) (old new : Links L N) (last : Option (Numbered L)) → (new.loops ≡ old.loops) × (new.number ≡ old.number) × (new.newest ≡ old.newest)
+        → old.slots.items ≡ new.slots.items ++ last ∷ [] → Enters view old.ledger (end_in view.links last) new.ledger
+        → LeadsBy makes x y 0 0 (λ acts. LetsGo last acts) → Quietly x old y new
+    quiet_popped x y old new last same at enters h = record {
+      acts = h.acts;
+      leads = h.leads;
+      wrote = h.wrote;
+      counted = h.counted;
+      so = goes_popped view reader old new last h.acts h.so same at enters;
+    }
 
     -- ---- check-backs that were taken
 
     module _ {A : Type 0} (takes : A → List AskParts → A → Type 0) where
-      abbrev pub Taking : C → Links L N → A → C → Links L N → A → Type 0
-      Taking x old before y new after = LeadsTaking makes takes x y before after (λ acts. GoesOn view reader old acts new)
+      abbrev pub Taking : C → Links L N → A → C → Links L N → A → ℕ → ℕ → Type 0
+      Taking x old before y new after low high = LeadsTaking makes takes x y before after low high (λ acts. GoesOn view reader old acts new)
 
       -- none was taken
-      pub taking_none : ((end : A) → takes end [] end) → (x y : C) (old new : Links L N) (end : A) → LeadsBy makes x y (λ acts. GoesOn view reader old acts new)
-          → Taking x old end y new end
-      taking_none none x y old new end went = record { taken = []; took = none end; went = went }
+      pub taking_none : ((end : A) → takes end [] end) → (x y : C) (old new : Links L N) (end : A) (low high : ℕ) → LeadsBy makes x y low high (λ acts. GoesOn view reader old acts new)
+          → Taking x old end y new end low high
+      taking_none none x y old new end low high went = record { taken = []; took = none end; went = went }
 
       -- no step was made either
-      pub taking_nothing : ((end : A) → takes end [] end) → (x : C) (old new : Links L N) (end : A) → GoesOn view reader old [] new → Taking x old end x new end
-      taking_nothing none x old new end went = taking_none none x x old new end (goes_quietly x old new [] went)
+      pub taking_nothing : ((end : A) → takes end [] end) → (x : C) (old new : Links L N) (end : A) (low : ℕ) → GoesOn view reader old [] new → Taking x old end x new end low low
+      taking_nothing none x old new end low went = taking_none none x x old new end low low (goes_quietly x old new [] low went)
 
       module _ (more : (old : A) (first : List AskParts) (mid : A) (rest : List AskParts) (new : A) → takes old first mid → takes mid rest new → takes old (first ++ rest) new) where
-        pub taking_on : (x y z : C) (old mid new : Links L N) (before at after : A) → Taking x old before y mid at → Taking y mid at z new after
-            → Taking x old before z new after
-        taking_on x y z old mid new before at after h k = record {
+        pub taking_on : (x y z : C) (old mid new : Links L N) (before at after : A) (low here high : ℕ) → Taking x old before y mid at low here
+            → Taking y mid at z new after here high → Taking x old before z new after low high
+        taking_on x y z old mid new before at after low here high h k = record {
           taken = h.taken ++ k.taken;
           took = more before h.taken at k.taken after h.took k.took;
-          went = goes_leading x y z old mid new h.taken k.taken h.went k.went;
+          went = goes_leading x y z old mid new h.taken k.taken low here high h.went k.went;
         }
 
         -- one more was taken, and was written to its link or dropped
-        pub taking_one : (x y z : C) (old mid new : Links L N) (before at after : A) (ask : AskParts) → Taking x old before y mid at → takes at (ask ∷ []) after
-            → LeadsWith makes y z (ask ∷ []) (λ acts. GoesOn view reader mid acts new) → Taking x old before z new after
-        taking_one x y z old mid new before at after ask h took went =
-            taking_on x y z old mid new before at after h (record { taken = ask ∷ []; took = took; went = went })
+        pub taking_one : (x y z : C) (old mid new : Links L N) (before at after : A) (ask : AskParts) (low here high : ℕ) → Taking x old before y mid at low here
+            → takes at (ask ∷ []) after → LeadsWith makes y z (ask ∷ []) here high (λ acts. GoesOn view reader mid acts new) → Taking x old before z new after low high
+        taking_one x y z old mid new before at after ask low here high h took went =
+            taking_on x y z old mid new before at after low here high h (record { taken = ask ∷ []; took = took; went = went })
 
         -- and then none was there
-        pub taking_until : (x y : C) (old new : Links L N) (before at after : A) → Taking x old before y new at → takes at [] after → Taking x old before y new after
-        taking_until x y old new before at after h took = record {
+        pub taking_until : (x y : C) (old new : Links L N) (before at after : A) (low high : ℕ) → Taking x old before y new at low high → takes at [] after
+            → Taking x old before y new after low high
+        taking_until x y old new before at after low high h took = record {
           taken = h.taken;
           took = subst (λ (l : List AskParts). takes before l after) (append-nil h.taken) (more before h.taken at [] after h.took took);
           went = h.went;
         }
 
-        -- no step was made at first, check-backs were taken, and then none
-        pub taking_serving : ((end : A) → takes end [] end) → (x y z : C) (old mid from given new : Links L N) (before after : A) → GoesOn view reader old [] mid
-            → from ≡ mid → Taking x from before y given after → LeadsBy makes y z (λ acts. GoesOn view reader given acts new) → Taking x old before z new after
-        taking_serving none x y z old mid from given new before after h same took served =
-            taking_on x x z old from new before before after (taking_nothing none x old from before (goes_kept view reader old mid from h same))
-            (taking_on x y z from given new before after after took (taking_none none y z given new after served))
+        -- links were let go of at first, check-backs were taken, and then none
+        pub taking_serving : ((end : A) → takes end [] end) → (w x y z : C) (old mid from given new : Links L N) (before after : A) (low here high : ℕ) → Quietly w old x mid
+            → from ≡ mid → Taking x from before y given after low here → LeadsBy makes y z here high (λ acts. GoesOn view reader given acts new)
+            → Taking w old before z new after low high
+        taking_serving none w x y z old mid from given new before after low here high h same took served =
+            taking_on w x z old from new before before after low low high
+            (taking_none none w x old from before low low (led_any view.links reader makes w x [] low (λ acts. GoesOn view reader old acts from) (quiet_kept w x old mid from h same)))
+            (taking_on x y z from given new before after after low here high took (taking_none none y z given new after here high served))

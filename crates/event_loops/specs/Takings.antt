@@ -1,5 +1,5 @@
 -- Which check-backs a loop took, and which of them it wrote.
-use Rattle.std.specs.Prelude.{◌≡◌, ◌++◌, List, [], ◌∷◌, refl}
+use Rattle.std.specs.Prelude.{◌≡◌, ◌++◌, ℕ, List, [], ◌∷◌, refl}
 use Rattle.std.proofs.Common.{ap, ◌∙◌}
 use Rattle.reply_fields.specs.Parts.{AskParts}
 use Rattle.session.specs.Owing.{Steps}
@@ -24,9 +24,9 @@ pub none_at_all : {A : Type 0} (old : A) (first : List AskParts) (mid : A) (rest
 none_at_all old first mid rest new h k = ap (λ (l : List AskParts). l ++ rest) h ∙ k
 
 -- Some check-backs were taken, some acts lead from x to y, and of them this is so. What they wrote are some of what was taken, in that
--- order and each once.
+-- order and each once, and no more replies `read N` than a reader failed between these two counts of its failures.
 pub record LeadsTaking {C A : Type 0} (makes : Steps C) (takes : A → List AskParts → A → Type 0) (x y : C) (before after : A)
-    (P : List Act → Type 0) : Type 0 where
+    (low high : ℕ) (P : List Act → Type 0) : Type 0 where
   pub taken : List AskParts
   pub took : takes before taken after
-  pub went : LeadsWith makes x y taken P
+  pub went : LeadsWith makes x y taken low high P

@@ -1,5 +1,5 @@
 -- What a loop does for its links: the steps and check-backs of each, between those of the others.
-use Rattle.std.specs.Prelude.{◌≡◌, ◌⊎◌, ◌≤◌, ◌<◌, ◌==◌, ◌++◌, ◌%◌, ℕ, List, [], ◌∷◌, filter, max, slice_get, Option, Some, None, false}
+use Rattle.std.specs.Prelude.{◌≡◌, ◌⊎◌, ◌≤◌, ◌<◌, ◌==◌, ◌+◌, ◌++◌, ◌%◌, ℕ, List, [], ◌∷◌, filter, max, slice_get, Option, Some, None, false}
 use Rattle.mq_peers.specs.Ended.{LinkEnd}
 use Rattle.reply_fields.specs.Parts.{AskParts}
 use Rattle.broker_events.specs.Makes.{Makes}
@@ -15,15 +15,16 @@ use Rattle.event_loops.specs.declared.links.Numbered.{Numbered}
 
 -- ---- steps by links
 
--- steps that were made for one link, and the check-backs that were written to it meanwhile
+-- steps that were made for one link, and the check-backs and how many replies `read N` were written to it meanwhile
 pub record Act : Type 0 where
   pub link : ℕ
   pub made : Made
   pub asks : List AskParts
+  pub reads : ℕ
 
 -- these steps, for this link
 abbrev pub act : ℕ → Made → Act
-act link made = record { link = link; made = made; asks = [] }
+act link made = record { link = link; made = made; asks = []; reads = 0 }
 
 -- the steps of all acts, in order
 abbrev pub steps_of : List Act → Made
@@ -34,6 +35,11 @@ steps_of (one ∷ acts) = one.made ++ steps_of acts
 abbrev pub asks_of : List Act → List AskParts
 asks_of [] = []
 asks_of (one ∷ acts) = one.asks ++ asks_of acts
+
+-- how many replies `read N` all acts wrote
+abbrev pub reads_of : List Act → ℕ
+reads_of [] = 0
+reads_of (one ∷ acts) = one.reads + reads_of acts
 
 -- the acts for this link, in order
 abbrev pub acts_for : ℕ → List Act → List Act
@@ -47,46 +53,50 @@ made_for link acts = steps_of (acts_for link acts)
 abbrev pub asks_for : ℕ → List Act → List AskParts
 asks_for link acts = asks_of (acts_for link acts)
 
+-- how many replies `read N` were written to this link
+abbrev pub reads_for : ℕ → List Act → ℕ
+reads_for link acts = reads_of (acts_for link acts)
+
 -- nothing was done for this link
 abbrev pub DidNothing : ℕ → List Act → Type 0
-DidNothing link acts = (made_for link acts ≡ []) × (asks_for link acts ≡ [])
+DidNothing link acts = (made_for link acts ≡ []) × (asks_for link acts ≡ []) × (reads_for link acts ≡ 0)
 
 -- ---- the tale of one link
 
 -- The link with this number, from this peer, went on from its beginning to how it is seen now, made these steps, and was sent these
--- check-backs.
-pub record IsServed (tells : Type 0) (reader : ReaderView) (number : ℕ) (host : List ℕ) (made : Made) (asks : List AskParts) (now : Seen)
-    : Type 0 where
+-- check-backs and so many replies `read N`.
+pub record IsServed (tells : Type 0) (reader : ReaderView) (number : ℕ) (host : List ℕ) (made : Made) (asks : List AskParts) (reads : ℕ)
+    (now : Seen) : Type 0 where
   pub first : Seen
   pub fresh : IsFresh tells number host first
-  pub went : WentOnWith tells reader first made asks now
+  pub went : WentOnWith tells reader first made asks reads now
 
--- nothing, or one step, which tells that the link has ended
-abbrev pub MayLeave : ℕ → Made → Type 0
-MayLeave number [] = Unit {0}
-MayLeave number (step ∷ steps) = (step.0 ≡ Leave number) × (steps ≡ [])
+-- one step, which tells that the link has ended
+abbrev pub HasLeft : ℕ → Made → Type 0
+HasLeft number made = (said : Option Said) × (made ≡ (Leave number, said) ∷ [])
 
 -- What was done for a link that has ended so: its passes from its beginning on, by which it gave and took what it did, with their
--- check-backs, and behind them at most its `Leave`.
-pub record IsTale (tells : Type 0) (reader : ReaderView) (it : LinkEnd) (made : Made) (asks : List AskParts) : Type 0 where
+-- check-backs and so many replies `read N`, and behind them its `Leave`.
+pub record IsTale (tells : Type 0) (reader : ReaderView) (it : LinkEnd) (made : Made) (asks : List AskParts) (reads : ℕ) : Type 0 where
   pub passes : Made
   pub end : Made
   pub both : made ≡ passes ++ end
-  pub leaves : MayLeave it.number end
+  pub left : HasLeft it.number end
   pub now : Seen
-  pub served : IsServed tells reader it.number it.peer passes asks now
+  pub served : IsServed tells reader it.number it.peer passes asks reads now
   pub given : tells → now.given ≡ it.given
   pub taken : tells → now.taken ≡ it.taken
 
--- The same, and so each reply is its request's: the passes are a transcript of the link, with these check-backs. What it heard is what
--- the link gave, and what it sent is what the link took.
-pub record IsAnsweredInOrder (tells : Type 0) (reader : ReaderView) (it : LinkEnd) (made : Made) (asks : List AskParts) : Type 0 where
+-- The same, and so each reply is its request's: the passes are a transcript of the link, with these check-backs and so many replies
+-- `read N`. What it heard is what the link gave, and what it sent is what the link took.
+pub record IsAnsweredInOrder (tells : Type 0) (reader : ReaderView) (it : LinkEnd) (made : Made) (asks : List AskParts) (reads : ℕ)
+    : Type 0 where
   pub passes : Made
   pub end : Made
   pub both : made ≡ passes ++ end
-  pub leaves : MayLeave it.number end
+  pub left : HasLeft it.number end
   pub now : Seen
-  pub transcript : IsTranscript tells reader it.number it.peer passes asks now
+  pub transcript : IsTranscript tells reader it.number it.peer passes asks reads now
   pub given : tells → now.given ≡ it.given
   pub taken : tells → now.taken ≡ it.taken
 
@@ -136,7 +146,7 @@ pub record IsOwn (loop : LoopNumbers) (link : ℕ) : Type 0 where
 pub record AreEnded {L : Type 0} (view : LinkView L) (reader : ReaderView) (loop : LoopNumbers) (acts : List Act)
     (links : List (Option (Numbered L))) (ended : List LinkEnd) : Type 0 where
   pub each : (k : ℕ) (it : LinkEnd) → slice_get ended k ≡ Some it → IsOwn loop it.number
-      × IsTale view.tells reader it (made_for it.number acts) (asks_for it.number acts)
+      × IsTale view.tells reader it (made_for it.number acts) (asks_for it.number acts) (reads_for it.number acts)
   pub once : (j k link : ℕ) → IsEndOf ended j link → IsEndOf ended k link → j ≡ k
   pub gone : (i k link : ℕ) → HasNumber links i link → IsEndOf ended k link → ⊥
 
@@ -145,7 +155,8 @@ pub record AreEnded {L : Type 0} (view : LinkView L) (reader : ReaderView) (loop
 pub record IsTold {L : Type 0} (view : LinkView L) (reader : ReaderView) (loop : LoopNumbers) (acts : List Act)
     (links : List (Option (Numbered L))) (ended : List LinkEnd) : Type 0 where
   pub present : (i : ℕ) (at : Numbered L) → slice_get links i ≡ Some (Some at)
-      → IsServed view.tells reader at.number at.peer (made_for at.number acts) (asks_for at.number acts) (seen_in view at)
+      → IsServed view.tells reader at.number at.peer (made_for at.number acts) (asks_for at.number acts) (reads_for at.number acts)
+      (seen_in view at)
   pub apart : (i j link : ℕ) → HasNumber links i link → HasNumber links j link → i ≡ j
   pub own : (i : ℕ) (at : Numbered L) → slice_get links i ≡ Some (Some at) → IsOwn loop at.number
   pub later : (link : ℕ) → loop.newest < link → DidNothing link acts
@@ -179,15 +190,19 @@ IsSame old new = (new.number ≡ old.number) × (new.peer ≡ old.peer)
 abbrev pub Acts : {L : Type 0} → LinkView L → ReaderView → Option (Numbered L) → List Act → Option (Numbered L) → Type 0
 Acts view reader None acts new = (acts ≡ []) × (new ≡ None)
 Acts view reader (Some old) acts None = ⊥
-Acts view reader (Some old) acts (Some new) = (made : Made) × (asks : List AskParts) × IsSame old new
-    × WentOnWith view.tells reader (seen_in view old) made asks (seen_in view new)
-    × (acts ≡ record { link = old.number; made = made; asks = asks } ∷ [])
+Acts view reader (Some old) acts (Some new) = (made : Made) × (asks : List AskParts) × (reads : ℕ) × IsSame old new
+    × WentOnWith view.tells reader (seen_in view old) made asks reads (seen_in view new)
+    × (acts ≡ record { link = old.number; made = made; asks = asks; reads = reads } ∷ [])
+
+-- the step that tells the end of this link
+abbrev pub leave_of : ℕ → Option Said → Act
+leave_of link said = act link ((Leave link, said) ∷ [])
 
 -- a pass of a link, and its end
 abbrev pub Leaves : {L : Type 0} → LinkView L → ReaderView → Numbered L → List Act → Numbered L → Type 0
-Leaves view reader old acts new = (made : Made) × (said : Option Said) × IsSame old new
-    × WentOn view.tells reader (seen_in view old) made (seen_in view new)
-    × (acts ≡ act old.number made ∷ act old.number ((Leave old.number, said) ∷ []) ∷ [])
+Leaves view reader old acts new = (made : Made) × (reads : ℕ) × (said : Option Said) × IsSame old new
+    × WentOn view.tells reader (seen_in view old) made reads (seen_in view new)
+    × (acts ≡ record { link = old.number; made = made; asks = []; reads = reads } ∷ leave_of old.number said ∷ [])
 
 -- what these acts did for one link, or where there is none: a pass, or a pass and its end, after which it was let go of
 abbrev pub ActsOrLeaves : {L : Type 0} → LinkView L → ReaderView → Option (Numbered L) → List Act → Option (Numbered L) → List LinkEnd → Type 0
@@ -195,6 +210,11 @@ ActsOrLeaves view reader old acts (Some new) gone = Acts view reader old acts (S
 ActsOrLeaves view reader None acts None gone = (acts ≡ []) × (gone ≡ [])
 ActsOrLeaves {L} view reader (Some old) acts None gone =
     (last : Numbered L) × Leaves view reader old acts last × (gone ≡ end_as last (seen_in view last) ∷ [])
+
+-- the step by which the link in a slot is let go of, if there is one
+abbrev pub LetsGo : {L : Type 0} → Option (Numbered L) → List Act → Type 0
+LetsGo None acts = acts ≡ []
+LetsGo (Some at) acts = (said : Option Said) × (acts ≡ leave_of at.number said ∷ [])
 
 -- the link in a slot, as it is let go of
 abbrev pub end_in : {L : Type 0} → LinkView L → Option (Numbered L) → List LinkEnd
@@ -206,16 +226,18 @@ abbrev pub AreSome : {A : Type 0} → List A → List A → Type 0
 AreSome some [] = some ≡ []
 AreSome {A} some (x ∷ all) = AreSome some all ⊎ ((rest : List A) × (some ≡ x ∷ rest) × AreSome rest all)
 
--- some acts lead from x to y, and of them this is so; what they wrote are some of these check-backs
-pub record LeadsWith {C : Type 0} (makes : Steps C) (x y : C) (asks : List AskParts) (P : List Act → Type 0) : Type 0 where
+-- Some acts lead from x to y, and of them this is so. What they wrote are some of these check-backs, and no more replies `read N` than a
+-- reader failed whose count of failures went from the first of these two to the second.
+pub record LeadsWith {C : Type 0} (makes : Steps C) (x y : C) (asks : List AskParts) (low high : ℕ) (P : List Act → Type 0) : Type 0 where
   pub acts : List Act
   pub leads : Makes makes x (steps_of acts) y
   pub wrote : AreSome (asks_of acts) asks
+  pub counted : low + reads_of acts ≤ high
   pub so : P acts
 
--- the same where they wrote none
-abbrev pub LeadsBy : {C : Type 0} → Steps C → C → C → (List Act → Type 0) → Type 0
-LeadsBy makes x y P = LeadsWith makes x y [] P
+-- the same where they wrote no check-back
+abbrev pub LeadsBy : {C : Type 0} → Steps C → C → C → ℕ → ℕ → (List Act → Type 0) → Type 0
+LeadsBy makes x y low high P = LeadsWith makes x y [] low high P
 
 -- ---- a loop
 

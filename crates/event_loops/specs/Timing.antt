@@ -6,9 +6,10 @@ use Rattle.link_service.specs.Clocks.{AreAt}
 use Rattle.event_loops.specs.Tales.{Act, GoesOn, LoopView, steps_of}
 use Rattle.event_loops.specs.declared.links.Links.{Links}
 
--- steps of passes, one for each of these readings, in order: each gave its requests to the broker at its reading
+-- Steps of passes, one for each of these readings, in order: each gave its requests to the broker at its reading. Behind the last one
+-- are steps that are no requests.
 abbrev pub ArePasses : List ℕ → Made → Type 0
-ArePasses [] made = made ≡ []
+ArePasses [] made = AreAt (λ at. ⊥) made
 ArePasses (now ∷ readings) made = (pass rest : Made) × (made ≡ pass ++ rest) × AreAt (λ at. at ≡ now) pass × ArePasses readings rest
 
 -- what the clock gave are the readings of the passes by which these steps were made; a pass may have made none

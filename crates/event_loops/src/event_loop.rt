@@ -131,15 +131,16 @@ impl<P: Ready + Drop> EventLoop<P> {
 
     // Serves this link from now on. One for which there is no place is let go of, and one that doesn't fall to the loop is lost.
     // Answers whether it is served.
-    fn adopt<K: Clock + Drop, R: Reader>(
+    fn adopt<K: Clock + Drop, C: Calls, R: Reader>(
         &mut self,
         alloc: Global,
         outside: &mut Outside<P, K>,
+        calls: &mut C,
         new: NewLink<P::Link>,
     ) -> bool
-        ensures went { ByReader R.gives 0
-            (λ read. GoesOn (loop_view P.Link.tells P.Link.given P.Link.taken P.Ends.tells P.Ends.entries) read
-            self.old.links [] self.new.links) }
+        ensures went { ByReader R.gives 0 (λ read. LeadsBy (unasked C.makes) calls.old calls.new 0 0
+            (λ acts. GoesOn (loop_view P.Link.tells P.Link.given P.Link.taken P.Ends.tells P.Ends.entries) read
+            self.old.links acts self.new.links)) }
         ensures clock { outside.new.clock ≡ outside.old.clock }
         ensures entrance { outside.new.entrance ≡ outside.old.entrance }
         ensures grow { Grow (loop_faults P.faults P.Door.faults K.faults outside.old)
@@ -156,22 +157,23 @@ impl<P: Ready + Drop> EventLoop<P> {
                 true
             }
             None => {
-                self.links.refuse::<R>(alloc, number, link);
+                self.links.refuse::<C, R>(alloc, calls, number, link);
                 false
             }
         }
     }
 
     // Serves a link that is new, or hands it over to the loop to which it falls.
-    fn place<W: Wait, K: Clock + Drop, R: Reader>(
+    fn place<W: Wait, K: Clock + Drop, C: Calls, R: Reader>(
         &mut self,
         around: &Around<'_, W, P>,
         outside: &mut Outside<P, K>,
+        calls: &mut C,
         new: NewLink<P::Link>,
     )
-        ensures went { ByReader R.gives 0
-            (λ read. GoesOn (loop_view P.Link.tells P.Link.given P.Link.taken P.Ends.tells P.Ends.entries) read
-            self.old.links [] self.new.links) }
+        ensures went { ByReader R.gives 0 (λ read. LeadsBy (unasked C.makes) calls.old calls.new 0 0
+            (λ acts. GoesOn (loop_view P.Link.tells P.Link.given P.Link.taken P.Ends.tells P.Ends.entries) read
+            self.old.links acts self.new.links)) }
         ensures clock { outside.new.clock ≡ outside.old.clock }
         ensures entrance { outside.new.entrance ≡ outside.old.entrance }
         ensures grow { Grow (loop_faults P.faults P.Door.faults K.faults outside.old)
@@ -189,7 +191,7 @@ impl<P: Ready + Drop> EventLoop<P> {
             }
             return;
         }
-        if !self.adopt::<K, R>(around.alloc, outside, new) {
+        if !self.adopt::<K, C, R>(around.alloc, outside, calls, new) {
             uncount(around);
         }
     }
@@ -220,14 +222,15 @@ impl<P: Ready + Drop> EventLoop<P> {
     }
 
     // Lets in whoever stands at the door, as many as one pass takes.
-    fn let_in<W: Wait, K: Clock + Drop, R: Reader>(
+    fn let_in<W: Wait, K: Clock + Drop, C: Calls, R: Reader>(
         &mut self,
         around: &Around<'_, W, P>,
         outside: &mut Outside<P, K>,
+        calls: &mut C,
     ) -> Result<(), LoopEnd>
-        ensures went { ByReader R.gives 0
-            (λ read. GoesOn (loop_view P.Link.tells P.Link.given P.Link.taken P.Ends.tells P.Ends.entries) read
-            self.old.links [] self.new.links) }
+        ensures went { ByReader R.gives 0 (λ read. LeadsBy (unasked C.makes) calls.old calls.new 0 0
+            (λ acts. GoesOn (loop_view P.Link.tells P.Link.given P.Link.taken P.Ends.tells P.Ends.entries) read
+            self.old.links acts self.new.links)) }
         ensures clock { outside.new.clock ≡ outside.old.clock }
         ensures door { KeepsDoor P.Door.gave outside.old.entrance outside.new.entrance }
         ensures cause { CountsLoop result (loop_faults P.faults P.Door.faults K.faults outside.old)
@@ -238,21 +241,22 @@ impl<P: Ready + Drop> EventLoop<P> {
             let Some(new) = came else {
                 return Ok(());
             };
-            self.place::<W, K, R>(around, outside, new);
+            self.place::<W, K, C, R>(around, outside, calls, new);
         }
         self.at_door = true;
         Ok(())
     }
 
     // Asks at the door, where someone may stand there.
-    fn ask_door<W: Wait, K: Clock + Drop, R: Reader>(
+    fn ask_door<W: Wait, K: Clock + Drop, C: Calls, R: Reader>(
         &mut self,
         around: &Around<'_, W, P>,
         outside: &mut Outside<P, K>,
+        calls: &mut C,
     ) -> Result<(), LoopEnd>
-        ensures went { ByReader R.gives 0
-            (λ read. GoesOn (loop_view P.Link.tells P.Link.given P.Link.taken P.Ends.tells P.Ends.entries) read
-            self.old.links [] self.new.links) }
+        ensures went { ByReader R.gives 0 (λ read. LeadsBy (unasked C.makes) calls.old calls.new 0 0
+            (λ acts. GoesOn (loop_view P.Link.tells P.Link.given P.Link.taken P.Ends.tells P.Ends.entries) read
+            self.old.links acts self.new.links)) }
         ensures clock { outside.new.clock ≡ outside.old.clock }
         ensures door { KeepsDoor P.Door.gave outside.old.entrance outside.new.entrance }
         ensures cause { CountsLoop result (loop_faults P.faults P.Door.faults K.faults outside.old)
@@ -263,18 +267,19 @@ impl<P: Ready + Drop> EventLoop<P> {
         }
         self.at_door = false;
         self.door_waits = false;
-        self.let_in::<W, K, R>(around, outside)
+        self.let_in::<W, K, C, R>(around, outside, calls)
     }
 
     // Serves the links that other loops handed over, as many as one pass takes. Answers whether there may be more.
-    fn take_in<W: Wait, K: Clock + Drop, R: Reader>(
+    fn take_in<W: Wait, K: Clock + Drop, C: Calls, R: Reader>(
         &mut self,
         around: &Around<'_, W, P>,
         outside: &mut Outside<P, K>,
+        calls: &mut C,
     ) -> bool
-        ensures went { ByReader R.gives 0
-            (λ read. GoesOn (loop_view P.Link.tells P.Link.given P.Link.taken P.Ends.tells P.Ends.entries) read
-            self.old.links [] self.new.links) }
+        ensures went { ByReader R.gives 0 (λ read. LeadsBy (unasked C.makes) calls.old calls.new 0 0
+            (λ acts. GoesOn (loop_view P.Link.tells P.Link.given P.Link.taken P.Ends.tells P.Ends.entries) read
+            self.old.links acts self.new.links)) }
         ensures clock { outside.new.clock ≡ outside.old.clock }
         ensures entrance { outside.new.entrance ≡ outside.old.entrance }
         ensures grow { Grow (loop_faults P.faults P.Door.faults K.faults outside.old)
@@ -287,7 +292,7 @@ impl<P: Ready + Drop> EventLoop<P> {
             let Some(new) = port.take(around.rt) else {
                 return false;
             };
-            if !self.adopt::<K, R>(around.alloc, outside, new) {
+            if !self.adopt::<K, C, R>(around.alloc, outside, calls, new) {
                 uncount(around);
             }
         }
@@ -343,6 +348,7 @@ impl<P: Ready + Drop> EventLoop<P> {
     ) -> bool
         ensures went { ByReader R.gives (R.faults reader.new)
             (λ read. LeadsTaking (unasked C.makes) A.takes calls.old calls.new asks.old asks.new
+            (R.faults reader.old) (R.faults reader.new)
             (λ acts. GoesOn (loop_view P.Link.tells P.Link.given P.Link.taken P.Ends.tells P.Ends.entries) read
             self.old.links acts self.new.links)) }
         ensures grows { R.faults reader.old ≤ R.faults reader.new }
@@ -368,6 +374,7 @@ impl<P: Ready + Drop> EventLoop<P> {
     )
         requires { now < 2 ^ 62 }
         ensures went { ByReader R.gives (R.faults reader.new) (λ read. LeadsBy (at_reading now C.makes) calls.old calls.new
+            (R.faults reader.old) (R.faults reader.new)
             (λ acts. GoesOn (loop_view P.Link.tells P.Link.given P.Link.taken P.Ends.tells P.Ends.entries) read
             self.old.links acts self.new.links)) }
         ensures grows { R.faults reader.old ≤ R.faults reader.new }
@@ -450,15 +457,16 @@ impl<P: Ready + Drop> EventLoop<P> {
 
     // Waits for reports, so many milliseconds at most, notes them and lets in who came. Answers whether more may have
     // come.
-    fn gather<W: Wait, K: Clock + Drop, R: Reader>(
+    fn gather<W: Wait, K: Clock + Drop, C: Calls, R: Reader>(
         &mut self,
         around: &Around<'_, W, P>,
         outside: &mut Outside<P, K>,
+        calls: &mut C,
         timeout: Option<u64>,
     ) -> Result<bool, LoopEnd>
-        ensures went { ByReader R.gives 0
-            (λ read. GoesOn (loop_view P.Link.tells P.Link.given P.Link.taken P.Ends.tells P.Ends.entries) read
-            self.old.links [] self.new.links) }
+        ensures went { ByReader R.gives 0 (λ read. LeadsBy (unasked C.makes) calls.old calls.new 0 0
+            (λ acts. GoesOn (loop_view P.Link.tells P.Link.given P.Link.taken P.Ends.tells P.Ends.entries) read
+            self.old.links acts self.new.links)) }
         ensures clock { outside.new.clock ≡ outside.old.clock }
         ensures door { KeepsDoor P.Door.gave outside.old.entrance outside.new.entrance }
         ensures cause { CountsLoop result (loop_faults P.faults P.Door.faults K.faults outside.old)
@@ -466,8 +474,8 @@ impl<P: Ready + Drop> EventLoop<P> {
     {
         self.wait(outside, timeout)?;
         self.note_reports::<R>();
-        self.ask_door::<W, K, R>(around, outside)?;
-        Ok(self.take_in::<W, K, R>(around, outside))
+        self.ask_door::<W, K, C, R>(around, outside, calls)?;
+        Ok(self.take_in::<W, K, C, R>(around, outside, calls))
     }
 
     // One pass: what was reported, the check-backs that have arrived, what came, and what is due. Answers how long the next one
@@ -484,6 +492,7 @@ impl<P: Ready + Drop> EventLoop<P> {
     ) -> Result<Option<u64>, LoopEnd>
         ensures went { ByReader R.gives (R.faults reader.new)
             (λ read. LeadsTaking C.makes A.takes calls.old calls.new asks.old asks.new
+            (R.faults reader.old) (R.faults reader.new)
             (λ acts. GoesTimed (loop_view P.Link.tells P.Link.given P.Link.taken P.Ends.tells P.Ends.entries) read
             (clock_over K.tells (K.readings outside.old.clock) (K.readings outside.new.clock)) self.old.links acts self.new.links)) }
         ensures grows { R.faults reader.old ≤ R.faults reader.new }
@@ -491,7 +500,7 @@ impl<P: Ready + Drop> EventLoop<P> {
         ensures cause { CountsLoop result (loop_faults P.faults P.Door.faults K.faults outside.old)
             (loop_faults P.faults P.Door.faults K.faults outside.new) }
     {
-        let more_came = self.gather::<W, K, R>(around, outside, timeout)?;
+        let more_came = self.gather::<W, K, C, R>(around, outside, calls, timeout)?;
         let now = outside.now()?;
         let failed = self.note_turns(around.shared);
         let more_asks = self.take_asks(around, asks, calls, reader);
@@ -511,6 +520,7 @@ impl<P: Ready + Drop> EventLoop<P> {
     ) -> LoopEnd
         ensures went { ByReader R.gives (R.faults reader.new)
             (λ read. LeadsTaking C.makes A.takes calls.old calls.new asks.old asks.new
+            (R.faults reader.old) (R.faults reader.new)
             (λ acts. GoesTimed (loop_view P.Link.tells P.Link.given P.Link.taken P.Ends.tells P.Ends.entries) read
             (clock_over K.tells (K.readings outside.old.clock) (K.readings outside.new.clock)) self.old.links acts self.new.links)) }
         ensures grows { R.faults reader.old ≤ R.faults reader.new }
@@ -549,6 +559,7 @@ impl<P: Ready + Drop> EventLoop<P> {
         // clock gave for it. What was written to links are some of the check-backs that were taken.
         ensures went { ByReader R.gives (R.faults reader.new)
             (λ read. LeadsTaking C.makes A.takes calls.old calls.new asks.old asks.new
+            (R.faults reader.old) (R.faults reader.new)
             (λ acts. GoesTimed (loop_view P.Link.tells P.Link.given P.Link.taken P.Ends.tells P.Ends.entries) read
             (clock_over K.tells (K.readings outside.old.clock) (K.readings outside.new.clock)) self.old.links acts self.new.links)) }
         ensures grows { R.faults reader.old ≤ R.faults reader.new }
@@ -561,15 +572,15 @@ impl<P: Ready + Drop> EventLoop<P> {
             (loop_faults P.faults P.Door.faults K.faults outside.new) }
     {
         let end = self.go_on(around, outside, asks, calls, reader, flusher);
-        self.links.let_go::<R>();
+        self.links.let_go::<C, R>(around.alloc, calls);
         end
     }
 
     // Lets go of a link that was handed over and is served by nobody.
-    fn refuse<R: Reader>(&mut self, alloc: Global, new: NewLink<P::Link>)
-        ensures went { ByReader R.gives 0
-            (λ read. GoesOn (loop_view P.Link.tells P.Link.given P.Link.taken P.Ends.tells P.Ends.entries) read
-            self.old.links [] self.new.links) }
+    fn refuse<C: Calls, R: Reader>(&mut self, alloc: Global, calls: &mut C, new: NewLink<P::Link>)
+        ensures went { ByReader R.gives 0 (λ read. LeadsBy (unasked C.makes) calls.old calls.new 0 0
+            (λ acts. GoesOn (loop_view P.Link.tells P.Link.given P.Link.taken P.Ends.tells P.Ends.entries) read
+            self.old.links acts self.new.links)) }
         ensures slots { self.new.links.slots ≡ self.old.links.slots }
     {
         let NewLink { number, link } = new;
@@ -577,14 +588,18 @@ impl<P: Ready + Drop> EventLoop<P> {
             self.links.lose::<R>();
             return;
         }
-        self.links.refuse::<R>(alloc, number, link);
+        self.links.refuse::<C, R>(alloc, calls, number, link);
     }
 
     /// Lets go of the links that were handed over to it and not served any more, once all loops have ended.
-    pub fn refuse_left<W: Wait, R: Reader>(&mut self, around: &Around<'_, W, P>)
-        ensures went { ByReader R.gives 0
-            (λ read. GoesOn (loop_view P.Link.tells P.Link.given P.Link.taken P.Ends.tells P.Ends.entries) read
-            self.old.links [] self.new.links) }
+    pub fn refuse_left<W: Wait, C: Calls, R: Reader>(
+        &mut self,
+        around: &Around<'_, W, P>,
+        calls: &mut C,
+    )
+        ensures went { ByReader R.gives 0 (λ read. LeadsBy (unasked C.makes) calls.old calls.new 0 0
+            (λ acts. GoesOn (loop_view P.Link.tells P.Link.given P.Link.taken P.Ends.tells P.Ends.entries) read
+            self.old.links acts self.new.links)) }
         ensures slots { self.new.links.slots ≡ self.old.links.slots }
     {
         let Some(port) = around.ports.get(self.links.number) else {
@@ -594,7 +609,7 @@ impl<P: Ready + Drop> EventLoop<P> {
             let Some(new) = port.take(around.rt) else {
                 return;
             };
-            self.refuse::<R>(around.alloc, new);
+            self.refuse::<C, R>(around.alloc, calls, new);
         }
         unreachable!()
     }

@@ -21,12 +21,12 @@ pub fn a_loop_is_told_from_its_beginning_on<L: Link, N: Ends<L>, R: Reader>()
         → IsToldOf (loop_view L.tells L.given L.taken N.tells N.entries) (counted_to R.gives failures) acts new }
 {}
 
-/// What a loop did for a link that has ended, from its beginning on, is a transcript of the link, with the check-backs that it wrote, and
-/// behind it at most its `Leave`.
+/// What a loop did for a link that has ended, from its beginning on, is a transcript of the link, with the check-backs and the number of
+/// replies `read N` that it wrote, and behind it the link's `Leave`.
 pub fn each_link_of_a_loop_is_answered_in_order<L: Link, R: Reader>()
-    ensures { (failures : ℕ) (it : LinkEnd) (made : Made) (asks : List AskParts)
-        → IsTale L.tells (counted_to R.gives failures) it made asks
-        → IsAnsweredInOrder L.tells (counted_to R.gives failures) it made asks }
+    ensures { (failures : ℕ) (it : LinkEnd) (made : Made) (asks : List AskParts) (reads : ℕ)
+        → IsTale L.tells (counted_to R.gives failures) it made asks reads
+        → IsAnsweredInOrder L.tells (counted_to R.gives failures) it made asks reads }
 {
     a_link_is_answered_in_order::<L, R>();
 }

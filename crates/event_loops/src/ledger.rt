@@ -24,10 +24,7 @@ impl<N: Drop> Ledger<N> {
 }
 
 // Closes a link and enters it. One that shows another peer than in its beginning is lost.
-pub(crate) fn enter<L: Link + Drop, N: Ends<L> + Drop>(
-    ledger: &mut Ledger<N>,
-    numbered: Numbered<L>,
-)
+fn enter<L: Link + Drop, N: Ends<L> + Drop>(ledger: &mut Ledger<N>, numbered: Numbered<L>)
     ensures { Enters (loop_view L.tells L.given L.taken N.tells N.entries) ledger.old
         (end_as numbered (seen_in (link_view L.tells L.given L.taken) numbered) ∷ []) ledger.new }
 {

@@ -6,10 +6,10 @@ ghost use Rattle.broker_events.specs.declared.event.Event.TheVariants.{Leave};
 ghost use Rattle.broker_events.specs.declared.said.Said.{Said};
 ghost use Rattle.link_service.specs.Clocks.{at_reading, unasked};
 ghost use Rattle.link_service.specs.Transcripts.{ByReader};
-ghost use Rattle.event_loops.specs.Tales.{Acts, ActsOrLeaves, Enters, Keeps, Leaves, LeadsWith, LeadsBy, GoesOn, IsSeenAs, IsLink, IsSlotOf};
-ghost use Rattle.event_loops.specs.Tales.{link_view, loop_view, loop_of as loop_of_link};
+ghost use Rattle.event_loops.specs.Tales.{Acts, ActsOrLeaves, Enters, Keeps, Leaves, LetsGo, LeadsWith, LeadsBy, GoesOn, IsSeenAs};
+ghost use Rattle.event_loops.specs.Tales.{IsLink, IsSlotOf, end_in, link_view, loop_view, loop_of as loop_of_link};
 
-use crate::ledger::{Ledger, enter, let_go};
+use crate::ledger::{Ledger, let_go};
 use crate::shared::Shared;
 use broker_events::{Calls, Event as BrokerEvent};
 use link_service::Linked;
@@ -89,7 +89,7 @@ fn hear_one<L: Link + Drop, C: Calls, R: Reader>(
     failed: Option<u64>,
 ) -> bool
     requires { now < 2 ^ 62 }
-    ensures went { ByReader R.gives 0 (λ read. LeadsBy (at_reading now C.makes) calls.old calls.new
+    ensures went { ByReader R.gives 0 (λ read. LeadsBy (at_reading now C.makes) calls.old calls.new 0 0
         (λ acts. Acts (link_view L.tells L.given L.taken) read (Some numbered.old) acts (Some numbered.new))) }
 {
     numbered.linked.hear(alloc, calls, buffer, now, failed)
@@ -105,7 +105,7 @@ fn hear_slot<L: Link + Drop, C: Calls, R: Reader>(
     failed: Option<u64>,
 ) -> bool
     requires { now < 2 ^ 62 }
-    ensures went { ByReader R.gives 0 (λ read. LeadsBy (at_reading now C.makes) calls.old calls.new
+    ensures went { ByReader R.gives 0 (λ read. LeadsBy (at_reading now C.makes) calls.old calls.new 0 0
         (λ acts. Acts (link_view L.tells L.given L.taken) read slot.old acts slot.new)) }
 {
     match slot {
@@ -124,7 +124,7 @@ fn hear_each<L: Link + Drop, C: Calls, R: Reader>(
     failed: Option<u64>,
 ) -> bool
     requires { now < 2 ^ 62 }
-    ensures went { ByReader R.gives 0 (λ read. LeadsBy (at_reading now C.makes) calls.old calls.new
+    ensures went { ByReader R.gives 0 (λ read. LeadsBy (at_reading now C.makes) calls.old calls.new 0 0
         (λ acts. Keeps (link_view L.tells L.given L.taken) read slots.old acts slots.new [])) }
 {
     let mut any = false;
@@ -142,6 +142,31 @@ fn leave<C: Calls>(alloc: Global, calls: &mut C, link: u32)
     let _ = calls.call(alloc, &BrokerEvent::Leave { link });
 }
 
+// The same of the link in a slot, if there is one.
+fn leave_slot<L: Link + Drop, C: Calls>(alloc: Global, calls: &mut C, slot: &Option<Numbered<L>>)
+    ensures left { LeadsBy (unasked C.makes) calls.old calls.new 0 0 (λ acts. LetsGo slot.now acts) }
+{
+    match slot {
+        Some(numbered) => leave(alloc, calls, numbered.number),
+        None => {}
+    }
+}
+
+// Lets go of the link in a slot, once its end is told.
+fn end_slot<L: Link + Drop, N: Ends<L> + Drop, C: Calls>(
+    alloc: Global,
+    calls: &mut C,
+    slot: Option<Numbered<L>>,
+    ledger: &mut Ledger<N>,
+)
+    ensures left { LeadsBy (unasked C.makes) calls.old calls.new 0 0 (λ acts. LetsGo slot acts) }
+    ensures enters { Enters (loop_view L.tells L.given L.taken N.tells N.entries) ledger.old
+        (end_in (link_view L.tells L.given L.taken) slot) ledger.new }
+{
+    leave_slot(alloc, calls, &slot);
+    let_go(slot, ledger);
+}
+
 // Sends what is due on one link, and tells the broker where it has nothing more to do. Answers whether it has.
 fn reply_one<L: Link + Drop, C: Calls, R: Reader>(
     alloc: Global,
@@ -151,9 +176,9 @@ fn reply_one<L: Link + Drop, C: Calls, R: Reader>(
     flushed: u64,
 ) -> bool
     ensures replied { result ≡ false → ByReader R.gives (R.faults reader.new) (λ read. LeadsBy (unasked C.makes) calls.old calls.new
-        (λ acts. Acts (link_view L.tells L.given L.taken) read (Some numbered.old) acts (Some numbered.new))) }
+        (R.faults reader.old) (R.faults reader.new) (λ acts. Acts (link_view L.tells L.given L.taken) read (Some numbered.old) acts (Some numbered.new))) }
     ensures left { result ≡ true → ByReader R.gives (R.faults reader.new) (λ read. LeadsBy (unasked C.makes) calls.old calls.new
-        (λ acts. Leaves (link_view L.tells L.given L.taken) read numbered.old acts numbered.new)) }
+        (R.faults reader.old) (R.faults reader.new) (λ acts. Leaves (link_view L.tells L.given L.taken) read numbered.old acts numbered.new)) }
     ensures grows { R.faults reader.old ≤ R.faults reader.new }
 {
     numbered.linked.reply(alloc, calls, reader, flushed);
@@ -174,7 +199,7 @@ fn reply_slot<L: Link + Drop, N: Ends<L> + Drop, C: Calls, R: Reader>(
     flushed: u64,
 ) -> bool
     ensures went { ByReader R.gives (R.faults reader.new) (λ read. LeadsBy (unasked C.makes) calls.old calls.new
-        (λ acts. (gone : List LinkEnd) × Enters (loop_view L.tells L.given L.taken N.tells N.entries) ledger.old gone ledger.new
+        (R.faults reader.old) (R.faults reader.new) (λ acts. (gone : List LinkEnd) × Enters (loop_view L.tells L.given L.taken N.tells N.entries) ledger.old gone ledger.new
         × ActsOrLeaves (link_view L.tells L.given L.taken) read slot.old acts slot.new gone)) }
     ensures grows { R.faults reader.old ≤ R.faults reader.new }
 {
@@ -199,7 +224,7 @@ fn reply_each<L: Link + Drop, N: Ends<L> + Drop, C: Calls, R: Reader>(
     reader: &mut R,
 ) -> bool
     ensures went { ByReader R.gives (R.faults reader.new) (λ read. LeadsBy (unasked C.makes) calls.old calls.new
-        (λ acts. (gone : List LinkEnd) × Enters (loop_view L.tells L.given L.taken N.tells N.entries) ledger.old gone ledger.new
+        (R.faults reader.old) (R.faults reader.new) (λ acts. (gone : List LinkEnd) × Enters (loop_view L.tells L.given L.taken N.tells N.entries) ledger.old gone ledger.new
         × Keeps (link_view L.tells L.given L.taken) read slots.old acts slots.new gone)) }
     ensures grows { R.faults reader.old ≤ R.faults reader.new }
 {
@@ -248,7 +273,7 @@ fn ask_one<L: Link + Drop, C: Calls, R: Reader>(
 )
     requires { ask.now.link ≡ numbered.old.linked.session.talk.link }
     ensures went { ByReader R.gives (R.faults reader.new) (λ read. LeadsWith (unasked C.makes) calls.old calls.new (ask.now ∷ [])
-        (λ acts. Acts (link_view L.tells L.given L.taken) read (Some numbered.old) acts (Some numbered.new))) }
+        (R.faults reader.old) (R.faults reader.new) (λ acts. Acts (link_view L.tells L.given L.taken) read (Some numbered.old) acts (Some numbered.new))) }
     ensures grows { R.faults reader.old ≤ R.faults reader.new }
 {
     let _ = numbered.linked.ask(alloc, calls, reader, ask);
@@ -264,7 +289,7 @@ fn ask_slot<L: Link + Drop, C: Calls, R: Reader>(
 )
     requires { IsLink slot.old ask.now.link }
     ensures went { ByReader R.gives (R.faults reader.new) (λ read. LeadsWith (unasked C.makes) calls.old calls.new (ask.now ∷ [])
-        (λ acts. Acts (link_view L.tells L.given L.taken) read slot.old acts slot.new)) }
+        (R.faults reader.old) (R.faults reader.new) (λ acts. Acts (link_view L.tells L.given L.taken) read slot.old acts slot.new)) }
     ensures grows { R.faults reader.old ≤ R.faults reader.new }
 {
     match slot {
@@ -369,24 +394,30 @@ impl<L: Link + Drop, N: Ends<L> + Drop> Links<L, N> {
     }
 
     /// Lets go of a link with this number, which is served by nobody.
-    pub(crate) fn refuse<R: Reader>(&mut self, alloc: Global, number: u32, link: L)
+    pub(crate) fn refuse<C: Calls, R: Reader>(
+        &mut self,
+        alloc: Global,
+        calls: &mut C,
+        number: u32,
+        link: L,
+    )
         requires newest { self.old.newest < number }
         requires falls { loop_of_link self.old.loops number ≡ self.old.number }
         requires given { L.tells → L.given link ≡ [] }
         requires taken { L.tells → L.taken link ≡ [] }
-        ensures went { ByReader R.gives 0
-            (λ read. GoesOn (loop_view L.tells L.given L.taken N.tells N.entries) read self.old [] self.new) }
+        ensures went { ByReader R.gives 0 (λ read. LeadsBy (unasked C.makes) calls.old calls.new 0 0
+            (λ acts. GoesOn (loop_view L.tells L.given L.taken N.tells N.entries) read self.old acts self.new)) }
         ensures slots { self.new.slots ≡ self.old.slots }
     {
         let peer = link.peer();
         let linked = Linked::new(alloc, number, link);
-        let numbered = Numbered {
+        let slot = Some(Numbered {
             number,
             peer,
             linked,
-        };
+        });
         self.newest = number;
-        enter(&mut self.ledger, numbered);
+        end_slot(alloc, calls, slot, &mut self.ledger);
     }
 
     /// A link is let go of that isn't entered.
@@ -398,14 +429,14 @@ impl<L: Link + Drop, N: Ends<L> + Drop> Links<L, N> {
         self.ledger.lose();
     }
 
-    /// Lets go of all links.
-    pub(crate) fn let_go<R: Reader>(&mut self)
-        ensures went { ByReader R.gives 0
-            (λ read. GoesOn (loop_view L.tells L.given L.taken N.tells N.entries) read self.old [] self.new) }
+    /// Tells the broker that all links have ended, and lets go of them.
+    pub(crate) fn let_go<C: Calls, R: Reader>(&mut self, alloc: Global, calls: &mut C)
+        ensures went { ByReader R.gives 0 (λ read. LeadsBy (unasked C.makes) calls.old calls.new 0 0
+            (λ acts. GoesOn (loop_view L.tells L.given L.taken N.tells N.entries) read self.old acts self.new)) }
         ensures none { self.new.slots.items ≡ [] }
     {
         while let Some(slot) = self.slots.pop() {
-            let_go(slot, &mut self.ledger);
+            end_slot(alloc, calls, slot, &mut self.ledger);
         }
     }
 
@@ -432,7 +463,7 @@ impl<L: Link + Drop, N: Ends<L> + Drop> Links<L, N> {
         failed: Option<u64>,
     ) -> bool
         requires { now < 2 ^ 62 }
-        ensures went { ByReader R.gives 0 (λ read. LeadsBy (at_reading now C.makes) calls.old calls.new
+        ensures went { ByReader R.gives 0 (λ read. LeadsBy (at_reading now C.makes) calls.old calls.new 0 0
             (λ acts. GoesOn (loop_view L.tells L.given L.taken N.tells N.entries) read self.old acts self.new)) }
     {
         hear_each::<L, C, R>(alloc, calls, self.slots.as_mut_slice(), buffer, now, failed)
@@ -447,7 +478,7 @@ impl<L: Link + Drop, N: Ends<L> + Drop> Links<L, N> {
         reader: &mut R,
     ) -> bool
         ensures went { ByReader R.gives (R.faults reader.new) (λ read. LeadsBy (unasked C.makes) calls.old calls.new
-            (λ acts. GoesOn (loop_view L.tells L.given L.taken N.tells N.entries) read self.old acts self.new)) }
+            (R.faults reader.old) (R.faults reader.new) (λ acts. GoesOn (loop_view L.tells L.given L.taken N.tells N.entries) read self.old acts self.new)) }
         ensures grows { R.faults reader.old ≤ R.faults reader.new }
     {
         reply_each(
@@ -471,7 +502,7 @@ impl<L: Link + Drop, N: Ends<L> + Drop> Links<L, N> {
     )
         ensures went { ByReader R.gives (R.faults reader.new)
             (λ read. LeadsWith (unasked C.makes) calls.old calls.new (ask.now ∷ [])
-            (λ acts. GoesOn (loop_view L.tells L.given L.taken N.tells N.entries) read self.old acts self.new)) }
+            (R.faults reader.old) (R.faults reader.new) (λ acts. GoesOn (loop_view L.tells L.given L.taken N.tells N.entries) read self.old acts self.new)) }
         ensures grows { R.faults reader.old ≤ R.faults reader.new }
     {
         let Some(at) = slot_of(self.slots.as_slice(), ask.link) else {

@@ -63,21 +63,21 @@ looked_of : (link : ℕ) (awaits : Option Awaits) (made : Made) → LooksFor awa
 looked_of link None made is = of_none link made is
 looked_of link (Some awaits) made is = subst (λ (m : Made). AreOfLink link m) (sym is.1) (inr (awaits.number, awaits.turn, refl), tt)
 
-settles_of : (link : ℕ) (reader : ReaderView) (owed : List Owed) (old : List ℕ) (made : Made) (new : List ℕ) → Settles reader owed old made new → AreOfLink link made
-settles_of link reader [] old made new is = of_none link made is.0
-settles_of link reader (owed ∷ more) old made new is =
-    of_both link made is.1 is.2 is.3 (due_of link owed.awaits owed.reply is.4.due is.1 is.4.is) (settles_of link reader more is.0 is.2 new is.5)
+settles_of : (link : ℕ) (reader : ReaderView) (owed : List Owed) (old : List ℕ) (made : Made) (reads : ℕ) (new : List ℕ) → Settles reader owed old made reads new → AreOfLink link made
+settles_of link reader [] old made reads new is = of_none link made is.0
+settles_of link reader (owed ∷ more) old made reads new is =
+    of_both link made is.1 is.2 is.5 (due_of link owed.awaits owed.reply is.7.due is.1 is.7.is) (settles_of link reader more is.0 is.2 is.4 new is.8)
 
 stops_of : (link : ℕ) (session : Session) (made : Made) → Stops session made → AreOfLink link made
 stops_of link session made is = ⊎_elim (λ waits. waits_of link session.owed.items made waits) (λ many. of_none link made many.1) is
 
-settled_of : (link : ℕ) (reader : ReaderView) (old : Session) (made : Made) (new : Session) → IsSettled reader old made new → AreOfLink link made
-settled_of link reader old made new is =
-    of_both link made is.first is.last is.both (settles_of link reader is.settled old.out.items is.first new.out.items is.puts) (stops_of link new is.last is.stops)
+settled_of : (link : ℕ) (reader : ReaderView) (old : Session) (made : Made) (reads : ℕ) (new : Session) → IsSettled reader old made reads new → AreOfLink link made
+settled_of link reader old made reads new is =
+    of_both link made is.first is.last is.both (settles_of link reader is.settled old.out.items is.first reads new.out.items is.puts) (stops_of link new is.last is.stops)
 
-broken_of : (link : ℕ) (reader : ReaderView) (old : Session) (made : Made) (new : Session) → IsBroken reader old made new → AreOfLink link made
-broken_of link reader old made new is =
-    of_both link made is.first is.last is.both (settles_of link reader is.settled old.out.items is.first new.out.items is.puts) (looked_of link is.lost.awaits is.last is.looked)
+broken_of : (link : ℕ) (reader : ReaderView) (old : Session) (made : Made) (reads : ℕ) (new : Session) → IsBroken reader old made reads new → AreOfLink link made
+broken_of link reader old made reads new is =
+    of_both link made is.first is.last is.both (settles_of link reader is.settled old.out.items is.first reads new.out.items is.puts) (looked_of link is.lost.awaits is.last is.looked)
 
 -- ---- calls
 
@@ -90,8 +90,8 @@ call_of reader old (served now made result) false new is = (serves_of now old ma
 call_of reader old (served now made result) true new is = (serves_of now old made result new is.1, is.2.0)
 call_of reader old (gave_up count) false new is = (tt, ap (λ (t : Talk). t.link) is.2)
 call_of reader old (gave_up count) true new is = (tt, ap (λ (t : Talk). t.link) is.2)
-call_of reader old (settled made) false new is = (settled_of old.talk.link reader old made new is.0, ap (λ (t : Talk). t.link) is.2)
-call_of reader old (settled made) true new is = (broken_of old.talk.link reader old made new is.0, ap (λ (t : Talk). t.link) is.2)
+call_of reader old (settled made reads) false new is = (settled_of old.talk.link reader old made reads new is.0, ap (λ (t : Talk). t.link) is.2)
+call_of reader old (settled made reads) true new is = (broken_of old.talk.link reader old made reads new is.0, ap (λ (t : Talk). t.link) is.2)
 call_of reader old (sent count bytes) false new is = (tt, ap (λ (t : Talk). t.link) is.3)
 call_of reader old (sent count bytes) true new is = absurd is
 call_of reader old (asked ask) false new is = (tt, ap (λ (t : Talk). t.link) is.talk)
@@ -105,7 +105,7 @@ calls_of reader broken old (call ∷ calls) breaks new are =
     of_append old.talk.link (made_in call) (made_of calls) first.0
     (subst (λ (link : ℕ). AreOfLink link (made_of calls)) first.1 (calls_of reader are.2 are.1 calls breaks new are.4))
 
-pub went_of_link : (tells : Type 0) (reader : ReaderView) (old : Seen) (made : Made) (asks : List AskParts) (new : Seen) → WentOnWith tells reader old made asks new
-    → AreOfLink old.session.talk.link made
-went_of_link tells reader old made asks new went =
+pub went_of_link : (tells : Type 0) (reader : ReaderView) (old : Seen) (made : Made) (asks : List AskParts) (reads : ℕ) (new : Seen)
+    → WentOnWith tells reader old made asks reads new → AreOfLink old.session.talk.link made
+went_of_link tells reader old made asks reads new went =
     subst (λ (m : Made). AreOfLink old.session.talk.link m) (sym went.steps) (calls_of reader old.broken old.session went.calls new.broken new.session went.are)

@@ -6,7 +6,7 @@ use Rattle.broker_events.specs.declared.event.Event.{Event}
 use Rattle.broker_events.specs.declared.event.Event.TheVariants as events
 use Rattle.session.specs.Owing.{Steps}
 use Rattle.session.specs.Readers.{ReaderView}
-use Rattle.session.specs.Serving.{Made, Leads, IsAsked, IsAnswered, ServesNext}
+use Rattle.session.specs.Serving.{Made, Leads, LeadsReading, IsAsked, IsAnswered, ServesNext}
 use Rattle.session.specs.Settling.{IsDueAfter, IsNotYet, Waits, LooksFor, Settles, IsSettled, IsBroken, Stops}
 use Rattle.session.specs.declared.heard.Heard.{Heard}
 use Rattle.session.specs.declared.owed.Applied.{Applied}
@@ -20,7 +20,7 @@ use Rattle.session.specs.declared.session.Session.{Session}
 use Rattle.session.specs.declared.talk.Talk.{Talk}
 use Rattle.link_service.specs.Clocks.{IsAt, AreAt, steps_at, at_reading, unasked}
 
-at_append : (P : ℕ → Type 0) (xs ys : Made) → AreAt P xs → AreAt P ys → AreAt P (xs ++ ys)
+pub at_append : (P : ℕ → Type 0) (xs ys : Made) → AreAt P xs → AreAt P ys → AreAt P (xs ++ ys)
 at_append P [] ys are more = more
 at_append P (x ∷ xs) ys are more = (are.0, at_append P xs ys are.1 more)
 
@@ -65,21 +65,21 @@ looked_at : (P : ℕ → Type 0) (awaits : Option Awaits) (made : Made) → Look
 looked_at P None made is = at_none P made is
 looked_at P (Some awaits) made is = subst (λ (m : Made). AreAt P m) (sym is.1) (tt, tt)
 
-settles_at : (P : ℕ → Type 0) (reader : ReaderView) (owed : List Owed) (old : List ℕ) (made : Made) (new : List ℕ) → Settles reader owed old made new → AreAt P made
-settles_at P reader [] old made new is = at_none P made is.0
-settles_at P reader (owed ∷ more) old made new is =
-    at_both P made is.1 is.2 is.3 (due_at P owed.awaits owed.reply is.4.due is.1 is.4.is) (settles_at P reader more is.0 is.2 new is.5)
+settles_at : (P : ℕ → Type 0) (reader : ReaderView) (owed : List Owed) (old : List ℕ) (made : Made) (reads : ℕ) (new : List ℕ) → Settles reader owed old made reads new → AreAt P made
+settles_at P reader [] old made reads new is = at_none P made is.0
+settles_at P reader (owed ∷ more) old made reads new is =
+    at_both P made is.1 is.2 is.5 (due_at P owed.awaits owed.reply is.7.due is.1 is.7.is) (settles_at P reader more is.0 is.2 is.4 new is.8)
 
 stops_at : (P : ℕ → Type 0) (session : Session) (made : Made) → Stops session made → AreAt P made
 stops_at P session made is = ⊎_elim (λ waits. waits_at P session.owed.items made waits) (λ many. at_none P made many.1) is
 
-settled_at : (P : ℕ → Type 0) (reader : ReaderView) (old : Session) (made : Made) (new : Session) → IsSettled reader old made new → AreAt P made
-settled_at P reader old made new is =
-    at_both P made is.first is.last is.both (settles_at P reader is.settled old.out.items is.first new.out.items is.puts) (stops_at P new is.last is.stops)
+settled_at : (P : ℕ → Type 0) (reader : ReaderView) (old : Session) (made : Made) (reads : ℕ) (new : Session) → IsSettled reader old made reads new → AreAt P made
+settled_at P reader old made reads new is =
+    at_both P made is.first is.last is.both (settles_at P reader is.settled old.out.items is.first reads new.out.items is.puts) (stops_at P new is.last is.stops)
 
-broken_at : (P : ℕ → Type 0) (reader : ReaderView) (old : Session) (made : Made) (new : Session) → IsBroken reader old made new → AreAt P made
-broken_at P reader old made new is =
-    at_both P made is.first is.last is.both (settles_at P reader is.settled old.out.items is.first new.out.items is.puts) (looked_at P is.lost.awaits is.last is.looked)
+broken_at : (P : ℕ → Type 0) (reader : ReaderView) (old : Session) (made : Made) (reads : ℕ) (new : Session) → IsBroken reader old made reads new → AreAt P made
+broken_at P reader old made reads new is =
+    at_both P made is.first is.last is.both (settles_at P reader is.settled old.out.items is.first reads new.out.items is.puts) (looked_at P is.lost.awaits is.last is.looked)
 
 is_weaker : (P Q : ℕ → Type 0) → ((n : ℕ) → P n → Q n) → (event : Event) → IsAt P event → IsAt Q event
 is_weaker P Q weaker (events.Request link host now request) is = weaker now is
@@ -92,7 +92,7 @@ is_weaker P Q weaker (events.Deliver now) is = tt
 is_weaker P Q weaker (events.Check now) is = tt
 is_weaker P Q weaker (events.Leave link) is = tt
 
-at_weaker : (P Q : ℕ → Type 0) → ((n : ℕ) → P n → Q n) → (made : Made) → AreAt P made → AreAt Q made
+pub at_weaker : (P Q : ℕ → Type 0) → ((n : ℕ) → P n → Q n) → (made : Made) → AreAt P made → AreAt Q made
 at_weaker P Q weaker [] are = tt
 at_weaker P Q weaker (step ∷ more) are = (is_weaker P Q weaker step.0 are.0, at_weaker P Q weaker more are.1)
 
@@ -124,12 +124,22 @@ module _ {C : Type 0} (makes : Steps C) where
   serves_timed now old new x y result h =
       record { made = h.made; leads = made_at (λ at. at ≡ now) x h.made y h.leads (serves_at now old h.made result new h.so); so = h.so }
 
-  pub settles_unasked : (reader : ReaderView) (old new : Session) (x y : C) → Leads makes x y (λ made. IsSettled reader old made new)
-      → Leads (unasked makes) x y (λ made. IsSettled reader old made new)
-  settles_unasked reader old new x y h =
-      record { made = h.made; leads = made_at (λ at. ⊥) x h.made y h.leads (settled_at (λ at. ⊥) reader old h.made new h.so); so = h.so }
+  pub settles_unasked : (reader : ReaderView) (old new : Session) (x y : C) (low high : ℕ) → LeadsReading makes x y low high (λ made reads. IsSettled reader old made reads new)
+      → LeadsReading (unasked makes) x y low high (λ made reads. IsSettled reader old made reads new)
+  settles_unasked reader old new x y low high h = record {
+    made = h.made;
+    leads = made_at (λ at. ⊥) x h.made y h.leads (settled_at (λ at. ⊥) reader old h.made h.reads new h.so);
+    reads = h.reads;
+    counted = h.counted;
+    so = h.so;
+  }
 
-  pub breaks_unasked : (reader : ReaderView) (old new : Session) (x y : C) → Leads makes x y (λ made. IsBroken reader old made new)
-      → Leads (unasked makes) x y (λ made. IsBroken reader old made new)
-  breaks_unasked reader old new x y h =
-      record { made = h.made; leads = made_at (λ at. ⊥) x h.made y h.leads (broken_at (λ at. ⊥) reader old h.made new h.so); so = h.so }
+  pub breaks_unasked : (reader : ReaderView) (old new : Session) (x y : C) (low high : ℕ) → LeadsReading makes x y low high (λ made reads. IsBroken reader old made reads new)
+      → LeadsReading (unasked makes) x y low high (λ made reads. IsBroken reader old made reads new)
+  breaks_unasked reader old new x y low high h = record {
+    made = h.made;
+    leads = made_at (λ at. ⊥) x h.made y h.leads (broken_at (λ at. ⊥) reader old h.made h.reads new h.so);
+    reads = h.reads;
+    counted = h.counted;
+    so = h.so;
+  }

@@ -4,7 +4,7 @@ use Rattle.reply_fields.specs.Parts.{AskParts}
 use Rattle.session.specs.Asking.{AreFor}
 use Rattle.session.specs.Readers.{ReaderView}
 use Rattle.session.specs.Serving.{Made}
-use Rattle.session.specs.Sessions.{Call, fed, served, gave_up, settled, sent, asked, AreCalls, IsNew, RepliesInOrder, sent_in, asks_in, stream_of, sent_of, made_of, asks_of}
+use Rattle.session.specs.Sessions.{Call, fed, served, gave_up, settled, sent, asked, AreCalls, IsNew, RepliesInOrder, sent_in, asks_in, stream_of, sent_of, made_of, asks_of, read_replies_of}
 use Rattle.session.specs.declared.session.Session.{Session}
 use Rattle.link_service.specs.Transcripts.{Seen, FindsNoMemory, IsCallOf, AreCallsOf, AreOfLink, WentOnWith, IsFresh, Ends, IsTranscript}
 use Rattle.link_service.proofs.OfLink.{went_of_link}
@@ -56,7 +56,7 @@ sends_nothing : (reader : ReaderView) (old : Session) (call : Call) (new : Sessi
 sends_nothing reader old (fed piece) new is = refl
 sends_nothing reader old (served now made result) new is = refl
 sends_nothing reader old (gave_up count) new is = refl
-sends_nothing reader old (settled made) new is = refl
+sends_nothing reader old (settled made reads) new is = refl
 sends_nothing reader old (sent count bytes) new is = absurd is
 sends_nothing reader old (asked ask) new is = absurd is
 
@@ -70,7 +70,7 @@ asks_nothing : (reader : ReaderView) (old : Session) (call : Call) (new : Sessio
 asks_nothing reader old (fed piece) new is = refl
 asks_nothing reader old (served now made result) new is = refl
 asks_nothing reader old (gave_up count) new is = refl
-asks_nothing reader old (settled made) new is = refl
+asks_nothing reader old (settled made reads) new is = refl
 asks_nothing reader old (sent count bytes) new is = refl
 asks_nothing reader old (asked ask) new is = absurd is
 
@@ -79,10 +79,10 @@ ends_asking reader last [] broken new ends = refl
 ends_asking reader last (call ∷ more) broken new ends =
     ap (λ (l : List AskParts). l ++ asks_of more) (asks_nothing reader last call new ends.2) ∙ ap (λ (l : List Call). asks_of l) ends.0
 
-pub transcribed : (tells : Type 0) (reader : ReaderView) (number : ℕ) (host : List ℕ) (first : Seen) (made : Made) (asks : List AskParts) (now : Seen)
+pub transcribed : (tells : Type 0) (reader : ReaderView) (number : ℕ) (host : List ℕ) (first : Seen) (made : Made) (asks : List AskParts) (reads : ℕ) (now : Seen)
     → ((old : Session) (calls : List Call) (new : Session) → IsNew old → AreCalls reader old calls new → RepliesInOrder reader old calls new)
-    → IsFresh tells number host first → WentOnWith tells reader first made asks now → IsTranscript tells reader number host made asks now
-transcribed tells reader number host first made asks now law fresh went =
+    → IsFresh tells number host first → WentOnWith tells reader first made asks reads now → IsTranscript tells reader number host made asks reads now
+transcribed tells reader number host first made asks reads now law fresh went =
     let are : AreCallsOf reader false first.session went.calls now.broken now.session =
     subst (λ (b : Bool). AreCallsOf reader b first.session went.calls now.broken now.session) fresh.whole went.are in
     let split = split_calls reader first.session went.calls now.broken now.session are in
@@ -103,8 +103,9 @@ transcribed tells reader number host first made asks now law fresh went =
       taken = λ told. went.taken told ∙ ap (λ (l : List ℕ). l ++ sent_of went.calls) (fresh.taken told) ∙ ap (λ (l : List Call). sent_of l) split.both
           ∙ sent_append split.front split.end ∙ ap (λ (l : List ℕ). sent_of split.front ++ l) (ends_sending reader split.last split.end now.broken now.session split.ends)
           ∙ append-nil (sent_of split.front);
-      of_link = subst (λ (link : ℕ). AreOfLink link made) fresh.link.0 (went_of_link tells reader first made asks now went);
+      of_link = subst (λ (link : ℕ). AreOfLink link made) fresh.link.0 (went_of_link tells reader first made asks reads now went);
       asked = wrote;
       for_link = subst (λ (l : List AskParts). AreFor number l) (sym wrote)
           (subst (λ (link : ℕ). AreFor link (asks_of split.front)) fresh.link.0 replies.for_link);
+      read = went.read ∙ ap (λ (l : List Call). read_replies_of l) split.both;
     }

@@ -10,7 +10,8 @@ use Rattle.session.specs.Asking.{AreFor}
 use Rattle.session.specs.Readers.{ReaderView, reader_view}
 use Rattle.session.specs.Serving.{Made, KeepsLink, KeepsOut, KeepsRest, ServesNext, GivesUp}
 use Rattle.session.specs.Settling.{IsBroken}
-use Rattle.session.specs.Sessions.{Call, fed, served, gave_up, settled, sent, asked, IsCall, IsNew, RepliesInOrder, stream_of, sent_of, made_of, asks_of}
+use Rattle.session.specs.Sessions.{Call, fed, served, gave_up, settled, sent, asked, IsCall, IsNew, RepliesInOrder}
+use Rattle.session.specs.Sessions.{stream_of, sent_of, made_of, asks_of, read_replies_of}
 use Rattle.session.specs.declared.session.Session.{Session}
 use Rattle.session.specs.declared.serving.Halt.{Halt}
 use Rattle.session.specs.declared.serving.Halt.TheVariants as halts
@@ -49,8 +50,8 @@ FindsNoMemory reader old (served now made result) new =
     (result ≡ Err halts.Memory) × ServesNext now old made result new × KeepsLink old new × KeepsOut old new
 FindsNoMemory reader old (gave_up count) new =
     ((halt : Halt) × GivesUp old.held count old (Err halt) new) × (new.held ≡ None) × (new.talk ≡ old.talk) × KeepsOut old new
-FindsNoMemory reader old (settled made) new =
-    IsBroken reader old made new × (new.held ≡ old.held) × (new.talk ≡ old.talk) × (new.sent ≡ old.sent)
+FindsNoMemory reader old (settled made reads) new =
+    IsBroken reader old made reads new × (new.held ≡ old.held) × (new.talk ≡ old.talk) × (new.sent ≡ old.sent)
 FindsNoMemory reader old (sent count bytes) new = ⊥
 FindsNoMemory reader old (asked ask) new = ⊥
 
@@ -66,19 +67,21 @@ AreCallsOf reader broken old [] breaks new = (new ≡ old) × (broken ≡ true �
 AreCallsOf reader broken old (call ∷ calls) breaks new = (broken ≡ false) × (after : Session) × (breaks_at : Bool)
     × IsCallOf reader old call breaks_at after × AreCallsOf reader breaks_at after calls breaks new
 
--- The link went on by calls of its session, which made these steps and wrote these check-backs. What they fed is what it gave, and what
--- they sent is what it took, where it tells so.
-pub record WentOnWith (tells : Type 0) (reader : ReaderView) (old : Seen) (made : Made) (asks : List AskParts) (new : Seen) : Type 0 where
+-- The link went on by calls of its session, which made these steps and wrote these check-backs, and so many replies `read N`. What they
+-- fed is what it gave, and what they sent is what it took, where it tells so.
+pub record WentOnWith (tells : Type 0) (reader : ReaderView) (old : Seen) (made : Made) (asks : List AskParts) (reads : ℕ) (new : Seen)
+    : Type 0 where
   pub calls : List Call
   pub are : AreCallsOf reader old.broken old.session calls new.broken new.session
   pub steps : made ≡ made_of calls
   pub asked : asks ≡ asks_of calls
+  pub read : reads ≡ read_replies_of calls
   pub given : tells → new.given ≡ old.given ++ stream_of calls
   pub taken : tells → new.taken ≡ old.taken ++ sent_of calls
 
 -- the same without a check-back
-abbrev pub WentOn : Type 0 → ReaderView → Seen → Made → Seen → Type 0
-WentOn tells reader old made new = WentOnWith tells reader old made [] new
+abbrev pub WentOn : Type 0 → ReaderView → Seen → Made → ℕ → Seen → Type 0
+WentOn tells reader old made reads new = WentOnWith tells reader old made [] reads new
 
 -- the check-back, where it was written
 abbrev pub if_asked : Bool → AskParts → List AskParts
@@ -91,7 +94,7 @@ NoneSettled [] = Unit {0}
 NoneSettled (fed piece ∷ calls) = NoneSettled calls
 NoneSettled (served now made result ∷ calls) = NoneSettled calls
 NoneSettled (gave_up count ∷ calls) = NoneSettled calls
-NoneSettled (settled made ∷ calls) = ⊥
+NoneSettled (settled made reads ∷ calls) = ⊥
 NoneSettled (sent count bytes ∷ calls) = NoneSettled calls
 NoneSettled (asked ask ∷ calls) = NoneSettled calls
 
@@ -101,7 +104,7 @@ reads_nothing = reader_view (λ piece at bytes. ⊥) (λ count. ⊥)
 
 -- the same by calls that settled no reply, so that it holds of every reader
 pub record WentOnUnread (tells : Type 0) (old : Seen) (made : Made) (new : Seen) : Type 0 where
-  pub went : WentOn tells reads_nothing old made new
+  pub went : WentOn tells reads_nothing old made 0 new
   pub none : NoneSettled went.calls
 
 -- ---- steps of a link
@@ -133,9 +136,9 @@ Ends reader last (call ∷ more) broken new = (more ≡ []) × (broken ≡ true)
 
 -- What passes did for a link from its beginning on: calls of its session, and at the end maybe one that found no memory. What it was sent
 -- are the replies to the first requests of what it gave, in order, and between them, whole, these check-backs, each for this link; and
--- each step is a request of the link, or a look.
-pub record IsTranscript (tells : Type 0) (reader : ReaderView) (number : ℕ) (host : List ℕ) (made : Made) (asks : List AskParts) (now : Seen)
-    : Type 0 where
+-- each step is a request of the link, or a look. So many of the replies that were written are `read N`.
+pub record IsTranscript (tells : Type 0) (reader : ReaderView) (number : ℕ) (host : List ℕ) (made : Made) (asks : List AskParts)
+    (reads : ℕ) (now : Seen) : Type 0 where
   pub first : Seen
   pub fresh : IsFresh tells number host first
   pub calls : List Call
@@ -149,3 +152,4 @@ pub record IsTranscript (tells : Type 0) (reader : ReaderView) (number : ℕ) (h
   pub of_link : AreOfLink number made
   pub asked : asks ≡ asks_of calls
   pub for_link : AreFor number asks
+  pub read : reads ≡ read_replies_of (calls ++ end)

@@ -4,7 +4,7 @@
 //! `whole -> garbled [serve]`, where what it says is no frame: nothing more is served. `drain.rt` says how it ends.
 
 ghost use Rattle.std.specs.Prelude.{◌≡◌, ◌<◌, ◌≤◌, ◌^◌, [], false, true, IfOk};
-ghost use Rattle.session.specs.Serving.{Leads};
+ghost use Rattle.session.specs.Serving.{Leads, LeadsReading};
 ghost use Rattle.link_service.specs.Clocks.{at_reading, unasked};
 ghost use Rattle.link_service.specs.Transcripts.{ByReader, WentOn, WentOnWith, WentOnUnread, IsFresh, if_asked, seen_of};
 
@@ -234,8 +234,9 @@ impl<L: Link + Drop> Linked<L> {
     // Writes the replies that are due.
     fn settle<C: Calls, R: Reader>(&mut self, alloc: Global, calls: &mut C, reader: &mut R)
         requires whole { self.old.broken ≡ false }
-        ensures went { ByReader R.gives (R.faults reader.new) (λ read. Leads (unasked C.makes) calls.old calls.new
-            (λ made. WentOn L.tells read (seen_of L.given L.taken self.old) made (seen_of L.given L.taken self.new))) }
+        ensures went { ByReader R.gives (R.faults reader.new) (λ read. LeadsReading (unasked C.makes) calls.old calls.new
+            (R.faults reader.old) (R.faults reader.new) (λ made reads.
+            WentOn L.tells read (seen_of L.given L.taken self.old) made reads (seen_of L.given L.taken self.new))) }
         ensures grows { R.faults reader.old ≤ R.faults reader.new }
         ensures talk { self.new.session.talk ≡ self.old.session.talk }
     {
@@ -254,8 +255,9 @@ impl<L: Link + Drop> Linked<L> {
         flushed: u64,
     )
         requires whole { self.old.broken ≡ false }
-        ensures went { ByReader R.gives (R.faults reader.new) (λ read. Leads (unasked C.makes) calls.old calls.new
-            (λ made. WentOn L.tells read (seen_of L.given L.taken self.old) made (seen_of L.given L.taken self.new))) }
+        ensures went { ByReader R.gives (R.faults reader.new) (λ read. LeadsReading (unasked C.makes) calls.old calls.new
+            (R.faults reader.old) (R.faults reader.new) (λ made reads.
+            WentOn L.tells read (seen_of L.given L.taken self.old) made reads (seen_of L.given L.taken self.new))) }
         ensures grows { R.faults reader.old ≤ R.faults reader.new }
     {
         if !self.session.is_due_below(flushed) {
@@ -304,8 +306,9 @@ impl<L: Link + Drop> Linked<L> {
         reader: &mut R,
         flushed: u64,
     )
-        ensures went { ByReader R.gives (R.faults reader.new) (λ read. Leads (unasked C.makes) calls.old calls.new
-            (λ made. WentOn L.tells read (seen_of L.given L.taken self.old) made (seen_of L.given L.taken self.new))) }
+        ensures went { ByReader R.gives (R.faults reader.new) (λ read. LeadsReading (unasked C.makes) calls.old calls.new
+            (R.faults reader.old) (R.faults reader.new) (λ made reads.
+            WentOn L.tells read (seen_of L.given L.taken self.old) made reads (seen_of L.given L.taken self.new))) }
         ensures grows { R.faults reader.old ≤ R.faults reader.new }
     {
         self.owes = false;
@@ -337,7 +340,7 @@ impl<L: Link + Drop> Linked<L> {
     fn put_ask<R: Reader>(&mut self, alloc: Global, ask: &Ask) -> bool
         requires { ask.now.link ≡ self.old.session.talk.link }
         ensures { ByReader R.gives 0 (λ read. WentOnWith L.tells read (seen_of L.given L.taken self.old) []
-            (if_asked result ask.now) (seen_of L.given L.taken self.new)) }
+            (if_asked result ask.now) 0 (seen_of L.given L.taken self.new)) }
     {
         if !self.can_answer() {
             return false;
@@ -356,9 +359,9 @@ impl<L: Link + Drop> Linked<L> {
         ask: &Ask,
     ) -> bool
         requires { ask.now.link ≡ self.old.session.talk.link }
-        ensures went { ByReader R.gives (R.faults reader.new) (λ read. Leads (unasked C.makes) calls.old calls.new
-            (λ made. WentOnWith L.tells read (seen_of L.given L.taken self.old) made (if_asked result ask.now)
-            (seen_of L.given L.taken self.new))) }
+        ensures went { ByReader R.gives (R.faults reader.new) (λ read. LeadsReading (unasked C.makes) calls.old calls.new
+            (R.faults reader.old) (R.faults reader.new) (λ made reads. WentOnWith L.tells read (seen_of L.given L.taken self.old)
+            made (if_asked result ask.now) reads (seen_of L.given L.taken self.new))) }
         ensures grows { R.faults reader.old ≤ R.faults reader.new }
     {
         if !self.can_answer() {

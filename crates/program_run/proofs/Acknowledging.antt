@@ -40,7 +40,6 @@ use Rattle.store_open.specs.declared.format.Sizes.{Sizes}
 use Rattle.store_open.specs.declared.serve_words.ServeCommand.{ServeCommand}
 use Rattle.store_open.specs.declared.status.Status.{Status}
 use Rattle.exit_status.proofs.LogLemmas.{stores_rests}
-use Rattle.link_service.specs.Transcripts.{counted_to}
 use Rattle.serve_threads.specs.Links.{first_links, second_links}
 use Rattle.serve_threads.specs.Served.{IsMadeBy, Views}
 use Rattle.broker_serve.specs.Serves.{HasServed, PutsAllAlong, run_over, setup_by}
@@ -214,9 +213,9 @@ module _ {D : Type 0} (words : List (List ℕ)) (status : Status) (seen : ServeS
           refl,
           refl,
           λ tells entered. (
-            links_stand past disk knows (counted_to seen.views.gives served.failures.0) (first_links seen.views.links) 0 served.made.put.0 served.made.first tells entered served.made.links.0
+            links_stand past disk knows seen.views.gives served.failures.0 (first_links seen.views.links) 0 served.made.put.0 served.made.first tells entered served.made.links.0
                 (each_at served.history served.made.merged.first_at served.made.first at.1),
-            links_stand past disk knows (counted_to seen.views.gives served.failures.1) (second_links seen.views.links) 1 served.made.put.1 served.made.second tells entered served.made.links.1
+            links_stand past disk knows seen.views.gives served.failures.1 (second_links seen.views.links) 1 served.made.put.1 served.made.second tells entered served.made.links.1
                 (each_at served.history served.made.merged.second_at served.made.second at.2),
           ),
         );

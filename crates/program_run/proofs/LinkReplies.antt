@@ -3,6 +3,7 @@ use Rattle.std.proofs.Common.{◌≡◌, ◌⊎◌, ⊎_elim, ℕ, List, [], ◌
 use Rattle.std.specs.List.{AllByRecursion}
 use Rattle.std.proofs.lemmas.List.Elements.{All-nil, All-cons}
 use Rattle.mq_outside.specs.Disk.{DiskState}
+use Rattle.mq_outside.specs.Readings.{Giving}
 use Rattle.mq_peers.specs.Ended.{LinkEnd}
 use Rattle.remoting_frame.specs.Held.{Held}
 use Rattle.request_fields.specs.Requests.{SendSaid}
@@ -23,7 +24,7 @@ use Rattle.session.specs.Readers.{ReaderView}
 use Rattle.session.specs.Serving.{IsAnswered, IsAsked, IsRefused, Made, caller_of, no_room}
 use Rattle.session.specs.Settling.{IsDueAfter, IsDueAt, IsPut, look_for, unsent_of}
 use Rattle.session.specs.Sessions as sessions
-use Rattle.session.specs.Sessions.{Answer, AreAnswers, ArePieces, IsAnswer, IsReplyTo, applied_in, applies, found_in, finds, made_of, owed_among, sent_of, stream_of}
+use Rattle.session.specs.Sessions.{Answer, AreAnswers, ArePieces, IsAnswer, IsReplyTo, applied_in, applies, found_in, finds, made_of, owed_among, read_replies_of, sent_of, stream_of}
 use Rattle.session.specs.Talks.{HasHeard}
 use Rattle.session.specs.declared.caller.Caller.{Caller}
 use Rattle.session.specs.declared.heard.Heard.{Heard}
@@ -32,8 +33,9 @@ use Rattle.session.specs.declared.owed.Applied.TheVariants.{Owes}
 use Rattle.session.specs.declared.owed.Awaits.{Awaits}
 use Rattle.session.specs.declared.owed.Owed.{Owed}
 use Rattle.session.specs.declared.talk.Talk.{Talk}
+use Rattle.link_service.specs.Transcripts.{counted_to}
 use Rattle.link_service.proofs.Went.{made_append, stream_append}
-use Rattle.event_loops.specs.Tales.{IsAnsweredInOrder, asks_for, made_for, steps_of}
+use Rattle.event_loops.specs.Tales.{IsAnsweredInOrder, asks_for, made_for, reads_for, steps_of}
 use Rattle.serve_threads.specs.Links.{AreAnsweredFrom, LoopLinks}
 use Rattle.program_run.specs.Acknowledged.{IsAccepted, IsAcknowledged, IsWritten, LinkStands, LinksStand, Past, Piece, Replied, checked, piece_bytes, replied, replied_among}
 use Rattle.program_run.proofs.Histories.{IsIn}
@@ -148,47 +150,49 @@ module _ (past : Past) (disk : DiskState) (knows : Knows past disk) where
       bytes_are : piece_bytes count pieces ≡ bytes
       stand : All Stands (replied_among pieces)
 
-    wrote : (talk : Talk) (count : ℕ) (answers : List Answer) (pieces : List sessions.Piece) (last : List Owed) (looks : Made) (bytes : List ℕ) → AreAnswers talk answers
+    wrote : (talk : Talk) (count : ℕ) (answers : List Answer) (pieces : List sessions.Piece) (last : List Owed) (looks : Made) (reads : ℕ) (bytes : List ℕ) → AreAnswers talk answers
         → AllByRecursion (IsIn past.history) (sessions.steps_of answers) → map (λ (answer : Answer). answer.owed) answers ≡ owed_among pieces ++ last
-        → AllByRecursion (IsIn past.history) looks → ArePieces reader count pieces looks bytes → Wrote count (map (λ (answer : Answer). answer.heard) answers) bytes
-    wrote talk count answers [] last looks bytes are stepped left looked pieces_are = record {
+        → AllByRecursion (IsIn past.history) looks → ArePieces reader count pieces looks reads bytes → Wrote count (map (λ (answer : Answer). answer.heard) answers) bytes
+    wrote talk count answers [] last looks reads bytes are stepped left looked pieces_are = record {
       pieces = [];
       left = map (λ (answer : Answer). answer.heard) answers;
       heard = refl;
       written = All-nil (IsWritten reader);
-      bytes_are = sym pieces_are.1;
+      bytes_are = sym pieces_are.2;
       stand = All-nil Stands;
     }
-    wrote talk count [] (sessions.replied owed ∷ pieces) last looks bytes are stepped left looked pieces_are =
+    wrote talk count [] (sessions.replied owed ∷ pieces) last looks reads bytes are stepped left looked pieces_are =
         let none : ◌≡◌ {A = List Owed} [] (owed ∷ (owed_among pieces ++ last)) = left in absurd (cc)
-    wrote talk count (answer ∷ answers) (sessions.replied owed ∷ pieces) last looks bytes are stepped left looked pieces_are =
+    wrote talk count (answer ∷ answers) (sessions.replied owed ∷ pieces) last looks reads bytes are stepped left looked pieces_are =
         let both : answer.owed ∷ map (λ (one : Answer). one.owed) answers ≡ owed ∷ (owed_among pieces ++ last) = left in
         let same : answer.owed ≡ owed = cc in
         let others : map (λ (one : Answer). one.owed) answers ≡ owed_among pieces ++ last = cc in
         let own : Made = pieces_are.0 in
         let later : Made = pieces_are.1 in
-        let first : List ℕ = pieces_are.2 in
-        let rest : List ℕ = pieces_are.3 in
-        let all = each_same (IsIn past.history) looks (own ++ later) pieces_are.4 looked in
+        let own_reads : ℕ = pieces_are.2 in
+        let later_reads : ℕ = pieces_are.3 in
+        let first : List ℕ = pieces_are.4 in
+        let rest : List ℕ = pieces_are.5 in
+        let all = each_same (IsIn past.history) looks (own ++ later) pieces_are.6 looked in
         let made = each_first (IsIn past.history) answer.made (sessions.steps_of answers) stepped in
-        let next = wrote talk count answers pieces last later rest are.1 (each_later (IsIn past.history) answer.made (sessions.steps_of answers) stepped) others
-        (each_later (IsIn past.history) own later all) pieces_are.7 in
-        let reply = subst (λ (o : Owed). IsReplyTo reader o own first) (sym same) pieces_are.6 in
+        let next = wrote talk count answers pieces last later later_reads rest are.1 (each_later (IsIn past.history) answer.made (sessions.steps_of answers) stepped) others
+        (each_later (IsIn past.history) own later all) pieces_are.10 in
+        let reply = subst (λ (o : Owed). IsReplyTo reader o own own_reads first) (sym same) pieces_are.9 in
         let one : Replied = record { heard = answer.heard; reply = reply.due; bytes = first } in
-        let put = subst (λ (c : Caller). IsPut reader c reply.due reply.count [] first) (caller_is talk answer are.0) reply.put in
+        let put = subst (λ (c : Caller). IsPut reader c reply.due reply.count own_reads [] first) (caller_is talk answer are.0) reply.put in
         record {
           pieces = replied one ∷ next.pieces;
           left = next.left;
           heard = ap (λ (l : List Heard). answer.heard ∷ l) next.heard;
-          written = All-cons (IsWritten reader) one (replied_among next.pieces) (reply.count, put) next.written;
-          bytes_are = ap (λ (l : List ℕ). first ++ l) next.bytes_are ∙ sym pieces_are.5;
+          written = All-cons (IsWritten reader) one (replied_among next.pieces) (reply.count, own_reads, put) next.written;
+          bytes_are = ap (λ (l : List ℕ). first ++ l) next.bytes_are ∙ sym pieces_are.8;
           stand = All-cons Stands one (replied_among next.pieces)
               (λ send accepted.
               answer_stands talk answer own reply.due send (each_first (IsIn past.history) own later all) made reply.is accepted.asked accepted.awaited accepted.code are.0)
               next.stand;
         }
-    wrote talk count answers (sessions.checked ask ∷ pieces) last looks bytes are stepped left looked pieces_are =
-        let next = wrote talk (next_count count) answers pieces last looks pieces_are.0 are stepped left looked pieces_are.2 in
+    wrote talk count answers (sessions.checked ask ∷ pieces) last looks reads bytes are stepped left looked pieces_are =
+        let next = wrote talk (next_count count) answers pieces last looks reads pieces_are.0 are stepped left looked pieces_are.2 in
         record {
           pieces = checked ask ∷ next.pieces;
           left = next.left;
@@ -205,9 +209,9 @@ module _ (past : Past) (disk : DiskState) (knows : Knows past disk) where
     heard_as bytes heard others held same it = subst (λ (l : List Heard). HasHeard 0 bytes l held) same it
 
     -- each reply is its request's, and the message of one that accepted it is acknowledged
-    link_stands : (tells : Type 0) (it : LinkEnd) (made : Made) (asks : List AskParts) → tells → IsAnsweredInOrder tells reader it made asks → AllByRecursion (IsIn past.history) made
+    link_stands : (tells : Type 0) (it : LinkEnd) (made : Made) (asks : List AskParts) (reads : ℕ) → tells → IsAnsweredInOrder tells reader it made asks reads → AllByRecursion (IsIn past.history) made
         → LinkStands reader past disk it
-    link_stands tells it made asks told is each =
+    link_stands tells it made asks reads told is each =
         let script = is.transcript in
         let replies = script.replies in
         let calls : List sessions.Call = script.calls in
@@ -217,7 +221,7 @@ module _ (past : Past) (disk : DiskState) (knows : Knows past disk) where
         let looked = each_filter (IsIn past.history) (λ (step : Event × Option Said). finds step.0 step.1) (made_of calls) own in
         let applied = each_filter (IsIn past.history) (λ (step : Event × Option Said). applies step.0 step.1) (made_of calls) own in
         let stepped = each_same (IsIn past.history) (applied_in (made_of calls)) (sessions.steps_of replies.answers) replies.applied applied in
-        let all = wrote script.first.session.talk 0 replies.answers replies.pieces script.last.owed.items (found_in (made_of calls)) (sent_of calls ++ unsent_of script.last) replies.are
+        let all = wrote script.first.session.talk 0 replies.answers replies.pieces script.last.owed.items (found_in (made_of calls)) (read_replies_of calls) (sent_of calls ++ unsent_of script.last) replies.are
         stepped replies.left looked replies.replies in
         let held : List Heard = option_to_list script.last.held in
         let heard : List Heard = map (λ (answer : Answer). answer.heard) replies.answers in
@@ -237,13 +241,13 @@ module _ (past : Past) (disk : DiskState) (knows : Knows past disk) where
           stand = all.stand;
         }
 
-    -- ---- the links of a loop
+  -- ---- the links of a loop
 
-    pub links_stand : (links : LoopLinks) (number : ℕ) (put : List AskParts) (steps : Made) → links.tells → links.told → AreAnsweredFrom links reader number put steps
-        → AllByRecursion (IsIn past.history) steps → LinksStand reader past disk links.ended
-    links_stand links number put steps tells told answered each k it got =
-        let is = answered.2 in
-        let entered = is.ended told in
-        let was = entered.each k it got in
-        let acts = each_same (IsIn past.history) steps (steps_of is.acts) is.all each in
-        link_stands links.tells it (made_for it.number is.acts) (asks_for it.number is.acts) tells was.1 (each_made (IsIn past.history) it.number is.acts acts)
+  pub links_stand : (gives : Giving) (failures : ℕ) (links : LoopLinks) (number : ℕ) (put : List AskParts) (steps : Made) → links.tells → links.told → AreAnsweredFrom links gives failures number put steps
+      → AllByRecursion (IsIn past.history) steps → LinksStand (counted_to gives failures) past disk links.ended
+  links_stand gives failures links number put steps tells told answered each k it got =
+      let is = answered.2 in
+      let entered = is.ended told in
+      let was = entered.each k it got in
+      let acts = each_same (IsIn past.history) steps (steps_of is.acts) is.all each in
+      link_stands (counted_to gives failures) links.tells it (made_for it.number is.acts) (asks_for it.number is.acts) (reads_for it.number is.acts) tells was.1 (each_made (IsIn past.history) it.number is.acts acts)

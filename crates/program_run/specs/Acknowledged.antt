@@ -63,7 +63,7 @@ piece_bytes asked (checked ask ∷ pieces) = ask_bytes (opaque_of asked) ask.vie
 -- The bytes are the reply's, as the request asks for them: none where nobody waits for it; and `read N` or 901 in its place only where
 -- there was a cause.
 abbrev pub IsWritten : ReaderView → Replied → Type 0
-IsWritten reader it = (count : ℕ) × IsPut reader (caller_of it.heard) it.reply count [] it.bytes
+IsWritten reader it = (count reads : ℕ) × IsPut reader (caller_of it.heard) it.reply count reads [] it.bytes
 
 -- the request sends this message, which waits for the disk, and the reply says 0
 pub record IsAccepted (it : Replied) (send : SendSaid) : Type 0 where

@@ -6,12 +6,13 @@ use Rattle.std.proofs.lemmas.Bool.Decides.{Decides-eqb}
 use Rattle.std.proofs.lemmas.Option.{slice_get_within}
 use Rattle.broker_events.specs.declared.event.Event.{Event}
 use Rattle.broker_events.specs.declared.said.Said.{Said}
+use Rattle.mq_outside.specs.Readings.{Giving}
 use Rattle.session.specs.Readers.{ReaderView}
 use Rattle.session.specs.Serving.{Made}
-use Rattle.link_service.specs.Transcripts.{IsOfLink, AreOfLink}
+use Rattle.link_service.specs.Transcripts.{IsOfLink, AreOfLink, counted_to}
 use Rattle.reply_fields.specs.Parts.{AskParts}
 use Rattle.mq_peers.specs.Ended.{LinkEnd}
-use Rattle.event_loops.specs.Tales.{Act, steps_of, made_for, asks_for, MayLeave, IsAnsweredInOrder}
+use Rattle.event_loops.specs.Tales.{Act, steps_of, made_for, asks_for, reads_for, HasLeft, IsAnsweredInOrder}
 use Rattle.event_loops.proofs.Told.{made_append, made_one}
 use Rattle.story_lock.specs.Counts.{times}
 use Rattle.story_lock.specs.Owned.{HasAt, AscendsFrom}
@@ -47,15 +48,13 @@ passes_between : (link : ℕ) (made : Made) → AreOfLink link made → AreBetwe
 passes_between link [] are = tt
 passes_between link (step ∷ made) are = (link_between link step.0 are.0, passes_between link made are.1)
 
-leave_between : (link : ℕ) (end : Made) → MayLeave link end → AreBetween end
-leave_between link [] leaves = tt
-leave_between link (step ∷ steps) leaves =
-    (subst (λ (e : Event). IsBetween e) (sym leaves.0) tt, subst (λ (m : Made). AreBetween m) (sym leaves.1) tt)
+leave_between : (link : ℕ) (end : Made) → HasLeft link end → AreBetween end
+leave_between link end left = subst (λ (m : Made). AreBetween m) (sym left.1) (tt, tt)
 
-tale_between : (tells : Type 0) (reader : ReaderView) (it : LinkEnd) (made : Made) (asks : List AskParts) → IsAnsweredInOrder tells reader it made asks → AreBetween made
-tale_between tells reader it made asks is =
+tale_between : (tells : Type 0) (reader : ReaderView) (it : LinkEnd) (made : Made) (asks : List AskParts) (reads : ℕ) → IsAnsweredInOrder tells reader it made asks reads → AreBetween made
+tale_between tells reader it made asks reads is =
     subst (λ (m : Made). AreBetween m) (sym is.both)
-    (between_append is.passes is.end (passes_between it.number is.passes is.transcript.of_link) (leave_between it.number is.end is.leaves))
+    (between_append is.passes is.end (passes_between it.number is.passes is.transcript.of_link) (leave_between it.number is.end is.left))
 
 acts_between : (acts : List Act) → ((link : ℕ) → AreBetween (made_for link acts)) → AreBetween (steps_of acts)
 acts_between [] each = tt
@@ -67,12 +66,12 @@ acts_between (one ∷ acts) each =
     (λ other. absurd (other.0 refl)) (made_one one.link one))
     (acts_between acts (λ link. between_back (made_for link (one ∷ [])) (made_for link acts) (split link)))
 
-loop_between : (links : LoopLinks) (reader : ReaderView) (number : ℕ) (made : Made) (asks : List AskParts) → AreAnswered links reader number made asks → AreBetween made
-loop_between links reader number made asks is =
+loop_between : (links : LoopLinks) (gives : Giving) (failures number : ℕ) (made : Made) (asks : List AskParts) → AreAnswered links gives failures number made asks → AreBetween made
+loop_between links gives failures number made asks is =
     subst (λ (m : Made). AreBetween m) (sym is.all)
     (acts_between is.acts (λ link. ⊎_elim (λ none. subst (λ (m : Made). AreBetween m) (sym none.0) tt)
     (λ some. subst (λ (n : ℕ). AreBetween (made_for n is.acts)) some.1
-    (tale_between links.tells reader some.0 (made_for some.0.number is.acts) (asks_for some.0.number is.acts) some.2.1)) (is.each link)))
+    (tale_between links.tells (counted_to gives failures) some.0 (made_for some.0.number is.acts) (asks_for some.0.number is.acts) (reads_for some.0.number is.acts) some.2.1)) (is.each link)))
 
 -- the keeper's looks flush nothing
 looks_between : (made : Made) → AreLooks made → AreBetween made
@@ -165,9 +164,9 @@ some_of zero zero (suc c) d some P first second third = inr (second (omega arith
 some_of zero zero zero d some P first second third = inr (third (omega (arith, some)))
 
 -- in a history of the flusher, two loops and the keeper the flusher's steps stand so
-pub laid : (one other : LoopLinks) (near far : ReaderView) (put : List AskParts × List AskParts) (history turns first second looks : Made) → IsMerged history turns first second looks
-    → AreAnsweredFrom one near 0 put.0 first × AreAnsweredFrom other far 1 put.1 second → AreLooks looks → Laid history turns
-laid one other near far put history turns first second looks merged links keeper =
+pub laid : (one other : LoopLinks) (gives : Giving) (failures : ℕ × ℕ) (put : List AskParts × List AskParts) (history turns first second looks : Made) → IsMerged history turns first second looks
+    → AreAnsweredFrom one gives failures.0 0 put.0 first × AreAnsweredFrom other gives failures.1 1 put.1 second → AreLooks looks → Laid history turns
+laid one other gives failures put history turns first second looks merged links keeper =
     laid_from history [] turns merged.turns_at merged.ascend.0 merged.are.0
     (λ k e low at.
     let within = slice_get_within history k e at in
@@ -176,6 +175,6 @@ laid one other near far put history turns first second looks merged links keeper
     let three = times_append k (merged.turns_at ++ merged.first_at) merged.second_at in
     let two = times_append k merged.turns_at merged.first_at in
     some_of (times k merged.turns_at) (times k merged.first_at) (times k merged.second_at) (times k merged.looks_at) (omega (arith, some, all, three, two)) (IsBetween e.0)
-    (λ there. held_between history merged.first_at first merged.are.1 (loop_between one near 0 first links.0.0 links.0.2) k e at there)
-    (λ there. held_between history merged.second_at second merged.are.2 (loop_between other far 1 second links.1.0 links.1.2) k e at there)
+    (λ there. held_between history merged.first_at first merged.are.1 (loop_between one gives failures.0 0 first links.0.0 links.0.2) k e at there)
+    (λ there. held_between history merged.second_at second merged.are.2 (loop_between other gives failures.1 1 second links.1.0 links.1.2) k e at there)
     (λ there. held_between history merged.looks_at looks merged.are.3 (looks_between looks keeper) k e at there))

@@ -6,14 +6,16 @@ use Rattle.broker_events.specs.declared.event.Event.{Event}
 use Rattle.broker_events.specs.declared.said.Said.{Said}
 use Rattle.broker_core.specs.Owner.{plain_look}
 use Rattle.core_log.specs.declared.parts.Parts.{Parts}
+use Rattle.mq_outside.specs.Readings.{Giving}
 use Rattle.session.specs.Owing.{Steps}
 use Rattle.session.specs.Readers.{ReaderView}
 use Rattle.session.specs.Serving.{Made, Leads}
+use Rattle.link_service.specs.Clocks.{unasked}
 use Rattle.link_service.specs.Transcripts.{counted_to}
 use Rattle.reply_fields.specs.Parts.{AskParts}
 use Rattle.ask_ways.specs.Ways.{taken_by}
 use Rattle.mq_peers.specs.Ended.{LinkEnd}
-use Rattle.event_loops.specs.Tales.{steps_of, asks_of, made_for, asks_for, AreSome, DidNothing, loop_of, IsEndOf, IsTale, IsAnsweredInOrder, LoopView, IsToldOf, GoesOn, loop_numbers}
+use Rattle.event_loops.specs.Tales.{steps_of, asks_of, made_for, asks_for, reads_for, AreSome, DidNothing, LeadsBy, loop_of, IsEndOf, IsTale, IsAnsweredInOrder, LoopView, IsToldOf, GoesOn, loop_numbers}
 use Rattle.event_loops.specs.Timing.{ClockOver}
 use Rattle.event_loops.specs.declared.links.Links.{Links}
 use Rattle.event_loops.proofs.Timing.{timed_off}
@@ -35,7 +37,7 @@ use Rattle.worker_turns.specs.Acts as acts
 use Rattle.worker_turns.specs.Acts.{Acted, DiskView, Place, place_of, change_of}
 use Rattle.serve_threads.specs.Kept.{SeesAll}
 use Rattle.flush_rounds.specs.Asking.{HasTaken, IsFrontOf}
-use Rattle.serve_threads.specs.Links.{LoopLinks, loop_links, first_links, second_links, AreUpTo, WasAnswered, AreEntered, WorksFrom, Worked, Part, part_of}
+use Rattle.serve_threads.specs.Links.{LoopLinks, ReaderOver, loop_links, first_links, second_links, AreUpTo, WasAnswered, AreEntered, WorksFrom, Worked, Part, part_of}
 use Rattle.flush_rounds.specs.declared.asks.LoopAsks.{LoopAsks}
 use Rattle.flush_rounds.specs.Flushing.{FlushesTo, Write}
 use Rattle.serve_threads.specs.Served.{first_clock, second_clock, AreLooks, IsMerged, Meets, Cuts, AreCut, AreMet, ByThread, HasMade, IsMadeBy, Views, by_thread}
@@ -53,13 +55,17 @@ nothing_in slots i x none got =
     let there : slice_get [] i ≡ Some (Some x) = subst (λ (l : List (Option _)). slice_get l i ≡ Some (Some x)) none got in
     let empty : None ≡ Some (Some x) = there in cc
 
-module _ {L N C : Type 0} (view : LoopView L N) (reader : ReaderView) (makes : Steps C) (number : ℕ) (clock : ClockOver) (old new : Part C L N)
+-- a reader behind a run
+abbrev pub read_by : ReaderOver → ReaderView
+read_by reader = counted_to reader.gives reader.new
+
+module _ {L N C : Type 0} (view : LoopView L N) (reader : ReaderOver) (makes : Steps C) (number : ℕ) (clock : ClockOver) (old new : Part C L N)
     (loops : (old.links.loops ≡ 2) × (old.links.number ≡ number)) (begins : old.links.slots.items ≡ [])
     (fresh : view.told → view.entries old.links.ledger.ends ≡ []) (work : Worked makes view reader clock old new) where
   -- what a loop did from its beginning on
-  all_told : IsToldOf view reader work.went.went.acts new.links
+  all_told : IsToldOf view (read_by reader) work.went.went.acts new.links
   all_told = work.went.went.so.went.keeps []
-      (record { ended = []; are = λ kept told. fresh told; so = told_none view.links reader (loop_numbers old.links) old.links.slots.items begins })
+      (record { ended = []; are = λ kept told. fresh told; so = told_none view.links (read_by reader) (loop_numbers old.links) old.links.slots.items begins })
 
   -- the numbers of the links that have ended are at most the greatest that it had
   pub up_to : (came : ℕ) → view.told → new.links.ledger.lost ≡ false → new.links.newest ≤ came → AreUpTo came (view.entries new.links.ledger.ends)
@@ -67,14 +73,16 @@ module _ {L N C : Type 0} (view : LoopView L N) (reader : ReaderView) (makes : S
       subst (λ (l : List LinkEnd). AreUpTo came l) (sym (all_told.are kept told))
       (λ k it got. let own = (all_told.so.ends.each k it got).0 in (own.some, omega (arith, own.within, most)))
 
-  module _ (law : (it : LinkEnd) (made : Made) (asks : List AskParts) → IsTale view.links.tells reader it made asks → IsAnsweredInOrder view.links.tells reader it made asks) where
+  module _ (law : (it : LinkEnd) (made : Made) (asks : List AskParts) (reads : ℕ) → IsTale view.links.tells (read_by reader) it made asks reads
+      → IsAnsweredInOrder view.links.tells (read_by reader) it made asks reads) where
     -- what it did for a link that has ended
-    was_answered : (k : ℕ) (it : LinkEnd) → slice_get all_told.ended k ≡ Some it → WasAnswered view.links.tells reader number work.went.went.acts it
+    was_answered : (k : ℕ) (it : LinkEnd) → slice_get all_told.ended k ≡ Some it → WasAnswered view.links.tells (read_by reader) number work.went.went.acts it
     was_answered k it got =
         let is = all_told.so.ends.each k it got in
+        let done = work.went.went.acts in
         let same = work.went.went.so.went.same in (
           subst (λ (n : ℕ). loop_of n it.number ≡ number) (same.0 ∙ loops.0) (is.0.falls ∙ (same.1 ∙ loops.1)),
-          law it (made_for it.number work.went.went.acts) (asks_for it.number work.went.went.acts) is.1,
+          law it (made_for it.number done) (asks_for it.number done) (reads_for it.number done) is.1,
         )
 
     -- it did nothing for a number that none of these had
@@ -82,11 +90,11 @@ module _ {L N C : Type 0} (view : LoopView L N) (reader : ReaderView) (makes : S
     known_ended link = ⊎_elim (λ none. inl none)
         (λ some. ⊎_elim (λ here. absurd (nothing_in new.links.slots.items here.0 here.1.0 work.none here.1.1)) (λ ended. inr ended) some) (all_told.so.known link)
 
-    -- what it did is what it made for each of its links, with some of the check-backs that it took; and its ledger says which these are,
-    -- where it tells and has them all
+    -- what it did is what it made for each of its links, with some of the check-backs that it took, and with no more replies `read N` than
+    -- its reader failed; and its ledger says which these are, where it tells and has them all
     pub answered : (told : Type 0) (ended : List LinkEnd) → taken_by old.asks.way ≡ []
         → (told → view.told × (new.links.ledger.lost ≡ false) × (view.entries new.links.ledger.ends ≡ ended))
-        → Leads makes old.calls new.calls (WorksFrom (loop_links view.links.tells told ended) reader clock number (taken_by new.asks.way))
+        → Leads makes old.calls new.calls (WorksFrom (loop_links view.links.tells told ended) reader.gives reader.new clock number (taken_by new.asks.way))
     answered told ended none whole =
         let went = work.went.went in
         let all : work.went.taken ≡ taken_by new.asks.way = sym (work.went.took.all ∙ ap (λ (l : List AskParts). l ++ work.went.taken) none) in
@@ -101,10 +109,11 @@ module _ {L N C : Type 0} (view : LoopView L N) (reader : ReaderView) (makes : S
                 acts = went.acts;
                 all = refl;
                 asked = refl;
+                read = let counted = went.counted in omega (arith, counted);
                 each = λ link. ⊎_elim (λ nothing. inl nothing) (λ end. inr (end.1.0, end.1.2, was_answered end.0 end.1.0 end.1.1)) (known_ended link);
                 ended = λ is_told.
                     let is = whole is_told in
-                    subst (λ (l : List LinkEnd). AreEntered view.links.tells reader number went.acts l) (sym (all_told.are is.1 is.0) ∙ is.2)
+                    subst (λ (l : List LinkEnd). AreEntered view.links.tells (read_by reader) number went.acts l) (sym (all_told.are is.1 is.0) ∙ is.2)
                     (record { each = was_answered; once = all_told.so.ends.once; known = known_ended });
               },
             );
@@ -113,22 +122,23 @@ module _ {L N C : Type 0} (view : LoopView L N) (reader : ReaderView) (makes : S
         }
 
 -- the steps of a loop
-pub worked_leads : {L N C : Type 0} (makes : Steps C) (view : LoopView L N) (reader : ReaderView) (clock : ClockOver) (old new : Part C L N) → Worked makes view reader clock old new
+pub worked_leads : {L N C : Type 0} (makes : Steps C) (view : LoopView L N) (reader : ReaderOver) (clock : ClockOver) (old new : Part C L N) → Worked makes view reader clock old new
     → Leads makes old.calls new.calls (λ made. Unit {0})
 worked_leads makes view reader clock old new work = record { made = steps_of work.went.went.acts; leads = work.went.went.leads; so = tt }
 
 -- and then it let go of what was handed over to it
-pub worked_then : {L N C : Type 0} (makes : Steps C) (view : LoopView L N) (reader : ReaderView) (clock : ClockOver) (old mid : Part C L N) (new : Links L N) → Worked makes view reader clock old mid
-    → GoesOn view reader mid.links [] new → new.slots ≡ mid.links.slots → Worked makes view reader clock old (part_of mid.calls mid.asks new)
-worked_then makes view reader clock old mid new work went same = record {
-  went = timed_off makes (λ (from : LoopAsks) taken to. HasTaken from.way taken to.way) view reader clock.tells old.calls mid.calls old.links mid.links new old.asks mid.asks clock.old clock.new work.went went;
+pub worked_then : {L N C : Type 0} (makes : Steps C) (view : LoopView L N) (reader : ReaderOver) (clock : ClockOver) (old mid : Part C L N) (calls : C) (new : Links L N) → Worked makes view reader clock old mid
+    → LeadsBy (unasked makes) mid.calls calls 0 0 (λ done. GoesOn view (read_by reader) mid.links done new) → new.slots ≡ mid.links.slots → Worked makes view reader clock old (part_of calls mid.asks new)
+worked_then makes view reader clock old mid calls new work went same = record {
+  went = timed_off makes (λ (from : LoopAsks) taken to. HasTaken from.way taken to.way) view (read_by reader) clock.tells old.calls mid.calls calls old.links mid.links new old.asks mid.asks clock.old clock.new
+      reader.old reader.new work.went went;
   none = ap (λ slots. slots.items) same ∙ work.none;
 }
 
 -- it took the first of what was put on its way
-pub took_first : {C : Type 0} (makes : Steps C) (links : LoopLinks) (reader : ReaderView) (clock : ClockOver) (number : ℕ) (x y : C) (taken put : List AskParts) → IsFrontOf taken put
-    → Leads makes x y (WorksFrom links reader clock number taken) → Leads makes x y (WorksFrom links reader clock number put)
-took_first makes links reader clock number x y taken put front went =
+pub took_first : {C : Type 0} (makes : Steps C) (links : LoopLinks) (gives : Giving) (failures : ℕ) (clock : ClockOver) (number : ℕ) (x y : C) (taken put : List AskParts) → IsFrontOf taken put
+    → Leads makes x y (WorksFrom links gives failures clock number taken) → Leads makes x y (WorksFrom links gives failures clock number put)
+took_first makes links gives failures clock number x y taken put front went =
     let was = went.so.answered in
     record {
       made = went.made;
@@ -245,8 +255,8 @@ module _ {chronicle : Ghosts Shared Event (Option Said)} where
 
   module _ {D : Type 0} (views : Views D) (failures : ℕ × ℕ) where
     met : (put : List AskParts × List AskParts) (p : Place D) (file : LastFile) (disk : D) (whole k a b e kt at bt et new : Pass Shared Event (Option Said) chronicle) → mine_of whole ≡ [] → numbers_of whole ≡ 0 ∷ 1 ∷ 2 ∷ 3 ∷ []
-        → Cuts whole k a b e → GainsTurns views.disk (FlushesTo put) k p kt (place_of file disk) → Gains a (WorksFrom (first_links views.links) (counted_to views.gives failures.0) (first_clock views.clocks) 0 put.0) at
-        → Gains b (WorksFrom (second_links views.links) (counted_to views.gives failures.1) (second_clock views.clocks) 1 put.1) bt
+        → Cuts whole k a b e → GainsTurns views.disk (FlushesTo put) k p kt (place_of file disk) → Gains a (WorksFrom (first_links views.links) views.gives failures.0 (first_clock views.clocks) 0 put.0) at
+        → Gains b (WorksFrom (second_links views.links) views.gives failures.1 (second_clock views.clocks) 1 put.1) bt
         → Gains e AreLooks et → Meets kt at bt et new → HasMade views failures p new disk
     met put p file disk whole k a b e kt at bt et new none numbers cuts turns one two three meets =
         let early = joined kt at meets.early meets.first in
@@ -307,13 +317,13 @@ module _ {chronicle : Ghosts Shared Event (Option Said)} where
     pub made_of : {C : Type 0} (pass_of : C → Option (Pass Shared Event (Option Said) chronicle)) (put : List AskParts × List AskParts) (p : Place D) (file : LastFile) (disk : D) (story : Story Shared Event (Option Said))
         (whole new : Pass Shared Event (Option Said) chronicle) (k a b e kt at bt et : C) → mine_of whole ≡ [] → numbers_of whole ≡ 0 ∷ 1 ∷ 2 ∷ 3 ∷ []
         → AreCut story whole (by_thread (pass_of k) (pass_of a) (pass_of b) (pass_of e)) → AreMet (by_thread (pass_of kt) (pass_of at) (pass_of bt) (pass_of et)) new
-        → Acted (StepsBy pass_of) views.disk (FlushesTo put) (change_of k p kt (place_of file disk)) → Leads (StepsBy pass_of) a at (WorksFrom (first_links views.links) (counted_to views.gives failures.0) (first_clock views.clocks) 0 put.0)
-        → Leads (StepsBy pass_of) b bt (WorksFrom (second_links views.links) (counted_to views.gives failures.1) (second_clock views.clocks) 1 put.1) → Leads (StepsBy pass_of) e et AreLooks → HasMade views failures p new disk
+        → Acted (StepsBy pass_of) views.disk (FlushesTo put) (change_of k p kt (place_of file disk)) → Leads (StepsBy pass_of) a at (WorksFrom (first_links views.links) views.gives failures.0 (first_clock views.clocks) 0 put.0)
+        → Leads (StepsBy pass_of) b bt (WorksFrom (second_links views.links) views.gives failures.1 (second_clock views.clocks) 1 put.1) → Leads (StepsBy pass_of) e et AreLooks → HasMade views failures p new disk
     made_of pass_of put p file disk story whole new k a b e kt at bt et none numbers cut are acted first second looks =
         met put p file disk whole cut.turns cut.first cut.second cut.looks are.turns are.first are.second are.looks new none numbers cut.cuts
         (gains_turns pass_of views.disk (FlushesTo put) k kt p (place_of file disk) cut.turns are.turns cut.are.0 are.are.0 acted)
-        (gains pass_of (WorksFrom (first_links views.links) (counted_to views.gives failures.0) (first_clock views.clocks) 0 put.0) a at cut.first are.first cut.are.1 are.are.1 first)
-        (gains pass_of (WorksFrom (second_links views.links) (counted_to views.gives failures.1) (second_clock views.clocks) 1 put.1) b bt cut.second are.second cut.are.2 are.are.2 second)
+        (gains pass_of (WorksFrom (first_links views.links) views.gives failures.0 (first_clock views.clocks) 0 put.0) a at cut.first are.first cut.are.1 are.are.1 first)
+        (gains pass_of (WorksFrom (second_links views.links) views.gives failures.1 (second_clock views.clocks) 1 put.1) b bt cut.second are.second cut.are.2 are.are.2 second)
         (gains pass_of AreLooks e et cut.looks are.looks cut.are.3 are.are.3 looks) are.meets
 
     merged_of : {p : Place D} {disk : D} (pass : Pass Shared Event (Option Said) chronicle) (history : Made) (made : HasMade views failures p pass disk) → seen_by pass ≡ history → IsDistinct (mine_of pass)
@@ -351,6 +361,6 @@ module _ {chronicle : Ghosts Shared Event (Option Said)} where
           timed = made.timed;
           keeper = made.keeper;
           write = made.write;
-          leads = leads_on views.disk (first_links views.links) (second_links views.links) (counted_to views.gives failures.0) (counted_to views.gives failures.1) made.put (change_of (start_of story).core old core (place_of made.file disk)) history made.turns made.first made.second made.looks
+          leads = leads_on views.disk (first_links views.links) (second_links views.links) views.gives failures made.put (change_of (start_of story).core old core (place_of made.file disk)) history made.turns made.first made.second made.looks
               stands merged made.links made.keeper made.write;
         }

@@ -13,7 +13,7 @@ use Rattle.broker_events.specs.declared.said.Said.{Said}
 use Rattle.broker_events.specs.declared.said.Said.TheVariants as said
 use Rattle.core_log.specs.Represents.{Represents}
 use Rattle.core_log.specs.declared.parts.Parts.{Parts}
-use Rattle.session.specs.Readers.{ReaderView}
+use Rattle.mq_outside.specs.Readings.{Giving}
 use Rattle.session.specs.Serving.{Made}
 use Rattle.worker_turns.specs.Acts as acts
 use Rattle.worker_turns.specs.Acts.{Act, Change, Turn, DiskView, Place, growing_at, steps_of, HasWritten, HasMissed, change_of}
@@ -237,14 +237,14 @@ module _ {D : Type 0} (view : DiskView D) where
       (λ own. told_own fuel e H own.0 turns s t p q (told_all fuel t q) less own.1 own.2 along write) is
 
   -- the history of the flusher, two loops and the keeper leads on, and every crash leaves what the turns flushed
-  pub leads_on : (one other : LoopLinks) (near far : ReaderView) (put : List AskParts × List AskParts) (change : Change Parts (Place D)) (history : Made) (turns : List Act) (first second looks : Made)
-      → Stands change.calls history change.calls_then → IsMerged history (steps_of turns) first second looks → AreAnsweredFrom one near 0 put.0 first × AreAnsweredFrom other far 1 put.1 second → AreLooks looks
+  pub leads_on : (one other : LoopLinks) (gives : Giving) (failures : ℕ × ℕ) (put : List AskParts × List AskParts) (change : Change Parts (Place D)) (history : Made) (turns : List Act) (first second looks : Made)
+      → Stands change.calls history change.calls_then → IsMerged history (steps_of turns) first second looks → AreAnsweredFrom one gives failures.0 0 put.0 first × AreAnsweredFrom other gives failures.1 1 put.1 second → AreLooks looks
       → Write view turns change.place change.place_then → (s : State) → Represents change.calls s → LeadsOn view history change s
-  leads_on one other near far put change history turns first second looks stands merged links keeper write s are =
+  leads_on one other gives failures put change history turns first second looks stands merged links keeper write s are =
       let old = change.place in
       let new = change.place_then in
       let run = stands.runs s are in
-      let told = told_all (length history) run.0 new history turns s old (omega arith) (laid one other near far put history (steps_of turns) first second looks merged links keeper) run.1 write in
+      let told = told_all (length history) run.0 new history turns s old (omega arith) (laid one other gives failures put history (steps_of turns) first second looks merged links keeper) run.1 write in
       let low : s.log.base.records ≤ s.flushed = omega (arith, are.state.base, are.state.dispatched) in
       record {
         reached = run.0;

@@ -1,10 +1,12 @@
 -- What two loops did for their links, and which links have ended.
 use Rattle.std.specs.Prelude.{◌≡◌, ◌⊎◌, ◌<◌, ◌≤◌, ◌+◌, ℕ, List, [], length, slice_get, Option, Some, None, false}
+use Rattle.mq_outside.specs.Readings.{Giving}
 use Rattle.mq_peers.specs.Ended.{LinkEnd}
 use Rattle.reply_fields.specs.Parts.{AskParts}
 use Rattle.session.specs.Readers.{ReaderView}
 use Rattle.session.specs.Serving.{Made}
-use Rattle.event_loops.specs.Tales.{Act, steps_of, asks_of, made_for, asks_for, AreSome, DidNothing, loop_of}
+use Rattle.link_service.specs.Transcripts.{counted_to}
+use Rattle.event_loops.specs.Tales.{Act, steps_of, asks_of, reads_of, made_for, asks_for, reads_for, AreSome, DidNothing, loop_of}
 use Rattle.event_loops.specs.Tales.{IsEndOf, IsAnsweredInOrder, LoopView}
 use Rattle.event_loops.specs.Takings.{LeadsTaking}
 use Rattle.event_loops.specs.Timing.{ClockOver, GoesTimed, IsTimed}
@@ -70,7 +72,7 @@ AreAllThatCame old new links = links.told → (old + (length links.first + lengt
 -- what was done for this link: it falls to this one of the two loops, and was answered in order
 abbrev pub WasAnswered : Type 0 → ReaderView → ℕ → List Act → LinkEnd → Type 0
 WasAnswered tells reader number acts it = (loop_of 2 it.number ≡ number)
-    × IsAnsweredInOrder tells reader it (made_for it.number acts) (asks_for it.number acts)
+    × IsAnsweredInOrder tells reader it (made_for it.number acts) (asks_for it.number acts) (reads_for it.number acts)
 
 -- Each of these links was answered in order, no two had one number, and for no other number anything was done.
 pub record AreEntered (tells : Type 0) (reader : ReaderView) (number : ℕ) (acts : List Act) (ended : List LinkEnd) : Type 0 where
@@ -78,24 +80,27 @@ pub record AreEntered (tells : Type 0) (reader : ReaderView) (number : ℕ) (act
   pub once : (j k link : ℕ) → IsEndOf ended j link → IsEndOf ended k link → j ≡ k
   pub known : (link : ℕ) → DidNothing link acts ⊎ ((k : ℕ) × IsEndOf ended k link)
 
--- What one of the two loops made: for each of its links its passes, in which each reply is its request's, and behind them at most its
--- `Leave`, and nothing else. These check-backs were written meanwhile. Where the links that ended are told, it is what was done for them.
-pub record AreAnswered (links : LoopLinks) (reader : ReaderView) (number : ℕ) (steps : Made) (asks : List AskParts) : Type 0 where
+-- What one of the two loops made: for each of its links its passes, in which each reply is its request's, and behind them its `Leave`,
+-- and nothing else. These check-backs were written meanwhile, and replies `read N`: each with a count to which the failures of the loop's
+-- reader came, and all together no more than it failed. Where the links that ended are told, it is what was done for them.
+pub record AreAnswered (links : LoopLinks) (gives : Giving) (failures : ℕ) (number : ℕ) (steps : Made) (asks : List AskParts) : Type 0 where
   pub acts : List Act
   pub all : steps ≡ steps_of acts
   pub asked : asks ≡ asks_of acts
+  pub read : reads_of acts ≤ failures
   pub each : (link : ℕ) → DidNothing link acts
-      ⊎ ((it : LinkEnd) × (it.number ≡ link) × WasAnswered links.tells reader number acts it)
-  pub ended : links.told → AreEntered links.tells reader number acts links.ended
+      ⊎ ((it : LinkEnd) × (it.number ≡ link) × WasAnswered links.tells (counted_to gives failures) number acts it)
+  pub ended : links.told → AreEntered links.tells (counted_to gives failures) number acts links.ended
 
 -- The same, and what was written are some of these check-backs, in their order and each at most once.
-abbrev pub AreAnsweredFrom : LoopLinks → ReaderView → ℕ → List AskParts → Made → Type 0
-AreAnsweredFrom links reader number put steps = (asks : List AskParts) × AreSome asks put × AreAnswered links reader number steps asks
+abbrev pub AreAnsweredFrom : LoopLinks → Giving → ℕ → ℕ → List AskParts → Made → Type 0
+AreAnsweredFrom links gives failures number put steps =
+    (asks : List AskParts) × AreSome asks put × AreAnswered links gives failures number steps asks
 
 -- The same in passes, one for each reading that the clock of the loop gave, which gave its requests to the broker at that reading.
-pub record WorksFrom (links : LoopLinks) (reader : ReaderView) (clock : ClockOver) (number : ℕ) (put : List AskParts) (steps : Made)
-    : Type 0 where
-  pub answered : AreAnsweredFrom links reader number put steps
+pub record WorksFrom (links : LoopLinks) (gives : Giving) (failures : ℕ) (clock : ClockOver) (number : ℕ) (put : List AskParts)
+    (steps : Made) : Type 0 where
+  pub answered : AreAnsweredFrom links gives failures number put steps
   pub timed : IsTimed clock steps
 
 -- ---- a loop
@@ -121,11 +126,20 @@ pub record Part (C L N : Type 0) : Type 0 where
 abbrev pub part_of : {C L N : Type 0} → C → LoopAsks → Links L N → Part C L N
 part_of calls asks links = record { calls = calls; asks = asks; links = links }
 
+-- a reader over a run: what it gives, and how often it had failed before the run and behind it
+pub record ReaderOver : Type 1 where
+  pub gives : Giving
+  pub old : ℕ
+  pub new : ℕ
+
+abbrev pub reader_over : Giving → ℕ → ℕ → ReaderOver
+reader_over gives old new = record { gives = gives; old = old; new = new }
+
 -- what a loop did from the one to the other: its steps were those of passes over its links, each of which is let go of
-pub record Worked {C L N : Type 0} (makes : Steps C) (view : LoopView L N) (reader : ReaderView) (clock : ClockOver) (old new : Part C L N)
+pub record Worked {C L N : Type 0} (makes : Steps C) (view : LoopView L N) (reader : ReaderOver) (clock : ClockOver) (old new : Part C L N)
     : Type 0 where
   pub went : LeadsTaking makes (λ (from : LoopAsks) taken to. HasTaken from.way taken to.way) old.calls new.calls old.asks new.asks
-      (λ acts. GoesTimed view reader clock old.links acts new.links)
+      reader.old reader.new (λ acts. GoesTimed view (counted_to reader.gives reader.new) clock old.links acts new.links)
   pub none : new.links.slots.items ≡ []
 
 -- Both ledgers have each link of their loops, whose numbers are at most this one, and have so many together, where they tell.

@@ -14,7 +14,6 @@ use Rattle.flush_story.specs.Story.{Happening, Story, span_of}
 use Rattle.flush_story.specs.Keeping.{IsOpenFor, Keeps}
 use Rattle.reply_fields.specs.Parts.{AskParts}
 use Rattle.session.specs.Serving.{Made}
-use Rattle.link_service.specs.Transcripts.{counted_to}
 use Rattle.event_loops.specs.Timing.{ClockOver, IsTimed, clock_over}
 use Rattle.spine.specs.declared.shared.Shared.{Shared}
 use Rattle.worker_turns.specs.Acts as acts
@@ -161,8 +160,8 @@ module _ {chronicle : Ghosts Shared Event (Option Said)} where
     pub flusher : FlushesTo put turns
     pub file : LastFile
     pub write : Write views.disk turns old (place_of file disk)
-    pub links : AreAnsweredFrom (first_links views.links) (counted_to views.gives failures.0) 0 put.0 first
-        × AreAnsweredFrom (second_links views.links) (counted_to views.gives failures.1) 1 put.1 second
+    pub links : AreAnsweredFrom (first_links views.links) views.gives failures.0 0 put.0 first
+        × AreAnsweredFrom (second_links views.links) views.gives failures.1 1 put.1 second
     pub timed : AreTimed views.clocks first second
     pub keeper : AreLooks looks
     pub seats : (k : ℕ) → k < 4 → 0 < times k (numbers_of pass)
@@ -183,8 +182,8 @@ pub record LeadsOn {D : Type 0} (view : DiskView D) (history : Made) (change : C
 
 -- Of this history, which leads from the first core to the second: the entries are the flusher's, whose turns wrote what was pending,
 -- what the loops made for each link, and the looks of the keeper. A loop gave the requests of each pass to the broker at the reading
--- that its clock gave for this pass, and answered `read N` only with counts to which its reader's failures, so many, had come. Each
--- check-back that a loop wrote is one that the flusher handed out for its loop, and was written to the link that it names.
+-- that its clock gave for this pass, and answered `read N` only with counts to which its reader's failures, so many, had come, and at most
+-- as often. Each check-back that a loop wrote is one that the flusher handed out for its loop, and was written to the link that it names.
 pub record IsMadeBy {D : Type 0} (views : Views D) (failures : ℕ × ℕ) (history : Made) (change : Change Parts (Place D)) : Type 0 where
   pub turns : List acts.Act
   pub first : Made
@@ -193,8 +192,8 @@ pub record IsMadeBy {D : Type 0} (views : Views D) (failures : ℕ × ℕ) (hist
   pub put : List AskParts × List AskParts
   pub merged : IsMerged history (acts.steps_of turns) first second looks
   pub flusher : FlushesTo put turns
-  pub links : AreAnsweredFrom (first_links views.links) (counted_to views.gives failures.0) 0 put.0 first
-      × AreAnsweredFrom (second_links views.links) (counted_to views.gives failures.1) 1 put.1 second
+  pub links : AreAnsweredFrom (first_links views.links) views.gives failures.0 0 put.0 first
+      × AreAnsweredFrom (second_links views.links) views.gives failures.1 1 put.1 second
   pub timed : AreTimed views.clocks first second
   pub keeper : AreLooks looks
   pub write : Write views.disk turns change.place change.place_then

@@ -6,7 +6,6 @@ ghost use Rattle.broker_model.specs.State.{State};
 ghost use Rattle.worker_turns.specs.Acts.{Act, Change, Place, steps_of, view_of};
 ghost use Rattle.reply_fields.specs.Parts.{AskParts};
 ghost use Rattle.session.specs.Serving.{Made};
-ghost use Rattle.link_service.specs.Transcripts.{counted_to};
 ghost use Rattle.spine.specs.Stands.{Stands};
 ghost use Rattle.std.specs.Prelude.{ℕ, List};
 ghost use Rattle.mq_peers.specs.Ended.{LinkEnd};
@@ -23,8 +22,8 @@ pub fn a_shared_history_is_a_story<D: Disk, L: Link, N: Ends<L>, R: Reader>()
     ensures { (failures : ℕ × ℕ) (change : Change Parts (Place D)) (history first second looks : Made) (turns : List Act)
         (put : List AskParts × List AskParts) (ended : List LinkEnd × List LinkEnd) → Stands change.calls history change.calls_then
         → IsMerged history (steps_of turns) first second looks
-        → AreAnsweredFrom (loop_links L.tells N.tells ended.0) (counted_to R.gives failures.0) 0 put.0 first
-        × AreAnsweredFrom (loop_links L.tells N.tells ended.1) (counted_to R.gives failures.1) 1 put.1 second → AreLooks looks
+        → AreAnsweredFrom (loop_links L.tells N.tells ended.0) R.gives failures.0 0 put.0 first
+        × AreAnsweredFrom (loop_links L.tells N.tells ended.1) R.gives failures.1 1 put.1 second → AreLooks looks
         → Write (view_of D.tells D.state D.faults D.syncs) turns change.place change.place_then
         → (s : State) → Represents change.calls s → LeadsOn (view_of D.tells D.state D.faults D.syncs) history change s }
 {}

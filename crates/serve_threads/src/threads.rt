@@ -4,13 +4,12 @@ ghost use Rattle.std.specs.Prelude.{◌≡◌, ◌≤◌, length};
 ghost use denote.Param.Send.{IsSync, IsSend};
 ghost use Rattle.story_lock.specs.Passes.{IsPassOf, numbers_of, start_of};
 ghost use Rattle.worker_turns.specs.Acts.{view_of};
-ghost use Rattle.link_service.specs.Transcripts.{counted_to};
 ghost use Rattle.event_loops.specs.Causes.{CountsEnd, loop_faults};
 ghost use Rattle.event_loops.specs.Doors.{AtDoor};
 ghost use Rattle.event_loops.specs.Tales.{loop_view};
 ghost use Rattle.event_loops.specs.Timing.{clock_over};
 ghost use Rattle.serve_threads.specs.Kept.{KeepsUp, keep_over};
-ghost use Rattle.serve_threads.specs.Links.{Worked, part_of};
+ghost use Rattle.serve_threads.specs.Links.{Worked, part_of, reader_over};
 ghost use Rattle.flush_rounds.specs.Working.{Worked as WorkedOn};
 
 use crate::callers::{Callers, callers_of};
@@ -55,7 +54,7 @@ impl<P: Ready + Drop, K: Clock + Drop, C: Calls + Drop, R: Reader + Drop> Worker
         flusher: H,
     ) -> Worker<P, K, C, R>
         ensures went { Worked C.makes (loop_view P.Link.tells P.Link.given P.Link.taken P.Ends.tells P.Ends.entries)
-            (counted_to R.gives (R.faults result.reader))
+            (reader_over R.gives (R.faults self.reader) (R.faults result.reader))
             (clock_over K.tells (K.readings self.outside.clock) (K.readings result.outside.clock))
             (part_of self.calls self.asks self.event_loop.links)
             (part_of result.calls result.asks result.event_loop.links) }
@@ -142,12 +141,12 @@ fn run_loops<
     flushers: (H, H),
 ) -> (Worker<P, K, C, R>, Worker<P, K, C, R>)
     ensures first { Worked C.makes (loop_view P.Link.tells P.Link.given P.Link.taken P.Ends.tells P.Ends.entries)
-        (counted_to R.gives (R.faults result.0.reader))
+        (reader_over R.gives (R.faults first.reader) (R.faults result.0.reader))
         (clock_over K.tells (K.readings first.outside.clock) (K.readings result.0.outside.clock))
         (part_of first.calls first.asks first.event_loop.links)
         (part_of result.0.calls result.0.asks result.0.event_loop.links) }
     ensures second { Worked C.makes (loop_view P.Link.tells P.Link.given P.Link.taken P.Ends.tells P.Ends.entries)
-        (counted_to R.gives (R.faults result.1.reader))
+        (reader_over R.gives (R.faults second.reader) (R.faults result.1.reader))
         (clock_over K.tells (K.readings second.outside.clock) (K.readings result.1.outside.clock))
         (part_of second.calls second.asks second.event_loop.links)
         (part_of result.1.calls result.1.asks result.1.event_loop.links) }
@@ -164,7 +163,7 @@ fn run_loops<
             requires { IsSend P.Link.row × IsSend P.Door.row × IsSend P.Ends.row × IsSend P.Waker.row × IsSync P.Waker.row
                 × IsSend K.row }
             ensures went { Worked C.makes (loop_view P.Link.tells P.Link.given P.Link.taken P.Ends.tells P.Ends.entries)
-                (counted_to R.gives (R.faults result.reader))
+                (reader_over R.gives (R.faults first.reader) (R.faults result.reader))
                 (clock_over K.tells (K.readings first.outside.clock) (K.readings result.outside.clock))
                 (part_of first.calls first.asks first.event_loop.links)
                 (part_of result.calls result.asks result.event_loop.links) }
@@ -176,7 +175,7 @@ fn run_loops<
             requires { IsSend P.Link.row × IsSend P.Door.row × IsSend P.Ends.row × IsSend P.Waker.row × IsSync P.Waker.row
                 × IsSend K.row }
             ensures went { Worked C.makes (loop_view P.Link.tells P.Link.given P.Link.taken P.Ends.tells P.Ends.entries)
-                (counted_to R.gives (R.faults result.reader))
+                (reader_over R.gives (R.faults second.reader) (R.faults result.reader))
                 (clock_over K.tells (K.readings second.outside.clock) (K.readings result.outside.clock))
                 (part_of second.calls second.asks second.event_loop.links)
                 (part_of result.calls result.asks result.event_loop.links) }
@@ -187,8 +186,12 @@ fn run_loops<
     around.shared.loops_ended();
     bell.unpark();
     // Neither hands a link over any more.
-    first.event_loop.refuse_left::<W, R>(around);
-    second.event_loop.refuse_left::<W, R>(around);
+    first
+        .event_loop
+        .refuse_left::<W, C, R>(around, &mut first.calls);
+    second
+        .event_loop
+        .refuse_left::<W, C, R>(around, &mut second.calls);
     (first, second)
 }
 
@@ -211,12 +214,12 @@ fn run_kept<
     ensures kept { KeepsUp C.sees (keep_over E.tells (E.state keeping.keep) (E.state result.0.keep)) keeping.calls result.0.calls }
     ensures keep_grows { E.faults keeping.keep ≤ E.faults result.0.keep }
     ensures first { Worked C.makes (loop_view P.Link.tells P.Link.given P.Link.taken P.Ends.tells P.Ends.entries)
-        (counted_to R.gives (R.faults result.1.0.reader))
+        (reader_over R.gives (R.faults first.reader) (R.faults result.1.0.reader))
         (clock_over K.tells (K.readings first.outside.clock) (K.readings result.1.0.outside.clock))
         (part_of first.calls first.asks first.event_loop.links)
         (part_of result.1.0.calls result.1.0.asks result.1.0.event_loop.links) }
     ensures second { Worked C.makes (loop_view P.Link.tells P.Link.given P.Link.taken P.Ends.tells P.Ends.entries)
-        (counted_to R.gives (R.faults result.1.1.reader))
+        (reader_over R.gives (R.faults second.reader) (R.faults result.1.1.reader))
         (clock_over K.tells (K.readings second.outside.clock) (K.readings result.1.1.outside.clock))
         (part_of second.calls second.asks second.event_loop.links)
         (part_of result.1.1.calls result.1.1.asks result.1.1.event_loop.links) }
@@ -238,12 +241,12 @@ fn run_kept<
             requires { IsSync W.row × IsSend P.row × IsSync P.row × IsSend P.Link.row × IsSend P.Door.row × IsSend P.Waker.row
                 × IsSync P.Waker.row × IsSend K.row × IsSend C.row × IsSend R.row × IsSend H.row }
             ensures first { Worked C.makes (loop_view P.Link.tells P.Link.given P.Link.taken P.Ends.tells P.Ends.entries)
-                (counted_to R.gives (R.faults result.0.reader))
+                (reader_over R.gives (R.faults first.reader) (R.faults result.0.reader))
                 (clock_over K.tells (K.readings first.outside.clock) (K.readings result.0.outside.clock))
                 (part_of first.calls first.asks first.event_loop.links)
                 (part_of result.0.calls result.0.asks result.0.event_loop.links) }
             ensures second { Worked C.makes (loop_view P.Link.tells P.Link.given P.Link.taken P.Ends.tells P.Ends.entries)
-                (counted_to R.gives (R.faults result.1.reader))
+                (reader_over R.gives (R.faults second.reader) (R.faults result.1.reader))
                 (clock_over K.tells (K.readings second.outside.clock) (K.readings result.1.outside.clock))
                 (part_of second.calls second.asks second.event_loop.links)
                 (part_of result.1.calls result.1.asks result.1.event_loop.links) }
@@ -300,12 +303,12 @@ where
     ensures kept { KeepsUp C.sees (keep_over E.tells (E.state keeping.keep) (E.state result.keeping.keep)) keeping.calls
         result.keeping.calls }
     ensures first { Worked C.makes (loop_view P.Link.tells P.Link.given P.Link.taken P.Ends.tells P.Ends.entries)
-        (counted_to R.gives (R.faults result.first.reader))
+        (reader_over R.gives (R.faults first.reader) (R.faults result.first.reader))
         (clock_over K.tells (K.readings first.outside.clock) (K.readings result.first.outside.clock))
         (part_of first.calls first.asks first.event_loop.links)
         (part_of result.first.calls result.first.asks result.first.event_loop.links) }
     ensures second { Worked C.makes (loop_view P.Link.tells P.Link.given P.Link.taken P.Ends.tells P.Ends.entries)
-        (counted_to R.gives (R.faults result.second.reader))
+        (reader_over R.gives (R.faults second.reader) (R.faults result.second.reader))
         (clock_over K.tells (K.readings second.outside.clock) (K.readings result.second.outside.clock))
         (part_of second.calls second.asks second.event_loop.links)
         (part_of result.second.calls result.second.asks result.second.event_loop.links) }
@@ -335,12 +338,12 @@ where
             ensures kept { KeepsUp C.sees (keep_over E.tells (E.state keeping.keep) (E.state result.0.keep)) keeping.calls result.0.calls }
             ensures keep_grows { E.faults keeping.keep ≤ E.faults result.0.keep }
             ensures first { Worked C.makes (loop_view P.Link.tells P.Link.given P.Link.taken P.Ends.tells P.Ends.entries)
-                (counted_to R.gives (R.faults result.1.0.reader))
+                (reader_over R.gives (R.faults first.reader) (R.faults result.1.0.reader))
                 (clock_over K.tells (K.readings first.outside.clock) (K.readings result.1.0.outside.clock))
                 (part_of first.calls first.asks first.event_loop.links)
                 (part_of result.1.0.calls result.1.0.asks result.1.0.event_loop.links) }
             ensures second { Worked C.makes (loop_view P.Link.tells P.Link.given P.Link.taken P.Ends.tells P.Ends.entries)
-                (counted_to R.gives (R.faults result.1.1.reader))
+                (reader_over R.gives (R.faults second.reader) (R.faults result.1.1.reader))
                 (clock_over K.tells (K.readings second.outside.clock) (K.readings result.1.1.outside.clock))
                 (part_of second.calls second.asks second.event_loop.links)
                 (part_of result.1.1.calls result.1.1.asks result.1.1.event_loop.links) }

@@ -1,5 +1,5 @@
 -- What calls of a session have done: the requests that were heard, what was owed for them, and the bytes that left.
-use Rattle.std.proofs.Common.{◌≡◌, ◌⊎◌, ℕ, ◌≤◌, List, [], ◌∷◌, ◌++◌, length, take, drop, Option, Some, None, Ok, Err, inl, inr, refl, sym, ap, ◌∙◌, subst, append_assoc, append-nil}
+use Rattle.std.proofs.Common.{◌≡◌, ◌⊎◌, ◌+◌, ℕ, ◌≤◌, List, [], ◌∷◌, ◌++◌, length, take, drop, Option, Some, None, Ok, Err, inl, inr, refl, sym, ap, ◌∙◌, subst, append_assoc, append-nil}
 use Rattle.std.specs.Prelude.{Result, map, option_to_list}
 use Rattle.std.proofs.lemmas.List.{take-append-drop, drop-append-le, map-append}
 use Rattle.session.specs.Readers.{ReaderView}
@@ -11,7 +11,7 @@ use Rattle.session.specs.Asking.{Asks, AreFor, opaque_of, count_after}
 use Rattle.session.specs.Talks.{HasHeard}
 use Rattle.session.specs.Serving.{Made, KeepsLink, KeepsOut, KeepsRest, IsRefused, IsAsked, Rests, Answers, FindsNoRoom, ServesNext, GivesUp, caller_of, no_room}
 use Rattle.session.specs.Settling.{IsSettled, unsent_of}
-use Rattle.session.specs.Sessions.{Call, fed, served, gave_up, settled, sent, asked, HadMemory, IsCall, AreCalls, stream_in, sent_in, made_in, asks_in, stream_of, sent_of, made_of, asks_of, applied_in, found_in, Answer, IsAnswer, steps_of, checked, replies_to, owed_among, asks_among, ArePieces, HasServed, IsNew, RepliesInOrder}
+use Rattle.session.specs.Sessions.{Call, fed, served, gave_up, settled, sent, asked, HadMemory, IsCall, AreCalls, stream_in, sent_in, made_in, asks_in, read_replies_in, stream_of, sent_of, made_of, asks_of, read_replies_of, applied_in, found_in, Answer, IsAnswer, steps_of, checked, replies_to, owed_among, asks_among, ArePieces, HasServed, IsNew, RepliesInOrder}
 use Rattle.session.specs.declared.heard.Heard.{Heard}
 use Rattle.session.specs.declared.owed.Owed.{Owed}
 use Rattle.session.specs.declared.owed.Applied.{Applied}
@@ -44,7 +44,7 @@ hears_at : (at : ℕ) (bytes : List ℕ) (heard : List Heard) (new : Held) → H
 hears_at at bytes heard new h = subst (λ (l : List ℕ). HasHeard at l heard new) (sym (append-nil bytes)) h
 
 did_feed : (reader : ReaderView) (old new : Session) (piece : List ℕ) → new.talk.cutter ≡ record { at = old.talk.cutter.at; bytes = old.talk.cutter.bytes ++ piece }
-    → KeepsRest old new → HasServed reader old piece [] [] [] new
+    → KeepsRest old new → HasServed reader old piece [] [] 0 [] new
 did_feed reader old new piece cut keeps = record {
   link = keeps.link;
   heard = [];
@@ -61,13 +61,13 @@ did_feed reader old new piece cut keeps = record {
   looks = [];
   found = refl;
   bytes = [];
-  are_pieces = (refl, refl);
+  are_pieces = (refl, refl, refl);
   went = stays (unsent_of old) (unsent_of new) (unsent_same old new keeps.out.0 keeps.out.1);
 }
 
 -- no request was served
 did_rest : (reader : ReaderView) (old new : Session) (made : Made) → HasHeard old.talk.cutter.at old.talk.cutter.bytes [] new.talk.cutter → Rests old made new
-    → KeepsLink old new → KeepsOut old new → HasServed reader old [] made [] [] new
+    → KeepsLink old new → KeepsOut old new → HasServed reader old [] made [] 0 [] new
 did_rest reader old new made hears rests link out = record {
   link = link;
   heard = [];
@@ -84,7 +84,7 @@ did_rest reader old new made hears rests link out = record {
   looks = [];
   found = ap found_in rests.none;
   bytes = [];
-  are_pieces = (refl, refl);
+  are_pieces = (refl, refl, refl);
   went = stays (unsent_of old) (unsent_of new) (unsent_same old new out.0 out.1);
 }
 
@@ -100,7 +100,7 @@ answer_finds talk now heard applied made (inl h) = ap found_in h.none
 answer_finds talk now heard applied made (inr h) = ap found_in h.one
 
 -- a request was answered
-did_answer : (reader : ReaderView) (now : ℕ) (old new : Session) (made : Made) → Answers now old made new → KeepsLink old new → KeepsOut old new → HasServed reader old [] made [] [] new
+did_answer : (reader : ReaderView) (now : ℕ) (old new : Session) (made : Made) → Answers now old made new → KeepsLink old new → KeepsOut old new → HasServed reader old [] made [] 0 [] new
 did_answer reader now old new made h link out =
     let next = takes_one old.held h.heard old.talk.cutter new.talk.cutter h.next in
     record {
@@ -119,12 +119,12 @@ did_answer reader now old new made h link out =
       looks = [];
       found = answer_finds old.talk now h.heard (Owes h.owed.reply h.owed.awaits) made h.answered.comes;
       bytes = [];
-      are_pieces = (refl, refl);
+      are_pieces = (refl, refl, refl);
       went = stays (unsent_of old) (unsent_of new) (unsent_same old new out.0 out.1);
     }
 
 -- a request found no room
-did_hold : (reader : ReaderView) (now : ℕ) (old new : Session) (made : Made) → FindsNoRoom now old made new → KeepsLink old new → KeepsOut old new → HasServed reader old [] made [] [] new
+did_hold : (reader : ReaderView) (now : ℕ) (old new : Session) (made : Made) → FindsNoRoom now old made new → KeepsLink old new → KeepsOut old new → HasServed reader old [] made [] 0 [] new
 did_hold reader now old new made h link out =
     let next = takes_one old.held h.heard old.talk.cutter new.talk.cutter h.next in
     record {
@@ -144,12 +144,12 @@ did_hold reader now old new made h link out =
       looks = [];
       found = ap found_in h.asked.one;
       bytes = [];
-      are_pieces = (refl, refl);
+      are_pieces = (refl, refl, refl);
       went = stays (unsent_of old) (unsent_of new) (unsent_same old new out.0 out.1);
     }
 
 did_serve : (reader : ReaderView) (now : ℕ) (old new : Session) (made : Made) (result : Result Step Halt) → HadMemory result → ServesNext now old made result new → KeepsLink old new
-    → KeepsOut old new → HasServed reader old [] made [] [] new
+    → KeepsOut old new → HasServed reader old [] made [] 0 [] new
 did_serve reader now old new made (Ok steps.Request) had h link out = did_answer reader now old new made h link out
 did_serve reader now old new made (Ok steps.Nothing) had h link out =
     did_rest reader old new made (one_answer old.talk.cutter new.talk.cutter (Ok None) h.1) h.0 link out
@@ -167,7 +167,7 @@ keeps_link : (old new : Session) → new.talk ≡ old.talk → KeepsLink old new
 keeps_link old new same = (ap (λ (t : Talk). t.link) same, ap (λ (t : Talk). t.host) same)
 
 did_give_up : (reader : ReaderView) (count : ℕ) (old new : Session) (held : Option Heard) → old.held ≡ held → GivesUp held count old (Ok tt) new → new.held ≡ None
-    → new.talk ≡ old.talk → KeepsOut old new → HasServed reader old [] [] [] [] new
+    → new.talk ≡ old.talk → KeepsOut old new → HasServed reader old [] [] [] 0 [] new
 did_give_up reader count old new None is h none same out = record {
   link = keeps_link old new same;
   heard = [];
@@ -184,7 +184,7 @@ did_give_up reader count old new None is h none same out = record {
   looks = [];
   found = refl;
   bytes = [];
-  are_pieces = (refl, refl);
+  are_pieces = (refl, refl, refl);
   went = stays (unsent_of old) (unsent_of new) (unsent_same old new out.0 out.1);
 }
 did_give_up reader count old new (Some heard) is h none same out = record {
@@ -203,14 +203,14 @@ did_give_up reader count old new (Some heard) is h none same out = record {
   looks = [];
   found = refl;
   bytes = [];
-  are_pieces = (refl, refl);
+  are_pieces = (refl, refl, refl);
   went = stays (unsent_of old) (unsent_of new) (unsent_same old new out.0 out.1);
 }
 
-did_settle : (reader : ReaderView) (old new : Session) (made : Made) → IsSettled reader old made new → new.held ≡ old.held → new.talk ≡ old.talk → new.sent ≡ old.sent
-    → new.asked ≡ old.asked → HasServed reader old [] made [] [] new
-did_settle reader old new made h held same kept still =
-    let puts = puts_replies reader old.asked h.settled old.out.items h.first new.out.items h.puts in
+did_settle : (reader : ReaderView) (old new : Session) (made : Made) (reads : ℕ) → IsSettled reader old made reads new → new.held ≡ old.held → new.talk ≡ old.talk
+    → new.sent ≡ old.sent → new.asked ≡ old.asked → HasServed reader old [] made [] reads [] new
+did_settle reader old new made reads h held same kept still =
+    let puts = puts_replies reader old.asked h.settled old.out.items h.first reads new.out.items h.puts in
     record {
       link = keeps_link old new same;
       heard = [];
@@ -218,7 +218,7 @@ did_settle reader old new made h held same kept still =
       answers = [];
       are = tt;
       each = stays (option_to_list old.held) (option_to_list new.held) (ap (λ (w : Option Heard). option_to_list w) held);
-      applied = ap applied_in h.both ∙ applies_on h.first h.last [] [] (settles_applies reader h.settled old.out.items h.first new.out.items h.puts)
+      applied = ap applied_in h.both ∙ applies_on h.first h.last [] [] (settles_applies reader h.settled old.out.items h.first reads new.out.items h.puts)
           (stops_applies new.owed.items h.last _ h.stops);
       pieces = replies_to h.settled;
       left = append-nil old.owed.items ∙ h.left ∙ ap (λ (l : List Owed). l ++ new.owed.items) (sym (owed_among_replies h.settled));
@@ -226,7 +226,7 @@ did_settle reader old new made h held same kept still =
       for_link = tt;
       count = still;
       looks = h.first;
-      found = ap found_in h.both ∙ finds_on h.first h.last h.first [] (settles_finds reader h.settled old.out.items h.first new.out.items h.puts)
+      found = ap found_in h.both ∙ finds_on h.first h.last h.first [] (settles_finds reader h.settled old.out.items h.first reads new.out.items h.puts)
           (stops_finds new.owed.items h.last _ h.stops) ∙ append-nil h.first;
       bytes = puts.bytes;
       are_pieces = puts.pieces;
@@ -234,7 +234,7 @@ did_settle reader old new made h held same kept still =
     }
 
 did_send : (reader : ReaderView) (count : ℕ) (bytes : List ℕ) (old new : Session) → bytes ≡ take count (unsent_of old) → unsent_of new ≡ drop count (unsent_of old) → new.held ≡ old.held
-    → new.talk ≡ old.talk → new.owed.items ≡ old.owed.items → new.asked ≡ old.asked → HasServed reader old [] [] [] bytes new
+    → new.talk ≡ old.talk → new.owed.items ≡ old.owed.items → new.asked ≡ old.asked → HasServed reader old [] [] [] 0 bytes new
 did_send reader count bytes old new is rest held same owed still = record {
   link = keeps_link old new same;
   heard = [];
@@ -251,13 +251,13 @@ did_send reader count bytes old new is rest held same owed still = record {
   looks = [];
   found = refl;
   bytes = [];
-  are_pieces = (refl, refl);
+  are_pieces = (refl, refl, refl);
   went = append-nil (unsent_of old) ∙ sym (ap (λ (l : List ℕ). l ++ unsent_of new) is ∙ ap (λ (l : List ℕ). take count (unsent_of old) ++ l) rest
       ∙ take-append-drop count (unsent_of old));
 }
 
 -- the frame of a check-back was put behind what is to be sent
-did_ask : (reader : ReaderView) (old new : Session) (ask : AskParts) → Asks old ask new → HasServed reader old [] [] (ask ∷ []) [] new
+did_ask : (reader : ReaderView) (old new : Session) (ask : AskParts) → Asks old ask new → HasServed reader old [] [] (ask ∷ []) 0 [] new
 did_ask reader old new ask h =
     let frame = ask_bytes (opaque_of old.asked) ask.view in
     record {
@@ -276,16 +276,16 @@ did_ask reader old new ask h =
       looks = [];
       found = refl;
       bytes = frame;
-      are_pieces = ([], sym (append-nil frame), (refl, refl));
+      are_pieces = ([], sym (append-nil frame), (refl, refl, refl));
       went = unsent_more old new frame h.put h.sent;
     }
 
 one_call : (reader : ReaderView) (old new : Session) (call : Call) → IsCall reader old call new
-    → HasServed reader old (stream_in call) (made_in call) (asks_in call) (sent_in call) new
+    → HasServed reader old (stream_in call) (made_in call) (asks_in call) (read_replies_in call) (sent_in call) new
 one_call reader old new (fed piece) h = did_feed reader old new piece h.0 h.1
 one_call reader old new (served now made result) h = did_serve reader now old new made result h.0 h.1 h.2 h.3
 one_call reader old new (gave_up count) h = did_give_up reader count old new old.held refl h.0 h.1 h.2 h.3
-one_call reader old new (settled made) h = did_settle reader old new made h.0 h.1 h.2 h.3 h.4
+one_call reader old new (settled made reads) h = did_settle reader old new made reads h.0 h.1 h.2 h.3 h.4
 one_call reader old new (sent count bytes) h = did_send reader count bytes old new h.0 h.1 h.2 h.3 h.4 h.5
 one_call reader old new (asked ask) h = did_ask reader old new ask h
 
@@ -308,10 +308,10 @@ answer_on talk other link host answer (inl h) = inl (
 )
 answer_on talk other link host answer (inr h) = inr h
 
-served_on : (reader : ReaderView) (old mid new : Session) (stream more : List ℕ) (made rest : Made) (asks wrote : List AskParts) (gone others : List ℕ)
-    → HasServed reader old stream made asks gone mid → HasServed reader mid more rest wrote others new
-    → HasServed reader old (stream ++ more) (made ++ rest) (asks ++ wrote) (gone ++ others) new
-served_on reader old mid new stream more made rest asks wrote gone others h k = record {
+served_on : (reader : ReaderView) (old mid new : Session) (stream more : List ℕ) (made rest : Made) (asks wrote : List AskParts) (reads further : ℕ)
+    (gone others : List ℕ) → HasServed reader old stream made asks reads gone mid → HasServed reader mid more rest wrote further others new
+    → HasServed reader old (stream ++ more) (made ++ rest) (asks ++ wrote) (reads + further) (gone ++ others) new
+served_on reader old mid new stream more made rest asks wrote reads further gone others h k = record {
   link = (k.link.0 ∙ h.link.0, k.link.1 ∙ h.link.1);
   heard = h.heard ++ k.heard;
   hears = subst (λ (l : List ℕ). HasHeard old.talk.cutter.at l (h.heard ++ k.heard) new.talk.cutter) (append_assoc old.talk.cutter.bytes stream more)
@@ -333,12 +333,12 @@ served_on reader old mid new stream more made rest asks wrote gone others h k = 
   looks = h.looks ++ k.looks;
   found = finds_on made rest h.looks k.looks h.found k.found;
   bytes = h.bytes ++ k.bytes;
-  are_pieces = pieces_on reader old.asked mid.asked h.pieces k.pieces h.looks k.looks h.bytes k.bytes
+  are_pieces = pieces_on reader old.asked mid.asked h.pieces k.pieces h.looks k.looks reads further h.bytes k.bytes
       (h.count ∙ ap (λ (l : List AskParts). count_after old.asked l) (sym h.asked)) h.are_pieces k.are_pieces;
   went = moves_on (unsent_of old) (unsent_of mid) (unsent_of new) h.bytes k.bytes gone others h.went k.went;
 }
 
-did_none : (reader : ReaderView) (old : Session) → HasServed reader old [] [] [] [] old
+did_none : (reader : ReaderView) (old : Session) → HasServed reader old [] [] [] 0 [] old
 did_none reader old = record {
   link = (refl, refl);
   heard = [];
@@ -355,16 +355,16 @@ did_none reader old = record {
   looks = [];
   found = refl;
   bytes = [];
-  are_pieces = (refl, refl);
+  are_pieces = (refl, refl, refl);
   went = append-nil (unsent_of old);
 }
 
 pub calls_serve : (reader : ReaderView) (calls : List Call) (old new : Session) → AreCalls reader old calls new
-    → HasServed reader old (stream_of calls) (made_of calls) (asks_of calls) (sent_of calls) new
-calls_serve reader [] old new h = subst (λ (s : Session). HasServed reader old [] [] [] [] s) h (did_none reader old)
+    → HasServed reader old (stream_of calls) (made_of calls) (asks_of calls) (read_replies_of calls) (sent_of calls) new
+calls_serve reader [] old new h = subst (λ (s : Session). HasServed reader old [] [] [] 0 [] s) h (did_none reader old)
 calls_serve reader (call ∷ calls) old new h =
-    served_on reader old h.0 new (stream_in call) (stream_of calls) (made_in call) (made_of calls) (asks_in call) (asks_of calls) (sent_in call) (sent_of calls)
-    (one_call reader old h.0 call h.1) (calls_serve reader calls h.0 new h.2)
+    served_on reader old h.0 new (stream_in call) (stream_of calls) (made_in call) (made_of calls) (asks_in call) (asks_of calls) (read_replies_in call)
+    (read_replies_of calls) (sent_in call) (sent_of calls) (one_call reader old h.0 call h.1) (calls_serve reader calls h.0 new h.2)
 
 -- ---- from the beginning
 
@@ -392,5 +392,5 @@ replies_in_order reader old calls new is h =
       left = ap (λ (l : List Owed). l ++ map (λ answer. answer.owed) all.answers) (sym is.none.1) ∙ all.left;
       asked = all.asked;
       for_link = all.for_link;
-      replies = rw (← bytes, all.found) (subst (λ (n : ℕ). ArePieces reader n all.pieces all.looks all.bytes) is.asked all.are_pieces);
+      replies = rw (← bytes, all.found) (subst (λ (n : ℕ). ArePieces reader n all.pieces all.looks (read_replies_of calls) all.bytes) is.asked all.are_pieces);
     }

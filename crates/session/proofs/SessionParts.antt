@@ -1,5 +1,5 @@
 -- What one call of a session did, and what calls did one after another.
-use Rattle.std.proofs.Common.{◌≡◌, ◌⊎◌, ℕ, List, [], ◌∷◌, ◌++◌, Bool, true, false, Option, Some, None, Ok, inl, inr, refl, sym, ap, ◌∙◌, subst, append_assoc, append-nil}
+use Rattle.std.proofs.Common.{◌≡◌, ◌⊎◌, ◌+◌, ℕ, List, [], ◌∷◌, ◌++◌, Bool, true, false, Option, Some, None, Ok, inl, inr, refl, sym, ap, ◌∙◌, subst, append_assoc, append-nil, arith}
 use Rattle.std.specs.Prelude.{not, option_to_list, if◌then◌else◌}
 use Rattle.std.specs.Bool.{MatchBool}
 use Rattle.std.proofs.lemmas.List.Elements.{filter-append}
@@ -150,15 +150,15 @@ waits_finds : (owed : List Owed) (made : Made) → Waits owed made → found_in 
 waits_finds [] made h = ap found_in h
 waits_finds (owed ∷ more) made h = not_yet_finds owed.awaits made h
 
-pub settles_applies : (reader : ReaderView) (settled : List Owed) (old : List ℕ) (made : Made) (new : List ℕ) → Settles reader settled old made new → applied_in made ≡ []
-settles_applies reader [] old made new h = ap applied_in h.0
-settles_applies reader (owed ∷ more) old made new h =
-    ap applied_in h.3 ∙ applies_on h.1 h.2 [] [] (due_applies owed.awaits owed.reply h.4.due h.1 h.4.is) (settles_applies reader more h.0 h.2 new h.5)
+pub settles_applies : (reader : ReaderView) (settled : List Owed) (old : List ℕ) (made : Made) (reads : ℕ) (new : List ℕ) → Settles reader settled old made reads new → applied_in made ≡ []
+settles_applies reader [] old made reads new h = ap applied_in h.0
+settles_applies reader (owed ∷ more) old made reads new h =
+    ap applied_in h.5 ∙ applies_on h.1 h.2 [] [] (due_applies owed.awaits owed.reply h.7.due h.1 h.7.is) (settles_applies reader more h.0 h.2 h.4 new h.8)
 
-pub settles_finds : (reader : ReaderView) (settled : List Owed) (old : List ℕ) (made : Made) (new : List ℕ) → Settles reader settled old made new → found_in made ≡ made
-settles_finds reader [] old made new h = ap found_in h.0 ∙ sym h.0
-settles_finds reader (owed ∷ more) old made new h =
-    ap found_in h.3 ∙ finds_on h.1 h.2 h.1 h.2 (due_finds owed.awaits owed.reply h.4.due h.1 h.4.is) (settles_finds reader more h.0 h.2 new h.5) ∙ sym h.3
+pub settles_finds : (reader : ReaderView) (settled : List Owed) (old : List ℕ) (made : Made) (reads : ℕ) (new : List ℕ) → Settles reader settled old made reads new → found_in made ≡ made
+settles_finds reader [] old made reads new h = ap found_in h.0 ∙ sym h.0
+settles_finds reader (owed ∷ more) old made reads new h =
+    ap found_in h.5 ∙ finds_on h.1 h.2 h.1 h.2 (due_finds owed.awaits owed.reply h.7.due h.1 h.7.is) (settles_finds reader more h.0 h.2 h.4 new h.8) ∙ sym h.5
 
 pub stops_applies : (owed : List Owed) (made : Made) (low : Type 0) → Waits owed made ⊎ (low × (made ≡ [])) → applied_in made ≡ []
 stops_applies owed made low (inl h) = waits_applies owed made h
@@ -183,30 +183,31 @@ steps_append (a ∷ first) more = ap (λ l. a.made ++ l) (steps_append first mor
 -- ---- replies
 
 -- the bytes of one reply
-puts_by : (b : Bool) (reader : ReaderView) (caller : Caller) (reply : ReplyParts) (count : ℕ) (old new : List ℕ) → MatchBool b (new ≡ old) (IsWritten reader caller reply count old new)
-    → (piece : List ℕ) × (new ≡ old ++ piece) × MatchBool b (piece ≡ []) (IsWritten reader caller reply count [] piece)
-puts_by true reader caller reply count old new h = ([], h ∙ sym (append-nil old), refl)
-puts_by false reader caller reply count old new (inl h) =
-    (reply_bytes caller.form caller.opaque reply h.body, h.behind, inl (record { body = h.body; given = h.given; behind = refl }))
-puts_by false reader caller reply count old new (inr h) =
-    (reply_bytes caller.form caller.opaque (unwritten h.0 count) h.2.body, h.2.behind, inr (h.0, h.1, record { body = h.2.body; given = h.2.given; behind = refl }))
+puts_by : (b : Bool) (reader : ReaderView) (caller : Caller) (reply : ReplyParts) (count reads : ℕ) (old new : List ℕ)
+    → MatchBool b ((reads ≡ 0) × (new ≡ old)) (IsWritten reader caller reply count reads old new)
+    → (piece : List ℕ) × (new ≡ old ++ piece) × MatchBool b ((reads ≡ 0) × (piece ≡ [])) (IsWritten reader caller reply count reads [] piece)
+puts_by true reader caller reply count reads old new h = ([], h.1 ∙ sym (append-nil old), (h.0, refl))
+puts_by false reader caller reply count reads old new (inl h) =
+    (reply_bytes caller.form caller.opaque reply h.1.body, h.1.behind, inl (h.0, record { body = h.1.body; given = h.1.given; behind = refl }))
+puts_by false reader caller reply count reads old new (inr h) =
+    (reply_bytes caller.form caller.opaque (unwritten h.0 count) h.3.body, h.3.behind, inr (h.0, h.1, h.2, record { body = h.3.body; given = h.3.given; behind = refl }))
 
 -- the bytes of all that is settled, where so many check-backs were written
-pub record PutsReplies (reader : ReaderView) (count : ℕ) (settled : List Owed) (made : Made) (old new : List ℕ) : Type 0 where
+pub record PutsReplies (reader : ReaderView) (count : ℕ) (settled : List Owed) (made : Made) (reads : ℕ) (old new : List ℕ) : Type 0 where
   pub bytes : List ℕ
   pub behind : new ≡ old ++ bytes
-  pub pieces : ArePieces reader count (replies_to settled) made bytes
+  pub pieces : ArePieces reader count (replies_to settled) made reads bytes
 
-pub puts_replies : (reader : ReaderView) (count : ℕ) (settled : List Owed) (old : List ℕ) (made : Made) (new : List ℕ) → Settles reader settled old made new
-    → PutsReplies reader count settled made old new
-puts_replies reader count [] old made new h = record { bytes = []; behind = h.1 ∙ sym (append-nil old); pieces = (h.0, refl) }
-puts_replies reader count (owed ∷ more) old made new h =
-    let one = puts_by owed.caller.one_way reader owed.caller h.4.due h.4.count old h.0 h.4.put in
-    let rest = puts_replies reader count more h.0 h.2 new h.5 in
+pub puts_replies : (reader : ReaderView) (count : ℕ) (settled : List Owed) (old : List ℕ) (made : Made) (reads : ℕ) (new : List ℕ) → Settles reader settled old made reads new
+    → PutsReplies reader count settled made reads old new
+puts_replies reader count [] old made reads new h = record { bytes = []; behind = h.2 ∙ sym (append-nil old); pieces = (h.0, h.1, refl) }
+puts_replies reader count (owed ∷ more) old made reads new h =
+    let one = puts_by owed.caller.one_way reader owed.caller h.7.due h.7.count h.3 old h.0 h.7.put in
+    let rest = puts_replies reader count more h.0 h.2 h.4 new h.8 in
     record {
       bytes = one.0 ++ rest.bytes;
       behind = rest.behind ∙ ap (λ l. l ++ rest.bytes) one.1 ∙ append_assoc old one.0 rest.bytes;
-      pieces = (h.1, h.2, one.0, rest.bytes, h.3, refl, record { due = h.4.due; is = h.4.is; count = h.4.count; put = one.2 }, rest.pieces);
+      pieces = (h.1, h.2, h.3, h.4, one.0, rest.bytes, h.5, h.6, refl, record { due = h.7.due; is = h.7.is; count = h.7.count; put = one.2 }, rest.pieces);
     }
 
 -- ---- pieces
@@ -238,29 +239,36 @@ count_append count [] more = refl
 count_append count (ask ∷ first) more = count_append (next_count count) first more
 
 -- some pieces, and then others, of which the first check-back is counted behind the last one of those
-pub pieces_on : (reader : ReaderView) (count later : ℕ) (first more : List Piece) (made looks : Made) (bytes rest : List ℕ) → later ≡ count_after count (asks_among first)
-    → ArePieces reader count first made bytes → ArePieces reader later more looks rest → ArePieces reader count (first ++ more) (made ++ looks) (bytes ++ rest)
-pieces_on reader count later [] more made looks bytes rest is h k = rw (h.0, h.1) (subst (λ (n : ℕ). ArePieces reader n more looks rest) is k)
-pieces_on reader count later (replied owed ∷ first) more made looks bytes rest is h k = (
-  h.0,
-  h.1 ++ looks,
-  h.2,
-  h.3 ++ rest,
-  ap (λ l. l ++ looks) h.4 ∙ append_assoc h.0 h.1 looks,
-  ap (λ l. l ++ rest) h.5 ∙ append_assoc h.2 h.3 rest,
-  h.6,
-  pieces_on reader count later first more h.1 looks h.3 rest is h.7 k,
-)
-pieces_on reader count later (checked ask ∷ first) more made looks bytes rest is h k = (
+pub pieces_on : (reader : ReaderView) (count later : ℕ) (first more : List Piece) (made looks : Made) (reads others : ℕ) (bytes rest : List ℕ) → later ≡ count_after count (asks_among first)
+    → ArePieces reader count first made reads bytes → ArePieces reader later more looks others rest
+    → ArePieces reader count (first ++ more) (made ++ looks) (reads + others) (bytes ++ rest)
+pieces_on reader count later [] more made looks reads others bytes rest is h k =
+    let same : reads + others ≡ others = omega (arith, h.1) in
+    rw (h.0, same, h.2) (subst (λ (n : ℕ). ArePieces reader n more looks others rest) is k)
+pieces_on reader count later (replied owed ∷ first) more made looks reads others bytes rest is h k =
+    let all : reads + others ≡ h.2 + (h.3 + others) = omega (arith, h.7) in (
+      h.0,
+      h.1 ++ looks,
+      h.2,
+      h.3 + others,
+      h.4,
+      h.5 ++ rest,
+      ap (λ l. l ++ looks) h.6 ∙ append_assoc h.0 h.1 looks,
+      all,
+      ap (λ l. l ++ rest) h.8 ∙ append_assoc h.4 h.5 rest,
+      h.9,
+      pieces_on reader count later first more h.1 looks h.3 others h.5 rest is h.10 k,
+    )
+pieces_on reader count later (checked ask ∷ first) more made looks reads others bytes rest is h k = (
   h.0 ++ rest,
   ap (λ l. l ++ rest) h.1 ∙ append_assoc (ask_bytes (opaque_of count) ask.view) h.0 rest,
-  pieces_on reader (next_count count) later first more made looks h.0 rest is h.2 k,
+  pieces_on reader (next_count count) later first more made looks reads others h.0 rest is h.2 k,
 )
 
 -- where no check-back is among the pieces they are the replies alone
-pub replies_alone : (reader : ReaderView) (count : ℕ) (pieces : List Piece) (made : Made) (bytes : List ℕ) → asks_among pieces ≡ [] → ArePieces reader count pieces made bytes
-    → AreReplies reader (owed_among pieces) made bytes
-replies_alone reader count [] made bytes none h = h
-replies_alone reader count (replied owed ∷ pieces) made bytes none h =
-    (h.0, h.1, h.2, h.3, h.4, h.5, h.6, replies_alone reader count pieces h.1 h.3 none h.7)
-replies_alone reader count (checked ask ∷ pieces) made bytes none h = cc
+pub replies_alone : (reader : ReaderView) (count : ℕ) (pieces : List Piece) (made : Made) (reads : ℕ) (bytes : List ℕ) → asks_among pieces ≡ []
+    → ArePieces reader count pieces made reads bytes → AreReplies reader (owed_among pieces) made bytes
+replies_alone reader count [] made reads bytes none h = (h.0, h.2)
+replies_alone reader count (replied owed ∷ pieces) made reads bytes none h =
+    (h.0, h.1, h.2, h.4, h.5, h.6, h.8, h.9, replies_alone reader count pieces h.1 h.3 h.5 none h.10)
+replies_alone reader count (checked ask ∷ pieces) made reads bytes none h = cc

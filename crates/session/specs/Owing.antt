@@ -1,5 +1,6 @@
 -- What is owed for a request, and what is written of it.
-use Rattle.std.specs.Prelude.{◌≡◌, ◌⊎◌, ℕ, ◌++◌, List, [], pos, codes, nat_le, if◌then◌else◌, Option, Some, None, Result, Ok, Err}
+use Rattle.std.specs.Prelude.{◌≡◌, ◌⊎◌, ◌-◌, ◌^◌, ℕ, ◌++◌, List, [], pos, codes, nat_le, nat_lt, if◌then◌else◌}
+use Rattle.std.specs.Prelude.{Option, Some, None, Result, Ok, Err}
 use Rattle.std.specs.declared.alloc.AllocError.{AllocError}
 use Rattle.mq_bytes.specs.Decimal.{digits_of}
 use Rattle.remoting_frame.specs.Head.{pairs_size}
@@ -78,8 +79,14 @@ abbrev pub unwritten : DiskFault → ℕ → ReplyParts
 unwritten Failed count = plain (pos 1) (codes "read " ++ digits_of count)
 unwritten Memory count = fault_reply faults.Memory
 
--- the reply was written; or why it can't be, and then there is a cause
-abbrev pub IsWritten : ReaderView → Caller → ReplyParts → ℕ → List ℕ → List ℕ → Type 0
-IsWritten reader caller reply count old new = AppendsReply reader.gives caller.form caller.opaque reply old new
-    ⊎ ((fault : DiskFault) × HasCause reader fault count
+-- how many replies `read N` that is: one where the reader failed; none is counted where N is the greatest u64, at which the count of
+-- failures stays
+abbrev pub read_replies_by : DiskFault → ℕ → ℕ
+read_replies_by Failed count = if nat_lt count (2 ^ 64 - 1) then 1 else 0
+read_replies_by Memory count = 0
+
+-- The reply was written; or why it can't be, and then there is a cause. How many replies `read N` were written, one at most, is `reads`.
+abbrev pub IsWritten : ReaderView → Caller → ReplyParts → ℕ → ℕ → List ℕ → List ℕ → Type 0
+IsWritten reader caller reply count reads old new = ((reads ≡ 0) × AppendsReply reader.gives caller.form caller.opaque reply old new)
+    ⊎ ((fault : DiskFault) × HasCause reader fault count × (reads ≡ read_replies_by fault count)
     × AppendsReply reader.gives caller.form caller.opaque (unwritten fault count) old new)

@@ -1,5 +1,5 @@
 -- How a link's requests are given to the broker, and what is owed for them.
-use Rattle.std.specs.Prelude.{◌≡◌, ◌⊎◌, ◌++◌, ℕ, ℤ, List, [], ◌∷◌, Bool, true, false, pos, codes, if◌then◌else◌}
+use Rattle.std.specs.Prelude.{◌≡◌, ◌⊎◌, ◌+◌, ◌≤◌, ◌++◌, ℕ, ℤ, List, [], ◌∷◌, Bool, true, false, pos, codes, if◌then◌else◌}
 use Rattle.std.specs.Prelude.{Option, Some, None, Result, Ok, Err}
 use Rattle.mq_bytes.specs.Decimal.{digits_of}
 use Rattle.remoting_frame.specs.Held.{Held}
@@ -183,6 +183,15 @@ pub record Leads {C : Type 0} (makes : Steps C) (x y : C) (P : Made → Type 0) 
   pub made : Made
   pub leads : Makes makes x made y
   pub so : P made
+
+-- Some steps lead from x to y, and of them and of so many replies `read N` this is so. From the first of these counts of a reader's
+-- failures to the second it failed as often at least.
+pub record LeadsReading {C : Type 0} (makes : Steps C) (x y : C) (low high : ℕ) (P : Made → ℕ → Type 0) : Type 0 where
+  pub made : Made
+  pub leads : Makes makes x made y
+  pub reads : ℕ
+  pub counted : low + reads ≤ high
+  pub so : P made reads
 
 -- ---- the next request is served
 

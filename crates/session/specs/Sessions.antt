@@ -1,5 +1,5 @@
 -- Calls of a session: what they fed, which requests they heard, and the bytes of replies and check-backs that left.
-use Rattle.std.specs.Prelude.{◌≡◌, ◌⊎◌, ◌++◌, ℕ, List, [], ◌∷◌, Bool, true, false, take, drop, filter, map, option_to_list}
+use Rattle.std.specs.Prelude.{◌≡◌, ◌⊎◌, ◌+◌, ◌++◌, ℕ, List, [], ◌∷◌, Bool, true, false, take, drop, filter, map, option_to_list}
 use Rattle.std.specs.Prelude.{Option, Some, None, Result, Ok, Err}
 use Rattle.reply_fields.specs.Parts.{ReplyParts, AskParts}
 use Rattle.reply_fields.specs.Asks.{ask_bytes}
@@ -22,12 +22,12 @@ use Rattle.session.specs.declared.serving.Halt.{Halt}
 use Rattle.session.specs.declared.serving.Halt.TheVariants as halts
 
 -- A piece was fed; the next request was served, by these steps; the request that found no room was given up; replies were settled,
--- by these steps; these bytes, so many of the unsent ones, were sent; or a check-back was written.
+-- by these steps, so many of them `read N`; these bytes, so many of the unsent ones, were sent; or a check-back was written.
 pub data Call : Type 0 where
   fed : List ℕ → Call
   served : ℕ → Made → Result Step Halt → Call
   gave_up : ℕ → Call
-  settled : Made → Call
+  settled : Made → ℕ → Call
   sent : ℕ → List ℕ → Call
   asked : AskParts → Call
 
@@ -45,8 +45,8 @@ IsCall reader old (served now made result) new =
     HadMemory result × ServesNext now old made result new × KeepsLink old new × KeepsOut old new
 IsCall reader old (gave_up count) new =
     GivesUp old.held count old (Ok tt) new × (new.held ≡ None) × (new.talk ≡ old.talk) × KeepsOut old new
-IsCall reader old (settled made) new =
-    IsSettled reader old made new × (new.held ≡ old.held) × (new.talk ≡ old.talk) × (new.sent ≡ old.sent) × (new.asked ≡ old.asked)
+IsCall reader old (settled made reads) new =
+    IsSettled reader old made reads new × (new.held ≡ old.held) × (new.talk ≡ old.talk) × (new.sent ≡ old.sent) × (new.asked ≡ old.asked)
 IsCall reader old (sent count bytes) new = (bytes ≡ take count (unsent_of old)) × (unsent_of new ≡ drop count (unsent_of old))
     × (new.held ≡ old.held) × (new.talk ≡ old.talk) × (new.owed.items ≡ old.owed.items) × (new.asked ≡ old.asked)
 IsCall reader old (asked ask) new = Asks old ask new
@@ -63,7 +63,7 @@ abbrev pub stream_in : Call → List ℕ
 stream_in (fed piece) = piece
 stream_in (served now made result) = []
 stream_in (gave_up count) = []
-stream_in (settled made) = []
+stream_in (settled made reads) = []
 stream_in (sent count bytes) = []
 stream_in (asked ask) = []
 
@@ -72,7 +72,7 @@ abbrev pub sent_in : Call → List ℕ
 sent_in (fed piece) = []
 sent_in (served now made result) = []
 sent_in (gave_up count) = []
-sent_in (settled made) = []
+sent_in (settled made reads) = []
 sent_in (sent count bytes) = bytes
 sent_in (asked ask) = []
 
@@ -81,7 +81,7 @@ abbrev pub made_in : Call → Made
 made_in (fed piece) = []
 made_in (served now made result) = made
 made_in (gave_up count) = []
-made_in (settled made) = made
+made_in (settled made reads) = made
 made_in (sent count bytes) = []
 made_in (asked ask) = []
 
@@ -90,9 +90,18 @@ abbrev pub asks_in : Call → List AskParts
 asks_in (fed piece) = []
 asks_in (served now made result) = []
 asks_in (gave_up count) = []
-asks_in (settled made) = []
+asks_in (settled made reads) = []
 asks_in (sent count bytes) = []
 asks_in (asked ask) = ask ∷ []
+
+-- how many replies `read N` were written
+abbrev pub read_replies_in : Call → ℕ
+read_replies_in (fed piece) = 0
+read_replies_in (served now made result) = 0
+read_replies_in (gave_up count) = 0
+read_replies_in (settled made reads) = reads
+read_replies_in (sent count bytes) = 0
+read_replies_in (asked ask) = 0
 
 -- the pieces that were fed, joined
 abbrev pub stream_of : List Call → List ℕ
@@ -113,6 +122,11 @@ made_of (call ∷ calls) = made_in call ++ made_of calls
 abbrev pub asks_of : List Call → List AskParts
 asks_of [] = []
 asks_of (call ∷ calls) = asks_in call ++ asks_of calls
+
+-- how many replies `read N` were written in all
+abbrev pub read_replies_of : List Call → ℕ
+read_replies_of [] = 0
+read_replies_of (call ∷ calls) = read_replies_in call + read_replies_of calls
 
 -- it was not said that there is no room
 abbrev pub has_room : Option Said → Bool
@@ -198,18 +212,19 @@ abbrev pub steps_of : List Answer → Made
 steps_of [] = []
 steps_of (answer ∷ answers) = answer.made ++ steps_of answers
 
--- The bytes are those of the reply that was due for what was owed, after these looks, and none where nobody waits for it.
-pub record IsReplyTo (reader : ReaderView) (owed : Owed) (made : Made) (bytes : List ℕ) : Type 0 where
+-- The bytes are those of the reply that was due for what was owed, after these looks, and none where nobody waits for it. They are
+-- `reads` replies `read N`.
+pub record IsReplyTo (reader : ReaderView) (owed : Owed) (made : Made) (reads : ℕ) (bytes : List ℕ) : Type 0 where
   pub due : ReplyParts
   pub is : IsDueAfter owed.awaits owed.reply due made
   pub count : ℕ
-  pub put : IsPut reader owed.caller due count [] bytes
+  pub put : IsPut reader owed.caller due count reads [] bytes
 
 -- the bytes are those of these replies, one after another, each after its looks
 abbrev pub AreReplies : ReaderView → List Owed → Made → List ℕ → Type 0
 AreReplies reader [] made bytes = (made ≡ []) × (bytes ≡ [])
-AreReplies reader (owed ∷ more) made bytes = (looks : Made) × (others : Made) × (first : List ℕ) × (rest : List ℕ)
-    × (made ≡ looks ++ others) × (bytes ≡ first ++ rest) × IsReplyTo reader owed looks first × AreReplies reader more others rest
+AreReplies reader (owed ∷ more) made bytes = (looks : Made) × (others : Made) × (reads : ℕ) × (first : List ℕ) × (rest : List ℕ)
+    × (made ≡ looks ++ others) × (bytes ≡ first ++ rest) × IsReplyTo reader owed looks reads first × AreReplies reader more others rest
 
 -- what leaves, whole: the reply to what was owed, or a check-back
 pub data Piece : Type 0 where
@@ -234,20 +249,21 @@ asks_among (replied owed ∷ pieces) = asks_among pieces
 asks_among (checked ask ∷ pieces) = ask ∷ asks_among pieces
 
 -- The bytes are those of these pieces, one after another: each reply after its looks, and each check-back with the opaque of its
--- place among those that were written, of which there were so many before.
-abbrev pub ArePieces : ReaderView → ℕ → List Piece → Made → List ℕ → Type 0
-ArePieces reader count [] made bytes = (made ≡ []) × (bytes ≡ [])
-ArePieces reader count (replied owed ∷ more) made bytes = (looks : Made) × (others : Made) × (first : List ℕ) × (rest : List ℕ)
-    × (made ≡ looks ++ others) × (bytes ≡ first ++ rest) × IsReplyTo reader owed looks first × ArePieces reader count more others rest
-ArePieces reader count (checked ask ∷ more) made bytes = (rest : List ℕ)
-    × (bytes ≡ ask_bytes (opaque_of count) ask.view ++ rest) × ArePieces reader (next_count count) more made rest
+-- place among those that were written, of which there were so many before. Of the replies `reads` are `read N`.
+abbrev pub ArePieces : ReaderView → ℕ → List Piece → Made → ℕ → List ℕ → Type 0
+ArePieces reader count [] made reads bytes = (made ≡ []) × (reads ≡ 0) × (bytes ≡ [])
+ArePieces reader count (replied owed ∷ more) made reads bytes = (looks : Made) × (others : Made) × (one later : ℕ) × (first : List ℕ)
+    × (rest : List ℕ) × (made ≡ looks ++ others) × (reads ≡ one + later) × (bytes ≡ first ++ rest) × IsReplyTo reader owed looks one first
+    × ArePieces reader count more others later rest
+ArePieces reader count (checked ask ∷ more) made reads bytes = (rest : List ℕ)
+    × (bytes ≡ ask_bytes (opaque_of count) ask.view ++ rest) × ArePieces reader (next_count count) more made reads rest
 
 -- What calls have done that fed this stream, made these steps, wrote these check-backs and sent these bytes. The requests of the stream
 -- are `heard`; with one that was held before they are those that were answered and one that is held now. What was owed before and the
 -- answers are what left and what is owed now; and what was to be sent before, the replies of those that left and the check-backs are
--- what was sent and what is to be sent now.
-pub record HasServed (reader : ReaderView) (old : Session) (stream : List ℕ) (made : Made) (asks : List AskParts) (sent : List ℕ)
-    (new : Session) : Type 0 where
+-- what was sent and what is to be sent now. So many of the replies are `read N`.
+pub record HasServed (reader : ReaderView) (old : Session) (stream : List ℕ) (made : Made) (asks : List AskParts) (reads : ℕ)
+    (sent : List ℕ) (new : Session) : Type 0 where
   pub link : KeepsLink old new
   pub heard : List Heard
   pub hears : HasHeard old.talk.cutter.at (old.talk.cutter.bytes ++ stream) heard new.talk.cutter
@@ -263,7 +279,7 @@ pub record HasServed (reader : ReaderView) (old : Session) (stream : List ℕ) (
   pub looks : Made
   pub found : found_in made ≡ looks
   pub bytes : List ℕ
-  pub are_pieces : ArePieces reader old.asked pieces looks bytes
+  pub are_pieces : ArePieces reader old.asked pieces looks reads bytes
   pub went : unsent_of old ++ bytes ≡ sent ++ unsent_of new
 
 -- nothing was heard yet, and nothing is owed
@@ -275,7 +291,7 @@ pub record IsNew (session : Session) : Type 0 where
 -- What calls of a new session have done: the requests of the stream are those that were answered, and one that is held; the steps at
 -- which a request was applied are those of the answers; and what was sent, and is to be sent, are the replies of the first requests,
 -- in order, one each, and none for those that wait for none, and between them, whole, the check-backs that were written, in order, each
--- for this link. The looks that found something are those of these replies.
+-- for this link. The looks that found something are those of these replies, of which as many are `read N` as the calls wrote.
 pub record RepliesInOrder (reader : ReaderView) (old : Session) (calls : List Call) (new : Session) : Type 0 where
   pub answers : List Answer
   pub are : AreAnswers old.talk answers
@@ -285,4 +301,4 @@ pub record RepliesInOrder (reader : ReaderView) (old : Session) (calls : List Ca
   pub left : map (λ answer. answer.owed) answers ≡ owed_among pieces ++ new.owed.items
   pub asked : asks_among pieces ≡ asks_of calls
   pub for_link : AreFor old.talk.link (asks_of calls)
-  pub replies : ArePieces reader 0 pieces (found_in (made_of calls)) (sent_of calls ++ unsent_of new)
+  pub replies : ArePieces reader 0 pieces (found_in (made_of calls)) (read_replies_of calls) (sent_of calls ++ unsent_of new)

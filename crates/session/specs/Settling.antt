@@ -1,6 +1,6 @@
 -- How what is owed leaves: the replies that are due, in the order of their requests, and their bytes.
-use Rattle.std.specs.Prelude.{◌≡◌, ◌⊎◌, ◌-◌, ◌≤◌, ◌++◌, ◌||◌, ℕ, List, [], ◌∷◌, length, drop, nat_le, nat_lt, Bool, true, false, is_some}
-use Rattle.std.specs.Prelude.{Option, Some, None, Result, Ok, Err}
+use Rattle.std.specs.Prelude.{◌≡◌, ◌⊎◌, ◌+◌, ◌-◌, ◌≤◌, ◌++◌, ◌||◌, ℕ, List, [], ◌∷◌, length, drop, nat_le, nat_lt, Bool, true, false}
+use Rattle.std.specs.Prelude.{Option, Some, None, Result, Ok, Err, is_some}
 use Rattle.std.specs.Bool.{MatchBool}
 use Rattle.std.specs.declared.alloc.AllocError.{AllocError}
 use Rattle.reply_fields.specs.Parts.{ReplyParts}
@@ -83,54 +83,55 @@ GivesDue old made (Err fault) new = IsLost old made new
 
 -- ---- what is written
 
--- a reply is put behind the bytes before it, unless nobody waits for it
-abbrev pub IsPut : ReaderView → Caller → ReplyParts → ℕ → List ℕ → List ℕ → Type 0
-IsPut reader caller reply count old new = MatchBool caller.one_way (new ≡ old) (IsWritten reader caller reply count old new)
+-- a reply is put behind the bytes before it, unless nobody waits for it; so many replies `read N` were
+abbrev pub IsPut : ReaderView → Caller → ReplyParts → ℕ → ℕ → List ℕ → List ℕ → Type 0
+IsPut reader caller reply count reads old new =
+    MatchBool caller.one_way ((reads ≡ 0) × (new ≡ old)) (IsWritten reader caller reply count reads old new)
 
 -- ---- what is settled
 
 -- the reply that is due for one that is owed is put behind the bytes before, where the reader counts so many faults
-pub record SettlesOne (reader : ReaderView) (owed : Owed) (old : List ℕ) (made : Made) (new : List ℕ) : Type 0 where
+pub record SettlesOne (reader : ReaderView) (owed : Owed) (old : List ℕ) (made : Made) (reads : ℕ) (new : List ℕ) : Type 0 where
   pub due : ReplyParts
   pub is : IsDueAfter owed.awaits owed.reply due made
   pub count : ℕ
-  pub put : IsPut reader owed.caller due count old new
+  pub put : IsPut reader owed.caller due count reads old new
 
--- each of these is settled, in this order
-abbrev pub Settles : ReaderView → List Owed → List ℕ → Made → List ℕ → Type 0
-Settles reader [] old made new = (made ≡ []) × (new ≡ old)
-Settles reader (owed ∷ more) old made new = (mid : List ℕ) × (first rest : Made) × (made ≡ first ++ rest)
-    × SettlesOne reader owed old first mid × Settles reader more mid rest new
+-- each of these is settled, in this order; `reads` of the replies are `read N`
+abbrev pub Settles : ReaderView → List Owed → List ℕ → Made → ℕ → List ℕ → Type 0
+Settles reader [] old made reads new = (made ≡ []) × (reads ≡ 0) × (new ≡ old)
+Settles reader (owed ∷ more) old made reads new = (mid : List ℕ) × (first rest : Made) × (one others : ℕ) × (made ≡ first ++ rest)
+    × (reads ≡ one + others) × SettlesOne reader owed old first one mid × Settles reader more mid rest others new
 
 -- why no further reply is settled: none is owed, or its record is pending still, or so many bytes wait
 abbrev pub Stops : Session → Made → Type 0
 Stops session made = Waits session.owed.items made ⊎ ((UNSENT_MAX ≤ length session.out.items - session.sent) × (made ≡ []))
 
 -- the first of what was owed are settled, and then there is a cause to stop
-pub record IsSettled (reader : ReaderView) (old : Session) (made : Made) (new : Session) : Type 0 where
+pub record IsSettled (reader : ReaderView) (old : Session) (made : Made) (reads : ℕ) (new : Session) : Type 0 where
   pub settled : List Owed
   pub left : old.owed.items ≡ settled ++ new.owed.items
   pub first : Made
   pub last : Made
   pub both : made ≡ first ++ last
-  pub puts : Settles reader settled old.out.items first new.out.items
+  pub puts : Settles reader settled old.out.items first reads new.out.items
   pub stops : Stops new last
 
 -- the first of what was owed are settled, and for want of memory the next one left and has no reply
-pub record IsBroken (reader : ReaderView) (old : Session) (made : Made) (new : Session) : Type 0 where
+pub record IsBroken (reader : ReaderView) (old : Session) (made : Made) (reads : ℕ) (new : Session) : Type 0 where
   pub settled : List Owed
   pub lost : Owed
   pub left : old.owed.items ≡ settled ++ lost ∷ new.owed.items
   pub first : Made
   pub last : Made
   pub both : made ≡ first ++ last
-  pub puts : Settles reader settled old.out.items first new.out.items
+  pub puts : Settles reader settled old.out.items first reads new.out.items
   pub looked : LooksFor lost.awaits last
 
 -- what `settle` does, by what it answers
-abbrev pub SettlesAll : ReaderView → Session → Made → Result (Unit {0}) AllocError → Session → Type 0
-SettlesAll reader old made (Ok done) new = IsSettled reader old made new
-SettlesAll reader old made (Err fault) new = IsBroken reader old made new
+abbrev pub SettlesAll : ReaderView → Session → Made → ℕ → Result (Unit {0}) AllocError → Session → Type 0
+SettlesAll reader old made reads (Ok done) new = IsSettled reader old made reads new
+SettlesAll reader old made reads (Err fault) new = IsBroken reader old made reads new
 
 -- ---- what is seen of it
 

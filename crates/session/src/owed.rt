@@ -1,6 +1,6 @@
 //! What is owed to a link for a request: its reply, at once or once its record is on the disk.
 
-ghost use Rattle.std.specs.Prelude.{◌≡◌, ◌≤◌, ◌++◌, Some, OnOk, OnErr, IfOk, pos, codes};
+ghost use Rattle.std.specs.Prelude.{◌≡◌, ◌≤◌, ◌+◌, ◌++◌, ℕ, Some, OnOk, OnErr, IfOk, pos, codes};
 ghost use Rattle.mq_bytes.specs.Decimal.{digits_of};
 ghost use Rattle.reply_fields.specs.Parts.{plain};
 ghost use Rattle.broker_events.specs.Shown.{Accepts};
@@ -132,8 +132,9 @@ pub fn write_reply<R: Reader>(
     reader: &mut R,
     out: &mut Vec<u8>,
 ) -> Result<(), AllocError>
-    ensures written { OnOk result (IsWritten (risen_from R.gives (R.faults reader.old)) caller reply (R.faults reader.new)
-        out.old.items out.new.items) }
+    // At most one reply `read N` is written, and by as much at least the reader's count of failures rose.
+    ensures written { OnOk result ((reads : ℕ) × (R.faults reader.old + reads ≤ R.faults reader.new)
+        × IsWritten (risen_from R.gives (R.faults reader.old)) caller reply (R.faults reader.new) reads out.old.items out.new.items) }
     ensures err { OnErr result (out.new.items ≡ out.old.items) }
     ensures grows { R.faults reader.old ≤ R.faults reader.new }
 {

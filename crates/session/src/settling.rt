@@ -1,9 +1,9 @@
 //! What is owed leaves a link: the replies that are due, in the order of their requests, and their bytes.
 
-ghost use Rattle.std.specs.Prelude.{◌≡◌, ◌≢◌, ◌≤◌, ◌<◌, drop, length, IfOk, OnOk, OnErr};
+ghost use Rattle.std.specs.Prelude.{◌≡◌, ◌≢◌, ◌≤◌, ◌<◌, ◌+◌, ℕ, drop, length, IfOk, OnOk, OnErr};
 ghost use Rattle.broker_events.specs.declared.said.Awaited.TheVariants.{NotYet};
 ghost use Rattle.session.specs.Readers.{reads_between, risen_from};
-ghost use Rattle.session.specs.Serving.{Leads, KeepsOut};
+ghost use Rattle.session.specs.Serving.{Leads, LeadsReading, KeepsOut};
 ghost use Rattle.session.specs.Settling.{Became, IsDueAt, TakesDue, GivesDue, SettlesAll, IsPut, awaits_of, is_loaded_of, unsent_of};
 ghost use Rattle.session.specs.Settling.{front_is_below, is_below as is_below_of};
 
@@ -103,9 +103,9 @@ impl Session {
         calls: &mut C,
         reader: &mut R,
     ) -> Result<(), AllocError>
-        // Each reply `read N` is one at which the reader failed, and its count rose to N.
-        ensures settles { Leads C.makes calls.old calls.new (λ made. SettlesAll
-            (reads_between R.gives R.faults reader.old reader.new) self.old made result self.new) }
+        // Each reply `read N` is one at which the reader failed, and its count rose to N. They are at most as many as it rose by.
+        ensures settles { LeadsReading C.makes calls.old calls.new (R.faults reader.old) (R.faults reader.new)
+            (λ made reads. SettlesAll (reads_between R.gives R.faults reader.old reader.new) self.old made reads result self.new) }
         ensures held { self.new.held ≡ self.old.held }
         ensures talk { self.new.talk ≡ self.old.talk }
         ensures sent { self.new.sent ≡ self.old.sent }
@@ -132,7 +132,8 @@ impl Session {
         reply: Reply,
         reader: &mut R,
     ) -> Result<(), AllocError>
-        ensures put { OnOk result (IsPut (risen_from R.gives (R.faults reader.old)) caller reply (R.faults reader.new)
+        ensures put { OnOk result ((reads : ℕ) × (R.faults reader.old + reads ≤ R.faults reader.new)
+            × IsPut (risen_from R.gives (R.faults reader.old)) caller reply (R.faults reader.new) reads
             self.old.out.items self.new.out.items) }
         ensures err { OnErr result (self.new.out.items ≡ self.old.out.items) }
         ensures grows { R.faults reader.old ≤ R.faults reader.new }

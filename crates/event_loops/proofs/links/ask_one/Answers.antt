@@ -7,4 +7,4 @@ use Rattle.event_loops.proofs.links.ask_one.Goals as goal
 
 pub returns-clause-went : goal.returns-clause-went
 returns-clause-went g c = λ most high. one_asked (link_view g.L.Link.tells g.L.Link.given g.L.Link.taken) (counted_to g.R.Reader.gives most) (unasked g.C.Calls.makes) _ _
-    c.args.numbered.now (record { number = c.args.numbered.now.number; peer = c.args.numbered.now.peer; linked = c.ask.new.self }) c.args.ask.now c.ask.result (refl, refl) (c.ask.ensures.went most high)
+    c.args.numbered.now (record { number = c.args.numbered.now.number; peer = c.args.numbered.now.peer; linked = c.ask.new.self }) c.args.ask.now c.ask.result _ _ (refl, refl) (c.ask.ensures.went most high)

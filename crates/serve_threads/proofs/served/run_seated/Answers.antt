@@ -6,9 +6,8 @@ use Rattle.serve_threads.proofs.Keys.{some_at}
 use Rattle.spine.specs.declared.spine.Spine.{Spine}
 use Rattle.serve_threads.specs.Kept.{PutsAlong}
 use Rattle.flush_rounds.specs.Asking.{put_of}
-use Rattle.link_service.specs.Transcripts.{counted_to}
 use Rattle.event_loops.specs.Tales.{loop_view}
-use Rattle.serve_threads.specs.Links.{AreAllThatCame, first_links, second_links, links_over, part_of}
+use Rattle.serve_threads.specs.Links.{AreAllThatCame, first_links, second_links, links_over, part_of, reader_over}
 use Rattle.flush_rounds.specs.Flushing.{FlushesTo}
 use Rattle.serve_threads.specs.Served.{HasMade, clocks_over, readings_of, views_of}
 use Rattle.serve_threads.proofs.Flushed.{blames_from, flushed_from, worked_from}
@@ -70,8 +69,9 @@ returns-clause-made g c =
     let second = ran.result.second in
     let faults = g.R.Reader.faults in
     let failures : ℕ × ℕ = (faults first.reader, faults second.reader) in
-    let near = counted_to g.R.Reader.gives failures.0 in
-    let far = counted_to g.R.Reader.gives failures.1 in
+    let readers = c.args.devices.readers in
+    let near = reader_over g.R.Reader.gives (faults readers.0) failures.0 in
+    let far = reader_over g.R.Reader.gives (faults readers.1) failures.1 in
     let loops = c.requires.loops in
     let one = answered view near _ 0 _ _ (part_of first.calls first.asks first.event_loop.links) loops.0.loops loops.0.none loops.0.fresh ran.ensures.first (law (faults first.reader))
     links.told links.first c.requires.none_asked.1 (first_whole view.told view.entries whole.0 first.event_loop.links second.event_loop.links ends whole.2) in
@@ -83,17 +83,17 @@ returns-clause-made g c =
     let clocks = c.gather.ensures.clocks in
     let pass = c.gather.result.pass in
     let now = readings_of readings (first.outside.clock, second.outside.clock) in
-    let readers = c.gather.ensures.readers in
+    let same = c.gather.ensures.readers in
     let failed : ℕ × ℕ = (faults c.gather.result.readers.0, faults c.gather.result.readers.1) in
     subst (λ (given : List ℕ × List ℕ). HasMade (views given (readings_of readings c.gather.result.world.clocks)) failed place pass c.gather.result.disk)
     (λ i. (readings (parts.0 i), readings (parts.1 i)))
     (subst (λ (now : List ℕ × List ℕ). HasMade (views given now) failed place pass c.gather.result.disk) (λ i. (readings (sym clocks.0 i), readings (sym clocks.1 i)))
-    (subst (λ (f : ℕ × ℕ). HasMade (views given now) f place pass c.gather.result.disk) (λ i. (faults (sym readers.0 i), faults (sym readers.1 i)))
+    (subst (λ (f : ℕ × ℕ). HasMade (views given now) f place pass c.gather.result.disk) (λ i. (faults (sym same.0 i), faults (sym same.1 i)))
     (subst (λ d. HasMade (views given now) failures place pass d) (sym c.gather.ensures.disk)
     (made_of (views given now) failures (λ z. z.pass) (put_of ran.result.flushing.ways) place ran.result.flushing.flusher.file ran.result.flushing.disk c.args.spine.now.story c.args.pass pass _ _ _ _ _ _ _ _
     c.requires.first.1 c.requires.numbers c.seats_of-calls.ensures.cut c.gather.ensures.met
     (flushed_from _ _ _ _ _ _ _ c.in-Ok.ensures.story.0 c.run_all-ran.ensures.worked c.requires.none_asked.0)
-    (took_first _ (first_links links) _ _ 0 _ _ _ _ c.gather.ensures.fronts.0 one) (took_first _ (second_links links) _ _ 1 _ _ _ _ c.gather.ensures.fronts.1 other)
+    (took_first _ (first_links links) _ _ _ 0 _ _ _ _ c.gather.ensures.fronts.0 one) (took_first _ (second_links links) _ _ _ 1 _ _ _ _ c.gather.ensures.fronts.1 other)
     (looks_of (λ z. z.pass) (λ z. z.spine.now) (λ (v : Spine). start_of v.story) _ kept.cores _ kept.seen)))))
 
 pub returns-clause-kept : goal.returns-clause-kept
@@ -161,8 +161,8 @@ returns-clause-all g c =
     all_from g.P.Door.Door.faults (λ old. AreAllThatCame (gave old) (gave door) over) c.args.world.door c.args.bounds entrance
     c.part-near.ensures.door.0 c.part-near.ensures.entrance
     (all_came view.told view.entries whole.0 first.event_loop.links second.event_loop.links view.links.tells
-    (up_to view (counted_to g.R.Reader.gives (g.R.Reader.faults first.reader)) _ 0 _ _ (part_of first.calls first.asks first.event_loop.links) loops.0.loops loops.0.none loops.0.fresh ran.ensures.first whole.0)
-    (up_to view (counted_to g.R.Reader.gives (g.R.Reader.faults second.reader)) _ 1 _ _ (part_of second.calls second.asks second.event_loop.links) loops.1.loops loops.1.none loops.1.fresh ran.ensures.second whole.0)
+    (up_to view (reader_over g.R.Reader.gives (g.R.Reader.faults c.args.devices.readers.0) (g.R.Reader.faults first.reader)) _ 0 _ _ (part_of first.calls first.asks first.event_loop.links) loops.0.loops loops.0.none loops.0.fresh ran.ensures.first whole.0)
+    (up_to view (reader_over g.R.Reader.gives (g.R.Reader.faults c.args.devices.readers.1) (g.R.Reader.faults second.reader)) _ 1 _ _ (part_of second.calls second.asks second.event_loop.links) loops.1.loops loops.1.none loops.1.fresh ran.ensures.second whole.0)
     gave entrance first.outside.entrance door c.gather.result.ends
     ran.ensures.first_door.keeps c.gather.ensures.door whole.1 whole.2)
 

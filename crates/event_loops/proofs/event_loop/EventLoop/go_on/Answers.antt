@@ -1,18 +1,16 @@
 use Rattle.link_service.specs.Transcripts.{counted_to}
-use Rattle.std.proofs.Common.{refl, arith}
+use Rattle.std.proofs.Common.{arith}
 use Rattle.event_loops.proofs.Counting.{grow_none, grow_then, ends_then, never_done}
 use Rattle.event_loops.proofs.Entering.{door_still, door_then}
 use Rattle.event_loops.specs.Tales.{loop_view}
-use Rattle.event_loops.proofs.Timing.{timed_nothing, timed_on}
-use Rattle.event_loops.proofs.Told.{goes_nowhere}
+use Rattle.event_loops.proofs.Timing.{timed_on, timed_start}
 use Rattle.event_loops.proofs.event_loop.EventLoop.go_on.Goals as goal
 
 pub loop-init : goal.loop-init
 loop-init g c = record {
   next = tt;
   finite = tt;
-  went = λ most high. timed_nothing g.C.Calls.makes g.A.Takes.takes (loop_view g.P.Link.Link.tells g.P.Link.Link.given g.P.Link.Link.taken g.P.Ends.Ends.tells g.P.Ends.Ends.entries) (counted_to g.R.Reader.gives most) g.K.Clock.tells g.met.A.Takes.takes_none _ _ _ _ _ _
-      (goes_nowhere (loop_view g.P.Link.Link.tells g.P.Link.Link.given g.P.Link.Link.taken g.P.Ends.Ends.tells g.P.Ends.Ends.entries) (counted_to g.R.Reader.gives most) _) (λ tells. refl);
+  went = λ most high. timed_start g.C.Calls.makes g.A.Takes.takes (loop_view g.P.Link.Link.tells g.P.Link.Link.given g.P.Link.Link.taken g.P.Ends.Ends.tells g.P.Ends.Ends.entries) (counted_to g.R.Reader.gives most) g.K.Clock.tells g.met.A.Takes.takes_none _ _ _ _ _;
   grows = omega arith;
   door = door_still g.P.Door.Door.gave _;
   grow = grow_none _;
@@ -20,7 +18,7 @@ loop-init g c = record {
 
 pub returns-in-Err : goal.returns-in-Err
 returns-in-Err g c = record {
-  went = λ most high. timed_on g.C.Calls.makes g.A.Takes.takes (loop_view g.P.Link.Link.tells g.P.Link.Link.given g.P.Link.Link.taken g.P.Ends.Ends.tells g.P.Ends.Ends.entries) (counted_to g.R.Reader.gives most) g.K.Clock.tells g.met.A.Takes.takes_more _ _ _ _ _ _ _ _ _ _ _ _ (c.loop.invariant.went most (omega (arith, high, c.pass.ensures.grows))) (c.pass.ensures.went most high);
+  went = λ most high. timed_on g.C.Calls.makes g.A.Takes.takes (loop_view g.P.Link.Link.tells g.P.Link.Link.given g.P.Link.Link.taken g.P.Ends.Ends.tells g.P.Ends.Ends.entries) (counted_to g.R.Reader.gives most) g.K.Clock.tells g.met.A.Takes.takes_more _ _ _ _ _ _ _ _ _ _ _ _ _ _ _ (c.loop.invariant.went most (omega (arith, high, c.pass.ensures.grows))) (c.pass.ensures.went most high);
   grows = omega (arith, c.loop.invariant.grows, c.pass.ensures.grows);
   door = record {
     keeps = door_then g.P.Door.Door.gave _ _ _ c.loop.invariant.door c.pass.ensures.door;
@@ -33,7 +31,7 @@ pub loop-preserved : goal.loop-preserved
 loop-preserved g c = record {
   next = tt;
   finite = tt;
-  went = λ most high. timed_on g.C.Calls.makes g.A.Takes.takes (loop_view g.P.Link.Link.tells g.P.Link.Link.given g.P.Link.Link.taken g.P.Ends.Ends.tells g.P.Ends.Ends.entries) (counted_to g.R.Reader.gives most) g.K.Clock.tells g.met.A.Takes.takes_more _ _ _ _ _ _ _ _ _ _ _ _ (c.loop.invariant.went most (omega (arith, high, c.pass.ensures.grows))) (c.pass.ensures.went most high);
+  went = λ most high. timed_on g.C.Calls.makes g.A.Takes.takes (loop_view g.P.Link.Link.tells g.P.Link.Link.given g.P.Link.Link.taken g.P.Ends.Ends.tells g.P.Ends.Ends.entries) (counted_to g.R.Reader.gives most) g.K.Clock.tells g.met.A.Takes.takes_more _ _ _ _ _ _ _ _ _ _ _ _ _ _ _ (c.loop.invariant.went most (omega (arith, high, c.pass.ensures.grows))) (c.pass.ensures.went most high);
   grows = omega (arith, c.loop.invariant.grows, c.pass.ensures.grows);
   door = door_then g.P.Door.Door.gave _ _ _ c.loop.invariant.door c.pass.ensures.door;
   grow = grow_then _ _ _ c.loop.invariant.grow c.in-Ok.ensures.cause;

@@ -12,6 +12,7 @@ invariant-loop g l = record {
   next : (goal.iterator-loop g).can_next l.iterator';
   finite : (goal.iterator-loop g).is_finite l.iterator';
   went : ByReader g.R.Reader.gives (g.R.Reader.faults l.reader) (λ read. LeadsTaking g.C.Calls.makes g.A.Takes.takes l.fn.calls l.calls l.fn.asks l.asks
+      (g.R.Reader.faults l.fn.reader) (g.R.Reader.faults l.reader)
       (λ acts. GoesTimed (loop_view g.P.Link.Link.tells g.P.Link.Link.given g.P.Link.Link.taken g.P.Ends.Ends.tells g.P.Ends.Ends.entries) read
       (clock_over g.K.Clock.tells (g.K.Clock.readings l.fn.outside.clock) (g.K.Clock.readings l.outside.clock)) l.fn.self.links acts l.self.links));
   grows : g.R.Reader.faults l.fn.reader ≤ g.R.Reader.faults l.reader;

@@ -1,14 +1,15 @@
+use Rattle.link_service.specs.Clocks.{unasked}
 use Rattle.link_service.specs.Transcripts.{counted_to}
 use Rattle.std.proofs.Common.{refl, ◌∙◌}
 use Rattle.event_loops.specs.Tales.{loop_view}
-use Rattle.event_loops.proofs.Told.{goes_nowhere, goes_then}
+use Rattle.event_loops.proofs.Told.{quiet_none, quiet_then}
 use Rattle.event_loops.proofs.event_loop.EventLoop.refuse_left.Goals as goal
 
 pub loop-init : goal.loop-init
 loop-init g c = record {
   next = tt;
   finite = tt;
-  went = λ most high. goes_nowhere (loop_view g.P.Link.Link.tells g.P.Link.Link.given g.P.Link.Link.taken g.P.Ends.Ends.tells g.P.Ends.Ends.entries) (counted_to g.R.Reader.gives most) _;
+  went = λ most high. quiet_none (loop_view g.P.Link.Link.tells g.P.Link.Link.given g.P.Link.Link.taken g.P.Ends.Ends.tells g.P.Ends.Ends.entries) (counted_to g.R.Reader.gives most) (unasked g.C.Calls.makes) _ _;
   slots = refl;
 }
 
@@ -16,6 +17,9 @@ pub loop-preserved : goal.loop-preserved
 loop-preserved g c = record {
   next = tt;
   finite = tt;
-  went = λ most high. goes_then (loop_view g.P.Link.Link.tells g.P.Link.Link.given g.P.Link.Link.taken g.P.Ends.Ends.tells g.P.Ends.Ends.entries) (counted_to g.R.Reader.gives most) _ _ _ (c.loop.invariant.went most high) (c.refuse.ensures.went most high);
+  went = λ most high. quiet_then (loop_view g.P.Link.Link.tells g.P.Link.Link.given g.P.Link.Link.taken g.P.Ends.Ends.tells g.P.Ends.Ends.entries) (counted_to g.R.Reader.gives most) (unasked g.C.Calls.makes) _ _ _ _ _ _ (c.loop.invariant.went most high) (c.refuse.ensures.went most high);
   slots = c.refuse.ensures.slots ∙ c.loop.invariant.slots;
 }
+
+pub returns-in_default-clause-went : goal.returns-in_default-clause-went
+returns-in_default-clause-went g c = λ most high. quiet_none (loop_view g.P.Link.Link.tells g.P.Link.Link.given g.P.Link.Link.taken g.P.Ends.Ends.tells g.P.Ends.Ends.entries) (counted_to g.R.Reader.gives most) (unasked g.C.Calls.makes) _ _

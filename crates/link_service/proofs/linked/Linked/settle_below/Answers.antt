@@ -6,6 +6,6 @@ use Rattle.link_service.proofs.linked.Linked.settle_below.Goals as goal
 
 pub returns-then-not-is_due_below : goal.returns-then-not-is_due_below
 returns-then-not-is_due_below g c = record {
-  went = λ most high. goes_quietly (unasked g.C.Calls.makes) g.L.Link.tells (counted_to g.R.Reader.gives most) _ _ _ (unread_same _ _);
+  went = λ most high. goes_quietly (unasked g.C.Calls.makes) g.L.Link.tells (counted_to g.R.Reader.gives most) _ _ _ _ (unread_same _ _);
   grows = omega arith;
 }

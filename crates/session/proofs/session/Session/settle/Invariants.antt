@@ -5,7 +5,8 @@ use Rattle.session.proofs.session.Session.settle.Given as goal
 
 abbrev pub invariant-owed : goal.invariant-owed
 invariant-owed g l = record {
-  so : HasSettled g.C.Calls.makes (reads_between g.R.Reader.gives g.R.Reader.faults l.fn.reader l.reader) l.fn.calls l.fn.self l.calls l.self;
+  so : HasSettled g.C.Calls.makes (reads_between g.R.Reader.gives g.R.Reader.faults l.fn.reader l.reader) (g.R.Reader.faults l.fn.reader) (g.R.Reader.faults l.reader)
+      l.fn.calls l.fn.self l.calls l.self;
   grows : g.R.Reader.faults l.fn.reader ≤ g.R.Reader.faults l.reader;
   held : l.self.held ≡ l.fn.self.held;
   talk : l.self.talk ≡ l.fn.self.talk;
