@@ -26,6 +26,7 @@ import time
 
 from wire import PROGRAM, commit, frame, number, pull, pulled, records, reply_of, send, stored
 
+HERE = os.path.dirname(os.path.abspath(__file__))
 WAIT = 10  # seconds until what has to come is missed
 
 
@@ -78,13 +79,13 @@ def check(name):
 class Server:
     """The program in a folder, from the first link that it takes until it is killed."""
 
-    def __init__(self, folder, *more, before=(), limits=()):
+    def __init__(self, folder, *more, before=(), limits=(), names=None):
         self.port = PORT or free_port()
         words = [word.replace("{port}", str(self.port)) for word in WORDS]
         if IS_SERVE:
             words = ["serve", "--host", f"127.0.0.1:{self.port}"]
         self.child = subprocess.Popen([*before, PROGRAM, *words, *more], cwd=folder, stdin=subprocess.DEVNULL,
-                                      preexec_fn=lambda: limit(limits))
+                                      env={**os.environ, **(names or {})}, preexec_fn=lambda: limit(limits))
         self.is_traced, self.is_killed, self.links = bool(before), False, []
 
     def __enter__(self):
@@ -787,6 +788,42 @@ def _(folder):
         read_back(link, "A", bodies)
         server.kill()
     want([r["body"] for r in records(folder, whole=False)][:len(bodies)] == bodies, "the log has other messages")
+
+
+def send_big(server, count):
+    """Sends a message of 4 MiB from each of so many links at once, and has their replies: so many that not all may be pending."""
+    replies, body = [None] * count, b"x" * (1 << 22)
+
+    def one(k):
+        link = server.link()
+        link.say(send(k, body, topic="A"))
+        replies[k] = link.hear()
+    beside(count, one)
+    return replies
+
+
+@check("sends for which there is no room wait until a slow disk has made some, and are all answered with 0, each once")
+def _(folder):
+    library = os.path.join(folder, "slow_sync.so")
+    if not shutil.which("cc"):
+        raise Skipped("it wants a C compiler")
+    subprocess.run(["cc", "-shared", "-fPIC", "-O1", "-o", library, os.path.join(HERE, "slow_sync.c")], check=True)
+    with Server(folder, names={"LD_PRELOAD": library, "SLOW_SYNC": "400"}) as server:
+        replies = send_big(server, 40)
+        want([reply["code"] for reply in replies] == [0] * 40, "they are answered by",
+             [(reply["code"], reply.get("remark")) for reply in replies if reply["code"]])
+        offsets = sorted(int(reply["extFields"]["queueOffset"]) for reply in replies)
+        want(offsets == list(range(40)), "their offsets are", offsets)
+
+
+@check("sends for which there is no room are refused with the disk's failure where the disk takes nothing more")
+def _(folder):
+    with Server(folder, limits=[(resource.RLIMIT_FSIZE, 65536)]) as server:
+        replies = send_big(server, 40)
+        told = {(reply["code"], reply.get("remark", "").split(" ")[0]) for reply in replies}
+        want(told == {(10, "flush"), (1, "disk")}, "they are answered by", told)
+        want(all(int(reply["remark"].split(" ")[1]) > 0 for reply in replies), "the failures' numbers are",
+             [reply["remark"] for reply in replies])
 
 
 @check("clients for whom there was no descriptor are let in once others have left")

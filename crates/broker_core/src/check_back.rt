@@ -1,16 +1,21 @@
 //! A half message whose verdict is missing is asked for again, and given up in the end.
 
-ghost use Rattle.std.specs.Prelude.{◌≡◌, ◌<◌, ◌^◌, ◌∷◌, [], ℕ, IfOk, OnErr, option_map};
+ghost use Rattle.std.specs.Prelude.{◌≡◌, ◌<◌, ◌≤◌, ◌+◌, ◌^◌, ◌∷◌, [], ℕ, length};
+ghost use Rattle.std.specs.Prelude.{Some, IfOk, OnOk, OnErr, option_map};
 ghost use Rattle.record_codec.specs.Entry.{Entry};
-ghost use Rattle.record_codec.specs.Drafts.{draft_size, entry_of};
+ghost use Rattle.record_codec.specs.Drafts.{draft_size, entry_of, IsEncodable};
 ghost use Rattle.log_model.specs.Drafts.{discard_draft as discard_draft_of, op_draft as op_draft_of, renewal_draft as renewal_draft_of};
 ghost use Rattle.log_model.specs.Numbered.{next_records};
 ghost use Rattle.log_model.specs.Queues.{said_by};
+ghost use Rattle.queue_view.specs.Tables.{number_of};
+ghost use Rattle.made_records.specs.Made.{IsHalfOf};
 ghost use Rattle.log_model.specs.declared.origin.OriginState.TheVariants.{Discarded};
 ghost use Rattle.broker_model.specs.Answers.{asked_link};
 ghost use Rattle.broker_model.specs.Events as model;
 ghost use Rattle.broker_model.specs.State.{State};
+ghost use Rattle.broker_model.specs.Step.{with_records};
 ghost use Rattle.broker_events.specs.Steps.{Says, asked_of};
+ghost use Rattle.core_log.specs.Appends.{HasRoomFor, MayStand};
 ghost use Rattle.core_log.specs.Carries.{Carries, Stays, RepresentsSome};
 ghost use Rattle.broker_core.specs.Checks.{IsHalfDraft, IsOpenMember, IsRenewed, IsRenewedBy, IsGivenUp, IsCheckedBy};
 ghost use Rattle.broker_core.specs.Checks.{IsDueCheck, Checks};
@@ -102,6 +107,32 @@ fn ask_for(
 
 // ---- renewals
 
+// Appends the record of this draft, a renewal of this origin, and keeps it whole. At `Err` nothing changes.
+fn append_whole(
+    parts: &mut Parts,
+    alloc: Global,
+    origin: u64,
+    table: u32,
+    draft: &Draft,
+    place: &Place,
+    size: u32,
+) -> Result<(), AllocError>
+    requires some { (s : State) × Represents parts.old s × MayStand s draft.now place.now }
+    requires encodable { IsEncodable draft.now place.now }
+    requires table { number_of parts.old.queues draft.now.topic draft.now.queue ≡ Some table }
+    requires room { HasRoomFor parts.old table draft.now }
+    requires size { size ≡ draft_size draft.now }
+    requires short { length parts.old.pending.bytes + size ≤ 67108864 }
+    requires half { IsHalfOf (Some origin) (entry_of draft.now place.now) }
+    ensures appended { OnOk result ((s : State) → Represents parts.old s → MayStand s draft.now place.now
+        → Represents parts.new (with_records s place.now.store (entry_of draft.now place.now ∷ []))) }
+    ensures stays { OnErr result (Stays parts.old parts.new) }
+{
+    let whole = Whole::of(alloc, draft, place, size)?;
+    let kept = parts.halves.make_ready(alloc, Some(origin), &draft.props)?;
+    parts.append_half(table, draft, place, size, Some(origin), kept, whole)
+}
+
 // Appends a renewal of this origin, for which there is room. At `Err` nothing changes.
 fn append_renewal(
     parts: &mut Parts,
@@ -122,15 +153,18 @@ fn append_renewal(
     let table = parts.make_ready(alloc, draft)?;
     let place = parts.next_place(table, size, now);
     let ask = ask_for(parts, alloc, draft, &place, size)?;
-    let whole = Whole::of(alloc, draft, &place, size)?;
-    let kept = parts.halves.make_ready(alloc, Some(origin), &draft.props)?;
     let number = parts.rows.end();
-    parts.append_half(table, draft, &place, size, Some(origin), kept, whole)?;
-    Ok(Said::Checked(Some(Checked {
-        origin,
-        number,
-        ask,
-    })))
+    match append_whole(parts, alloc, origin, table, draft, &place, size) {
+        Ok(()) => Ok(Said::Checked(Some(Checked {
+            origin,
+            number,
+            ask,
+        }))),
+        Err(fault) => {
+            drop(ask);
+            Err(fault)
+        }
+    }
 }
 
 // Appends a renewal of this origin, where there is room. At `Err` nothing changes.

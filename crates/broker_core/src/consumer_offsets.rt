@@ -122,12 +122,12 @@ pub(crate) fn set_offset(
         return refused.said(alloc);
     }
     let reply = Reply::plain(alloc, 0, "")?;
-    store_offset(
-        parts,
-        asked.group.as_str(),
-        topic,
-        asked.queue,
-        asked.offset,
-    )?;
-    Ok(told(parts, now, reply))
+    let group = asked.group.as_str();
+    match store_offset(parts, group, topic, asked.queue, asked.offset) {
+        Ok(()) => Ok(told(parts, now, reply)),
+        Err(fault) => {
+            drop(reply);
+            Err(fault)
+        }
+    }
 }

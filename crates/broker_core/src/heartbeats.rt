@@ -30,8 +30,13 @@ pub(crate) fn beat(
     ensures stays { OnErr result (Stays parts.old parts.new) }
 {
     let reply = Reply::plain(alloc, 0, "")?;
-    parts.clients.heartbeat(link, beat)?;
-    Ok(told(parts, now, reply))
+    match parts.clients.heartbeat(link, beat) {
+        Ok(()) => Ok(told(parts, now, reply)),
+        Err(fault) => {
+            drop(reply);
+            Err(fault)
+        }
+    }
 }
 
 /// A client leaves a producer group and a consumer group. At `Err` nothing changes.

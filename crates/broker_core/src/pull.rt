@@ -194,8 +194,13 @@ pub(crate) fn pull(
         Some(refused) => refused.said(alloc),
         None => {
             let reply = pulled(parts, alloc, asked)?;
-            commit(parts, asked)?;
-            Ok(told(parts, now, reply))
+            match commit(parts, asked) {
+                Ok(()) => Ok(told(parts, now, reply)),
+                Err(fault) => {
+                    drop(reply);
+                    Err(fault)
+                }
+            }
         }
     }
 }

@@ -37,11 +37,12 @@ fn lock_reply(alloc: Global, granted: &[QueueName]) -> Result<Reply, AllocError>
     requires few { length granted.now ≤ 4096 }
     ensures { IfOk result (λ reply. IsLockReply reply granted.now) }
 {
+    let body = lock_slices(alloc, granted)?;
     Ok(Reply {
         code: 0,
         remark: Text::of(String::new(alloc)),
         ext: Ext::none(alloc),
-        body: lock_slices(alloc, granted)?,
+        body,
     })
 }
 
@@ -64,10 +65,13 @@ pub(crate) fn lock_queues(
         .groups
         .granted(group, client, asked.queues.as_slice(), moment)?;
     let reply = lock_reply(alloc, granted.as_slice())?;
-    parts
-        .groups
-        .lock(group, client, granted.as_slice(), moment)?;
-    Ok(told(parts, now, reply))
+    match parts.groups.lock(group, client, granted.as_slice(), moment) {
+        Ok(()) => Ok(told(parts, now, reply)),
+        Err(fault) => {
+            drop(reply);
+            Err(fault)
+        }
+    }
 }
 
 /// Those of the queues that the client has are free then. At `Err` nothing changes.

@@ -38,7 +38,7 @@ use reply_fields::{Ext, Reply, Slice};
 use std::alloc::{AllocError, Global};
 
 /// Why a request that reads is refused.
-#[derive(Debug, Clone, Copy, PartialEq, Eq)]
+#[derive(Clone, Copy)]
 pub(crate) enum Refused {
     /// Nobody may pull from this topic of the broker's own.
     Closed,
@@ -82,10 +82,11 @@ fn offset_fields(alloc: Global, offset: u64) -> Result<Fields, AllocError>
 pub(crate) fn offset_reply(alloc: Global, offset: u64) -> Result<Reply, AllocError>
     ensures { IfOk result (λ reply. IsReplyOf reply (offset_reply_of offset)) }
 {
+    let fields = offset_fields(alloc, offset)?;
     Ok(Reply {
         code: 0,
         remark: Text::of(String::new(alloc)),
-        ext: Ext::of(offset_fields(alloc, offset)?),
+        ext: Ext::of(fields),
         body: Rows::of(Vec::new(alloc)),
     })
 }
@@ -133,10 +134,11 @@ pub(crate) fn pull_reply(
     ensures { (told : PulledAs Entry) → Answers (pulled_as unit_of told) pulled.now → AreSlicesOf slices.items told.taken
         → IfOk result (λ reply. IsReplyOf reply (pulled_reply_of told)) }
 {
+    let fields = pull_fields(alloc, pulled.max, pulled.min, pulled.next)?;
     Ok(Reply {
         code: pulled.code,
         remark: Text::of(String::new(alloc)),
-        ext: Ext::of(pull_fields(alloc, pulled.max, pulled.min, pulled.next)?),
+        ext: Ext::of(fields),
         body: Rows::of(slices),
     })
 }

@@ -24,7 +24,7 @@ use request_fields::SendFields;
 use std::alloc::{AllocError, Global};
 
 /// Why a send is refused: a row of the table.
-#[derive(Debug, Clone, Copy, PartialEq, Eq)]
+#[derive(Clone, Copy)]
 pub(crate) enum Refusal {
     Topic,
     SysFlag,

@@ -127,6 +127,11 @@ pub(crate) fn store(
     let place = parts.next_place(table, size, now.max(parts.now));
     let reply = sent(alloc, draft.store_host, place, target.queue);
     let said = answer(parts, waits(&draft.props), reply, 1);
-    append_in(parts, alloc, target, table, draft, &place, size)?;
-    Ok(said)
+    match append_in(parts, alloc, target, table, draft, &place, size) {
+        Ok(()) => Ok(said),
+        Err(fault) => {
+            drop(said);
+            Err(fault)
+        }
+    }
 }

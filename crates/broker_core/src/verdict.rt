@@ -118,8 +118,13 @@ fn commit_half(
     }
     let reply = Reply::plain(alloc, 0, "")?;
     let said = answer(parts, awaited, reply, 2);
-    parts.append_both(alloc, now, origin, OriginState::Committed, copy, op, sizes)?;
-    Ok(said)
+    match parts.append_both(alloc, now, origin, OriginState::Committed, copy, op, sizes) {
+        Ok(()) => Ok(said),
+        Err(fault) => {
+            drop(said);
+            Err(fault)
+        }
+    }
 }
 
 // Appends the op record of this origin, for which there is room. At `Err` nothing changes that counts.
@@ -163,8 +168,13 @@ fn roll_back(
     }
     let reply = Reply::plain(alloc, 0, "")?;
     let said = answer(parts, awaited, reply, 1);
-    append_alone(parts, alloc, now, origin, op, size)?;
-    Ok(said)
+    match append_alone(parts, alloc, now, origin, op, size) {
+        Ok(()) => Ok(said),
+        Err(fault) => {
+            drop(said);
+            Err(fault)
+        }
+    }
 }
 
 // The first verdict on an open origin. At `Err` nothing changes that counts.

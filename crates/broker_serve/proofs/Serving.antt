@@ -18,7 +18,8 @@ use Rattle.keeper_turns.proofs.PutLemmas.{puts_rested}
 use Rattle.worker_turns.specs.Acts.{Place, change_of, place_of}
 use Rattle.log_opening.specs.Opens.{OpensLogWith, OpensKeptWith, saved_as}
 use Rattle.log_opening.specs.declared.opening.Opened.{Opened}
-use Rattle.serve_threads.specs.Kept.{IsTextAlong, KeepOver, keep_over}
+use Rattle.loop_threads.specs.Kept.{KeepOver, keep_over}
+use Rattle.serve_threads.specs.Kept.{IsTextAlong}
 use Rattle.serve_threads.specs.Served.{IsLeft, Views}
 use Rattle.store_open.specs.Openings.{FORMAT, StoreTold, IsOpened, PutsOnly, own_format, store_told}
 use Rattle.store_open.specs.ServeWords.{IsServeCommand}

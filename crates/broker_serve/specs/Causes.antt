@@ -4,7 +4,8 @@ use Rattle.mq_outside.specs.Counts.{Rises}
 use Rattle.event_loops.specs.declared.event_loop.LoopEnd.{LoopEnd}
 use Rattle.event_loops.specs.declared.event_loop.LoopEnd.TheVariants as loops
 use Rattle.store_open.specs.declared.status.Status.{Status}
-use Rattle.serve_threads.specs.Causes.{OneRises, ServeFaults, WorldFaults}
+use Rattle.loop_threads.specs.Causes.{WorldFaults}
+use Rattle.serve_threads.specs.Causes.{OneRises, ServeFaults}
 use Rattle.exit_status.specs.Statuses.{TellsDevice}
 
 -- the status tells of no device that failed

@@ -29,7 +29,8 @@ use Rattle.log_opening.specs.Opens.{OpensLogWith, OpensKeptWith, OpensOursWith, 
 use Rattle.log_opening.specs.declared.opening.Opened.{Opened}
 use Rattle.worker_turns.specs.Acts.{DiskView, Place, change_of, place_of}
 use Rattle.spine.specs.Stands.{Stands}
-use Rattle.serve_threads.specs.Kept.{IsTextAlong, KeepOver, PutsAlong}
+use Rattle.loop_threads.specs.Kept.{KeepOver}
+use Rattle.serve_threads.specs.Kept.{IsTextAlong, PutsAlong}
 use Rattle.serve_threads.specs.Links.{LinksOver, AreAllThatCame}
 use Rattle.serve_threads.specs.Served.{IsLeft, IsMadeBy, Views}
 use Rattle.store_open.specs.Openings.{FORMAT}

@@ -20,10 +20,13 @@ ghost use Rattle.group_tables.specs.Offsets.{IsOffset};
 ghost use Rattle.log_opening.specs.Opens.{saved_as};
 ghost use Rattle.worker_turns.specs.Acts.{view_of};
 ghost use Rattle.event_loops.specs.Doors.{GaveAll};
-ghost use Rattle.serve_threads.specs.Kept.{keep_over};
-ghost use Rattle.serve_threads.specs.Links.{AreLoops, links_over};
-ghost use Rattle.serve_threads.specs.Served.{clocks_over, readings_of, views_of};
-ghost use Rattle.serve_threads.specs.Causes.{HasCauses, ServeFaults as TheFaults, counts_of, world_faults};
+ghost use Rattle.loop_threads.specs.Kept.{keep_over};
+ghost use Rattle.loop_threads.specs.Loops.{AreLoops};
+ghost use Rattle.loop_threads.specs.Worlds.{readings_of};
+ghost use Rattle.serve_threads.specs.Links.{links_over};
+ghost use Rattle.serve_threads.specs.Served.{clocks_over, views_of};
+ghost use Rattle.loop_threads.specs.Causes.{world_faults};
+ghost use Rattle.serve_threads.specs.Causes.{HasCauses, ServeFaults as TheFaults, counts_of};
 ghost use Rattle.broker_serve.specs.Causes.{BlamesDoor, Causes};
 ghost use Rattle.broker_serve.specs.Serves.{AllLinks, EndsOver, HasServed, IsAlike, PutsAllAlong, ServesLog, ServesStore};
 ghost use Rattle.broker_serve.specs.Serves.{run_over, setup_by};
@@ -40,9 +43,10 @@ use config_store::{Config, load_config};
 use event_loops::Bounds;
 use exit_status::{status_kept, status_of_config, status_of_fault};
 use log_opening::{Opened, open_log_with};
+use loop_threads::{Loops, World, can_start_threads};
 use mq_outside::{Clock, Disk, DiskFault, Failed, Keep};
 use mq_peers::{Door, Ready};
-use serve_threads::{Devices, Loops, Served, Unserved, World, can_start_threads, serve};
+use serve_threads::{Devices, Served, Unserved, serve};
 use std::alloc::Global;
 use std::sync::Wait;
 use std::thread::Threads;
@@ -198,7 +202,7 @@ where
     ensures status { (result.status.code ≢ 1) × (result.status.code ≢ 6) × FitsTable result.status }
     ensures why { IfNone result.core (result.status.code ≡ 7) }
     ensures ends { EndsOver (views_of (links_over P.Link.tells P.Ends.tells P.Ends.entries result.ends) D.Reader.gives
-        (clocks_over K.tells (readings_of K.readings loops.world.clocks) (readings_of K.readings result.world.clocks))
+        (clocks_over K.tells (readings_of K.readings loops.world) (readings_of K.readings result.world))
         (view_of D.tells D.state D.faults D.syncs))
         (record { core = core; flusher = devices.flusher }) result.core
         (run_over result.status devices.disk result.store.disk D.reader_faults
@@ -253,7 +257,7 @@ where
     ensures status { (result.status.code ≢ 1) × (result.status.code ≢ 6) × FitsTable result.status }
     ensures why { IfNone result.core (ShutOut result.status (D.faults store.disk) (D.faults result.store.disk)) }
     ensures ends { EndsOver (views_of (links_over P.Link.tells P.Ends.tells P.Ends.entries result.ends) D.Reader.gives
-        (clocks_over K.tells (readings_of K.readings loops.world.clocks) (readings_of K.readings result.world.clocks))
+        (clocks_over K.tells (readings_of K.readings loops.world) (readings_of K.readings result.world))
         (view_of D.tells D.state D.faults D.syncs)) opened
         result.core (run_over result.status store.disk result.store.disk D.reader_faults
         (keep_over E.tells (E.state store.keep) (E.state result.store.keep))) }
@@ -296,7 +300,7 @@ fn open_loops<P: Ready + Drop, K: Clock + Drop>(
     ensures loops { IfOk result (λ it. AreLoops P.Ends.tells P.Ends.entries it.first it.second) }
     ensures counts { IfOk result (λ it. world_faults P.faults P.Door.faults K.faults it.world
         ≡ world_faults P.faults P.Door.faults K.faults world) }
-    ensures clocks { IfOk result (λ it. it.world.clocks ≡ world.clocks) }
+    ensures clocks { IfOk result (λ it. (it.world.clocks ≡ world.clocks) × (it.world.timer ≡ world.timer)) }
     ensures most { IfOk result (λ it. it.bounds.most ≡ command.now.connections) }
     ensures gave { IfOk result (λ it. P.Door.gave it.world.door ≡ P.Door.gave world.door) }
     ensures status { IfErr result (λ it. (it.0.code ≢ 1) × (it.0.code ≢ 6) × FitsTable it.0) }
@@ -336,7 +340,7 @@ where
     ensures status { (result.status.code ≢ 1) × (result.status.code ≢ 6) × FitsTable result.status }
     ensures why { IfNone result.core (ShutOut result.status (D.faults store.disk) (D.faults result.store.disk)) }
     ensures ends { EndsOver (views_of (links_over P.Link.tells P.Ends.tells P.Ends.entries result.ends) D.Reader.gives
-        (clocks_over K.tells (readings_of K.readings world.clocks) (readings_of K.readings result.world.clocks))
+        (clocks_over K.tells (readings_of K.readings world) (readings_of K.readings result.world))
         (view_of D.tells D.state D.faults D.syncs)) opened
         result.core (run_over result.status store.disk result.store.disk D.reader_faults
         (keep_over E.tells (E.state store.keep) (E.state result.store.keep))) }
@@ -384,7 +388,7 @@ where
     ensures why { IfNone result.core (Unopened (IsDamagedLog D.tells segment (D.state store.disk).reads) result.status
         (D.faults store.disk) (D.faults result.store.disk)) }
     ensures served { ServesLog (views_of (links_over P.Link.tells P.Ends.tells P.Ends.entries result.ends) D.Reader.gives
-        (clocks_over K.tells (readings_of K.readings world.clocks) (readings_of K.readings result.world.clocks))
+        (clocks_over K.tells (readings_of K.readings world) (readings_of K.readings result.world))
         (view_of D.tells D.state D.faults D.syncs))
         (setup_by command.now segment) (saved_as config.offsets.items config.topics.items) result.core
         (run_over result.status store.disk result.store.disk D.reader_faults
@@ -438,7 +442,7 @@ where
         (IsDamagedIn segment (store_told D.tells (D.state store.disk).reads E.tells (E.state store.keep).reads)) result.status
         (D.faults store.disk) (D.faults result.store.disk) (E.faults store.keep) (E.faults result.store.keep)) }
     ensures served { ServesStore (views_of (links_over P.Link.tells P.Ends.tells P.Ends.entries result.ends) D.Reader.gives
-        (clocks_over K.tells (readings_of K.readings world.clocks) (readings_of K.readings result.world.clocks))
+        (clocks_over K.tells (readings_of K.readings world) (readings_of K.readings result.world))
         (view_of D.tells D.state D.faults D.syncs))
         (setup_by command.now segment) result.core (run_over result.status store.disk result.store.disk D.reader_faults
         (keep_over E.tells (E.state store.keep) (E.state result.store.keep))) }
@@ -500,7 +504,7 @@ where
         × IsOpened command.sizes sizes
         (store_told D.tells (D.state store.disk).reads E.tells (E.state store.keep).reads) (E.state result.store.keep))
         × HasServed (views_of (links_over P.Link.tells P.Ends.tells P.Ends.entries result.ends) D.Reader.gives
-        (clocks_over K.tells (readings_of K.readings world.clocks) (readings_of K.readings result.world.clocks))
+        (clocks_over K.tells (readings_of K.readings world) (readings_of K.readings result.world))
         (view_of D.tells D.state D.faults D.syncs))
         (setup_by command sizes.segment) (run_over result.status store.disk result.store.disk D.reader_faults
         (keep_over E.tells (E.state store.keep) (E.state result.store.keep)))

@@ -325,16 +325,11 @@ impl<P: Ready + Drop> EventLoop<P> {
         }
     }
 
-    // The disk's count where the last flush turn has ended since the pass before, and failed.
-    fn note_turns(&mut self, shared: &Shared) -> Option<u64>
+    // Notes how many flush turns have ended.
+    fn note_turns(&mut self, shared: &Shared)
         ensures links { self.new.links ≡ self.old.links }
     {
-        let turns = shared.turns();
-        if turns == self.turns {
-            return None;
-        }
-        self.turns = turns;
-        shared.failed()
+        self.turns = shared.turns();
     }
 
     // Takes the check-backs that have arrived, as many as one pass takes, and writes each to the link that it names. Answers
@@ -369,7 +364,6 @@ impl<P: Ready + Drop> EventLoop<P> {
         calls: &mut C,
         reader: &mut R,
         now: u64,
-        failed: Option<u64>,
         flusher: &mut F,
     )
         requires { now < 2 ^ 62 }
@@ -380,9 +374,7 @@ impl<P: Ready + Drop> EventLoop<P> {
         ensures grows { R.faults reader.old ≤ R.faults reader.new }
     {
         let buffer = self.buffer.as_mut_slice();
-        let given = self
-            .links
-            .hear::<C, R>(around.alloc, calls, buffer, now, failed);
+        let given = self.links.hear::<C, R>(around.alloc, calls, buffer, now);
         let made = given && self.flush_or_ring(around, flusher);
         if self.links.reply(around.alloc, around.shared, calls, reader)
             && let Some(port) = around.ports.first()
@@ -502,9 +494,9 @@ impl<P: Ready + Drop> EventLoop<P> {
     {
         let more_came = self.gather::<W, K, C, R>(around, outside, calls, timeout)?;
         let now = outside.now()?;
-        let failed = self.note_turns(around.shared);
+        self.note_turns(around.shared);
         let more_asks = self.take_asks(around, asks, calls, reader);
-        self.serve(around, calls, reader, now, failed, flusher);
+        self.serve(around, calls, reader, now, flusher);
         Ok(self.timeout(around, more_came || more_asks))
     }
 

@@ -86,13 +86,12 @@ fn hear_one<L: Link + Drop, C: Calls, R: Reader>(
     numbered: &mut Numbered<L>,
     buffer: &mut [u8],
     now: u64,
-    failed: Option<u64>,
 ) -> bool
     requires { now < 2 ^ 62 }
     ensures went { ByReader R.gives 0 (λ read. LeadsBy (at_reading now C.makes) calls.old calls.new 0 0
         (λ acts. Acts (link_view L.tells L.given L.taken) read (Some numbered.old) acts (Some numbered.new))) }
 {
-    numbered.linked.hear(alloc, calls, buffer, now, failed)
+    numbered.linked.hear(alloc, calls, buffer, now)
 }
 
 // The same of a slot.
@@ -102,14 +101,13 @@ fn hear_slot<L: Link + Drop, C: Calls, R: Reader>(
     slot: &mut Option<Numbered<L>>,
     buffer: &mut [u8],
     now: u64,
-    failed: Option<u64>,
 ) -> bool
     requires { now < 2 ^ 62 }
     ensures went { ByReader R.gives 0 (λ read. LeadsBy (at_reading now C.makes) calls.old calls.new 0 0
         (λ acts. Acts (link_view L.tells L.given L.taken) read slot.old acts slot.new)) }
 {
     match slot {
-        Some(numbered) => hear_one::<L, C, R>(alloc, calls, numbered, buffer, now, failed),
+        Some(numbered) => hear_one::<L, C, R>(alloc, calls, numbered, buffer, now),
         None => false,
     }
 }
@@ -121,7 +119,6 @@ fn hear_each<L: Link + Drop, C: Calls, R: Reader>(
     slots: &mut [Option<Numbered<L>>],
     buffer: &mut [u8],
     now: u64,
-    failed: Option<u64>,
 ) -> bool
     requires { now < 2 ^ 62 }
     ensures went { ByReader R.gives 0 (λ read. LeadsBy (at_reading now C.makes) calls.old calls.new 0 0
@@ -130,7 +127,7 @@ fn hear_each<L: Link + Drop, C: Calls, R: Reader>(
     let mut any = false;
     for i in 0..slots.len() {
         let slot = &mut slots[i];
-        any |= hear_slot::<L, C, R>(alloc, calls, slot, buffer, now, failed);
+        any |= hear_slot::<L, C, R>(alloc, calls, slot, buffer, now);
     }
     any
 }
@@ -176,9 +173,11 @@ fn reply_one<L: Link + Drop, C: Calls, R: Reader>(
     flushed: u64,
 ) -> bool
     ensures replied { result ≡ false → ByReader R.gives (R.faults reader.new) (λ read. LeadsBy (unasked C.makes) calls.old calls.new
-        (R.faults reader.old) (R.faults reader.new) (λ acts. Acts (link_view L.tells L.given L.taken) read (Some numbered.old) acts (Some numbered.new))) }
+        (R.faults reader.old) (R.faults reader.new)
+        (λ acts. Acts (link_view L.tells L.given L.taken) read (Some numbered.old) acts (Some numbered.new))) }
     ensures left { result ≡ true → ByReader R.gives (R.faults reader.new) (λ read. LeadsBy (unasked C.makes) calls.old calls.new
-        (R.faults reader.old) (R.faults reader.new) (λ acts. Leaves (link_view L.tells L.given L.taken) read numbered.old acts numbered.new)) }
+        (R.faults reader.old) (R.faults reader.new)
+        (λ acts. Leaves (link_view L.tells L.given L.taken) read numbered.old acts numbered.new)) }
     ensures grows { R.faults reader.old ≤ R.faults reader.new }
 {
     numbered.linked.reply(alloc, calls, reader, flushed);
@@ -199,7 +198,8 @@ fn reply_slot<L: Link + Drop, N: Ends<L> + Drop, C: Calls, R: Reader>(
     flushed: u64,
 ) -> bool
     ensures went { ByReader R.gives (R.faults reader.new) (λ read. LeadsBy (unasked C.makes) calls.old calls.new
-        (R.faults reader.old) (R.faults reader.new) (λ acts. (gone : List LinkEnd) × Enters (loop_view L.tells L.given L.taken N.tells N.entries) ledger.old gone ledger.new
+        (R.faults reader.old) (R.faults reader.new) (λ acts. (gone : List LinkEnd)
+        × Enters (loop_view L.tells L.given L.taken N.tells N.entries) ledger.old gone ledger.new
         × ActsOrLeaves (link_view L.tells L.given L.taken) read slot.old acts slot.new gone)) }
     ensures grows { R.faults reader.old ≤ R.faults reader.new }
 {
@@ -224,7 +224,8 @@ fn reply_each<L: Link + Drop, N: Ends<L> + Drop, C: Calls, R: Reader>(
     reader: &mut R,
 ) -> bool
     ensures went { ByReader R.gives (R.faults reader.new) (λ read. LeadsBy (unasked C.makes) calls.old calls.new
-        (R.faults reader.old) (R.faults reader.new) (λ acts. (gone : List LinkEnd) × Enters (loop_view L.tells L.given L.taken N.tells N.entries) ledger.old gone ledger.new
+        (R.faults reader.old) (R.faults reader.new) (λ acts. (gone : List LinkEnd)
+        × Enters (loop_view L.tells L.given L.taken N.tells N.entries) ledger.old gone ledger.new
         × Keeps (link_view L.tells L.given L.taken) read slots.old acts slots.new gone)) }
     ensures grows { R.faults reader.old ≤ R.faults reader.new }
 {
@@ -273,7 +274,8 @@ fn ask_one<L: Link + Drop, C: Calls, R: Reader>(
 )
     requires { ask.now.link ≡ numbered.old.linked.session.talk.link }
     ensures went { ByReader R.gives (R.faults reader.new) (λ read. LeadsWith (unasked C.makes) calls.old calls.new (ask.now ∷ [])
-        (R.faults reader.old) (R.faults reader.new) (λ acts. Acts (link_view L.tells L.given L.taken) read (Some numbered.old) acts (Some numbered.new))) }
+        (R.faults reader.old) (R.faults reader.new)
+        (λ acts. Acts (link_view L.tells L.given L.taken) read (Some numbered.old) acts (Some numbered.new))) }
     ensures grows { R.faults reader.old ≤ R.faults reader.new }
 {
     let _ = numbered.linked.ask(alloc, calls, reader, ask);
@@ -452,21 +454,19 @@ impl<L: Link + Drop, N: Ends<L> + Drop> Links<L, N> {
         }
     }
 
-    /// Serves what came on each link. Answers whether a request was given to the broker. Where the last flush turn failed, with
-    /// the disk's count, a request that found no room before it is refused.
+    /// Serves what came on each link. Answers whether a request was given to the broker.
     pub(crate) fn hear<C: Calls, R: Reader>(
         &mut self,
         alloc: Global,
         calls: &mut C,
         buffer: &mut [u8],
         now: u64,
-        failed: Option<u64>,
     ) -> bool
         requires { now < 2 ^ 62 }
         ensures went { ByReader R.gives 0 (λ read. LeadsBy (at_reading now C.makes) calls.old calls.new 0 0
             (λ acts. GoesOn (loop_view L.tells L.given L.taken N.tells N.entries) read self.old acts self.new)) }
     {
-        hear_each::<L, C, R>(alloc, calls, self.slots.as_mut_slice(), buffer, now, failed)
+        hear_each::<L, C, R>(alloc, calls, self.slots.as_mut_slice(), buffer, now)
     }
 
     /// Sends what is due on each link, and lets go of those that have ended. Answers whether any has.
@@ -478,7 +478,8 @@ impl<L: Link + Drop, N: Ends<L> + Drop> Links<L, N> {
         reader: &mut R,
     ) -> bool
         ensures went { ByReader R.gives (R.faults reader.new) (λ read. LeadsBy (unasked C.makes) calls.old calls.new
-            (R.faults reader.old) (R.faults reader.new) (λ acts. GoesOn (loop_view L.tells L.given L.taken N.tells N.entries) read self.old acts self.new)) }
+            (R.faults reader.old) (R.faults reader.new)
+            (λ acts. GoesOn (loop_view L.tells L.given L.taken N.tells N.entries) read self.old acts self.new)) }
         ensures grows { R.faults reader.old ≤ R.faults reader.new }
     {
         reply_each(
@@ -502,7 +503,8 @@ impl<L: Link + Drop, N: Ends<L> + Drop> Links<L, N> {
     )
         ensures went { ByReader R.gives (R.faults reader.new)
             (λ read. LeadsWith (unasked C.makes) calls.old calls.new (ask.now ∷ [])
-            (R.faults reader.old) (R.faults reader.new) (λ acts. GoesOn (loop_view L.tells L.given L.taken N.tells N.entries) read self.old acts self.new)) }
+            (R.faults reader.old) (R.faults reader.new)
+            (λ acts. GoesOn (loop_view L.tells L.given L.taken N.tells N.entries) read self.old acts self.new)) }
         ensures grows { R.faults reader.old ≤ R.faults reader.new }
     {
         let Some(at) = slot_of(self.slots.as_slice(), ask.link) else {

@@ -95,8 +95,6 @@ pub struct Shared {
     over: AtomicU64,
     // 1 once no further link is let in.
     closed: AtomicU64,
-    // The disk's count of faults where the last turn failed, and one more; 0 where it did not.
-    failed: AtomicU64,
     // How many links were let in and have not ended.
     open: AtomicU64,
     // 1 once a link has ended, until the door was asked again.
@@ -114,7 +112,6 @@ impl Shared {
             ending: AtomicU64::new(0),
             over: AtomicU64::new(0),
             closed: AtomicU64::new(0),
-            failed: AtomicU64::new(0),
             open: AtomicU64::new(0),
             retry: AtomicU64::new(0),
         }
@@ -175,14 +172,9 @@ impl Shared {
         self.turns.load(Ordering::SeqCst)
     }
 
-    /// One more flush turn has ended, and failed where this is the disk's count of faults. From now on each record that isn't below
-    /// `flushed` waits for a later one; it is `u64::MAX` where that isn't known, as after a turn that failed.
-    pub fn count_turn(&self, failed: Option<u64>, flushed: u64) {
-        let word = match failed {
-            Some(count) => count.saturating_add(1),
-            None => 0,
-        };
-        self.failed.store(word, Ordering::SeqCst);
+    /// One more flush turn has ended. From now on each record that isn't below `flushed` waits for a later one; it is `u64::MAX` where
+    /// that isn't known, as after a turn that failed.
+    pub fn count_turn(&self, flushed: u64) {
         self.flushed.store(flushed, Ordering::SeqCst);
         // Last: a loop that knows of the turn knows how it ended.
         self.turns.fetch_add(1, Ordering::SeqCst);
@@ -191,14 +183,6 @@ impl Shared {
     /// A record that isn't below this number waits for a flush turn that has not ended yet. Before the first one none is known to.
     pub fn flushed(&self) -> u64 {
         self.flushed.load(Ordering::SeqCst)
-    }
-
-    /// The disk's count of faults, where the last turn failed.
-    pub fn failed(&self) -> Option<u64> {
-        match self.failed.load(Ordering::SeqCst) {
-            0 => None,
-            word => Some(word - 1),
-        }
     }
 
     /// How many links were let in and have not ended.

@@ -19,13 +19,15 @@ use Rattle.story_lock.specs.Counts.{times}
 use Rattle.story_lock.proofs.Sums.{one_at, times_append}
 use Rattle.worker_turns.specs.Turns.{Steps}
 use Rattle.worker_turns.specs.Checks.{check, EndsChecking, IsLastCheck, HasChecked, held_for, held_by, Looked, look, held_as, ripe_by, ripe_of, waiting_by, waiting_of, HasLooked}
-use Rattle.ask_ways.specs.Ways.{put_by, ArePair}
-use Rattle.ask_ways.specs.declared.ends.Sender.{Sender}
-use Rattle.ask_ways.specs.declared.ends.Receiver.{Receiver}
+use Rattle.flush_rounds.specs.Ways.{put_by, ArePair}
+use Rattle.flush_rounds.specs.declared.ways.Sender.{Sender}
+use Rattle.flush_rounds.specs.declared.ways.Receiver.{Receiver}
 use Rattle.flush_rounds.specs.declared.asks.AskWays.{AskWays}
 use Rattle.flush_rounds.specs.Deliveries.{AreOfDuties, MakesDuties}
 use Rattle.flush_rounds.specs.Asking.{IsCheckedAt, AreRipeAt, AreHeldAt, HandsOut, Asking, IsAsking, Asks, IsFrontOf, HasNoneAsked, AreSameWays, PutsSome, Ripens, MakesAsking, asking_of, put_of}
+use Rattle.flush_rounds.specs.Timing.{AreDueNow, AreNotDue}
 use Rattle.flush_rounds.proofs.Delivering.{append_are}
+use Rattle.flush_rounds.proofs.Timing.{due_then}
 
 abbrev Waiting : Type 0
 Waiting = List (ℕ × AskParts)
@@ -362,6 +364,31 @@ looks_are : (looks : List Looked) → AreOfDuties (map look looks)
 looks_are [] = tt
 looks_are (it ∷ looks) = (inr (inr (it.number, refl)), looks_are looks)
 
+-- ---- their readings
+
+checks_now : (now : ℕ) (done : List Checked) → AreDueNow now (map (check now) done)
+checks_now now [] = tt
+checks_now now (it ∷ done) = (refl, checks_now now done)
+
+one_check_now : (now : ℕ) (what : Option Said) (last : Made) → last ≡ (Check now, what) ∷ [] → AreDueNow now last
+one_check_now now what last is = subst (λ (l : Made). AreDueNow now l) (sym is) (refl, tt)
+
+no_check_now : (now : ℕ) (last : Made) → last ≡ [] → AreDueNow now last
+no_check_now now last is = subst (λ (l : Made). AreDueNow now l) (sym is) tt
+
+last_check_now : (now : ℕ) (done : List Checked) (last : Made) → IsLastCheck now done last → AreDueNow now last
+last_check_now now done last (inl it) = one_check_now now (Some it.0) last it.2
+last_check_now now done last (inr it) = no_check_now now last it.1
+
+ends_now : (now : ℕ) (done : List Checked) (result : Result ℕ AllocError) (last : Made) → EndsChecking now done result last → AreDueNow now last
+ends_now now done (Ok count) last it = last_check_now now done last it.1
+ends_now now done (Err fault) last (inl it) = one_check_now now None last it
+ends_now now done (Err fault) last (inr it) = no_check_now now last it
+
+looks_not_due : (looks : List Looked) → AreNotDue (map look looks)
+looks_not_due [] = tt
+looks_not_due (it ∷ looks) = (tt, looks_not_due looks)
+
 -- ---- what is put on the ways
 
 same_ways : (old new : AskWays) → new.first ≡ old.first → new.second ≡ old.second → AreSameWays old new
@@ -464,25 +491,34 @@ put_all old new asks rest so_far none =
 -- ---- all of them, one behind another
 
 module _ {C : Type 0} (makes : Steps C) where
-  pub no_asking : (x : C) (it : AskWays) → MakesAsking makes x it x it
-  no_asking x it = record { steps = []; are = tt; made = refl; asks = asks_still [] (asking_of it); ways = ways_still it }
+  pub no_asking : (P : Made → Type 0) → P [] → (x : C) (it : AskWays) → MakesAsking makes P x it x it
+  no_asking P none x it = record { steps = []; are = tt; due = none; made = refl; asks = asks_still [] (asking_of it); ways = ways_still it }
 
-  pub asking_then : (x y z : C) (old mid new : AskWays) → MakesAsking makes x old y mid → MakesAsking makes y mid z new → MakesAsking makes x old z new
-  asking_then x y z old mid new first later = record {
+  pub asking_then : (P Q R : Made → Type 0) → ((xs ys : Made) → P xs → Q ys → R (xs ++ ys)) → (x y z : C) (old mid new : AskWays) → MakesAsking makes P x old y mid
+      → MakesAsking makes Q y mid z new → MakesAsking makes R x old z new
+  asking_then P Q R both x y z old mid new first later = record {
     steps = first.steps ++ later.steps;
     are = append_are first.steps later.steps first.are later.are;
+    due = both first.steps later.steps first.due later.due;
     made = makes_append makes x first.steps y later.steps z first.made later.made;
     asks = asks_then first.steps later.steps (asking_of old) (asking_of mid) (asking_of new) first.asks later.asks;
     ways = ways_then old mid new first.ways later.ways;
   }
 
   -- steps that ask nobody
-  pub duties_asking : (x y : C) (it : AskWays) → MakesDuties makes x y → MakesAsking makes x it y it
-  duties_asking x y it made = record { steps = made.steps; are = made.are; made = made.made; asks = asks_still made.steps (asking_of it); ways = ways_still it }
+  pub duties_asking : (P Q : Made → Type 0) → ((xs : Made) → P xs → Q xs) → (x y : C) (it : AskWays) → MakesDuties makes P x y → MakesAsking makes Q x it y it
+  duties_asking P Q weaker x y it made = record {
+    steps = made.steps;
+    are = made.are;
+    due = weaker made.steps made.due;
+    made = made.made;
+    asks = asks_still made.steps (asking_of it);
+    ways = ways_still it;
+  }
 
   -- a check turn
   pub checks_ask : (now : ℕ) (x y : C) (old new : AskWays) (result : Result ℕ AllocError) → HasChecked makes now x old.held.items result y new.held.items → new.first ≡ old.first → new.second ≡ old.second
-      → MakesAsking makes x old y new
+      → MakesAsking makes (AreDueNow now) x old y new
   checks_ask now x y old new result it one other =
       let steps : Made = map (check now) it.are.done ++ it.are.last in
       let held : new.held.items ≡ old.held.items ++ flat_map held_by it.are.done = it.holds ∙ ap (λ (l : Waiting). old.held.items ++ l) it.are.asks in
@@ -491,6 +527,7 @@ module _ {C : Type 0} (makes : Steps C) where
       record {
         steps = steps;
         are = append_are (map (check now) it.are.done) it.are.last (checks_are now it.are.done) (ends_are now it.are.done result it.are.last it.are.ends);
+        due = due_then now (map (check now) it.are.done) it.are.last (checks_now now it.are.done) (ends_now now it.are.done result it.are.last it.are.ends);
         made = subst (λ (l : Made). Makes makes x l y) it.are.are it.made;
         asks = λ before is. subst (λ (a : Asking). IsAsking (before ++ steps) a) (sym same) (checks_asking now it.are.done it.are.last (asking_of old) before is);
         ways = same_ways old new one other;
@@ -502,6 +539,7 @@ module _ {C : Type 0} (makes : Steps C) where
   looks_ripen x y old new out ripe none it one other = record {
     steps = map look it.looks;
     are = looks_are it.looks;
+    due = looks_not_due it.looks;
     made = it.made;
     asks = λ more first second before is.
         let found : ripe ≡ ripe_of it.looks = it.out_is ∙ ap (λ (l : List AskParts). l ++ ripe_of it.looks) none in
@@ -519,6 +557,7 @@ module _ {C : Type 0} (makes : Steps C) where
   ripens_none x y old new ripe at nothing same one other = record {
     steps = [];
     are = tt;
+    due = tt;
     made = sym at;
     asks = λ more first second before is.
         let all = asks_still [] (asking_of old) before is in
@@ -534,13 +573,14 @@ module _ {C : Type 0} (makes : Steps C) where
   }
 
   -- what is ripe is sent
-  pub handed_out : (x y : C) (old mid new : AskWays) (ripe : List AskParts) → Ripens makes x old ripe y mid → PutsSome mid ripe new → MakesAsking makes x old y new
+  pub handed_out : (x y : C) (old mid new : AskWays) (ripe : List AskParts) → Ripens makes x old ripe y mid → PutsSome mid ripe new → MakesAsking makes AreNotDue x old y new
   handed_out x y old mid new ripe h k =
       let one : put_by new.first ≡ put_by old.first ++ k.more.0 = k.put_first ∙ ap (λ (s : Sender AskParts). put_by s ++ k.more.0) h.first in
       let other : put_by new.second ≡ put_by old.second ++ k.more.1 = k.put_second ∙ ap (λ (s : Sender AskParts). put_by s ++ k.more.1) h.second in
       record {
         steps = h.steps;
         are = h.are;
+        due = h.due;
         made = h.made;
         asks = λ before is.
             let same : asking_of new ≡ record { put = (put_by old.first ++ k.more.0, put_by old.second ++ k.more.1); held = mid.held.items } =

@@ -7,11 +7,13 @@ use Rattle.broker_events.specs.declared.event.Event.{Event}
 use Rattle.broker_events.specs.declared.event.Event.TheVariants.{Deliver}
 use Rattle.broker_events.specs.declared.said.Said.{Said}
 use Rattle.broker_events.specs.declared.said.Said.TheVariants as said
-use Rattle.broker_events.proofs.Makes.{makes_snoc, makes_append}
+use Rattle.broker_events.proofs.Makes.{makes_snoc}
 use Rattle.broker_core.specs.Owner.{plain_look}
 use Rattle.worker_turns.specs.Turns.{Steps}
 use Rattle.worker_turns.specs.Delays.{delivery, Delivers}
 use Rattle.flush_rounds.specs.Deliveries.{most_at_once, FoundNone, EndsAt, DeliversSome, AreOfDuties, MakesDuties}
+use Rattle.flush_rounds.specs.Timing.{AreDueNow, AreNotDue}
+use Rattle.flush_rounds.proofs.Timing.{due_then}
 
 abbrev Entries : Type 0
 Entries = List (Event × Option Said)
@@ -30,6 +32,17 @@ last_are : (now count : ℕ) (last : Entries) → EndsAt now count last → AreO
 last_are now count last ends =
     ⊎_elim (λ one. subst (λ (l : Entries). AreOfDuties l) (sym one.2) (inl (now, refl), tt))
     (λ none. subst (λ (l : Entries). AreOfDuties l) (sym none.1) tt) ends
+
+-- ---- their readings
+
+delivered_now : (now : ℕ) (delivered : List (ℕ × ℕ)) → AreDueNow now (map (delivery now) delivered)
+delivered_now now [] = tt
+delivered_now now (what ∷ delivered) = (refl, delivered_now now delivered)
+
+last_now : (now count : ℕ) (last : Entries) → EndsAt now count last → AreDueNow now last
+last_now now count last ends =
+    ⊎_elim (λ one. subst (λ (l : Entries). AreDueNow now l) (sym one.2) (refl, tt))
+    (λ none. subst (λ (l : Entries). AreDueNow now l) (sym none.1) tt) ends
 
 -- so many deliveries were made at this reading, and nothing else
 pub record HasMadeOnly {C : Type 0} (makes : Steps C) (now : ℕ) (x : C) (count : ℕ) (y : C) : Type 0 where
@@ -81,22 +94,16 @@ module _ {C : Type 0} (makes : Steps C) where
 
   -- ---- all of them
 
-  pub no_duties : (x : C) → MakesDuties makes x x
-  no_duties x = record { steps = []; are = tt; made = refl }
+  pub no_duties : (x : C) → MakesDuties makes AreNotDue x x
+  no_duties x = record { steps = []; are = tt; due = tt; made = refl }
 
-  pub duties_then : (x y z : C) → MakesDuties makes x y → MakesDuties makes y z → MakesDuties makes x z
-  duties_then x y z first later = record {
-    steps = first.steps ++ later.steps;
-    are = append_are first.steps later.steps first.are later.are;
-    made = makes_append makes x first.steps y later.steps z first.made later.made;
-  }
+  pub look_made : (what : Option Said) (x y : C) → makes x plain_look what y → MakesDuties makes AreNotDue x y
+  look_made what x y made = record { steps = (plain_look, what) ∷ []; are = (inr (inr (0, refl)), tt); due = (tt, tt); made = (y, made, refl) }
 
-  pub look_made : (what : Option Said) (x y : C) → makes x plain_look what y → MakesDuties makes x y
-  look_made what x y made = record { steps = (plain_look, what) ∷ []; are = (inr (inr (0, refl)), tt); made = (y, made, refl) }
-
-  pub some_made : (now count : ℕ) (x y : C) → DeliversSome makes now x count y → MakesDuties makes x y
+  pub some_made : (now count : ℕ) (x y : C) → DeliversSome makes now x count y → MakesDuties makes (AreDueNow now) x y
   some_made now count x y it = record {
     steps = map (delivery now) it.delivered ++ it.last;
     are = append_are (map (delivery now) it.delivered) it.last (delivered_are now it.delivered) (last_are now count it.last it.ends);
+    due = due_then now (map (delivery now) it.delivered) it.last (delivered_now now it.delivered) (last_now now count it.last it.ends);
     made = it.made;
   }

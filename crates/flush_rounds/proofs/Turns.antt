@@ -8,6 +8,7 @@ use Rattle.broker_events.specs.declared.event.Event.TheVariants as events
 use Rattle.broker_events.specs.declared.said.Said.{Said}
 use Rattle.broker_events.specs.declared.said.Said.TheVariants as said
 use Rattle.session.specs.Serving.{Made}
+use Rattle.event_loops.specs.Timing.{ClockOver, clock_over}
 use Rattle.worker_turns.specs.Turns.{Steps, TakesFrom, Writes, HasEnded, WroteNone, CountsEnd}
 use Rattle.worker_turns.specs.declared.flush.FlushEnd.{FlushEnd}
 use Rattle.worker_turns.specs.declared.flush.FlushEnd.TheVariants.{Idle, Done, Failed, Misplaced, Memory}
@@ -20,7 +21,9 @@ use Rattle.flush_rounds.specs.Deliveries.{IsOfDuties, AreOfDuties}
 use Rattle.flush_rounds.specs.Asking.{Asking, Asks, HasNoneAsked, MakesAsking, asking_of, put_of}
 use Rattle.flush_rounds.specs.declared.asks.AskWays.{AskWays}
 use Rattle.flush_rounds.specs.Flushing.{IsOfFlusher, AreOfFlusher, ShowsFirst, IsShownBy, ShowsEach, AreFlushing, FlushesBetween, FlushesTo, of_anybody, Write}
+use Rattle.flush_rounds.specs.Timing.{AreNotDue, IsAttended}
 use Rattle.flush_rounds.proofs.Asking.{asks_still, asks_then, hands_out}
+use Rattle.flush_rounds.proofs.Timing.{attends_none, attends_then, not_due_then}
 
 -- ---- events of the flusher
 
@@ -111,23 +114,32 @@ duties_other event (inr (inr it)) = subst (λ (e : Event). IsOther e) (sym it.1)
 
 -- ---- turns
 
--- acts of the flusher, which show what is flushed once a dispatch comes directly behind them
+-- flush turns and the dispatches behind them, and no delivery or check
+pub record AreTurns (turns : List Act) : Type 0 where
+  pub flushing : AreFlushing turns
+  pub not_due : AreNotDue (steps_of turns)
+
+-- acts of the flusher, which show what is flushed once a dispatch comes directly behind them, and no delivery or check
 record BeforeShow (turns : List Act) : Type 0 where
   are : AreOfFlusher (steps_of turns)
+  not_due : AreNotDue (steps_of turns)
   shows : (what : Option Said) → ShowsEach (steps_of turns ++ (events.Dispatch most_seen, what) ∷ [])
 
 -- one dispatch, whatever was said to it
 Shows : List Act → Type 0
 Shows turns = (what : Option Said) × (turns ≡ acts.Made (events.Dispatch most_seen) what ∷ [])
 
-before_shown : (xs ys : List Act) → BeforeShow xs → Shows ys → AreFlushing (xs ++ ys)
+before_shown : (xs ys : List Act) → BeforeShow xs → Shows ys → AreTurns (xs ++ ys)
 unfolding Shows
 before_shown xs ys before shown =
     let dispatch : Made = (events.Dispatch most_seen, shown.0) ∷ [] in
     let are : steps_of (xs ++ ys) ≡ steps_of xs ++ dispatch = steps_append xs ys ∙ ap (λ (l : List Act). steps_of xs ++ steps_of l) shown.1 in
     record {
-      are = subst AreOfFlusher (sym are) (flusher_append (steps_of xs) dispatch before.are (shows most_seen, tt));
-      shows = subst ShowsEach (sym are) (before.shows shown.0);
+      flushing = record {
+        are = subst AreOfFlusher (sym are) (flusher_append (steps_of xs) dispatch before.are (shows most_seen, tt));
+        shows = subst ShowsEach (sym are) (before.shows shown.0);
+      };
+      not_due = subst AreNotDue (sym are) (not_due_then (steps_of xs) dispatch before.not_due (tt, tt));
     }
 
 -- nothing was said, so no batch was taken
@@ -135,18 +147,13 @@ takes_nothing : TakesBatch events.Take None → ⊥
 takes_nothing takes = let is : ◌≡◌ {A = Option Said} None (Some (said.Batch (Some takes.batch))) = takes.said_is in cc
 
 module _ {C D : Type 0} (makes : Steps C) (view : DiskView D) where
-  pub no_turns : (x : C) (p : Place D) → Acted makes view AreFlushing (change_of x p x p)
-  no_turns x p = acted_none makes view AreFlushing x p none_flushing
-
-  pub turns_then : (x y z : C) (p q r : Place D) → Acted makes view AreFlushing (change_of x p y q) → Acted makes view AreFlushing (change_of y q z r) → Acted makes view AreFlushing (change_of x p z r)
-  turns_then x y z p q r first later = acted_then makes view AreFlushing AreFlushing AreFlushing x y z p q r first later flushing_append
-
   -- a flush turn that found nothing pending
   pub idle_turns : (end : FlushEnd) (x y : C) (old new : Place D) → end ≡ Idle
       → HasEnded makes (Writes view.tells (synced_at view old) (synced_at view new)) x end y
-      → (WroteNone end → new ≡ old) → (TakesFrom makes x old.file → end ≢ Misplaced) → CountsEnd end (view.faults old.disk) (view.faults new.disk) → Acted makes view AreFlushing (change_of x old y new)
+      → (WroteNone end → new ≡ old) → (TakesFrom makes x old.file → end ≢ Misplaced) → CountsEnd end (view.faults old.disk) (view.faults new.disk) → Acted makes view AreTurns (change_of x old y new)
   idle_turns Idle x y old new is ended same placed counts =
-      acted_as makes view (IsTurn Idle) AreFlushing x y old new (λ made is. subst AreFlushing (sym is) (record { are = (takes, tt); shows = (tt, tt) }))
+      acted_as makes view (IsTurn Idle) AreTurns x y old new
+      (λ made is. subst AreTurns (sym is) (record { flushing = record { are = (takes, tt); shows = (tt, tt) }; not_due = (tt, tt) }))
       (turn_acted makes view Idle x y old new ended same placed counts)
   idle_turns Done x y old new is ended same placed counts = absurd (cc is)
   idle_turns (Failed count) x y old new is ended same placed counts = absurd (cc is)
@@ -158,22 +165,22 @@ module _ {C D : Type 0} (makes : Steps C) (view : DiskView D) where
       → HasEnded makes (Writes view.tells (synced_at view old) (synced_at view new)) x end y
       → (WroteNone end → new ≡ old) → (TakesFrom makes x old.file → end ≢ Misplaced) → CountsEnd end (view.faults old.disk) (view.faults new.disk) → Acted makes view BeforeShow (change_of x old y new)
   ended_turns Idle x y old new ended same placed counts =
-      acted_as makes view (IsTurn Idle) BeforeShow x y old new (λ made is. subst BeforeShow (sym is) (record { are = (takes, tt); shows = λ what. (tt, (tt, tt)) }))
+      acted_as makes view (IsTurn Idle) BeforeShow x y old new (λ made is. subst BeforeShow (sym is) (record { are = (takes, tt); not_due = (tt, tt); shows = λ what. (tt, (tt, tt)) }))
       (turn_acted makes view Idle x y old new ended same placed counts)
   ended_turns Done x y old new ended same placed counts =
       acted_as makes view (IsTurn Done) BeforeShow x y old new
-      (λ made is. subst BeforeShow (sym is.1) (record { are = (takes, (tells is.0.receipt, tt)); shows = λ what. (tt, (refl, (tt, tt))) }))
+      (λ made is. subst BeforeShow (sym is.1) (record { are = (takes, (tells is.0.receipt, tt)); not_due = (tt, (tt, tt)); shows = λ what. (tt, (refl, (tt, tt))) }))
       (turn_acted makes view Done x y old new ended same placed counts)
   ended_turns (Failed count) x y old new ended same placed counts =
       acted_as makes view (IsTurn (Failed count)) BeforeShow x y old new
-      (λ made is. subst BeforeShow (sym is.1) (record { are = (takes, (fails count, tt)); shows = λ what. (tt, (tt, (tt, tt))) }))
+      (λ made is. subst BeforeShow (sym is.1) (record { are = (takes, (fails count, tt)); not_due = (tt, (tt, tt)); shows = λ what. (tt, (tt, (tt, tt))) }))
       (turn_acted makes view (Failed count) x y old new ended same placed counts)
   ended_turns Misplaced x y old new ended same placed counts =
       let took : Option Said = Some (said.Batch (Some ended.batch)) in
       let failed = ended.steps.2 in
       record {
         acts = acts.Made events.Take took ∷ acts.Made (events.FlushFailed ended.count) (Some said.Done) ∷ [];
-        kind = record { are = (takes, (fails ended.count, tt)); shows = λ what. (tt, (tt, (tt, tt))) };
+        kind = record { are = (takes, (fails ended.count, tt)); not_due = (tt, (tt, tt)); shows = λ what. (tt, (tt, (tt, tt))) };
         happened = (
           ended.steps.0,
           old,
@@ -185,7 +192,7 @@ module _ {C D : Type 0} (makes : Steps C) (view : DiskView D) where
       }
   ended_turns Memory x y old new ended same placed counts = record {
     acts = acts.Made events.Take None ∷ [];
-    kind = record { are = (takes, tt); shows = λ what. (tt, (tt, tt)) };
+    kind = record { are = (takes, tt); not_due = (tt, tt); shows = λ what. (tt, (tt, tt)) };
     happened = one_step makes view events.Take None x y old new tt takes_nothing (subst (λ (w : C). makes x events.Take None w) ended.2 ended.1) (same tt);
   }
 
@@ -193,11 +200,11 @@ module _ {C D : Type 0} (makes : Steps C) (view : DiskView D) where
   pub shown_turns : (end : FlushEnd) (x y z : C) (old new : Place D)
       → HasEnded makes (Writes view.tells (synced_at view old) (synced_at view new)) x end y
       → (WroteNone end → new ≡ old) → (TakesFrom makes x old.file → end ≢ Misplaced) → CountsEnd end (view.faults old.disk) (view.faults new.disk) → IsDispatch makes y z
-      → Acted makes view AreFlushing (change_of x old z new)
+      → Acted makes view AreTurns (change_of x old z new)
   unfolding Shows
   shown_turns end x y z old new ended same placed counts made =
       let what : Option Said = Some (said.Moved made.0) in
-      acted_then makes view BeforeShow Shows AreFlushing x y z old new new (ended_turns end x y old new ended same placed counts)
+      acted_then makes view BeforeShow Shows AreTurns x y z old new new (ended_turns end x y old new ended same placed counts)
       (record {
         acts = acts.Made (events.Dispatch most_seen) what ∷ [];
         kind = (what, refl);
@@ -220,36 +227,52 @@ module _ {C D : Type 0} (makes : Steps C) (view : DiskView D) where
     duties_acts p steps made.0 y are.1 made.2,
   )
 
-  pub duties_turns : (x y : C) (p : Place D) (old new : AskWays) → MakesAsking makes x old y new → Acted makes view (FlushesBetween (asking_of old) (asking_of new)) (change_of x p y p)
-  duties_turns x y p old new it = record {
+  pub duties_turns : (clock : ClockOver) (x y : C) (p : Place D) (old new : AskWays) → MakesAsking makes (IsAttended clock) x old y new
+      → Acted makes view (FlushesBetween clock (asking_of old) (asking_of new)) (change_of x p y p)
+  duties_turns clock x y p old new it = record {
     acts = acts_of_steps it.steps;
-    kind = (duties_flushing it.steps it.are, subst (λ (l : Made). Asks l (asking_of old) (asking_of new)) (sym (duties_steps it.steps)) it.asks);
+    kind = (
+      duties_flushing it.steps it.are,
+      subst (λ (l : Made). Asks l (asking_of old) (asking_of new)) (sym (duties_steps it.steps)) it.asks,
+      subst (λ (l : Made). IsAttended clock l) (sym (duties_steps it.steps)) it.due,
+    );
     happened = duties_acts p it.steps x y it.are it.made;
   }
 
   -- ---- turns by which the flusher goes on asking
 
-  pub no_flushes : (x : C) (p : Place D) (it : Asking) → Acted makes view (FlushesBetween it it) (change_of x p x p)
-  no_flushes x p it = acted_none makes view (FlushesBetween it it) x p (none_flushing, asks_still [] it)
+  pub no_flushes : (tells : Type 0) (gave : List ℕ) (x : C) (p : Place D) (it : Asking)
+      → Acted makes view (FlushesBetween (clock_over tells gave gave) it it) (change_of x p x p)
+  no_flushes tells gave x p it =
+      acted_none makes view (FlushesBetween (clock_over tells gave gave) it it) x p (none_flushing, asks_still [] it, attends_none tells gave gave [] (λ t. refl) tt)
 
-  -- flush turns and dispatches ask nobody
-  pub flushes_still : (x y : C) (p q : Place D) (it : Asking) → Acted makes view AreFlushing (change_of x p y q) → Acted makes view (FlushesBetween it it) (change_of x p y q)
-  flushes_still x y p q it acted = acted_as makes view AreFlushing (FlushesBetween it it) x y p q (λ turns are. (are, asks_still (steps_of turns) it)) acted
+  -- flush turns and dispatches ask nobody, and read no clock
+  pub flushes_still : (tells : Type 0) (gave : List ℕ) (x y : C) (p q : Place D) (it : Asking) → Acted makes view AreTurns (change_of x p y q)
+      → Acted makes view (FlushesBetween (clock_over tells gave gave) it it) (change_of x p y q)
+  flushes_still tells gave x y p q it acted =
+      acted_as makes view AreTurns (FlushesBetween (clock_over tells gave gave) it it) x y p q
+      (λ turns are. (are.flushing, asks_still (steps_of turns) it, attends_none tells gave gave (steps_of turns) (λ t. refl) are.not_due)) acted
 
-  pub flushes_then : (x y z : C) (p q r : Place D) (old mid new : Asking) → Acted makes view (FlushesBetween old mid) (change_of x p y q)
-      → Acted makes view (FlushesBetween mid new) (change_of y q z r) → Acted makes view (FlushesBetween old new) (change_of x p z r)
-  flushes_then x y z p q r old mid new first later =
-      acted_then makes view (FlushesBetween old mid) (FlushesBetween mid new) (FlushesBetween old new) x y z p q r first later
+  pub flushes_then : (tells : Type 0) (gave more all : List ℕ) (x y z : C) (p q r : Place D) (old mid new : Asking)
+      → Acted makes view (FlushesBetween (clock_over tells gave more) old mid) (change_of x p y q)
+      → Acted makes view (FlushesBetween (clock_over tells more all) mid new) (change_of y q z r)
+      → Acted makes view (FlushesBetween (clock_over tells gave all) old new) (change_of x p z r)
+  flushes_then tells gave more all x y z p q r old mid new first later =
+      acted_then makes view (FlushesBetween (clock_over tells gave more) old mid) (FlushesBetween (clock_over tells more all) mid new)
+      (FlushesBetween (clock_over tells gave all) old new) x y z p q r first later
       (λ xs ys one other. (
         flushing_append xs ys one.0 other.0,
         subst (λ (l : Made). Asks l old new) (sym (steps_append xs ys)) (asks_then (steps_of xs) (steps_of ys) old mid new one.1 other.1),
+        subst (λ (l : Made). IsAttended (clock_over tells gave all) l) (sym (steps_append xs ys))
+            (attends_then tells gave more all (steps_of xs) (steps_of ys) one.2 other.2),
       ))
 
   -- all of them
-  pub flushes_to : (x y : C) (p q : Place D) (old new : AskWays) → HasNoneAsked old → Acted makes view (FlushesBetween (asking_of old) (asking_of new)) (change_of x p y q)
-      → Acted makes view (FlushesTo (put_of new)) (change_of x p y q)
-  flushes_to x y p q old new none acted =
-      acted_as makes view (FlushesBetween (asking_of old) (asking_of new)) (FlushesTo (put_of new)) x y p q (λ turns are. (are.0, hands_out (steps_of turns) old new none are.1)) acted
+  pub flushes_to : (clock : ClockOver) (x y : C) (p q : Place D) (old new : AskWays) → HasNoneAsked old
+      → Acted makes view (FlushesBetween clock (asking_of old) (asking_of new)) (change_of x p y q) → Acted makes view (FlushesTo clock (put_of new)) (change_of x p y q)
+  flushes_to clock x y p q old new none acted =
+      acted_as makes view (FlushesBetween clock (asking_of old) (asking_of new)) (FlushesTo clock (put_of new)) x y p q
+      (λ turns are. (are.0, hands_out (steps_of turns) old new none are.1, are.2)) acted
 
   -- ---- acts, by their steps and by what they did to the disk
 

@@ -7,6 +7,7 @@ use Rattle.worker_turns.specs.Acts.{DiskView, place_of}
 use Rattle.worker_turns.specs.declared.flush.FlushEnd.{FlushEnd}
 use Rattle.flush_rounds.specs.Asking.{asking_of}
 use Rattle.flush_rounds.specs.Causes.{BlamesDisk}
+use Rattle.flush_rounds.specs.Timing.{ClockView}
 use Rattle.flush_rounds.specs.Working.{IsReady, Worked}
 use Rattle.flush_rounds.specs.declared.state.FlushState.{FlushState}
 use Rattle.flush_rounds.proofs.Asking.{ways_still, ways_then}
@@ -21,11 +22,11 @@ cause_then one mid last old now new grows more first later =
     (λ same. ⊎_elim (λ is. inl (same ∙ is)) (λ blames. inr (subst (λ (e : FlushEnd). BlamesDisk e old new) (sym same) (blamed_more mid old now new more blames))) first)
     (λ blames. inr (disk_blamed last old now new grows blames)) later
 
-module _ {C D Reader : Type 0} (makes : Steps C) (has_key : C → Type 0) (shown : C → Shown) (view : DiskView D) where
+module _ {C D K Reader : Type 0} (makes : Steps C) (has_key : C → Type 0) (shown : C → Shown) (view : DiskView D) (clock : ClockView K) where
   -- nothing was done
-  pub worked_none : (it : FlushState C D Reader) → IsReady has_key shown view it → Worked makes has_key shown view it it
+  pub worked_none : (it : FlushState C D K Reader) → IsReady has_key shown view it → Worked makes has_key shown view clock it it
   worked_none it ready = record {
-    acted = no_flushes makes view it.calls (place_of it.flusher.file it.disk) (asking_of it.ways);
+    acted = no_flushes makes view clock.tells (clock.readings it.timetable.clock) it.calls (place_of it.flusher.file it.disk) (asking_of it.ways);
     ways = ways_still it.ways;
     outside = λ tells. outside_start _;
     grow = omega arith;
@@ -34,10 +35,10 @@ module _ {C D Reader : Type 0} (makes : Steps C) (has_key : C → Type 0) (shown
   }
 
   -- the second was done behind the first
-  pub worked_then : (one mid last : FlushState C D Reader) → Worked makes has_key shown view one mid → Worked makes has_key shown view mid last
-      → Worked makes has_key shown view one last
+  pub worked_then : (one mid last : FlushState C D K Reader) → Worked makes has_key shown view clock one mid → Worked makes has_key shown view clock mid last
+      → Worked makes has_key shown view clock one last
   worked_then one mid last first later = record {
-    acted = flushes_then makes view one.calls mid.calls last.calls (place_of one.flusher.file one.disk) (place_of mid.flusher.file mid.disk) (place_of last.flusher.file last.disk)
+    acted = flushes_then makes view clock.tells (clock.readings one.timetable.clock) (clock.readings mid.timetable.clock) (clock.readings last.timetable.clock) one.calls mid.calls last.calls (place_of one.flusher.file one.disk) (place_of mid.flusher.file mid.disk) (place_of last.flusher.file last.disk)
         (asking_of one.ways) (asking_of mid.ways) (asking_of last.ways) first.acted later.acted;
     ways = ways_then one.ways mid.ways last.ways first.ways later.ways;
     outside = λ tells. outside_then (first.outside tells) (later.outside tells);

@@ -12,10 +12,11 @@ use Rattle.story_lock.specs.Counts.{IsDistinct}
 use Rattle.worker_turns.specs.Turns.{Steps}
 use Rattle.worker_turns.specs.Checks.{check}
 use Rattle.broker_events.specs.Makes.{Makes}
-use Rattle.ask_ways.specs.Ways.{put_by, taken_by, ArePair}
-use Rattle.ask_ways.specs.declared.ends.Sender.{Sender}
-use Rattle.ask_ways.specs.declared.ends.Receiver.{Receiver}
+use Rattle.flush_rounds.specs.Ways.{put_by, taken_by, ArePair}
+use Rattle.flush_rounds.specs.declared.ways.Sender.{Sender}
+use Rattle.flush_rounds.specs.declared.ways.Receiver.{Receiver}
 use Rattle.flush_rounds.specs.Deliveries.{AreOfDuties}
+use Rattle.flush_rounds.specs.Timing.{AreNotDue}
 use Rattle.flush_rounds.specs.declared.asks.AskWays.{AskWays}
 
 -- ---- one check-back
@@ -139,16 +140,18 @@ pub record PutsSome (old : AskWays) (asks : List AskParts) (new : AskWays) : Typ
 pub record Ripens {C : Type 0} (makes : Steps C) (x : C) (old : AskWays) (ripe : List AskParts) (y : C) (new : AskWays) : Type 0 where
   pub steps : Made
   pub are : AreOfDuties steps
+  pub due : AreNotDue steps
   pub made : Makes makes x steps y
   pub asks : (more : List AskParts × List AskParts) → AreSome more.0 ripe → AreSome more.1 ripe
       → Asks steps (asking_of old) (record { put = (put_by old.first ++ more.0, put_by old.second ++ more.1); held = new.held.items })
   pub first : new.first ≡ old.first
   pub second : new.second ≡ old.second
 
--- steps were made that are the flusher's between its flush turns, and they lead from the one to the other
-pub record MakesAsking {C : Type 0} (makes : Steps C) (x : C) (old : AskWays) (y : C) (new : AskWays) : Type 0 where
+-- steps were made that are the flusher's between its flush turns, of which this holds, and they lead from the one to the other
+pub record MakesAsking {C : Type 0} (makes : Steps C) (P : Made → Type 0) (x : C) (old : AskWays) (y : C) (new : AskWays) : Type 0 where
   pub steps : Made
   pub are : AreOfDuties steps
+  pub due : P steps
   pub made : Makes makes x steps y
   pub asks : Asks steps (asking_of old) (asking_of new)
   pub ways : AreSameWays old new

@@ -76,8 +76,9 @@ abbrev pub AreOfDuties : List (Event × Option Said) → Type 0
 AreOfDuties [] = Unit {0}
 AreOfDuties (step ∷ steps) = IsOfDuties step.0 × AreOfDuties steps
 
--- steps of this kind were made, and no others
-pub record MakesDuties {C : Type 0} (makes : Steps C) (x y : C) : Type 0 where
+-- steps of this kind were made, and no others, of which this holds
+pub record MakesDuties {C : Type 0} (makes : Steps C) (P : List (Event × Option Said) → Type 0) (x y : C) : Type 0 where
   pub steps : List (Event × Option Said)
   pub are : AreOfDuties steps
+  pub due : P steps
   pub made : Makes makes x steps y

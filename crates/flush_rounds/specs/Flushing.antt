@@ -5,12 +5,14 @@ use Rattle.broker_events.specs.declared.event.Event.{Event}
 use Rattle.broker_events.specs.declared.event.Event.TheVariants.{Request, Take, Flushed, FlushFailed, Look, Dispatch, Deliver, Check, Leave}
 use Rattle.reply_fields.specs.Parts.{AskParts}
 use Rattle.session.specs.Serving.{Made}
+use Rattle.event_loops.specs.Timing.{ClockOver}
 use Rattle.worker_turns.specs.Turns.{Steps}
 use Rattle.worker_turns.specs.Turning.{most_seen}
 use Rattle.worker_turns.specs.Acts as acts
 use Rattle.worker_turns.specs.Acts.{Acts, DiskView, Place, change_of}
 use Rattle.flush_rounds.specs.Asking.{HandsOut, Asking, Asks}
 use Rattle.flush_rounds.specs.Deliveries.{IsOfDuties}
+use Rattle.flush_rounds.specs.Timing.{IsAttended}
 
 -- the event is one of the flusher's: it takes a batch, tells how a flush turn ended, lets consumers see what is flushed, delivers a
 -- delayed message, checks a half message, or looks
@@ -50,13 +52,15 @@ pub record AreFlushing (turns : List acts.Act) : Type 0 where
   pub are : AreOfFlusher (acts.steps_of turns)
   pub shows : ShowsEach (acts.steps_of turns)
 
--- the same, by which the flusher went on asking from the one to the other
-abbrev pub FlushesBetween : Asking → Asking → List acts.Act → Type 0
-FlushesBetween old new turns = AreFlushing turns × Asks (acts.steps_of turns) old new
+-- The same, by which the flusher went on asking from the one to the other. Deliveries and checks are in rounds, each at one reading
+-- that this clock gave meanwhile.
+abbrev pub FlushesBetween : ClockOver → Asking → Asking → List acts.Act → Type 0
+FlushesBetween clock old new turns =
+    AreFlushing turns × Asks (acts.steps_of turns) old new × IsAttended clock (acts.steps_of turns)
 
 -- the same, by which check-backs were handed out, of which these were put on the ways to both loops
-abbrev pub FlushesTo : List AskParts × List AskParts → List acts.Act → Type 0
-FlushesTo put turns = AreFlushing turns × HandsOut (acts.steps_of turns) put
+abbrev pub FlushesTo : ClockOver → List AskParts × List AskParts → List acts.Act → Type 0
+FlushesTo clock put turns = AreFlushing turns × HandsOut (acts.steps_of turns) put × IsAttended clock (acts.steps_of turns)
 
 -- steps of anybody
 abbrev pub of_anybody : Steps (Unit {0})

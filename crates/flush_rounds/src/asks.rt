@@ -1,11 +1,12 @@
 //! How check-backs come from the flusher to the loops: a way to each, whose one end the flusher has.
 
 ghost use Rattle.std.specs.Prelude.{◌≡◌, ◌<◌, ◌^◌, [], ◌∷◌, IfOk};
-ghost use Rattle.ask_ways.specs.Ways.{ArePair, taken_by};
+ghost use Rattle.flush_rounds.specs.Ways.{ArePair, taken_by};
 ghost use Rattle.worker_turns.specs.Acts.{IsFree};
 ghost use Rattle.flush_rounds.specs.Asking.{HasNoneAsked, MakesAsking, PutsSome, Ripens};
+ghost use Rattle.flush_rounds.specs.Timing.{AreDueNow, AreNotDue};
 
-use ask_ways::{Receiver, Sender, way};
+use crate::ways::{Receiver, Sender, way};
 use broker_events::Calls;
 use event_loops::{Picked, Port, Takes};
 use mq_peers::Ready;
@@ -118,7 +119,7 @@ impl AskWays {
     /// was checked. What memory ran out for is checked later.
     pub(crate) fn check<C: Calls>(&mut self, alloc: Global, calls: &mut C, now: u64) -> bool
         requires now { now < 2 ^ 62 }
-        ensures made { MakesAsking C.makes calls.old self.old calls.new self.new }
+        ensures made { MakesAsking C.makes (AreDueNow now) calls.old self.old calls.new self.new }
         ensures free { IsFree (C.has_key calls.old) (C.shown calls.old) → IsFree (C.has_key calls.new) (C.shown calls.new) }
     {
         check_turn(alloc, calls, now, &mut self.held).unwrap_or(0) > 0
@@ -148,7 +149,7 @@ impl AskWays {
         calls: &mut C,
         ports: &[Port<P>],
     )
-        ensures made { MakesAsking C.makes calls.old self.old calls.new self.new }
+        ensures made { MakesAsking C.makes AreNotDue calls.old self.old calls.new self.new }
         ensures free { IsFree (C.has_key calls.old) (C.shown calls.old) → IsFree (C.has_key calls.new) (C.shown calls.new) }
     {
         if self.held.is_empty() {

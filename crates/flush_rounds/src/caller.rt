@@ -6,7 +6,7 @@ ghost use Rattle.story_lock.specs.Passes.{IsPassOf, HasSeat};
 
 use crate::flusher::is_idle;
 use crate::state::FlushState;
-use crate::timetable::{Timetable, is_long};
+use crate::timetable::is_long;
 use broker_core::Owner;
 use event_loops::{Around, Flushes, Shared};
 use mq_outside::{Clock, Disk};
@@ -40,36 +40,34 @@ impl<'a, S: Chronicle, W: Wait> FlushCaller<'a, S, W> {
     }
 }
 
-impl<'a, C: Owner + Drop, D: Disk + Drop, W: Wait> FlushCaller<'a, FlushState<C, D>, W> {
+impl<'a, C: Owner + Drop, D: Disk + Drop, K: Clock + Drop, W: Wait> FlushCaller<
+    'a,
+    FlushState<C, D, K>,
+    W,
+> {
     // One round of the flusher.
-    fn round<P: Ready, K: Clock>(
-        &mut self,
-        around: &Around<'_, W, P>,
-        timetable: &mut Timetable<K>,
-        is_last: bool,
-    ) -> Option<u64> {
+    fn round<P: Ready>(&mut self, around: &Around<'_, W, P>, is_last: bool) -> Option<u64> {
         let Some(pass) = self.pass.take() else {
             unreachable!()
         };
         let mut turn = self.lock.enter(self.rt, pass);
-        let rest = turn.state().round(around, timetable, is_last);
+        let rest = turn.state().round(around, is_last);
         self.pass = Some(turn.end(&(), &()));
         rest
     }
 
-    /// Flushes whenever it is rung for, delivers delayed messages and checks half messages in their time by this clock, and sends
-    /// check-backs to the loops, until these have ended, and then flushes what is left. It gives the clock back.
-    pub fn keep_flushing<P: Ready, K: Clock>(&mut self, around: &Around<'_, W, P>, clock: K) -> K {
-        let mut timetable = Timetable::new(clock);
+    /// Flushes whenever it is rung for, delivers delayed messages and checks half messages in their time by the clock of the state, and
+    /// sends check-backs to the loops, until these have ended, and then flushes what is left.
+    pub fn keep_flushing<P: Ready>(&mut self, around: &Around<'_, W, P>) {
         for _ in around.rt.forever() {
             // Looked at before the turns, so that these flush what the loops appended to their end.
             let over = around.shared.is_over();
             around.shared.begin_turn();
-            let rest = self.round(around, &mut timetable, over);
+            let rest = self.round(around, over);
             let turns = around.shared.turns();
             around.shared.end_turn();
             if over {
-                return timetable.into_clock();
+                return;
             }
             if is_long(rest) {
                 around.shared.sleep_long(around.rt, rest, turns);
@@ -81,8 +79,8 @@ impl<'a, C: Owner + Drop, D: Disk + Drop, W: Wait> FlushCaller<'a, FlushState<C,
     }
 }
 
-impl<'a, C: Owner + Drop, D: Disk + Drop, W: Wait> Flushes
-    for FlushCaller<'a, FlushState<C, D>, W> {
+impl<'a, C: Owner + Drop, D: Disk + Drop, K: Clock + Drop, W: Wait> Flushes
+    for FlushCaller<'a, FlushState<C, D, K>, W> {
     fn flush(&mut self, alloc: Global, shared: &Shared) -> bool {
         let Some(pass) = self.pass.take() else {
             unreachable!()

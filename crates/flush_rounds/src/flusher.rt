@@ -6,10 +6,10 @@ ghost use Rattle.worker_turns.specs.declared.flush.FlushEnd.TheVariants.{Idle};
 ghost use Rattle.segment_files.specs.Turn.{IsInside};
 ghost use Rattle.worker_turns.specs.Acts.{view_of};
 ghost use Rattle.worker_turns.specs.Turning.{IsDispatch};
+ghost use Rattle.flush_rounds.specs.Timing.{clock_view};
 ghost use Rattle.flush_rounds.specs.Working.{IsReady, Worked};
 
 use crate::state::FlushState;
-use crate::timetable::Timetable;
 use broker_core::Owner;
 use broker_events::Calls;
 use event_loops::{Around, Shared, wake_waiting};
@@ -46,21 +46,13 @@ fn flushed_by(end: FlushEnd, seen: u64) -> u64 {
     }
 }
 
-// Counts a turn that has ended like this, behind which consumers see so many records.
-fn count(shared: &Shared, end: FlushEnd, seen: u64) {
-    let failed = match end {
-        FlushEnd::Failed(count) => Some(count),
-        FlushEnd::Idle | FlushEnd::Done | FlushEnd::Misplaced | FlushEnd::Memory => None,
-    };
-    shared.count_turn(failed, flushed_by(end, seen));
-}
-
-impl<C: Owner + Drop, D: Disk + Drop> FlushState<C, D> {
+impl<C: Owner + Drop, D: Disk + Drop, K: Clock + Drop> FlushState<C, D, K> {
     // Makes one flush turn. Where something was pending it lets consumers see what is flushed, and counts the turn, so that turns are
     // counted in the order in which they are made. Answers how it ended.
     pub(crate) fn turn(&mut self, alloc: Global, shared: &Shared) -> FlushEnd
         requires { IsReady C.has_key C.shown (view_of D.tells D.state D.faults D.syncs) self.old }
-        ensures { Worked C.makes C.has_key C.shown (view_of D.tells D.state D.faults D.syncs) self.old self.new }
+        ensures { Worked C.makes C.has_key C.shown (view_of D.tells D.state D.faults D.syncs) (clock_view K.tells K.readings)
+            self.old self.new }
     {
         let end = flush_turn(alloc, &mut self.calls, &mut self.flusher, &mut self.disk);
         self.last = end;
@@ -68,7 +60,7 @@ impl<C: Owner + Drop, D: Disk + Drop> FlushState<C, D> {
             return end;
         }
         let seen = show(alloc, &mut self.calls);
-        count(shared, end, seen);
+        shared.count_turn(flushed_by(end, seen));
         end
     }
 
@@ -76,7 +68,8 @@ impl<C: Owner + Drop, D: Disk + Drop> FlushState<C, D> {
     // ended.
     pub(crate) fn flush_all<W: Wait, P: Ready>(&mut self, around: &Around<'_, W, P>) -> FlushEnd
         requires { IsReady C.has_key C.shown (view_of D.tells D.state D.faults D.syncs) self.old }
-        ensures { Worked C.makes C.has_key C.shown (view_of D.tells D.state D.faults D.syncs) self.old self.new }
+        ensures { Worked C.makes C.has_key C.shown (view_of D.tells D.state D.faults D.syncs) (clock_view K.tells K.readings)
+            self.old self.new }
     {
         for _ in around.rt.forever() {
             let end = self.turn(around.alloc, around.shared);
@@ -93,20 +86,20 @@ impl<C: Owner + Drop, D: Disk + Drop> FlushState<C, D> {
 
     // Sends the check-backs whose records are flushed, and delivers and checks what is due, where the last flush turn ended like this.
     // Answers how many milliseconds the flusher may sleep then.
-    pub(crate) fn attend<W: Wait, P: Ready, K: Clock>(
+    pub(crate) fn attend<W: Wait, P: Ready>(
         &mut self,
         around: &Around<'_, W, P>,
-        timetable: &mut Timetable<K>,
         end: FlushEnd,
     ) -> Option<u64>
         requires key { C.has_key self.old.calls }
         requires none_out { (C.shown self.old.calls).out ≡ None }
         requires inside { D.tells → IsInside self.old.flusher.file.base self.old.flusher.file.offset (D.state self.old.disk) }
-        ensures { Worked C.makes C.has_key C.shown (view_of D.tells D.state D.faults D.syncs) self.old self.new }
+        ensures { Worked C.makes C.has_key C.shown (view_of D.tells D.state D.faults D.syncs) (clock_view K.tells K.readings)
+            self.old self.new }
     {
         self.ways
             .hand_out(around.alloc, &mut self.calls, around.ports);
-        timetable.work(
+        self.timetable.work(
             around.alloc,
             &mut self.calls,
             &mut self.ways,
@@ -117,19 +110,19 @@ impl<C: Owner + Drop, D: Disk + Drop> FlushState<C, D> {
 
     // One round: flush turns until nothing is pending or one fails, and then, unless it is the last round, what is due. Answers how many
     // milliseconds the flusher may sleep then. What was pending when a turn failed is tried again in the next round.
-    pub(crate) fn round<W: Wait, P: Ready, K: Clock>(
+    pub(crate) fn round<W: Wait, P: Ready>(
         &mut self,
         around: &Around<'_, W, P>,
-        timetable: &mut Timetable<K>,
         is_last: bool,
     ) -> Option<u64>
         requires { IsReady C.has_key C.shown (view_of D.tells D.state D.faults D.syncs) self.old }
-        ensures { Worked C.makes C.has_key C.shown (view_of D.tells D.state D.faults D.syncs) self.old self.new }
+        ensures { Worked C.makes C.has_key C.shown (view_of D.tells D.state D.faults D.syncs) (clock_view K.tells K.readings)
+            self.old self.new }
     {
         let end = self.flush_all(around);
         if is_last {
             return None;
         }
-        self.attend(around, timetable, end)
+        self.attend(around, end)
     }
 }

@@ -7,7 +7,10 @@ mod caller;
 mod flusher;
 mod state;
 mod timetable;
+mod ways;
 
 pub use asks::{AskWays, LOOPS, LoopAsks, Ways};
 pub use caller::FlushCaller;
 pub use state::FlushState;
+pub use timetable::Timetable;
+pub use ways::{Receiver, Sender, way};

@@ -4,8 +4,10 @@ ghost use Rattle.std.specs.Prelude.{◌≡◌, ◌<◌, ◌≤◌, ◌^◌};
 ghost use Rattle.core_log.specs.declared.parts.Parts.{Parts};
 ghost use Rattle.worker_turns.specs.Acts.{IsFree};
 ghost use Rattle.worker_turns.specs.Delays.{Delivers};
+ghost use Rattle.event_loops.specs.Timing.{clock_over};
 ghost use Rattle.flush_rounds.specs.Asking.{MakesAsking};
 ghost use Rattle.flush_rounds.specs.Deliveries.{DeliversSome, IsNextDue, MakesDuties, most_at_once, sooner_of};
+ghost use Rattle.flush_rounds.specs.Timing.{AreDueNow, AreNotDue, IsAttended};
 
 use crate::asks::AskWays;
 use broker_core::{Core, Owner};
@@ -52,7 +54,7 @@ fn sooner(one: Option<u64>, other: Option<u64>) -> Option<u64>
 // When a delivery or a check is next due, by one look. `None` where no message waits.
 fn next_due<C: Owner>(alloc: Global, calls: &mut C) -> Option<u64>
     ensures next { (core : Parts) × C.sees calls.old core calls.new × IsNextDue core result }
-    ensures made { MakesDuties C.makes calls.old calls.new }
+    ensures made { MakesDuties C.makes AreNotDue calls.old calls.new }
     ensures free { IsFree (C.has_key calls.old) (C.shown calls.old) → IsFree (C.has_key calls.new) (C.shown calls.new) }
 {
     calls.look(
@@ -118,8 +120,8 @@ struct Looked {
 
 /// The flusher's clock, and what it knows of the messages that wait.
 #[derive(Drop)]
-pub(crate) struct Timetable<K: Clock> {
-    clock: K,
+pub struct Timetable<K: Clock> {
+    pub(crate) clock: K,
     // When the next one is due, by the last look.
     next: Option<u64>,
     // The last look, unless a new one has to be made.
@@ -128,7 +130,9 @@ pub(crate) struct Timetable<K: Clock> {
 
 impl<K: Clock> Timetable<K> {
     /// Nothing is known yet.
-    pub(crate) fn new(clock: K) -> Timetable<K> {
+    pub fn new(clock: K) -> Timetable<K>
+        ensures { result.clock ≡ clock }
+    {
         Timetable {
             clock,
             next: None,
@@ -137,7 +141,9 @@ impl<K: Clock> Timetable<K> {
     }
 
     /// The clock again.
-    pub(crate) fn into_clock(self) -> K {
+    pub fn into_clock(self) -> K
+        ensures { result ≡ self.clock }
+    {
         let Timetable {
             clock,
             next: _,
@@ -160,7 +166,8 @@ impl<K: Clock> Timetable<K> {
     // Looks when something is next due, where that may have changed.
     #[tactic(auto, using(crate::proofs::Delivering::no_duties))]
     fn look_up<C: Owner>(&mut self, alloc: Global, calls: &mut C, now: u64, turns: u64)
-        ensures made { MakesDuties C.makes calls.old calls.new }
+        ensures clock { self.new.clock ≡ self.old.clock }
+        ensures made { MakesDuties C.makes AreNotDue calls.old calls.new }
         ensures free { IsFree (C.has_key calls.old) (C.shown calls.old) → IsFree (C.has_key calls.new) (C.shown calls.new) }
     {
         if self.is_old(now, turns) {
@@ -197,7 +204,8 @@ impl<K: Clock> Timetable<K> {
         now: u64,
     ) -> u64
         requires now { now < 2 ^ 62 }
-        ensures made { MakesAsking C.makes calls.old ways.old calls.new ways.new }
+        ensures clock { self.new.clock ≡ self.old.clock }
+        ensures made { MakesAsking C.makes (AreDueNow now) calls.old ways.old calls.new ways.new }
         ensures free { IsFree (C.has_key calls.old) (C.shown calls.old) → IsFree (C.has_key calls.new) (C.shown calls.new) }
     {
         self.looked = None;
@@ -217,7 +225,9 @@ impl<K: Clock> Timetable<K> {
         end: FlushEnd,
         turns: u64,
     ) -> Option<u64>
-        ensures made { MakesAsking C.makes calls.old ways.old calls.new ways.new }
+        ensures made { MakesAsking C.makes
+            (IsAttended (clock_over K.tells (K.readings self.old.clock) (K.readings self.new.clock)))
+            calls.old ways.old calls.new ways.new }
         ensures free { IsFree (C.has_key calls.old) (C.shown calls.old) → IsFree (C.has_key calls.new) (C.shown calls.new) }
     {
         let Ok(now) = self.clock.now() else {

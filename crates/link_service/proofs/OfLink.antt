@@ -1,14 +1,17 @@
 -- Each step of a link's passes is a request of the link, or a look.
 use Rattle.std.proofs.Common.{◌≡◌, ⊎_elim, inl, inr, ℕ, List, [], ◌∷◌, ◌++◌, Bool, true, false, Option, Some, None, Result, Ok, Err, refl, sym, ap, subst}
 use Rattle.reply_fields.specs.Parts.{ReplyParts, AskParts}
+use Rattle.session.specs.Owing.{look_for, room_at}
 use Rattle.session.specs.Readers.{ReaderView}
+use Rattle.session.specs.Room.{LooksForRoom}
 use Rattle.session.specs.Serving.{Made, IsAsked, IsAnswered, ServesNext}
 use Rattle.session.specs.Settling.{IsDueAfter, IsNotYet, Waits, LooksFor, Settles, IsSettled, IsBroken, Stops}
-use Rattle.session.specs.Sessions.{Call, fed, served, gave_up, settled, sent, asked, made_in, made_of}
+use Rattle.session.specs.Sessions.{Call, fed, served, looked, settled, sent, asked, made_in, made_of}
 use Rattle.session.specs.declared.heard.Heard.{Heard}
 use Rattle.session.specs.declared.owed.Applied.{Applied}
 use Rattle.session.specs.declared.owed.Awaits.{Awaits}
 use Rattle.session.specs.declared.owed.Owed.{Owed}
+use Rattle.session.specs.declared.room.HeldRequest.{HeldRequest}
 use Rattle.session.specs.declared.serving.Halt.{Halt}
 use Rattle.session.specs.declared.serving.Halt.TheVariants as halts
 use Rattle.session.specs.declared.serving.Step.{Step}
@@ -39,12 +42,17 @@ answered_of talk now heard owed made is =
 serves_of : (now : ℕ) (old : Session) (made : Made) (result : Result Step Halt) (new : Session) → ServesNext now old made result new → AreOfLink old.talk.link made
 serves_of now old made (Ok steps.Request) new is = answered_of old.talk now is.heard is.owed made is.answered
 serves_of now old made (Ok steps.Nothing) new is = of_none old.talk.link made is.0.none
-serves_of now old made (Ok steps.Full) new is = asked_of old.talk now is.heard _ made is.asked
+serves_of now old made (Ok steps.Full) new is =
+    of_both old.talk.link made is.given (look_for (room_at is.pending) is.before ∷ []) is.looked (asked_of old.talk now is.heard _ is.given is.asked) (inr (is.pending, 0, refl), tt)
 serves_of now old made (Err (halts.BadFrame at)) new is = of_none old.talk.link made is.0.none
 serves_of now old made (Err halts.Memory) new is =
     ⊎_elim (λ rests. of_none old.talk.link made rests.0.none) (λ loses. answered_of old.talk now loses.heard loses.owed made loses.answered) is
 
 -- ---- looks
+
+room_of : (link : ℕ) (held : Option HeldRequest) (old : Session) (made : Made) (result : Result Bool Halt) (new : Session) → LooksForRoom held old made result new → AreOfLink link made
+room_of link None old made result new is = of_none link made is.0
+room_of link (Some held) old made result new is = subst (λ (m : Made). AreOfLink link m) (sym is.1) (inr (held.pending, 0, refl), tt)
 
 due_of : (link : ℕ) (awaits : Option Awaits) (reply due : ReplyParts) (made : Made) → IsDueAfter awaits reply due made → AreOfLink link made
 due_of link None reply due made is = of_none link made is.1
@@ -88,8 +96,8 @@ call_of reader old (fed piece) false new is = (tt, is.1.link.0)
 call_of reader old (fed piece) true new is = (tt, is.1.link.0)
 call_of reader old (served now made result) false new is = (serves_of now old made result new is.1, is.2.0)
 call_of reader old (served now made result) true new is = (serves_of now old made result new is.1, is.2.0)
-call_of reader old (gave_up count) false new is = (tt, ap (λ (t : Talk). t.link) is.2)
-call_of reader old (gave_up count) true new is = (tt, ap (λ (t : Talk). t.link) is.2)
+call_of reader old (looked made result) false new is = (room_of old.talk.link old.held old made result new is.1, ap (λ (t : Talk). t.link) is.2)
+call_of reader old (looked made result) true new is = (room_of old.talk.link old.held old made result new is.1, ap (λ (t : Talk). t.link) is.2)
 call_of reader old (settled made reads) false new is = (settled_of old.talk.link reader old made reads new is.0, ap (λ (t : Talk). t.link) is.2)
 call_of reader old (settled made reads) true new is = (broken_of old.talk.link reader old made reads new is.0, ap (λ (t : Talk). t.link) is.2)
 call_of reader old (sent count bytes) false new is = (tt, ap (λ (t : Talk). t.link) is.3)

@@ -1,17 +1,19 @@
 -- Requests are given to the broker at the reading of their pass.
-use Rattle.std.proofs.Common.{◌≡◌, ⊎_elim, ℕ, List, [], ◌∷◌, ◌++◌, Option, Some, None, Result, Ok, Err, refl, sym, subst}
+use Rattle.std.proofs.Common.{◌≡◌, ⊎_elim, ℕ, List, [], ◌∷◌, ◌++◌, Bool, Option, Some, None, Result, Ok, Err, refl, sym, subst}
 use Rattle.reply_fields.specs.Parts.{ReplyParts}
 use Rattle.broker_events.specs.Makes.{Makes}
 use Rattle.broker_events.specs.declared.event.Event.{Event}
 use Rattle.broker_events.specs.declared.event.Event.TheVariants as events
-use Rattle.session.specs.Owing.{Steps}
+use Rattle.session.specs.Owing.{Steps, look_for, room_at}
 use Rattle.session.specs.Readers.{ReaderView}
+use Rattle.session.specs.Room.{LooksForRoom}
 use Rattle.session.specs.Serving.{Made, Leads, LeadsReading, IsAsked, IsAnswered, ServesNext}
 use Rattle.session.specs.Settling.{IsDueAfter, IsNotYet, Waits, LooksFor, Settles, IsSettled, IsBroken, Stops}
 use Rattle.session.specs.declared.heard.Heard.{Heard}
 use Rattle.session.specs.declared.owed.Applied.{Applied}
 use Rattle.session.specs.declared.owed.Awaits.{Awaits}
 use Rattle.session.specs.declared.owed.Owed.{Owed}
+use Rattle.session.specs.declared.room.HeldRequest.{HeldRequest}
 use Rattle.session.specs.declared.serving.Halt.{Halt}
 use Rattle.session.specs.declared.serving.Halt.TheVariants as halts
 use Rattle.session.specs.declared.serving.Step.{Step}
@@ -42,12 +44,17 @@ answered_at talk now heard owed made is =
 serves_at : (now : ℕ) (old : Session) (made : Made) (result : Result Step Halt) (new : Session) → ServesNext now old made result new → AreAt (λ at. at ≡ now) made
 serves_at now old made (Ok steps.Request) new is = answered_at old.talk now is.heard is.owed made is.answered
 serves_at now old made (Ok steps.Nothing) new is = at_none (λ at. at ≡ now) made is.0.none
-serves_at now old made (Ok steps.Full) new is = asked_at old.talk now is.heard _ made is.asked
+serves_at now old made (Ok steps.Full) new is =
+    at_both (λ at. at ≡ now) made is.given (look_for (room_at is.pending) is.before ∷ []) is.looked (asked_at old.talk now is.heard _ is.given is.asked) (tt, tt)
 serves_at now old made (Err (halts.BadFrame at)) new is = at_none (λ at. at ≡ now) made is.0.none
 serves_at now old made (Err halts.Memory) new is =
     ⊎_elim (λ rests. at_none (λ at. at ≡ now) made rests.0.none) (λ loses. answered_at old.talk now loses.heard loses.owed made loses.answered) is
 
 -- ---- looks
+
+looks_at : (P : ℕ → Type 0) (held : Option HeldRequest) (old : Session) (made : Made) (result : Result Bool Halt) (new : Session) → LooksForRoom held old made result new → AreAt P made
+looks_at P None old made result new is = at_none P made is.0
+looks_at P (Some held) old made result new is = subst (λ (m : Made). AreAt P m) (sym is.1) (tt, tt)
 
 due_at : (P : ℕ → Type 0) (awaits : Option Awaits) (reply due : ReplyParts) (made : Made) → IsDueAfter awaits reply due made → AreAt P made
 due_at P None reply due made is = at_none P made is.1
@@ -123,6 +130,11 @@ module _ {C : Type 0} (makes : Steps C) where
       → Leads (at_reading now makes) x y (λ made. ServesNext now old made result new)
   serves_timed now old new x y result h =
       record { made = h.made; leads = made_at (λ at. at ≡ now) x h.made y h.leads (serves_at now old h.made result new h.so); so = h.so }
+
+  pub looks_timed : (now : ℕ) (held : Option HeldRequest) (old new : Session) (x y : C) (result : Result Bool Halt) → Leads makes x y (λ made. LooksForRoom held old made result new)
+      → Leads (at_reading now makes) x y (λ made. LooksForRoom held old made result new)
+  looks_timed now held old new x y result h =
+      record { made = h.made; leads = made_at (λ at. at ≡ now) x h.made y h.leads (looks_at (λ at. at ≡ now) held old h.made result new h.so); so = h.so }
 
   pub settles_unasked : (reader : ReaderView) (old new : Session) (x y : C) (low high : ℕ) → LeadsReading makes x y low high (λ made reads. IsSettled reader old made reads new)
       → LeadsReading (unasked makes) x y low high (λ made reads. IsSettled reader old made reads new)

@@ -4,7 +4,7 @@ use Rattle.reply_fields.specs.Parts.{AskParts}
 use Rattle.session.specs.Asking.{AreFor}
 use Rattle.session.specs.Readers.{ReaderView}
 use Rattle.session.specs.Serving.{Made}
-use Rattle.session.specs.Sessions.{Call, fed, served, gave_up, settled, sent, asked, AreCalls, IsNew, RepliesInOrder, sent_in, asks_in, stream_of, sent_of, made_of, asks_of, read_replies_of}
+use Rattle.session.specs.Sessions.{Call, fed, served, looked, settled, sent, asked, AreCalls, IsNew, RepliesInOrder, sent_in, asks_in, stream_of, sent_of, made_of, asks_of, read_replies_of}
 use Rattle.session.specs.declared.session.Session.{Session}
 use Rattle.link_service.specs.Transcripts.{Seen, FindsNoMemory, IsCallOf, AreCallsOf, AreOfLink, WentOnWith, IsFresh, Ends, IsTranscript}
 use Rattle.link_service.proofs.OfLink.{went_of_link}
@@ -55,7 +55,7 @@ split_calls reader old (call ∷ calls) breaks new are =
 sends_nothing : (reader : ReaderView) (old : Session) (call : Call) (new : Session) → FindsNoMemory reader old call new → sent_in call ≡ []
 sends_nothing reader old (fed piece) new is = refl
 sends_nothing reader old (served now made result) new is = refl
-sends_nothing reader old (gave_up count) new is = refl
+sends_nothing reader old (looked made result) new is = refl
 sends_nothing reader old (settled made reads) new is = refl
 sends_nothing reader old (sent count bytes) new is = absurd is
 sends_nothing reader old (asked ask) new is = absurd is
@@ -69,7 +69,7 @@ ends_sending reader last (call ∷ more) broken new ends =
 asks_nothing : (reader : ReaderView) (old : Session) (call : Call) (new : Session) → FindsNoMemory reader old call new → asks_in call ≡ []
 asks_nothing reader old (fed piece) new is = refl
 asks_nothing reader old (served now made result) new is = refl
-asks_nothing reader old (gave_up count) new is = refl
+asks_nothing reader old (looked made result) new is = refl
 asks_nothing reader old (settled made reads) new is = refl
 asks_nothing reader old (sent count bytes) new is = refl
 asks_nothing reader old (asked ask) new is = absurd is

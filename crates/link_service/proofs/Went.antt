@@ -6,9 +6,10 @@ use Rattle.reply_fields.specs.Parts.{AskParts}
 use Rattle.session.specs.Asking.{Asks, AsksOrNot}
 use Rattle.session.specs.Owing.{Steps}
 use Rattle.session.specs.Readers.{ReaderView, FailedAt, reads_between}
+use Rattle.session.specs.Room.{LooksForRoom}
 use Rattle.session.specs.Serving.{Made, Leads, LeadsReading, ServesNext, KeepsLink, KeepsOut, KeepsRest}
 use Rattle.session.specs.Settling.{IsSettled, IsBroken, unsent_of}
-use Rattle.session.specs.Sessions.{Call, fed, served, gave_up, settled, sent, asked, HadMemory, IsCall, stream_in, sent_in, made_in, asks_in, read_replies_in, stream_of, sent_of, made_of, asks_of, read_replies_of}
+use Rattle.session.specs.Sessions.{Call, fed, served, looked, settled, sent, asked, HadMemory, IsCall, stream_in, sent_in, made_in, asks_in, read_replies_in, stream_of, sent_of, made_of, asks_of, read_replies_of}
 use Rattle.session.specs.declared.session.Session.{Session}
 use Rattle.session.specs.declared.talk.Talk.{Talk}
 use Rattle.session.specs.declared.serving.Step.{Step}
@@ -53,7 +54,7 @@ none_append : (xs ys : List Call) → NoneSettled xs → NoneSettled ys → None
 none_append [] ys none more = more
 none_append (fed piece ∷ xs) ys none more = none_append xs ys none more
 none_append (served now made result ∷ xs) ys none more = none_append xs ys none more
-none_append (gave_up count ∷ xs) ys none more = none_append xs ys none more
+none_append (looked made result ∷ xs) ys none more = none_append xs ys none more
 none_append (settled made reads ∷ xs) ys none more = absurd none
 none_append (sent count bytes ∷ xs) ys none more = none_append xs ys none more
 none_append (asked ask ∷ xs) ys none more = none_append xs ys none more
@@ -109,8 +110,8 @@ call_read reader old new (fed piece) false none h = h
 call_read reader old new (fed piece) true none h = h
 call_read reader old new (served now made result) false none h = h
 call_read reader old new (served now made result) true none h = h
-call_read reader old new (gave_up count) false none h = h
-call_read reader old new (gave_up count) true none h = h
+call_read reader old new (looked made result) false none h = h
+call_read reader old new (looked made result) true none h = h
 call_read reader old new (settled made reads) breaks none h = absurd none
 call_read reader old new (sent count bytes) false none h = h
 call_read reader old new (sent count bytes) true none h = absurd h
@@ -120,7 +121,7 @@ call_read reader old new (asked ask) true none h = absurd h
 none_first : (call : Call) (calls : List Call) → NoneSettled (call ∷ calls) → NoneSettled (call ∷ []) × NoneSettled calls
 none_first (fed piece) calls none = (tt, none)
 none_first (served now made result) calls none = (tt, none)
-none_first (gave_up count) calls none = (tt, none)
+none_first (looked made result) calls none = (tt, none)
 none_first (settled made reads) calls none = absurd none
 none_first (sent count bytes) calls none = (tt, none)
 none_first (asked ask) calls none = (tt, none)
@@ -179,7 +180,7 @@ went_by tells reader old new call made asks reads wrote count whole is steps giv
 none_reads : (call : Call) → NoneSettled (call ∷ []) → 0 ≡ read_replies_in call
 none_reads (fed piece) none = refl
 none_reads (served now made result) none = refl
-none_reads (gave_up count) none = refl
+none_reads (looked made result) none = refl
 none_reads (settled made reads) none = absurd none
 none_reads (sent count bytes) none = refl
 none_reads (asked ask) none = refl
@@ -295,6 +296,28 @@ module _ {C : Type 0} (makes : Steps C) (tells : Type 0) where
     leads = h.leads;
     so = unread_breaks tells old new (served now h.made result) h.made was broken (is, h.so, link, out) tt refl refl (same_bytes tells old.given new.given (λ told. given))
         (same_bytes tells old.taken new.taken (λ told. taken));
+  }
+
+  -- room was looked for
+  pub looks_well : (old new : Seen) (x y : C) (may : Bool) → old.broken ≡ false → new.broken ≡ false → new.given ≡ old.given → new.taken ≡ old.taken
+      → Leads makes x y (λ made. LooksForRoom old.session.held old.session made (Ok may) new.session) → new.session.talk ≡ old.session.talk
+      → KeepsOut old.session new.session → Hears x old y new
+  looks_well old new x y may was whole given taken h talk out = record {
+    made = h.made;
+    leads = h.leads;
+    so = unread_whole tells old new (looked h.made (Ok may)) h.made was whole (tt, h.so, talk, out) tt refl refl (same_bytes tells old.given new.given (λ told. given))
+        (same_bytes tells old.taken new.taken (λ told. taken));
+  }
+
+  -- there was no memory for it
+  pub looks_memory : (old new : Seen) (x y : C) (halt : Halt) → old.broken ≡ false → new.broken ≡ true → new.given ≡ old.given → new.taken ≡ old.taken
+      → Leads makes x y (λ made. LooksForRoom old.session.held old.session made (Err halt) new.session) → new.session.talk ≡ old.session.talk
+      → KeepsOut old.session new.session → Hears x old y new
+  looks_memory old new x y halt was broken given taken h talk out = record {
+    made = h.made;
+    leads = h.leads;
+    so = unread_breaks tells old new (looked h.made (Err halt)) h.made was broken ((halt, refl), h.so, talk, out) tt refl refl
+        (same_bytes tells old.given new.given (λ told. given)) (same_bytes tells old.taken new.taken (λ told. taken));
   }
 
   module _ (reader : ReaderView) where

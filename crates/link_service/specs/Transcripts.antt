@@ -1,6 +1,6 @@
 -- What passes do for a link: the calls of its session, what these heard of the link and sent to it, and the steps of the broker that
 -- they made.
-use Rattle.std.specs.Prelude.{◌≡◌, ◌⊎◌, ◌<◌, ◌≤◌, ◌++◌, ℕ, List, [], ◌∷◌, Bool, true, false, None, Err}
+use Rattle.std.specs.Prelude.{◌≡◌, ◌⊎◌, ◌<◌, ◌≤◌, ◌++◌, ℕ, List, [], ◌∷◌, Bool, true, false, Err}
 use Rattle.mq_outside.specs.Readings.{Giving}
 use Rattle.request_fields.specs.declared.request.Request.{Request}
 use Rattle.reply_fields.specs.Parts.{AskParts}
@@ -8,9 +8,10 @@ use Rattle.broker_events.specs.declared.event.Event.{Event}
 use Rattle.broker_events.specs.declared.event.Event.TheVariants as events
 use Rattle.session.specs.Asking.{AreFor}
 use Rattle.session.specs.Readers.{ReaderView, reader_view}
-use Rattle.session.specs.Serving.{Made, KeepsLink, KeepsOut, KeepsRest, ServesNext, GivesUp}
+use Rattle.session.specs.Room.{LooksForRoom}
+use Rattle.session.specs.Serving.{Made, KeepsLink, KeepsOut, KeepsRest, ServesNext}
 use Rattle.session.specs.Settling.{IsBroken}
-use Rattle.session.specs.Sessions.{Call, fed, served, gave_up, settled, sent, asked, IsCall, IsNew, RepliesInOrder}
+use Rattle.session.specs.Sessions.{Call, fed, served, looked, settled, sent, asked, IsCall, IsNew, RepliesInOrder}
 use Rattle.session.specs.Sessions.{stream_of, sent_of, made_of, asks_of, read_replies_of}
 use Rattle.session.specs.declared.session.Session.{Session}
 use Rattle.session.specs.declared.serving.Halt.{Halt}
@@ -48,8 +49,8 @@ abbrev pub FindsNoMemory : ReaderView → Session → Call → Session → Type 
 FindsNoMemory reader old (fed piece) new = (new.talk.cutter ≡ old.talk.cutter) × KeepsRest old new
 FindsNoMemory reader old (served now made result) new =
     (result ≡ Err halts.Memory) × ServesNext now old made result new × KeepsLink old new × KeepsOut old new
-FindsNoMemory reader old (gave_up count) new =
-    ((halt : Halt) × GivesUp old.held count old (Err halt) new) × (new.held ≡ None) × (new.talk ≡ old.talk) × KeepsOut old new
+FindsNoMemory reader old (looked made result) new =
+    ((halt : Halt) × (result ≡ Err halt)) × LooksForRoom old.held old made result new × (new.talk ≡ old.talk) × KeepsOut old new
 FindsNoMemory reader old (settled made reads) new =
     IsBroken reader old made reads new × (new.held ≡ old.held) × (new.talk ≡ old.talk) × (new.sent ≡ old.sent)
 FindsNoMemory reader old (sent count bytes) new = ⊥
@@ -93,7 +94,7 @@ abbrev pub NoneSettled : List Call → Type 0
 NoneSettled [] = Unit {0}
 NoneSettled (fed piece ∷ calls) = NoneSettled calls
 NoneSettled (served now made result ∷ calls) = NoneSettled calls
-NoneSettled (gave_up count ∷ calls) = NoneSettled calls
+NoneSettled (looked made result ∷ calls) = NoneSettled calls
 NoneSettled (settled made reads ∷ calls) = ⊥
 NoneSettled (sent count bytes ∷ calls) = NoneSettled calls
 NoneSettled (asked ask ∷ calls) = NoneSettled calls

@@ -1,6 +1,7 @@
 //! A link with its session: what one pass of a loop does for it.
 //!
-//! `whole -> broken [read, serve, settle, write, hear]`, where the link fails or there is no memory. A broken link makes no further call.
+//! `whole -> broken [read, serve, settle, write, has_room]`, where the link fails or there is no memory. A broken link makes no further
+//! call.
 //! `whole -> garbled [serve]`, where what it says is no frame: nothing more is served. `drain.rt` says how it ends.
 
 ghost use Rattle.std.specs.Prelude.{◌≡◌, ◌<◌, ◌≤◌, ◌^◌, [], false, true, IfOk};
@@ -41,7 +42,7 @@ pub struct Linked<L: Link + Drop> {
     // Since when it is read on, in milliseconds, and until how many bytes are held of it.
     pub(crate) drained_since: Option<u64>,
     pub(crate) drained_to: u64,
-    // It may hold a whole request that was not served yet.
+    // It may hold a whole request that was not served yet, since so much was owed or unsent, or so many were served.
     pub(crate) behind: bool,
     // Replies may be due, or unsent and taken at once, that its last pass did not come to.
     pub(crate) owes: bool,
@@ -173,7 +174,7 @@ impl<L: Link + Drop> Linked<L> {
         let mut any = false;
         self.behind = false;
         for _ in 0..REQUESTS_MAX {
-            if self.session.is_loaded() {
+            if self.session.is_full() {
                 self.behind = true;
                 return any;
             }
@@ -188,29 +189,29 @@ impl<L: Link + Drop> Linked<L> {
         any
     }
 
-    // Where the last flush turn failed, with the disk's count, refuses a request that found no room.
-    fn give_up(&mut self, alloc: Global, failed: Option<u64>)
+    // Looks for room where a request found none. Answers whether none waits for it now, or its record is flushed.
+    fn has_room<C: Calls>(&mut self, alloc: Global, calls: &mut C, now: u64) -> bool
         requires whole { self.old.broken ≡ false }
-        ensures went { WentOnUnread L.tells (seen_of L.given L.taken self.old) [] (seen_of L.given L.taken self.new) }
+        ensures went { Leads (at_reading now C.makes) calls.old calls.new
+            (λ made. WentOnUnread L.tells (seen_of L.given L.taken self.old) made (seen_of L.given L.taken self.new)) }
     {
-        let Some(count) = failed else {
-            return;
-        };
-        match self.session.give_up(alloc, count) {
-            Ok(()) => {}
-            Err(_) => self.broken = true,
+        match self.session.look_for_room(alloc, calls) {
+            Ok(has) => has,
+            Err(_) => {
+                self.broken = true;
+                false
+            }
         }
     }
 
-    /// Reads and serves what came. Answers whether a request was given to the broker. Where the last flush turn failed, with the
-    /// disk's count, a request that found no room before it is refused.
+    /// Reads and serves what came. Answers whether a request was given to the broker. While a request waits for room one look is made for
+    /// it, and nothing is read or served.
     pub fn hear<C: Calls>(
         &mut self,
         alloc: Global,
         calls: &mut C,
         buffer: &mut [u8],
         now: u64,
-        failed: Option<u64>,
     ) -> bool
         requires { now < 2 ^ 62 }
         ensures went { Leads (at_reading now C.makes) calls.old calls.new
@@ -223,7 +224,9 @@ impl<L: Link + Drop> Linked<L> {
             self.drain(buffer, now);
             return false;
         }
-        self.give_up(alloc, failed);
+        if !self.has_room(alloc, calls, now) {
+            return false;
+        }
         self.read(buffer);
         if self.broken {
             return false;
@@ -389,7 +392,9 @@ impl<L: Link + Drop> Linked<L> {
         if self.garbled {
             return self.owes || self.may_drain();
         }
-        self.owes || ((self.behind || (self.readable && !self.deaf)) && !self.session.is_loaded())
+        self.owes
+            || (self.behind && !self.session.is_full())
+            || (self.readable && !self.deaf && !self.session.is_loaded())
     }
 
     /// Whether nothing more is to be done for it.

@@ -10,7 +10,7 @@ use Rattle.log_model.specs.Numbered.{Log}
 use Rattle.log_model.specs.Store.{StoresLog}
 use Rattle.log_model.specs.Stored.{FlushTurn, HasFirst, KeepsAtLeast, stored, turned_by, turned_in}
 use Rattle.log_model.proofs.StoredLemmas.{has_less, keeps_then}
-use Rattle.segment_files.specs.Turn.{Growing, IsReady, growing}
+use Rattle.segment_files.specs.Turn.{IsReady, growing}
 use Rattle.segment_files.proofs.Ready.{ready_first_records}
 use Rattle.request_fields.specs.Requests.{SendSaid}
 use Rattle.reply_fields.specs.Parts.{ReplyParts}

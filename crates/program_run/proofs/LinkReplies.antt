@@ -1,5 +1,5 @@
 -- What was written to a link: each of its replies with its request, and where the message is that a reply of 0 was for.
-use Rattle.std.proofs.Common.{◌≡◌, ◌⊎◌, ⊎_elim, ℕ, List, [], ◌∷◌, ◌++◌, map, pos, true, All, Option, Some, None, Ok, option_to_list, refl, sym, ap, ◌∙◌, subst, arith, append_assoc}
+use Rattle.std.proofs.Common.{◌≡◌, ◌⊎◌, ⊎_elim, ℕ, List, [], ◌∷◌, ◌++◌, map, pos, true, All, Option, Some, None, Ok, refl, sym, ap, ◌∙◌, subst, arith, append_assoc}
 use Rattle.std.specs.List.{AllByRecursion}
 use Rattle.std.proofs.lemmas.List.Elements.{All-nil, All-cons}
 use Rattle.mq_outside.specs.Disk.{DiskState}
@@ -21,10 +21,12 @@ use Rattle.broker_events.specs.declared.said.Awaited.{Awaited}
 use Rattle.broker_events.specs.declared.said.Awaited.TheVariants.{Failed, Flushed, NotYet}
 use Rattle.session.specs.Asking.{next_count, opaque_of}
 use Rattle.session.specs.Readers.{ReaderView}
-use Rattle.session.specs.Serving.{IsAnswered, IsAsked, IsRefused, Made, caller_of, no_room}
-use Rattle.session.specs.Settling.{IsDueAfter, IsDueAt, IsPut, look_for, unsent_of}
+use Rattle.session.specs.Owing.{look_for}
+use Rattle.session.specs.Room.{IsGivenUp, no_room, steps_of_tries}
+use Rattle.session.specs.Serving.{IsAnswered, IsAsked, IsRefused, Made, caller_of}
+use Rattle.session.specs.Settling.{IsDueAfter, IsDueAt, IsPut, unsent_of}
 use Rattle.session.specs.Sessions as sessions
-use Rattle.session.specs.Sessions.{Answer, AreAnswers, ArePieces, IsAnswer, IsReplyTo, applied_in, applies, found_in, finds, made_of, owed_among, read_replies_of, sent_of, stream_of}
+use Rattle.session.specs.Sessions.{Answer, AreAnswers, ArePieces, IsAnswer, IsReplyTo, asking_in, asking_of, found_in, finds, held_in, made_in, made_of, owed_among, read_replies_of, sent_of, settling_in, settling_of, stream_of}
 use Rattle.session.specs.Talks.{HasHeard}
 use Rattle.session.specs.declared.caller.Caller.{Caller}
 use Rattle.session.specs.declared.heard.Heard.{Heard}
@@ -39,7 +41,7 @@ use Rattle.event_loops.specs.Tales.{IsAnsweredInOrder, asks_for, made_for, reads
 use Rattle.serve_threads.specs.Links.{AreAnsweredFrom, LoopLinks}
 use Rattle.program_run.specs.Acknowledged.{IsAccepted, IsAcknowledged, IsWritten, LinkStands, LinksStand, Past, Piece, Replied, checked, piece_bytes, replied, replied_among}
 use Rattle.program_run.proofs.Histories.{IsIn}
-use Rattle.program_run.proofs.LinkSteps.{each_filter, each_first, each_later, each_made, each_same}
+use Rattle.program_run.proofs.LinkSteps.{each_both, each_filter, each_first, each_later, each_made, each_same}
 use Rattle.program_run.proofs.SendSteps.{IsAtOnce, IsWaiting, fault_code, owed_cases, same_awaits, same_code, same_owed, sends}
 use Rattle.program_run.proofs.Sent.{one_is_zero, same_request}
 
@@ -71,8 +73,39 @@ due_found NotYet awaits reply due looks is are code = absurd is
 caller_is : (talk : Talk) (answer : Answer) → IsAnswer talk answer → answer.owed.caller ≡ caller_of answer.heard
 caller_is talk answer is = ⊎_elim
     (λ (it : (now : ℕ) × IsAnswered talk now answer.heard answer.owed answer.made). it.1.caller)
-    (λ (it : (count : ℕ) × (answer.owed ≡ no_room (caller_of answer.heard) count) × (answer.made ≡ [])). ap (λ (o : Owed). o.caller) it.1)
-    is
+    (λ (it : IsGivenUp answer.heard answer.tries answer.made answer.owed). ap (λ (o : Owed). o.caller) it.told)
+    is.1
+
+-- ---- the steps of calls
+
+module _ (P : Event × Option Said → Type 0) where
+  asking_call : (call : sessions.Call) → AllByRecursion P (made_in call) → AllByRecursion P (asking_in call)
+  asking_call (sessions.fed piece) each = tt
+  asking_call (sessions.served now made result) each = each
+  asking_call (sessions.looked made result) each = each
+  asking_call (sessions.settled made reads) each = tt
+  asking_call (sessions.sent count bytes) each = tt
+  asking_call (sessions.asked ask) each = tt
+
+  settling_call : (call : sessions.Call) → AllByRecursion P (made_in call) → AllByRecursion P (settling_in call)
+  settling_call (sessions.fed piece) each = tt
+  settling_call (sessions.served now made result) each = tt
+  settling_call (sessions.looked made result) each = tt
+  settling_call (sessions.settled made reads) each = each
+  settling_call (sessions.sent count bytes) each = tt
+  settling_call (sessions.asked ask) each = tt
+
+  -- what holds of each step of calls holds of those that were made for requests
+  each_asking : (calls : List sessions.Call) → AllByRecursion P (made_of calls) → AllByRecursion P (asking_of calls)
+  each_asking [] each = tt
+  each_asking (call ∷ calls) each = each_both P (asking_in call) (asking_of calls) (asking_call call (each_first P (made_in call) (made_of calls) each))
+      (each_asking calls (each_later P (made_in call) (made_of calls) each))
+
+  -- and of those for replies
+  each_settling : (calls : List sessions.Call) → AllByRecursion P (made_of calls) → AllByRecursion P (settling_of calls)
+  each_settling [] each = tt
+  each_settling (call ∷ calls) each = each_both P (settling_in call) (settling_of calls) (settling_call call (each_first P (made_in call) (made_of calls) each))
+      (each_settling calls (each_later P (made_in call) (made_of calls) each))
 
 -- ---- one reply
 
@@ -129,10 +162,10 @@ module _ (past : Past) (disk : DiskState) (knows : Knows past disk) where
         (λ (refused : IsRefused answer.heard (Owes answer.owed.reply answer.owed.awaits) answer.made). absurd (refused_reply refused))
         (λ (asked : IsAsked talk it.0 answer.heard (Owes answer.owed.reply answer.owed.awaits) answer.made). asked_reply it.0 asked)
         it.1.comes)
-        (λ (full : (count : ℕ) × (answer.owed ≡ no_room (caller_of answer.heard) count) × (answer.made ≡ [])).
-        let none : Owed = no_room (caller_of answer.heard) full.0 in
-        absurd (one_is_zero (code_once none.reply (ap (λ (o : Owed). o.reply) full.1) (ap (λ (o : Owed). o.awaits) full.1))))
-        came
+        (λ (full : IsGivenUp answer.heard answer.tries answer.made answer.owed).
+        let none : Owed = no_room (caller_of answer.heard) full.count in
+        absurd (one_is_zero (code_once none.reply (ap (λ (o : Owed). o.reply) full.told) (ap (λ (o : Owed). o.awaits) full.told))))
+        came.1
 
   -- ---- all replies
 
@@ -174,8 +207,9 @@ module _ (past : Past) (disk : DiskState) (knows : Knows past disk) where
         let first : List ℕ = pieces_are.4 in
         let rest : List ℕ = pieces_are.5 in
         let all = each_same (IsIn past.history) looks (own ++ later) pieces_are.6 looked in
-        let made = each_first (IsIn past.history) answer.made (sessions.steps_of answers) stepped in
-        let next = wrote talk count answers pieces last later later_reads rest are.1 (each_later (IsIn past.history) answer.made (sessions.steps_of answers) stepped) others
+        let tried : Made = steps_of_tries answer.tries in
+        let made = each_later (IsIn past.history) tried answer.made (each_first (IsIn past.history) (tried ++ answer.made) (sessions.steps_of answers) stepped) in
+        let next = wrote talk count answers pieces last later later_reads rest are.1 (each_later (IsIn past.history) (tried ++ answer.made) (sessions.steps_of answers) stepped) others
         (each_later (IsIn past.history) own later all) pieces_are.10 in
         let reply = subst (λ (o : Owed). IsReplyTo reader o own own_reads first) (sym same) pieces_are.9 in
         let one : Replied = record { heard = answer.heard; reply = reply.due; bytes = first } in
@@ -218,12 +252,13 @@ module _ (past : Past) (disk : DiskState) (knows : Knows past disk) where
         let passes = each_first (IsIn past.history) is.passes is.end (each_same (IsIn past.history) made (is.passes ++ is.end) is.both each) in
         let both = each_same (IsIn past.history) is.passes (made_of calls ++ made_of script.end) (script.steps ∙ made_append calls script.end) passes in
         let own = each_first (IsIn past.history) (made_of calls) (made_of script.end) both in
-        let looked = each_filter (IsIn past.history) (λ (step : Event × Option Said). finds step.0 step.1) (made_of calls) own in
-        let applied = each_filter (IsIn past.history) (λ (step : Event × Option Said). applies step.0 step.1) (made_of calls) own in
-        let stepped = each_same (IsIn past.history) (applied_in (made_of calls)) (sessions.steps_of replies.answers) replies.applied applied in
-        let all = wrote script.first.session.talk 0 replies.answers replies.pieces script.last.owed.items (found_in (made_of calls)) (read_replies_of calls) (sent_of calls ++ unsent_of script.last) replies.are
+        let looked = each_filter (IsIn past.history) (λ (step : Event × Option Said). finds step.0 step.1) (settling_of calls) (each_settling (IsIn past.history) calls own) in
+        let served = each_same (IsIn past.history) (asking_of calls) (sessions.steps_of replies.answers ++ steps_of_tries replies.tries) replies.served
+        (each_asking (IsIn past.history) calls own) in
+        let stepped = each_first (IsIn past.history) (sessions.steps_of replies.answers) (steps_of_tries replies.tries) served in
+        let all = wrote script.first.session.talk 0 replies.answers replies.pieces script.last.owed.items (found_in (settling_of calls)) (read_replies_of calls) (sent_of calls ++ unsent_of script.last) replies.are
         stepped replies.left looked replies.replies in
-        let held : List Heard = option_to_list script.last.held in
+        let held : List Heard = held_in script.last.held in
         let heard : List Heard = map (λ (answer : Answer). answer.heard) replies.answers in
         let first : List Heard = map (λ (one : Replied). one.heard) (replied_among all.pieces) in
         record {

@@ -21,7 +21,7 @@ module _ {X : Type 0} (P : X → Type 0) where
   each_later [] ys each = each
   each_later (x ∷ xs) ys each = each_later xs ys each.1
 
-  each_both : (xs ys : List X) → AllByRecursion P xs → AllByRecursion P ys → AllByRecursion P (xs ++ ys)
+  pub each_both : (xs ys : List X) → AllByRecursion P xs → AllByRecursion P ys → AllByRecursion P (xs ++ ys)
   each_both [] ys first later = later
   each_both (x ∷ xs) ys first later = (first.0, each_both xs ys first.1 later)
 

@@ -16,7 +16,7 @@ use Rattle.store_open.specs.declared.status.Status.{Status}
 use Rattle.broker_run.specs.Promise as pipe
 use Rattle.broker_run.specs.Promise.{AllFaults, Call, EndsWell, IsQuiet, KeepSeen, Seen, before, behind}
 use Rattle.event_loops.specs.Doors.{GaveAll}
-use Rattle.serve_threads.specs.Kept.{KeepOver}
+use Rattle.loop_threads.specs.Kept.{KeepOver}
 use Rattle.serve_threads.specs.Served.{Views}
 use Rattle.serve_threads.specs.Causes.{ServeFaults}
 use Rattle.broker_serve.specs.Causes.{Causes}

@@ -3,19 +3,21 @@
 ghost use Rattle.std.specs.Prelude.{◌≡◌, ◌≢◌, true, false, None, IfSome};
 ghost use Rattle.worker_turns.specs.Acts.{view_of};
 ghost use Rattle.store_open.specs.Words.{texts_of};
-ghost use Rattle.serve_threads.specs.Kept.{keep_over};
+ghost use Rattle.loop_threads.specs.Kept.{keep_over};
+ghost use Rattle.loop_threads.specs.Worlds.{readings_of};
 ghost use Rattle.serve_threads.specs.Links.{links_over};
-ghost use Rattle.serve_threads.specs.Served.{clocks_over, readings_of, views_of};
-ghost use Rattle.serve_threads.specs.Causes.{counts_of, world_faults};
+ghost use Rattle.serve_threads.specs.Served.{clocks_over, views_of};
+ghost use Rattle.loop_threads.specs.Causes.{world_faults};
+ghost use Rattle.serve_threads.specs.Causes.{counts_of};
 ghost use Rattle.program_run.specs.Acknowledged.{KeepsServed};
 ghost use Rattle.program_run.specs.Stand.{KeepsAnswers};
 ghost use Rattle.program_run.specs.Runs.{AsksLinks, Pipes, Serves};
 
 use broker_run::run_pipe;
 use broker_serve::{Ended, Store, run_serve};
+use loop_threads::World;
 use mq_outside::{Clock, Disk, Keep, Sink, Source};
 use mq_peers::Ready;
-use serve_threads::World;
 use std::alloc::Global;
 use std::sync::Wait;
 use std::thread::Threads;
@@ -152,7 +154,7 @@ where
     ensures serve { AsksLinks (texts_of words.now) → Serves (texts_of words.now) result.ended.status
         (record {
           views = views_of (links_over P.Link.tells P.Ends.tells P.Ends.entries result.ended.ends) D.Reader.gives
-              (clocks_over K.tells (readings_of K.readings world.clocks) (readings_of K.readings result.ended.world.clocks))
+              (clocks_over K.tells (readings_of K.readings world) (readings_of K.readings result.ended.world))
               (view_of D.tells D.state D.faults D.syncs);
           old = store.disk;
           new = result.ended.store.disk;
@@ -172,7 +174,7 @@ where
         result.ended.status
         (record {
           views = views_of (links_over P.Link.tells P.Ends.tells P.Ends.entries result.ended.ends) D.Reader.gives
-              (clocks_over K.tells (readings_of K.readings world.clocks) (readings_of K.readings result.ended.world.clocks))
+              (clocks_over K.tells (readings_of K.readings world) (readings_of K.readings result.ended.world))
               (view_of D.tells D.state D.faults D.syncs);
           old = store.disk;
           new = result.ended.store.disk;

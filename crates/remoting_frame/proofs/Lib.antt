@@ -15,3 +15,4 @@ pub mod FrameTexts
 pub mod FaultLaws
 pub mod StreamLaws
 pub mod FieldSpans
+pub mod PlainNumbers

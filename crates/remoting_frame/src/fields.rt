@@ -64,6 +64,7 @@ fn span_from(start: usize, name: &str, value: &str) -> Option<Span>
 }
 
 // Appends both or neither.
+#[inline(always)]
 fn push_both(text: &mut String, name: &str, value: &str) -> Result<(), AllocError>
     ensures ok { OnOk result (string_bytes text.new ≡ string_bytes text.old ++ (name.now ++ value.now)) }
     ensures err { OnErr result (string_bytes text.new ≡ string_bytes text.old) }
@@ -84,8 +85,28 @@ fn put_span(spans: &mut Vec<Span>, from: usize, to: usize, span: Span) -> Result
         spans[from] = span;
         return Ok(());
     }
+    // Mostly so, and cheaper than an insertion.
+    if from == spans.len() {
+        spans.push(span)?;
+        return Ok(());
+    }
     spans.insert(from, span)?;
     Ok(())
+}
+
+// Whether two names are the same. Their lengths and last bytes are looked at first, as most that are compared differ there.
+#[inline(always)]
+fn is_same(asked: &[u8], named: &[u8]) -> bool
+    ensures { result ≡ bytes_eq asked.now named.now }
+{
+    let size = asked.len();
+    if size != named.len() {
+        return false;
+    }
+    if size > 0 && asked[size - 1] != named[size - 1] {
+        return false;
+    }
+    asked == named
 }
 
 impl Fields {
@@ -190,7 +211,7 @@ impl Fields {
         // As bytes, since most fields that are asked have another name: no bounds of characters are looked for.
         let span = self.spans[index];
         let named = &self.text.as_bytes()[span.name as usize..span.value as usize];
-        name.as_bytes() == named
+        is_same(name.as_bytes(), named)
     }
 
     /// The name and the value of a field.

@@ -6,10 +6,10 @@
 //!
 //! What is not plain is no fault: `json_reader` then looks at the tree of the whole text. So it does where memory runs out.
 
-ghost use Rattle.std.specs.Prelude.{◌≡◌, length, FitsSigned, Some, IfSome, OnSome, option_map};
+ghost use Rattle.std.specs.Prelude.{◌≡◌, ◌≤◌, length, get_or, FitsSigned, Some, IfSome, OnSome, IsTrue, option_map};
 ghost use Rattle.std.specs.Int.{w32};
 ghost use Rattle.json.specs.Json.{read_key};
-ghost use Rattle.mq_bytes.specs.Decimal.{decimal};
+ghost use Rattle.mq_bytes.specs.Decimal.{decimal, decimal_value};
 ghost use Rattle.serde_json.specs.Data.{Data, Members, number, string, object, no_members, put};
 ghost use Rattle.serde_json.specs.Find.{of_integer};
 ghost use Rattle.remoting_frame.specs.Head.{IsInOrder};
@@ -39,6 +39,28 @@ struct Found {
     ext: Option<Fields>,
 }
 
+// Whether a text has neither a sign nor a zero in front of other digits.
+fn is_bare(text: &str) -> bool
+    ensures { IsTrue result → (48 ≤ get_or text.now 0 0) × (get_or text.now 0 0 ≡ 48 → length text.now ≡ 1) }
+{
+    let bytes = text.as_bytes();
+    if bytes.is_empty() {
+        return false;
+    }
+    bytes[0] > b'0' || (bytes[0] == b'0' && bytes.len() == 1)
+}
+
+// Whether a number's text is the one that is written for it.
+fn is_decimal(text: &str, value: i64) -> bool
+    requires { decimal_value text.now ≡ Some value }
+    ensures { IsTrue result → text.now ≡ decimal value }
+{
+    if is_bare(text) {
+        return true;
+    }
+    Buffer::new().format(value) == text
+}
+
 // The number of 32 bits whose decimal text this is.
 fn short_number(text: &str) -> Option<i32>
     ensures text { IfSome result (λ z. text.now ≡ decimal z) }
@@ -47,14 +69,10 @@ fn short_number(text: &str) -> Option<i32>
     let Some(value) = read_decimal(text) else {
         return None;
     };
-    if value < -2147483648 || value > 2147483647 {
+    if value < -2147483648 || value > 2147483647 || !is_decimal(text, value) {
         return None;
     }
-    let number = value as i32;
-    if Buffer::new().format(number) != text {
-        return None;
-    }
-    Some(number)
+    Some(value as i32)
 }
 
 fn take_number(reader: &mut Reader<'_>) -> Option<i32>
@@ -89,6 +107,7 @@ fn pass_value(reader: &mut Reader<'_>) -> Option<()>
 }
 
 // The name of the next member, or none at the brace that closes the object.
+#[inline(always)]
 fn next_name<'a>(reader: &mut Reader<'a>) -> Option<Option<&'a str>>
     ensures { IfSome result (λ name. read_key reader.old ≡ Some (option_map (λ s. s.now) name, reader.new)) }
 {

@@ -5,10 +5,10 @@ ghost use Rattle.std.specs.Prelude.{◌<◌, ◌^◌};
 
 use crate::journal::{Journal, Note};
 use crate::links::{Left, disk, serve_over};
-use crate::peer::{Peer, Script};
+use crate::peer::Script;
 use crate::peer_runs::{door, pull, served};
 use crate::replies::Reply;
-use mq_peers::{Calls, MemDoor};
+use mq_peers::Calls;
 use run_tests::{put_delayed_send, put_half_send, put_heartbeat};
 use std::alloc::{AllocError, Global};
 use std::sync::Wait;
@@ -84,28 +84,28 @@ fn producer(alloc: Global, last: Reply) -> Result<Vec<Script>, AllocError> {
     Ok(scripts)
 }
 
-// Serves the peers at this door over an empty store, where the flusher's clock always says this.
-fn serve_at<'a, W: Wait + Threads + Clock + Sync>(
+// What is left of a run that serves these peers over an empty store, where the flusher's clock always says this, with what was noted. It
+// owns the journal and the door, so that no test does.
+fn run_at<W: Wait + Threads + Clock + Sync>(
     rt: &W,
     alloc: Global,
     words: &[&str],
-    door: MemDoor<Peer<'a, W>>,
+    scripts: Vec<Script>,
     timer: u64,
-) -> Result<Left, AllocError>
+) -> Result<(Left, Vec<Note>), AllocError>
     requires { timer < 2 ^ 62 }
 {
+    let journal = Journal::new(rt, alloc);
+    let door = door(alloc, &journal, Calls::Never, scripts)?;
     let (left, _) = serve_over(rt, alloc, words, door, disk(alloc)?, timer)?;
-    Ok(left)
+    Ok((left, journal.into_notes()))
 }
 
 #[test]
 fn a_delayed_message_comes_by_itself_once_it_is_due(rt: HostRuntime) -> Result<(), Fail> {
-    let journal = Journal::new(&rt, rt.alloc());
     let words = ["serve", "--connections", "2"];
     let scripts = sender_and_puller(rt.alloc(), Reply::Pulled(1))?;
-    let door = door(rt.alloc(), &journal, Calls::Never, scripts)?;
-    let left = serve_at(&rt, rt.alloc(), &words, door, DUE)?;
-    let notes = journal.into_notes();
+    let (left, notes) = run_at(&rt, rt.alloc(), &words, scripts, DUE)?;
     assert!(rt; left == served(2, DELAYED_LEN + DELIVERED_LEN));
     assert!(rt;
         notes.contains(&Note::Done(2)) && !notes.contains(&Note::Missed),
@@ -116,12 +116,9 @@ fn a_delayed_message_comes_by_itself_once_it_is_due(rt: HostRuntime) -> Result<(
 
 #[test]
 fn a_delayed_message_does_not_come_before_it_is_due(rt: HostRuntime) -> Result<(), Fail> {
-    let journal = Journal::new(&rt, rt.alloc());
     let words = ["serve", "--connections", "2"];
     let scripts = sender_and_puller(rt.alloc(), Reply::Refused(19))?;
-    let door = door(rt.alloc(), &journal, Calls::Never, scripts)?;
-    let left = serve_at(&rt, rt.alloc(), &words, door, DUE - 1)?;
-    let notes = journal.into_notes();
+    let (left, notes) = run_at(&rt, rt.alloc(), &words, scripts, DUE - 1)?;
     assert!(rt; left == served(1, DELAYED_LEN));
     assert!(rt;
         notes.contains(&Note::Done(2)) && !notes.contains(&Note::Missed),
@@ -130,28 +127,13 @@ fn a_delayed_message_does_not_come_before_it_is_due(rt: HostRuntime) -> Result<(
     Ok(())
 }
 
-// What is left where a producer's half message is undecided, and the flusher's clock always says this. The producer stays until it was
-// told `last`.
-fn undecided_at<W: Wait + Threads + Clock + Sync>(
-    rt: &W,
-    alloc: Global,
-    last: Reply,
-    timer: u64,
-) -> Result<(Left, Vec<Note>), AllocError>
-    requires { timer < 2 ^ 62 }
-{
-    let journal = Journal::new(rt, alloc);
-    let words = ["serve", "--connections", "1"];
-    let door = door(alloc, &journal, Calls::Never, producer(alloc, last)?)?;
-    let left = serve_at(rt, alloc, &words, door, timer)?;
-    Ok((left, journal.into_notes()))
-}
-
 #[test]
 fn a_producer_that_does_not_decide_is_asked_by_itself_once_it_is_due(
     rt: HostRuntime,
 ) -> Result<(), Fail> {
-    let (left, notes) = undecided_at(&rt, rt.alloc(), Reply::Asked, CHECKED)?;
+    let words = ["serve", "--connections", "1"];
+    let scripts = producer(rt.alloc(), Reply::Asked)?;
+    let (left, notes) = run_at(&rt, rt.alloc(), &words, scripts, CHECKED)?;
     assert!(rt; left.code == 0 && left.records == Some((2, 2)), "{left:?}");
     assert!(rt;
         notes.contains(&Note::Done(1)) && !notes.contains(&Note::Missed),
@@ -162,7 +144,9 @@ fn a_producer_that_does_not_decide_is_asked_by_itself_once_it_is_due(
 
 #[test]
 fn a_producer_is_not_asked_before_it_is_due(rt: HostRuntime) -> Result<(), Fail> {
-    let (left, notes) = undecided_at(&rt, rt.alloc(), Reply::Sent(0), CHECKED - 1)?;
+    let words = ["serve", "--connections", "1"];
+    let scripts = producer(rt.alloc(), Reply::Sent(0))?;
+    let (left, notes) = run_at(&rt, rt.alloc(), &words, scripts, CHECKED - 1)?;
     assert!(rt; left == served(1, HALF_LEN));
     assert!(rt;
         notes.contains(&Note::Done(1)) && !notes.contains(&Note::Missed),

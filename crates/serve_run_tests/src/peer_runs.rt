@@ -121,6 +121,22 @@ fn serve<'a, W: Wait + Threads + Clock + Sync>(
     Ok(left)
 }
 
+// What is left of a run that serves these peers, with what was noted. Of the door's calls these fail, and the first sync is held until this
+// was noted. It owns the journal and the door, so that no test does.
+fn run<W: Wait + Threads + Clock + Sync>(
+    rt: &W,
+    alloc: Global,
+    words: &[&str],
+    scripts: Vec<Script>,
+    fails: Calls,
+    until: Option<Note>,
+) -> Result<(Left, Vec<Note>), AllocError> {
+    let journal = Journal::new(rt, alloc);
+    let door = door(alloc, &journal, fails, scripts)?;
+    let left = serve(rt, alloc, &journal, words, door, until)?;
+    Ok((left, journal.into_notes()))
+}
+
 // One peer that sends, and one that sends what isn't to wait, and pulls, once the first sync is held.
 fn sender_and_puller(alloc: Global) -> Result<Vec<Script>, AllocError> {
     let mut scripts = Vec::new(alloc);
@@ -152,13 +168,10 @@ fn mute_and_two_pullers(alloc: Global) -> Result<Vec<Script>, AllocError> {
 
 #[test]
 fn others_are_served_while_a_sync_is_held(rt: HostRuntime) -> Result<(), Fail> {
-    let journal = Journal::new(&rt, rt.alloc());
     let words = ["serve", "--connections", "2"];
     let scripts = sender_and_puller(rt.alloc())?;
-    let door = door(rt.alloc(), &journal, Calls::Never, scripts)?;
     let until = Some(Note::Took(2, NOTHING));
-    let left = serve(&rt, rt.alloc(), &journal, &words, door, until)?;
-    let notes = journal.into_notes();
+    let (left, notes) = run(&rt, rt.alloc(), &words, scripts, Calls::Never, until)?;
     assert!(rt; left == served(2, 2 * RECORD_LEN + HASTY_LEN));
     assert!(rt; notes.starts_with(&BESIDE), "{notes:?}");
     assert!(rt; notes.contains(&Note::Took(1, Reply::Sent(0))) && notes.contains(&Note::Done(2)));
@@ -168,12 +181,9 @@ fn others_are_served_while_a_sync_is_held(rt: HostRuntime) -> Result<(), Fail> {
 
 #[test]
 fn others_are_served_beside_a_peer_that_takes_no_reply(rt: HostRuntime) -> Result<(), Fail> {
-    let journal = Journal::new(&rt, rt.alloc());
     let words = ["serve", "--connections", "3"];
     let scripts = mute_and_two_pullers(rt.alloc())?;
-    let door = door(rt.alloc(), &journal, Calls::Never, scripts)?;
-    let left = serve(&rt, rt.alloc(), &journal, &words, door, None)?;
-    let notes = journal.into_notes();
+    let (left, notes) = run(&rt, rt.alloc(), &words, scripts, Calls::Never, None)?;
     assert!(rt; left == served(5, 5 * RECORD_LEN));
     assert!(rt; notes.starts_with(&[Note::Full(1), Note::Took(2, Reply::Sent(3))]));
     assert!(rt; notes.ends_with(&[Note::Took(3, Reply::Pulled(5)), Note::Done(3)]));
@@ -185,15 +195,13 @@ fn others_are_served_beside_a_peer_that_takes_no_reply(rt: HostRuntime) -> Resul
 fn a_door_that_fails_at_its_third_link_ends_a_run_that_served_two(
     rt: HostRuntime,
 ) -> Result<(), Fail> {
-    let journal = Journal::new(&rt, rt.alloc());
     // While two links are open the door isn't asked for a third.
     let words = ["serve", "--links", "2"];
     let scripts = sender_and_puller_that_stay(rt.alloc())?;
-    // It opens, gives both links, and fails from then on.
-    let door = door(rt.alloc(), &journal, Calls::From(4), scripts)?;
+    // The door opens, gives both links, and fails from then on.
+    let fails = Calls::From(4);
     let until = Some(Note::Took(2, NOTHING));
-    let left = serve(&rt, rt.alloc(), &journal, &words, door, until)?;
-    let notes = journal.into_notes();
+    let (left, notes) = run(&rt, rt.alloc(), &words, scripts, fails, until)?;
     let failed = Left {
         code: 10,
         device: "door",

@@ -1,6 +1,6 @@
 //! A way of two items in one thread, and one between two threads.
 
-use ask_ways::{Receiver, Sender, way};
+use flush_rounds::{Receiver, Sender, way};
 use std::sync::Wait;
 use std::test::Fail;
 use std::thread;

@@ -9,14 +9,10 @@ use Rattle.event_loops.specs.Doors.{AllCame, GaveAll, IsDoorDone, KeepsDoor}
 use Rattle.event_loops.specs.declared.entrance.Bounds.{Bounds}
 use Rattle.event_loops.specs.declared.entrance.Entrance.{Entrance}
 use Rattle.event_loops.specs.Causes.{door_faults, LoopFaults, GrowsAt, RisesAt, Blames, CountsEnd}
-use Rattle.serve_threads.specs.Causes.{WorldFaults, BlamesWorld, BlamesKeep, HasDoor, IsFirstFault, both_faults, count_in}
+use Rattle.loop_threads.specs.Causes.{WorldFaults, HasDoor, both_faults, count_in}
+use Rattle.serve_threads.specs.Causes.{BlamesWorld, BlamesKeep, IsFirstFault}
 
--- ---- one device
-
-pub disk_grows : {A : Type 0} (result : Result A DiskFault) (old new : ℕ) → CountsDiskFault result old new → old ≤ new
-disk_grows (Ok done) old new counts = omega (arith, counts)
-disk_grows (Err device.Failed) old new counts = counts.0
-disk_grows (Err device.Memory) old new counts = omega (arith, counts)
+-- ---- the keep
 
 -- a replacement behind others
 pub keep_blamed : {A : Type 0} (kept : Result A DiskFault) (old mid new : ℕ) → old ≤ mid → CountsDiskFault kept mid new → BlamesKeep kept old new

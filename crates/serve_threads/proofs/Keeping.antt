@@ -1,4 +1,4 @@
--- What is put into the kept files, from one look to the next, and along the one history.
+-- What is put into the kept files along the one history.
 use Rattle.std.proofs.Common.{◌≡◌, inl, inr, refl, sym, ap, subst, ◌∙◌, ℕ, List, [], ◌∷◌, ◌++◌, Option, Some, None, IfSome, Result}
 use Rattle.mq_outside.specs.Disk.{DiskState}
 use Rattle.worker_turns.specs.Acts.{Change, Place}
@@ -11,7 +11,7 @@ use Rattle.core_log.specs.Represents.{Represents}
 use Rattle.broker_core.specs.Owner.{plain_look}
 use Rattle.config_store.specs.Texts.{offsets_text_of, topics_text_of}
 use Rattle.keeper_turns.specs.Turns.{HasKeptOf, IsOffsetsOf, IsTopicsOf}
-use Rattle.keeper_turns.proofs.PutLemmas.{puts_none, puts_then, puts_weaker}
+use Rattle.keeper_turns.proofs.PutLemmas.{puts_then, puts_weaker}
 use Rattle.story_lock.specs.declared.chronicle.Chronicle.{Ghosts}
 use Rattle.story_lock.specs.declared.story.Pass.{Pass}
 use Rattle.story_lock.specs.Counts.{StartsWith}
@@ -20,43 +20,9 @@ use Rattle.story_lock.proofs.Sums.{starts_longer, starts_itself, append_three}
 use Rattle.spine.specs.declared.shared.Shared.{Shared}
 use Rattle.spine.specs.Owner.{Sees}
 use Rattle.spine.specs.Stands.{Stands}
-use Rattle.serve_threads.specs.Kept.{Among, KeepOver, SeesAll, KeepsUp, IsTextAlong, PutsAlong, keep_over}
+use Rattle.loop_threads.specs.Kept.{Among, KeepOver, SeesAll, KeepsUp}
+use Rattle.serve_threads.specs.Kept.{IsTextAlong, PutsAlong}
 use Rattle.serve_threads.specs.Served.{IsLeft, IsMadeBy, Views}
-
--- ---- one look more
-
-among_first : (Is : Parts → List ℕ → Type 0) (cores more : List Parts) (text : List ℕ) → Among Is cores text → Among Is (cores ++ more) text
-among_first Is [] more text none = absurd none
-among_first Is (core ∷ cores) more text (inl is) = inl is
-among_first Is (core ∷ cores) more text (inr rest) = inr (among_first Is cores more text rest)
-
-among_last : (Is : Parts → List ℕ → Type 0) (cores : List Parts) (core : Parts) (text : List ℕ) → Is core text → Among Is (cores ++ core ∷ []) text
-among_last Is [] core text is = inl is
-among_last Is (other ∷ cores) core text is = inr (among_last Is cores core text is)
-
-module _ {C : Type 0} (sees : C → Parts → C → Type 0) where
-  sees_snoc : (x : C) (cores : List Parts) (y : C) (core : Parts) (z : C) → SeesAll sees x cores y → sees y core z → SeesAll sees x (cores ++ core ∷ []) z
-  sees_snoc x [] y core z all saw = subst (λ (w : C). SeesAll sees w (core ∷ []) z) (sym all) (z, saw, refl)
-  sees_snoc x (first ∷ cores) y core z all saw = (all.0, all.1, sees_snoc all.0 cores y core z all.2 saw)
-
-  pub keeps_start : (tells : Type 0) (x : C) (keep : DiskState) → KeepsUp sees (keep_over tells keep keep) x x
-  keeps_start tells x keep = record { cores = []; seen = refl; puts = λ told. puts_none (Among IsOffsetsOf []) (Among IsTopicsOf []) keep }
-
-  pub keeps_more : {E : Type 0} (tells : Type 0) (x : C) (old : DiskState) (y : C) (mid : DiskState) (z : C) (new : DiskState) (result : Result (Unit {0}) E) → KeepsUp sees (keep_over tells old mid) x y
-      → (core : Parts) × sees y core z × HasKeptOf tells core result mid new → KeepsUp sees (keep_over tells old new) x z
-  keeps_more tells x old y mid z new result so_far turn =
-      let core = turn.0 in
-      let cores = so_far.cores in
-      let all = cores ++ core ∷ [] in
-      record {
-        cores = all;
-        seen = sees_snoc x cores y core z so_far.seen turn.1;
-        puts = λ told. puts_then (Among IsOffsetsOf all) (Among IsTopicsOf all) old mid new
-            (puts_weaker (Among IsOffsetsOf cores) (Among IsTopicsOf cores) (Among IsOffsetsOf all) (Among IsTopicsOf all) old mid
-            (λ text is. among_first IsOffsetsOf cores (core ∷ []) text is) (λ text is. among_first IsTopicsOf cores (core ∷ []) text is) (so_far.puts told))
-            (puts_weaker (IsOffsetsOf core) (IsTopicsOf core) (Among IsOffsetsOf all) (Among IsTopicsOf all) mid new
-            (λ text is. among_last IsOffsetsOf cores core text is) (λ text is. among_last IsTopicsOf cores core text is) (turn.2.puts told));
-      }
 
 -- ---- along one history
 

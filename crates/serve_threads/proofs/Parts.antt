@@ -8,17 +8,12 @@ use Rattle.broker_core.specs.Owner.{plain_look}
 use Rattle.core_log.specs.declared.parts.Parts.{Parts}
 use Rattle.mq_outside.specs.Readings.{Giving}
 use Rattle.session.specs.Owing.{Steps}
-use Rattle.session.specs.Readers.{ReaderView}
 use Rattle.session.specs.Serving.{Made, Leads}
-use Rattle.link_service.specs.Clocks.{unasked}
-use Rattle.link_service.specs.Transcripts.{counted_to}
 use Rattle.reply_fields.specs.Parts.{AskParts}
-use Rattle.ask_ways.specs.Ways.{taken_by}
+use Rattle.flush_rounds.specs.Ways.{taken_by}
 use Rattle.mq_peers.specs.Ended.{LinkEnd}
-use Rattle.event_loops.specs.Tales.{steps_of, asks_of, made_for, asks_for, reads_for, AreSome, DidNothing, LeadsBy, loop_of, IsEndOf, IsTale, IsAnsweredInOrder, LoopView, IsToldOf, GoesOn, loop_numbers}
+use Rattle.event_loops.specs.Tales.{steps_of, asks_of, made_for, asks_for, reads_for, AreSome, DidNothing, loop_of, IsEndOf, IsTale, IsAnsweredInOrder, LoopView, IsToldOf, loop_numbers}
 use Rattle.event_loops.specs.Timing.{ClockOver}
-use Rattle.event_loops.specs.declared.links.Links.{Links}
-use Rattle.event_loops.proofs.Timing.{timed_off}
 use Rattle.event_loops.proofs.Told.{told_none}
 use Rattle.story_lock.specs.declared.chronicle.Chronicle.{Ghosts}
 use Rattle.story_lock.specs.declared.story.Story.{Story}
@@ -35,13 +30,14 @@ use Rattle.spine.specs.Stands.{Stands, StandsFor}
 use Rattle.segment_files.specs.declared.last_file.LastFile.{LastFile}
 use Rattle.worker_turns.specs.Acts as acts
 use Rattle.worker_turns.specs.Acts.{Acted, DiskView, Place, place_of, change_of}
-use Rattle.serve_threads.specs.Kept.{SeesAll}
-use Rattle.flush_rounds.specs.Asking.{HasTaken, IsFrontOf}
-use Rattle.serve_threads.specs.Links.{LoopLinks, ReaderOver, loop_links, first_links, second_links, AreUpTo, WasAnswered, AreEntered, WorksFrom, Worked, Part, part_of}
-use Rattle.flush_rounds.specs.declared.asks.LoopAsks.{LoopAsks}
+use Rattle.loop_threads.specs.Kept.{SeesAll}
+use Rattle.loop_threads.specs.Loops.{ReaderOver, Worked, Part}
+use Rattle.flush_rounds.specs.Asking.{IsFrontOf}
+use Rattle.serve_threads.specs.Links.{LoopLinks, loop_links, first_links, second_links, AreUpTo, WasAnswered, AreEntered, WorksFrom}
 use Rattle.flush_rounds.specs.Flushing.{FlushesTo, Write}
-use Rattle.serve_threads.specs.Served.{first_clock, second_clock, AreLooks, IsMerged, Meets, Cuts, AreCut, AreMet, ByThread, HasMade, IsMadeBy, Views, by_thread}
+use Rattle.serve_threads.specs.Served.{first_clock, second_clock, timer_of, AreLooks, IsMerged, Meets, Cuts, AreCut, AreMet, ByThread, HasMade, IsMadeBy, Views, by_thread}
 use Rattle.flush_rounds.proofs.Asking.{got_more, front_some}
+use Rattle.loop_threads.proofs.Working.{read_by}
 use Rattle.serve_threads.proofs.Keeping.{SeesAt, starts_then}
 use Rattle.serve_threads.proofs.Keys.{cut_numbers}
 use Rattle.flush_rounds.proofs.Turns.{acts_make, acts_write}
@@ -54,10 +50,6 @@ nothing_in : {X : Type 0} (slots : List (Option X)) (i : ℕ) (x : X) → slots 
 nothing_in slots i x none got =
     let there : slice_get [] i ≡ Some (Some x) = subst (λ (l : List (Option _)). slice_get l i ≡ Some (Some x)) none got in
     let empty : None ≡ Some (Some x) = there in cc
-
--- a reader behind a run
-abbrev pub read_by : ReaderOver → ReaderView
-read_by reader = counted_to reader.gives reader.new
 
 module _ {L N C : Type 0} (view : LoopView L N) (reader : ReaderOver) (makes : Steps C) (number : ℕ) (clock : ClockOver) (old new : Part C L N)
     (loops : (old.links.loops ≡ 2) × (old.links.number ≡ number)) (begins : old.links.slots.items ≡ [])
@@ -125,15 +117,6 @@ module _ {L N C : Type 0} (view : LoopView L N) (reader : ReaderOver) (makes : S
 pub worked_leads : {L N C : Type 0} (makes : Steps C) (view : LoopView L N) (reader : ReaderOver) (clock : ClockOver) (old new : Part C L N) → Worked makes view reader clock old new
     → Leads makes old.calls new.calls (λ made. Unit {0})
 worked_leads makes view reader clock old new work = record { made = steps_of work.went.went.acts; leads = work.went.went.leads; so = tt }
-
--- and then it let go of what was handed over to it
-pub worked_then : {L N C : Type 0} (makes : Steps C) (view : LoopView L N) (reader : ReaderOver) (clock : ClockOver) (old mid : Part C L N) (calls : C) (new : Links L N) → Worked makes view reader clock old mid
-    → LeadsBy (unasked makes) mid.calls calls 0 0 (λ done. GoesOn view (read_by reader) mid.links done new) → new.slots ≡ mid.links.slots → Worked makes view reader clock old (part_of calls mid.asks new)
-worked_then makes view reader clock old mid calls new work went same = record {
-  went = timed_off makes (λ (from : LoopAsks) taken to. HasTaken from.way taken to.way) view (read_by reader) clock.tells old.calls mid.calls calls old.links mid.links new old.asks mid.asks clock.old clock.new
-      reader.old reader.new work.went went;
-  none = ap (λ slots. slots.items) same ∙ work.none;
-}
 
 -- it took the first of what was put on its way
 pub took_first : {C : Type 0} (makes : Steps C) (links : LoopLinks) (gives : Giving) (failures : ℕ) (clock : ClockOver) (number : ℕ) (x y : C) (taken put : List AskParts) → IsFrontOf taken put
@@ -255,7 +238,7 @@ module _ {chronicle : Ghosts Shared Event (Option Said)} where
 
   module _ {D : Type 0} (views : Views D) (failures : ℕ × ℕ) where
     met : (put : List AskParts × List AskParts) (p : Place D) (file : LastFile) (disk : D) (whole k a b e kt at bt et new : Pass Shared Event (Option Said) chronicle) → mine_of whole ≡ [] → numbers_of whole ≡ 0 ∷ 1 ∷ 2 ∷ 3 ∷ []
-        → Cuts whole k a b e → GainsTurns views.disk (FlushesTo put) k p kt (place_of file disk) → Gains a (WorksFrom (first_links views.links) views.gives failures.0 (first_clock views.clocks) 0 put.0) at
+        → Cuts whole k a b e → GainsTurns views.disk (FlushesTo (timer_of views.clocks) put) k p kt (place_of file disk) → Gains a (WorksFrom (first_links views.links) views.gives failures.0 (first_clock views.clocks) 0 put.0) at
         → Gains b (WorksFrom (second_links views.links) views.gives failures.1 (second_clock views.clocks) 1 put.1) bt
         → Gains e AreLooks et → Meets kt at bt et new → HasMade views failures p new disk
     met put p file disk whole k a b e kt at bt et new none numbers cuts turns one two three meets =
@@ -317,11 +300,11 @@ module _ {chronicle : Ghosts Shared Event (Option Said)} where
     pub made_of : {C : Type 0} (pass_of : C → Option (Pass Shared Event (Option Said) chronicle)) (put : List AskParts × List AskParts) (p : Place D) (file : LastFile) (disk : D) (story : Story Shared Event (Option Said))
         (whole new : Pass Shared Event (Option Said) chronicle) (k a b e kt at bt et : C) → mine_of whole ≡ [] → numbers_of whole ≡ 0 ∷ 1 ∷ 2 ∷ 3 ∷ []
         → AreCut story whole (by_thread (pass_of k) (pass_of a) (pass_of b) (pass_of e)) → AreMet (by_thread (pass_of kt) (pass_of at) (pass_of bt) (pass_of et)) new
-        → Acted (StepsBy pass_of) views.disk (FlushesTo put) (change_of k p kt (place_of file disk)) → Leads (StepsBy pass_of) a at (WorksFrom (first_links views.links) views.gives failures.0 (first_clock views.clocks) 0 put.0)
+        → Acted (StepsBy pass_of) views.disk (FlushesTo (timer_of views.clocks) put) (change_of k p kt (place_of file disk)) → Leads (StepsBy pass_of) a at (WorksFrom (first_links views.links) views.gives failures.0 (first_clock views.clocks) 0 put.0)
         → Leads (StepsBy pass_of) b bt (WorksFrom (second_links views.links) views.gives failures.1 (second_clock views.clocks) 1 put.1) → Leads (StepsBy pass_of) e et AreLooks → HasMade views failures p new disk
     made_of pass_of put p file disk story whole new k a b e kt at bt et none numbers cut are acted first second looks =
         met put p file disk whole cut.turns cut.first cut.second cut.looks are.turns are.first are.second are.looks new none numbers cut.cuts
-        (gains_turns pass_of views.disk (FlushesTo put) k kt p (place_of file disk) cut.turns are.turns cut.are.0 are.are.0 acted)
+        (gains_turns pass_of views.disk (FlushesTo (timer_of views.clocks) put) k kt p (place_of file disk) cut.turns are.turns cut.are.0 are.are.0 acted)
         (gains pass_of (WorksFrom (first_links views.links) views.gives failures.0 (first_clock views.clocks) 0 put.0) a at cut.first are.first cut.are.1 are.are.1 first)
         (gains pass_of (WorksFrom (second_links views.links) views.gives failures.1 (second_clock views.clocks) 1 put.1) b bt cut.second are.second cut.are.2 are.are.2 second)
         (gains pass_of AreLooks e et cut.looks are.looks cut.are.3 are.are.3 looks) are.meets

@@ -29,30 +29,31 @@ use Rattle.spine.specs.Stands.{Stands}
 use Rattle.keeper_turns.specs.Puts.{KeepsBy}
 use Rattle.keeper_turns.specs.Turns.{IsOffsetsOf, IsTopicsOf}
 use Rattle.flush_rounds.specs.Flushing.{FlushesTo, Write}
-use Rattle.serve_threads.specs.Kept.{KeepOver, PutsAlong}
+use Rattle.loop_threads.specs.Worlds.{Readings}
+use Rattle.loop_threads.specs.Kept.{KeepOver}
+use Rattle.serve_threads.specs.Kept.{PutsAlong}
 use Rattle.serve_threads.specs.Links.{LinksOver, AreAnsweredFrom, first_links, second_links}
 
--- the clocks of both loops over a run: that they tell what they gave, and what that was before the run and behind it
+-- the clocks of both loops and the flusher's over a run: that they tell what they gave, and what that was before the run and behind it
 pub record ClocksOver : Type 1 where
   pub tells : Type 0
-  pub old : List ℕ × List ℕ
-  pub new : List ℕ × List ℕ
+  pub old : Readings
+  pub new : Readings
 
-abbrev pub clocks_over : Type 0 → List ℕ × List ℕ → List ℕ × List ℕ → ClocksOver
+abbrev pub clocks_over : Type 0 → Readings → Readings → ClocksOver
 clocks_over tells old new = record { tells = tells; old = old; new = new }
-
--- what two clocks gave so far
-abbrev pub readings_of : {K : Type 0} → (K → List ℕ) → K × K → List ℕ × List ℕ
-readings_of readings clocks = (readings clocks.0, readings clocks.1)
 
 -- each of them
 abbrev pub first_clock : ClocksOver → ClockOver
-first_clock clocks = clock_over clocks.tells clocks.old.0 clocks.new.0
+first_clock clocks = clock_over clocks.tells clocks.old.first clocks.new.first
 
 abbrev pub second_clock : ClocksOver → ClockOver
-second_clock clocks = clock_over clocks.tells clocks.old.1 clocks.new.1
+second_clock clocks = clock_over clocks.tells clocks.old.second clocks.new.second
 
--- how a run sees its links, what its readers give, the clocks of its loops, and its disk
+abbrev pub timer_of : ClocksOver → ClockOver
+timer_of clocks = clock_over clocks.tells clocks.old.timer clocks.new.timer
+
+-- how a run sees its links, what its readers give, its clocks, and its disk
 pub record Views (D : Type 0) : Type 1 where
   pub links : LinksOver
   pub gives : Giving
@@ -157,7 +158,7 @@ module _ {chronicle : Ghosts Shared Event (Option Said)} where
     pub ascend : AscendsFrom 0 turns_at × AscendsFrom 0 first_at × AscendsFrom 0 second_at × AscendsFrom 0 looks_at
     pub mine : mine_of pass ≡ ((turns_at ++ first_at) ++ second_at) ++ looks_at
     pub put : List AskParts × List AskParts
-    pub flusher : FlushesTo put turns
+    pub flusher : FlushesTo (timer_of views.clocks) put turns
     pub file : LastFile
     pub write : Write views.disk turns old (place_of file disk)
     pub links : AreAnsweredFrom (first_links views.links) views.gives failures.0 0 put.0 first
@@ -181,9 +182,10 @@ pub record LeadsOn {D : Type 0} (view : DiskView D) (history : Made) (change : C
       → Keeps s reached (stories.turns_of story) (growing_at view change.place) (growing_at view change.place_then)
 
 -- Of this history, which leads from the first core to the second: the entries are the flusher's, whose turns wrote what was pending,
--- what the loops made for each link, and the looks of the keeper. A loop gave the requests of each pass to the broker at the reading
--- that its clock gave for this pass, and answered `read N` only with counts to which its reader's failures, so many, had come, and at most
--- as often. Each check-back that a loop wrote is one that the flusher handed out for its loop, and was written to the link that it names.
+-- what the loops made for each link, and the looks of the keeper. The flusher made the deliveries and checks of each round at the reading
+-- that its clock gave for this round. A loop gave the requests of each pass to the broker at the reading that its clock gave for this
+-- pass, and answered `read N` only with counts to which its reader's failures, so many, had come, and at most as often. Each check-back
+-- that a loop wrote is one that the flusher handed out for its loop, and was written to the link that it names.
 pub record IsMadeBy {D : Type 0} (views : Views D) (failures : ℕ × ℕ) (history : Made) (change : Change Parts (Place D)) : Type 0 where
   pub turns : List acts.Act
   pub first : Made
@@ -191,7 +193,7 @@ pub record IsMadeBy {D : Type 0} (views : Views D) (failures : ℕ × ℕ) (hist
   pub looks : Made
   pub put : List AskParts × List AskParts
   pub merged : IsMerged history (acts.steps_of turns) first second looks
-  pub flusher : FlushesTo put turns
+  pub flusher : FlushesTo (timer_of views.clocks) put turns
   pub links : AreAnsweredFrom (first_links views.links) views.gives failures.0 0 put.0 first
       × AreAnsweredFrom (second_links views.links) views.gives failures.1 1 put.1 second
   pub timed : AreTimed views.clocks first second

@@ -11,27 +11,27 @@ ghost use Rattle.worker_turns.specs.Acts.{Place, change_of, place_of, view_of};
 ghost use Rattle.event_loops.specs.Causes.{door_faults, loop_faults};
 ghost use Rattle.event_loops.specs.Doors.{GaveAll};
 ghost use Rattle.event_loops.specs.declared.event_loop.LoopEnd.TheVariants.{Done, Memory};
-ghost use Rattle.ask_ways.specs.Ways.{ArePair, put_by, taken_by};
+ghost use Rattle.flush_rounds.specs.Ways.{ArePair, put_by, taken_by};
 ghost use Rattle.flush_rounds.specs.Asking.{HasNoneAsked, IsFrontOf};
-ghost use Rattle.serve_threads.specs.Kept.{PutsAlong, keep_over};
-ghost use Rattle.serve_threads.specs.Links.{AreAllThatCame, AreLoops, AreWhole, links_over};
+ghost use Rattle.loop_threads.specs.Causes.{HasDoor, both_faults, world_faults};
+ghost use Rattle.loop_threads.specs.Kept.{keep_over};
+ghost use Rattle.loop_threads.specs.Loops.{AreLoops};
+ghost use Rattle.loop_threads.specs.Worlds.{IsParted, Readings, readings_of};
+ghost use Rattle.serve_threads.specs.Kept.{PutsAlong};
+ghost use Rattle.serve_threads.specs.Links.{AreAllThatCame, AreWhole, links_over};
 ghost use Rattle.serve_threads.specs.Served.{AreCut, AreMet, Meets, HasMade, IsLeft, by_thread};
-ghost use Rattle.serve_threads.specs.Served.{clocks_over, readings_of, views_of};
+ghost use Rattle.serve_threads.specs.Served.{clocks_over, views_of};
 ghost use Rattle.flush_rounds.specs.Causes.{BlamesDisk};
-ghost use Rattle.serve_threads.specs.Causes.{BlamesKeep, BlamesWorld, HasCauses, HasDoor, IsFirstFault};
-ghost use Rattle.serve_threads.specs.Causes.{both_faults, counts_of, world_faults};
+ghost use Rattle.serve_threads.specs.Causes.{BlamesKeep, BlamesWorld, HasCauses, IsFirstFault, counts_of};
 
-use crate::callers::CALLERS;
-use crate::loops::Loops;
-use crate::threads::{Keeping, Ran, Worker, run_all};
-use crate::world::World;
 use broker_core::Core;
 use event_loops::{
     Around, Bounds, EventLoop, LoopEnd, Outside, Shared, each_link_of_a_loop_is_answered_in_order,
 };
-use flush_rounds::{AskWays, FlushState, LoopAsks, Ways};
+use flush_rounds::{AskWays, FlushState, LoopAsks, Timetable, Ways};
 use group_flush::Flusher;
 use keeper_turns::keep_core;
+use loop_threads::{CALLERS, Keeping, Loops, Ran, Worker, World, run_all};
 use mq_outside::{Clock, Disk, DiskFault, Keep, Reader};
 use mq_peers::Ready;
 use spine::{Pass, Spine, SpinePass};
@@ -291,11 +291,10 @@ fn gather<
         (loop_faults P.faults P.Door.faults K.faults ran.entry.second.outside) }
     ensures door { IfSome ran.entry.first.outside.entrance (λ e. result.world.door ≡ e.door) }
     ensures clocks { (result.world.clocks.0 ≡ ran.entry.first.outside.clock)
-        × (result.world.clocks.1 ≡ ran.entry.second.outside.clock) }
+        × (result.world.clocks.1 ≡ ran.entry.second.outside.clock) × (result.world.timer ≡ ran.entry.flushing.timetable.clock) }
 {
     let Ran {
         flushing,
-        clock,
         keeping,
         first,
         second,
@@ -306,6 +305,7 @@ fn gather<
         disk,
         ways,
         last,
+        timetable,
     } = flushing;
     let Keeping {
         calls: keeper,
@@ -318,7 +318,7 @@ fn gather<
     let turns = calls.leave();
     let looks = keeper.leave();
     Left {
-        world: World::join(near, far, clock),
+        world: World::join(near, far, timetable.into_clock()),
         end: first_fault(ends.is_some(), first_end, second_end),
         ends,
         last,
@@ -338,14 +338,15 @@ fn unbegun<
     R: Reader + Drop,
     E: Keep + Drop,
 >(
-    state: FlushState<SpinePass<'_, W>, D>,
+    state: FlushState<SpinePass<'_, W>, D, K>,
     readers: (R, R),
     keep: E,
-    world: World<P, K>,
+    loops: (Outside<P, K>, Outside<P, K>),
 ) -> (Pass, Unserved<P, K, D, R, E>)
+    requires door { HasDoor (door_faults P.Door.faults loops.0.entrance) }
     ensures pass { state.entry.calls.pass ≡ Some result.0 }
     ensures devices { result.1.devices ≡ record { flusher = state.entry.flusher; disk = state.entry.disk; readers = readers; keep = keep } }
-    ensures world { result.1.world ≡ world }
+    ensures world { IsParted result.1.world loops.0 loops.1 state.entry.timetable.clock }
 {
     let FlushState {
         calls,
@@ -353,8 +354,10 @@ fn unbegun<
         disk,
         ways,
         last: _,
+        timetable,
     } = state;
     drop(ways);
+    let world = World::join(loops.0, loops.1, timetable.into_clock());
     let devices = Devices {
         flusher,
         disk,
@@ -396,7 +399,7 @@ where
     ensures outside { D.tells → IfOk result (λ it. StaysOutside (D.state devices.disk) (D.state it.disk)) }
     ensures of { IfOk result (λ it. IsPassOf spine.now.story it.pass) }
     ensures made { IfOk result (λ it. HasMade (views_of (links_over P.Link.tells P.Ends.tells P.Ends.entries it.ends) R.gives
-        (clocks_over K.tells (readings_of K.readings world.clocks) (readings_of K.readings it.world.clocks))
+        (clocks_over K.tells (readings_of K.readings world) (readings_of K.readings it.world))
         (view_of D.tells D.state D.faults D.syncs)) (R.faults it.readers.0, R.faults it.readers.1)
         (place_of devices.flusher.file devices.disk) it.pass it.disk) }
     ensures kept { E.tells → IfOk result (λ it. PutsAlong (start_of spine.now.story).core (seen_by it.pass)
@@ -424,21 +427,23 @@ where
         second,
         keeper,
     } = seats_of(spine, around.rt, pass);
+    let (near, far, timer) = world.part(bounds);
+    let timetable = Timetable::new(timer);
     let state = FlushState {
         calls,
         flusher,
         disk,
         ways: ways.sends,
         last: FlushEnd::Idle,
+        timetable,
     };
     let (lock, turns) = match Story::new(around.alloc, state, CALLERS) {
         Ok(opened) => opened,
         Err((state, _)) => {
             drop(loops);
-            return Err(unbegun(state, readers, keep, world));
+            return Err(unbegun(state, readers, keep, (near, far)));
         }
     };
-    let (near, far, clock) = world.part(bounds);
     let first = Worker {
         event_loop: loops.0,
         outside: near,
@@ -459,7 +464,7 @@ where
         calls: keeper,
         keep,
     };
-    let ran = run_all(around, first, second, keeping, lock, turns, clock);
+    let ran = run_all(around, first, second, keeping, lock, turns);
     each_link_of_a_loop_is_answered_in_order::<P::Link, R>();
     Ok(gather(spine, around.rt, ran))
 }
@@ -476,13 +481,13 @@ fn close<
     requires of { IsPassOf spine.story left.pass }
     requires seats { seats_in spine.story ≡ 4 }
     ensures disk { result.disk ≡ left.disk }
-    ensures left { (place : Place D) (before : E) (given : List ℕ × List ℕ)
+    ensures left { (place : Place D) (before : E) (given : Readings)
         → HasMade (views_of (links_over P.Link.tells P.Ends.tells P.Ends.entries left.ends) R.gives
-        (clocks_over K.tells given (readings_of K.readings left.world.clocks)) (view_of D.tells D.state D.faults D.syncs))
+        (clocks_over K.tells given (readings_of K.readings left.world)) (view_of D.tells D.state D.faults D.syncs))
         (R.faults left.readers.0, R.faults left.readers.1) place left.pass left.disk
         → (E.tells → PutsAlong (start_of spine.story).core (seen_by left.pass) (E.state before) (E.state left.keep))
         → (file : LastFile) × IsLeft (views_of (links_over P.Link.tells P.Ends.tells P.Ends.entries left.ends) R.gives
-        (clocks_over K.tells given (readings_of K.readings left.world.clocks)) (view_of D.tells D.state D.faults D.syncs))
+        (clocks_over K.tells given (readings_of K.readings left.world)) (view_of D.tells D.state D.faults D.syncs))
         (R.faults left.readers.0, R.faults left.readers.1)
         (change_of (start_of spine.story).core place result.core (place_of file result.disk))
         (keep_over E.tells (E.state before) (E.state result.keep)) result.kept }
@@ -538,7 +543,7 @@ where
     requires inside { D.tells → IsInside devices.flusher.file.base devices.flusher.file.offset (D.state devices.disk) }
     ensures left { IfOk result (λ it. (file : LastFile) × IsLeft
         (views_of (links_over P.Link.tells P.Ends.tells P.Ends.entries it.ends) R.gives
-        (clocks_over K.tells (readings_of K.readings loops.world.clocks) (readings_of K.readings it.world.clocks))
+        (clocks_over K.tells (readings_of K.readings loops.world) (readings_of K.readings it.world))
         (view_of D.tells D.state D.faults D.syncs)) (R.faults it.readers.0, R.faults it.readers.1)
         (change_of core (place_of devices.flusher.file devices.disk) it.core (place_of file it.disk))
         (keep_over E.tells (E.state devices.keep) (E.state it.keep)) it.kept) }

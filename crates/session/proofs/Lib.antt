@@ -1,6 +1,7 @@
 pub mod ReaderLemmas
 mod RemarkLemmas
 mod Responses
+mod RoomLemmas
 mod ServingSteps
 pub mod SessionLaws
 mod SessionParts

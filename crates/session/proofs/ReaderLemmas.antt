@@ -10,7 +10,7 @@ use Rattle.mq_outside.specs.declared.faults.DiskFault.TheVariants as why
 use Rattle.reply_fields.specs.Parts.{ReplyParts}
 use Rattle.reply_fields.specs.Replies.{AppendsReply}
 use Rattle.session.specs.Owing.{IsWritten, read_replies_by, unwritten}
-use Rattle.session.specs.Readers.{FailedAt, HasCause, HasFailed, reader_view, risen_from}
+use Rattle.session.specs.Readers.{FailedAt, HasCause, reader_view, risen_from}
 use Rattle.session.specs.Serving.{Made}
 use Rattle.session.specs.Settling.{IsPut, Settles, IsSettled, IsBroken}
 use Rattle.session.specs.declared.caller.Caller.{Caller}
@@ -35,9 +35,6 @@ module _ {R : Type 0} (faults : R → ℕ) where
   -- a call in which the count has risen has one
   pub failed_in : (first old new : R) → faults first ≤ faults old → Rises (faults old) (faults new) → FailedAt faults first new (faults new)
   failed_in first old new low rose = record { before = old; after = new; low = low; rose = rose; is = refl; high = omega arith }
-
-  pub failed_ever : (old new : R) (count : ℕ) → FailedAt faults old new count → HasFailed faults count
-  failed_ever old new count h = (old, new, h)
 
 -- ---- how many replies `read N` are written
 

@@ -1,6 +1,6 @@
 -- What one call of a session did, and what calls did one after another.
 use Rattle.std.proofs.Common.{◌≡◌, ◌⊎◌, ◌+◌, ℕ, List, [], ◌∷◌, ◌++◌, Bool, true, false, Option, Some, None, Ok, inl, inr, refl, sym, ap, ◌∙◌, subst, append_assoc, append-nil, arith}
-use Rattle.std.specs.Prelude.{not, option_to_list, if◌then◌else◌}
+use Rattle.std.specs.Prelude.{not, if◌then◌else◌}
 use Rattle.std.specs.Bool.{MatchBool}
 use Rattle.std.proofs.lemmas.List.Elements.{filter-append}
 use Rattle.session.specs.Readers.{ReaderView}
@@ -18,15 +18,17 @@ use Rattle.broker_events.specs.declared.said.Awaited.TheVariants.{Flushed, Faile
 use Rattle.session.specs.Asking.{AreFor, opaque_of, next_count, count_after}
 use Rattle.session.specs.Hearing.{is_response}
 use Rattle.session.specs.Talks.{HasHeard, AreHeard, requests_of}
-use Rattle.session.specs.Owing.{applied_of, unwritten, IsWritten}
+use Rattle.session.specs.Owing.{applied_of, look_for, unwritten, IsWritten}
+use Rattle.session.specs.Room.{steps_of_tries}
 use Rattle.session.specs.Serving.{Made, IsNext}
-use Rattle.session.specs.Settling.{look_for, IsDueAt, IsDueAfter, IsNotYet, Waits, Settles}
-use Rattle.session.specs.Sessions.{applies, applied_in, has_room, finds, found_in, Answer, IsAnswer, AreAnswers, steps_of, AreReplies, Piece, replied, checked, replies_to, owed_among, asks_among, ArePieces}
+use Rattle.session.specs.Settling.{IsDueAt, IsDueAfter, IsNotYet, Waits, Settles}
+use Rattle.session.specs.Sessions.{applies, applied_in, has_room, finds, found_in, Answer, IsAnswer, AreAnswers, steps_of, held_in, AreReplies, Piece, replied, checked, replies_to, owed_among, asks_among, ArePieces}
 use Rattle.session.specs.declared.heard.Heard.{Heard}
 use Rattle.session.specs.declared.caller.Caller.{Caller}
 use Rattle.session.specs.declared.owed.Awaits.{Awaits}
 use Rattle.session.specs.declared.owed.Owed.{Owed}
-use Rattle.session.specs.declared.owed.Applied.TheVariants.{Owes, Full}
+use Rattle.session.specs.declared.owed.Applied.TheVariants.{Full}
+use Rattle.session.specs.declared.room.HeldRequest.{HeldRequest}
 use Rattle.session.specs.declared.talk.Talk.{Talk}
 use Rattle.session.proofs.TalkLaws.{begins_append, heard_append, one_answer}
 
@@ -58,12 +60,12 @@ pub hears_fed : (at : ℕ) (bytes : List ℕ) (new : Held) → new.at ≡ at →
 hears_fed at bytes new place rest = record { frames = []; begins = (sym place, sym rest); requests = tt }
 
 -- which requests are heard of the stream as the next one is taken
-pub record TakesOne (held : Option Heard) (heard : Heard) (old new : Held) : Type 0 where
+pub record TakesOne (held : Option HeldRequest) (heard : Heard) (old new : Held) : Type 0 where
   pub heards : List Heard
   pub hears : HasHeard old.at old.bytes heards new
-  pub one : option_to_list held ++ heards ≡ heard ∷ []
+  pub one : held_in held ++ heards ≡ heard ∷ []
 
-pub takes_one : (held : Option Heard) (heard : Heard) (old new : Held) → IsNext held heard old new → TakesOne held heard old new
+pub takes_one : (held : Option HeldRequest) (heard : Heard) (old new : Held) → IsNext held heard old new → TakesOne held heard old new
 takes_one None heard old new h = record { heards = heard ∷ []; hears = one_answer old new (Ok (Some heard)) h; one = refl }
 takes_one (Some first) heard old new h = record {
   heards = [];
@@ -73,20 +75,7 @@ takes_one (Some first) heard old new h = record {
 
 -- ---- steps
 
--- what is owed for a step found room
-pub had_room : (what : Option Said) (reply : ReplyParts) (awaits : Option Awaits) → applied_of what ≡ Some (Owes reply awaits) → has_room what ≡ true
-had_room None reply awaits h = refl
-had_room (Some (said.Reply other)) reply awaits h = refl
-had_room (Some (said.After other number turn)) reply awaits h = refl
-had_room (Some (said.Full pending)) reply awaits h = cc
-had_room (Some (said.Batch batch)) reply awaits h = refl
-had_room (Some said.Done) reply awaits h = refl
-had_room (Some (said.Awaited what)) reply awaits h = refl
-had_room (Some (said.Moved number)) reply awaits h = refl
-had_room (Some said.LogEnd) reply awaits h = refl
-had_room (Some (said.Delivered what)) reply awaits h = refl
-had_room (Some (said.Checked what)) reply awaits h = refl
-
+-- what finds no room says so
 pub had_none : (what : Option Said) (pending : ℕ) → applied_of what ≡ Some (Full pending) → has_room what ≡ false
 had_none None pending h = cc
 had_none (Some (said.Reply other)) pending h = cc
@@ -100,14 +89,11 @@ had_none (Some said.LogEnd) pending h = cc
 had_none (Some (said.Delivered what)) pending h = cc
 had_none (Some (said.Checked what)) pending h = cc
 
--- a step of which a test holds, or does not
-pub one_applied : (step : Event × Option Said) (b : Bool) → b ≡ true → (if b then step ∷ [] else []) ≡ step ∷ []
-one_applied step b is = subst (λ (w : Bool). (if w then step ∷ [] else []) ≡ step ∷ []) (sym is) refl
-
+-- a step of which a test does not hold
 pub none_applied : (step : Event × Option Said) (b : Bool) → b ≡ false → (if b then step ∷ [] else []) ≡ []
 none_applied step b is = subst (λ (w : Bool). (if w then step ∷ [] else []) ≡ []) (sym is) refl
 
-applied_append : (made more : Made) → applied_in (made ++ more) ≡ applied_in made ++ applied_in more
+pub applied_append : (made more : Made) → applied_in (made ++ more) ≡ applied_in made ++ applied_in more
 applied_append made more = filter-append (λ step. applies step.0 step.1) made more
 
 -- two lists of steps, and what was applied in them
@@ -178,7 +164,8 @@ answers_on talk other (a ∷ first) more same h k = (h.0, answers_on talk other 
 
 pub steps_append : (first more : List Answer) → steps_of (first ++ more) ≡ steps_of first ++ steps_of more
 steps_append [] more = refl
-steps_append (a ∷ first) more = ap (λ l. a.made ++ l) (steps_append first more) ∙ sym (append_assoc a.made (steps_of first) (steps_of more))
+steps_append (a ∷ first) more =
+    ap (λ l. (steps_of_tries a.tries ++ a.made) ++ l) (steps_append first more) ∙ sym (append_assoc (steps_of_tries a.tries ++ a.made) (steps_of first) (steps_of more))
 
 -- ---- replies
 

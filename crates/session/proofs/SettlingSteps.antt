@@ -8,10 +8,10 @@ use Rattle.broker_events.specs.declared.said.Awaited.{Awaited}
 use Rattle.broker_events.specs.declared.said.Awaited.TheVariants.{NotYet}
 use Rattle.broker_events.specs.Makes.{Makes}
 use Rattle.broker_events.proofs.Makes.{makes_append}
-use Rattle.session.specs.Owing.{Steps}
+use Rattle.session.specs.Owing.{Steps, look_for}
 use Rattle.session.specs.Readers.{ReaderView, reader_view}
 use Rattle.session.specs.Serving.{Made, Leads, LeadsReading}
-use Rattle.session.specs.Settling.{look_for, LooksFor, IsDueAt, Became, IsDueAfter, IsNotYet, Waits, Leaves, IsLost, TakesDue, GivesDue, IsPut, SettlesOne, Settles, Stops, IsSettled, IsBroken, SettlesAll}
+use Rattle.session.specs.Settling.{LooksFor, IsDueAt, Became, IsDueAfter, IsNotYet, Waits, Leaves, IsLost, TakesDue, GivesDue, IsPut, SettlesOne, Settles, Stops, IsSettled, IsBroken, SettlesAll}
 use Rattle.session.specs.declared.caller.Caller.{Caller}
 use Rattle.session.specs.declared.owed.Awaits.{Awaits}
 use Rattle.session.specs.declared.owed.Owed.{Owed}

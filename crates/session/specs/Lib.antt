@@ -2,6 +2,7 @@ pub mod Asking
 pub mod Hearing
 pub mod Owing
 pub mod Readers
+pub mod Room
 pub mod Serving
 pub mod Sessions
 pub mod Settling

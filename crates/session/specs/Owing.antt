@@ -14,10 +14,12 @@ use Rattle.broker_events.specs.declared.event.Event.{Event}
 use Rattle.broker_events.specs.declared.event.Event.TheVariants as events
 use Rattle.broker_events.specs.declared.said.Said.{Said}
 use Rattle.broker_events.specs.declared.said.Said.TheVariants as said
+use Rattle.broker_events.specs.declared.said.Awaited.{Awaited}
 use Rattle.session.specs.Readers.{ReaderView, HasCause}
 use Rattle.session.specs.declared.caller.Caller.{Caller}
 use Rattle.session.specs.declared.owed.Applied.{Applied}
 use Rattle.session.specs.declared.owed.Applied.TheVariants.{Owes, Full}
+use Rattle.session.specs.declared.owed.Awaits.{Awaits}
 
 -- who makes steps: what was before, an event, what was said to it, and what is after
 abbrev pub Steps : Type 0 → Type 1
@@ -63,6 +65,14 @@ pub record IsApplied {C : Type 0} (makes : Steps C) (x : C) (event : Event) (res
   pub told : IsTold what result
 
 -- ---- what became of its record
+
+-- one look for this record, and what became of it
+abbrev pub look_for : Awaits → Awaited → Event × Option Said
+look_for awaits what = (events.Look awaits.number awaits.turn, Some (said.Awaited what))
+
+-- what is looked for where a request found no room: a turn since the beginning of the log that held the first pending record
+abbrev pub room_at : ℕ → Awaits
+room_at pending = record { number = pending; turn = 0 }
 
 -- the fields of the reply, unless they leave no room for a remark
 abbrev pub fields_within : ReplyParts → List (List ℕ × List ℕ)

@@ -1,27 +1,27 @@
 -- How a link's requests are given to the broker, and what is owed for them.
-use Rattle.std.specs.Prelude.{◌≡◌, ◌⊎◌, ◌+◌, ◌≤◌, ◌++◌, ℕ, ℤ, List, [], ◌∷◌, Bool, true, false, pos, codes, if◌then◌else◌}
+use Rattle.std.specs.Prelude.{◌≡◌, ◌⊎◌, ◌+◌, ◌≤◌, ◌++◌, ℕ, ℤ, List, [], ◌∷◌, true, if◌then◌else◌}
 use Rattle.std.specs.Prelude.{Option, Some, None, Result, Ok, Err}
-use Rattle.mq_bytes.specs.Decimal.{digits_of}
 use Rattle.remoting_frame.specs.Held.{Held}
 use Rattle.remoting_frame.specs.declared.fault.FrameFault.{FrameFault}
 use Rattle.remoting_frame.specs.declared.fault.FrameFault.TheVariants as frames
 use Rattle.request_fields.specs.declared.request.Request.{Request}
 use Rattle.request_fields.specs.declared.fault.RequestFault.{RequestFault}
 use Rattle.request_fields.specs.declared.fault.RequestFault.TheVariants.{Unsupported}
-use Rattle.reply_fields.specs.Parts.{plain}
 use Rattle.reply_fields.specs.Refusals.{fault_reply}
 use Rattle.broker_events.specs.Makes.{Makes}
 use Rattle.broker_events.specs.Served.{is_served}
 use Rattle.broker_events.specs.declared.event.Event.{Event}
 use Rattle.broker_events.specs.declared.event.Event.TheVariants as events
 use Rattle.broker_events.specs.declared.said.Said.{Said}
+use Rattle.broker_events.specs.declared.said.Awaited.{Awaited}
 use Rattle.session.specs.Hearing.{Hears, HearsNext}
-use Rattle.session.specs.Owing.{Steps, applied_of}
+use Rattle.session.specs.Owing.{Steps, applied_of, look_for, room_at}
 use Rattle.session.specs.declared.heard.Heard.{Heard}
 use Rattle.session.specs.declared.caller.Caller.{Caller}
 use Rattle.session.specs.declared.owed.Owed.{Owed}
 use Rattle.session.specs.declared.owed.Applied.{Applied}
 use Rattle.session.specs.declared.owed.Applied.TheVariants.{Owes, Full}
+use Rattle.session.specs.declared.room.HeldRequest.{HeldRequest}
 use Rattle.session.specs.declared.talk.Talk.{Talk}
 use Rattle.session.specs.declared.session.Session.{Session}
 use Rattle.session.specs.declared.serving.Step.{Step}
@@ -65,9 +65,9 @@ abbrev pub caller_of : Heard → Caller
 caller_of heard = record { form = heard.form; opaque = heard.opaque; one_way = heard.one_way }
 
 -- the next request: the one that found no room, where one is held, else the next that is heard of the stream
-abbrev pub IsNext : Option Heard → Heard → Held → Held → Type 0
+abbrev pub IsNext : Option HeldRequest → Heard → Held → Held → Type 0
 IsNext None heard old new = HearsNext heard old new
-IsNext (Some first) heard old new = (heard ≡ first) × (new ≡ old)
+IsNext (Some first) heard old new = (heard ≡ first.heard) × (new ≡ old)
 
 -- why a link ends at a fault of its stream
 abbrev pub halt_of : FrameFault → Halt
@@ -124,13 +124,6 @@ OwesOne owed old (Ok steps.Full) new = ⊥
 OwesOne owed old (Err (halts.BadFrame at)) new = ⊥
 OwesOne owed old (Err halts.Memory) new = new.owed.items ≡ old.owed.items
 
--- the request found room, or was refused, or nothing of it is kept
-abbrev pub found_room : Result Step Halt → Bool
-found_room (Ok steps.Request) = true
-found_room (Ok steps.Nothing) = true
-found_room (Ok steps.Full) = false
-found_room (Err halt) = true
-
 -- what is owed stays
 abbrev pub OwesNone : Result Step Halt → Session → Session → Type 0
 OwesNone result old new = (result ≡ Ok steps.Full) × (new.owed.items ≡ old.owed.items)
@@ -139,15 +132,6 @@ OwesNone result old new = (result ≡ Ok steps.Full) × (new.owed.items ≡ old.
 abbrev pub OwesWhat : Applied → Caller → Session → Result Step Halt → Session → Type 0
 OwesWhat (Owes reply awaits) caller old result new = OwesOne (record { caller = caller; reply = reply; awaits = awaits }) old result new
 OwesWhat (Full pending) caller old result new = OwesNone result old new
-
--- one step was made with this event, and what was said is owed to this caller
-pub record GivesEvent (event : Event) (caller : Caller) (old : Session) (made : Made) (result : Result Step Halt) (new : Session)
-    : Type 0 where
-  pub what : Option Said
-  pub one : made ≡ (event, what) ∷ []
-  pub applied : Applied
-  pub told : applied_of what ≡ Some applied
-  pub owed : OwesWhat applied caller old result new
 
 -- the event is a request, of which this is so
 abbrev pub OnRequest : Event → (Request → Type 0) → Type 0
@@ -166,17 +150,21 @@ abbrev pub heard_from : Caller → ℤ → Result Request RequestFault → Heard
 heard_from caller code request =
     record { form = caller.form; code = code; opaque = caller.opaque; one_way = caller.one_way; request = request }
 
--- the request that found no room is held, and no other
-abbrev pub HoldsFor : Applied → Heard → Session → Session → Type 0
-HoldsFor (Owes reply awaits) heard old new = new.held ≡ old.held
-HoldsFor (Full pending) heard old new = new.held ≡ Some heard
+-- a request that found no room is held, with what one look said of the first pending record; else none is, and no look was made
+abbrev pub HoldsFor : Applied → Heard → Session → Made → Session → Type 0
+HoldsFor (Owes reply awaits) heard old made new = (made ≡ []) × (new.held ≡ old.held)
+HoldsFor (Full pending) heard old made new = (before : Awaited) × (made ≡ look_for (room_at pending) before ∷ [])
+    × (new.held ≡ Some (record { heard = heard; pending = pending; before = before }))
 
--- what comes of a request that was heard, by these steps: it is owed, or the request is held
+-- What comes of a request that was heard, by these steps: it is owed; or, after one look more, the request is held.
 pub record Serves (now : ℕ) (heard : Heard) (old : Session) (made : Made) (result : Result Step Halt) (new : Session) : Type 0 where
   pub applied : Applied
-  pub comes : IsRefused heard applied made ⊎ IsAsked old.talk now heard applied made
+  pub first : Made
+  pub more : Made
+  pub both : made ≡ first ++ more
+  pub comes : IsRefused heard applied first ⊎ IsAsked old.talk now heard applied first
   pub owed : OwesWhat applied (caller_of heard) old result new
-  pub held : HoldsFor applied heard old new
+  pub held : HoldsFor applied heard old more new
 
 -- some steps lead from x to y, and of them this is so
 pub record Leads {C : Type 0} (makes : Steps C) (x y : C) (P : Made → Type 0) : Type 0 where
@@ -219,13 +207,17 @@ pub record Loses (now : ℕ) (old : Session) (made : Made) (new : Session) : Typ
   pub held : new.held ≡ None
   pub same : new.owed.items ≡ old.owed.items
 
--- the broker was asked, and has no room for the next request, which is held
+-- The broker was asked, and has no room for the next request. Directly after, the first pending record was looked for, and the request
+-- is held with what the look said.
 pub record FindsNoRoom (now : ℕ) (old : Session) (made : Made) (new : Session) : Type 0 where
   pub heard : Heard
   pub next : IsNext old.held heard old.talk.cutter new.talk.cutter
   pub pending : ℕ
-  pub asked : IsAsked old.talk now heard (Full pending) made
-  pub held : new.held ≡ Some heard
+  pub given : Made
+  pub asked : IsAsked old.talk now heard (Full pending) given
+  pub before : Awaited
+  pub looked : made ≡ given ++ look_for (room_at pending) before ∷ []
+  pub held : new.held ≡ Some (record { heard = heard; pending = pending; before = before })
   pub same : new.owed.items ≡ old.owed.items
 
 -- What `serve_next` does, by what it answers. At `Memory` the next request is not heard yet, or it was answered and that is lost.
@@ -236,15 +228,3 @@ ServesNext now old made (Ok steps.Full) new = FindsNoRoom now old made new
 ServesNext now old made (Err (halts.BadFrame at)) new = Rests old made new × EndsBy (halts.BadFrame at) old.talk.cutter new.talk.cutter
 ServesNext now old made (Err halts.Memory) new =
     (Rests old made new × EndsBy halts.Memory old.talk.cutter new.talk.cutter) ⊎ Loses now old made new
-
--- ---- a request that found no room is given up
-
--- the reply to it, with the disk's count
-abbrev pub no_room : Caller → ℕ → Owed
-no_room caller count = record { caller = caller; reply = plain (pos 1) (codes "disk " ++ digits_of count); awaits = None }
-
--- Nothing where none is held; else the disk's failure is owed for it, unless memory wants.
-abbrev pub GivesUp : Option Heard → ℕ → Session → Result (Unit {0}) Halt → Session → Type 0
-GivesUp None count old result new = (result ≡ Ok tt) × (new.owed.items ≡ old.owed.items)
-GivesUp (Some heard) count old (Ok done) new = new.owed.items ≡ old.owed.items ++ no_room (caller_of heard) count ∷ []
-GivesUp (Some heard) count old (Err halt) new = (halt ≡ halts.Memory) × (new.owed.items ≡ old.owed.items)

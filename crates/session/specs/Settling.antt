@@ -4,13 +4,9 @@ use Rattle.std.specs.Prelude.{Option, Some, None, Result, Ok, Err, is_some}
 use Rattle.std.specs.Bool.{MatchBool}
 use Rattle.std.specs.declared.alloc.AllocError.{AllocError}
 use Rattle.reply_fields.specs.Parts.{ReplyParts}
-use Rattle.broker_events.specs.declared.event.Event.{Event}
-use Rattle.broker_events.specs.declared.event.Event.TheVariants.{Look}
-use Rattle.broker_events.specs.declared.said.Said.{Said}
-use Rattle.broker_events.specs.declared.said.Said.TheVariants as said
 use Rattle.broker_events.specs.declared.said.Awaited.{Awaited}
 use Rattle.broker_events.specs.declared.said.Awaited.TheVariants.{Flushed, Failed, NotYet}
-use Rattle.session.specs.Owing.{IsWritten, not_flushed}
+use Rattle.session.specs.Owing.{IsWritten, look_for, not_flushed}
 use Rattle.session.specs.Readers.{ReaderView}
 use Rattle.session.specs.Serving.{Made}
 use Rattle.session.specs.declared.caller.Caller.{Caller}
@@ -20,10 +16,6 @@ use Rattle.session.specs.declared.session.Session.{Session}
 use Rattle.session.specs.declared.settling.TheConstants.{OWED_MAX, UNSENT_MAX}
 
 -- ---- what is due
-
--- one look for this record, and what became of it
-abbrev pub look_for : Awaits → Awaited → Event × Option Said
-look_for awaits what = (Look awaits.number awaits.turn, Some (said.Awaited what))
 
 -- one look for the record, where there is one
 abbrev pub LooksFor : Option Awaits → Made → Type 0
@@ -158,7 +150,10 @@ front_is_below (owed ∷ more) flushed = is_below owed.awaits flushed
 abbrev pub awaits_of : Session → Bool
 awaits_of session = is_some session.held || front_awaits session.owed.items
 
--- a request waits for room, or so many replies are owed, or so many bytes are to be sent
+-- so many replies are owed, or so many bytes are to be sent
+abbrev pub is_full_of : Session → Bool
+is_full_of session = nat_le OWED_MAX (length session.owed.items) || nat_le UNSENT_MAX (length session.out.items - session.sent)
+
+-- the same, or a request waits for room
 abbrev pub is_loaded_of : Session → Bool
-is_loaded_of session = is_some session.held || nat_le OWED_MAX (length session.owed.items)
-    || nat_le UNSENT_MAX (length session.out.items - session.sent)
+is_loaded_of session = is_some session.held || is_full_of session

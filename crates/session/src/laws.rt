@@ -21,6 +21,8 @@ pub fn a_talk_hears_the_requests_of_its_stream()
 /// and in order, but for one that is held; what was sent and what is to be sent are the replies to the first of them, in order, one
 /// each, and none to those that want none. The requests that the broker applied are those that were answered, in order and each
 /// once, and each reply that waited for its record stands behind a look that found it flushed, or tells the failure that it found.
+/// A request that found no room is given again, or given up by a look for the record that was the first pending one then, and so exactly
+/// where the look tells a failure that a look directly after the request did not tell; its reply then has this failure's count.
 pub fn replies_leave_in_the_order_of_the_requests<R: Reader>()
     ensures { (old : ASession) (calls : List sessions.Call) (new : ASession) → sessions.IsNew old
         → sessions.AreCalls (reads_of R.gives R.faults) old calls new
@@ -31,6 +33,6 @@ pub fn replies_leave_in_the_order_of_the_requests<R: Reader>()
 pub fn without_check_backs_the_replies_leave_alone<R: Reader>()
     ensures { (old : ASession) (calls : List sessions.Call) (new : ASession) → sessions.asks_of calls ≡ []
         → (is : sessions.RepliesInOrder (reads_of R.gives R.faults) old calls new)
-        → sessions.AreReplies (reads_of R.gives R.faults) (sessions.owed_among is.pieces) (sessions.found_in (sessions.made_of calls))
+        → sessions.AreReplies (reads_of R.gives R.faults) (sessions.owed_among is.pieces) (sessions.found_in (sessions.settling_of calls))
         (sessions.sent_of calls ++ unsent_of new) }
 {}

@@ -6,6 +6,7 @@ mod caller;
 mod heard;
 mod laws;
 mod owed;
+mod room;
 mod serving;
 mod session;
 mod settling;
@@ -19,6 +20,7 @@ pub use laws::{
     without_check_backs_the_replies_leave_alone,
 };
 pub use owed::{Applied, Awaits, Owed, apply, look, no_room, not_flushed, write_reply};
+pub use room::HeldRequest;
 pub use serving::{Halt, Step};
 pub use session::Session;
 pub use talk::Talk;

@@ -1,19 +1,16 @@
 //! One link as a machine: the bytes that were heard, and the requests that are given to the broker. It waits for nothing, and
 //! has no device.
 
-ghost use Rattle.std.specs.Prelude.{◌≡◌, ◌<◌, ◌^◌, ◌++◌, [], true, None, Some, Option, OnOk, OnErr};
+ghost use Rattle.std.specs.Prelude.{◌≡◌, ◌<◌, ◌^◌, ◌++◌, [], true, None, Ok, OnOk, OnErr};
 ghost use Rattle.reply_fields.specs.Refusals.{fault_reply};
 ghost use Rattle.broker_events.specs.Served.{is_served as is_served_of};
-ghost use Rattle.broker_events.specs.Shown.{Accepts};
-ghost use Rattle.std.specs.Option.{option_map};
-ghost use Rattle.session.specs.Owing.{IsRequest};
-ghost use Rattle.session.specs.Serving.{KeepsRest, KeepsReplies, KeepsLink, KeepsOut, TakesNext, OwesOne, OnRequest, GivesEvent};
-ghost use Rattle.session.specs.Serving.{Leads, Serves, ServesNext, GivesUp, heard_from, caller_of};
-ghost use Rattle.session.specs.Serving.{halt_of as halt_of_fault, found_room as found_room_of};
+ghost use Rattle.session.specs.Serving.{KeepsRest, KeepsReplies, KeepsLink, KeepsOut, TakesNext, OwesOne};
+ghost use Rattle.session.specs.Serving.{Leads, Serves, ServesNext, heard_from, halt_of as halt_of_fault};
 
 use crate::caller::Caller;
 use crate::heard::Heard;
-use crate::owed::{Applied, Awaits, Owed, apply, no_room};
+use crate::owed::{Applied, Awaits, Owed, apply, look};
+use crate::room::awaits_room;
 use crate::session::Session;
 use crate::talk::Talk;
 use broker_events::{Calls, Event, is_served};
@@ -51,16 +48,6 @@ fn halt_of(fault: FrameFault) -> Halt
             Halt::BadFrame(at)
         }
         FrameFault::Memory => Halt::Memory,
-    }
-}
-
-// Whether nothing of the request is to be held.
-fn found_room(end: Result<Step, Halt>) -> bool
-    ensures { result ≡ found_room_of end }
-{
-    match end {
-        Ok(Step::Full) => false,
-        Ok(Step::Request | Step::Nothing) | Err(_) => true,
     }
 }
 
@@ -105,8 +92,8 @@ impl Session {
         ensures held { self.new.held ≡ None }
         ensures rest { KeepsReplies self.old self.new }
     {
-        if let Some(heard) = self.held.take() {
-            return Ok(Some(heard));
+        if let Some(held) = self.held.take() {
+            return Ok(Some(held.heard));
         }
         match self.talk.next(alloc) {
             Ok(heard) => Ok(heard),
@@ -115,7 +102,12 @@ impl Session {
     }
 
     // Owes a reply.
-    fn owe(&mut self, caller: Caller, reply: Reply, awaits: Option<Awaits>) -> Result<Step, Halt>
+    pub(crate) fn owe(
+        &mut self,
+        caller: Caller,
+        reply: Reply,
+        awaits: Option<Awaits>,
+    ) -> Result<Step, Halt>
         ensures owes { OwesOne (record { caller = caller; reply = reply; awaits = awaits }) self.old result self.new }
         ensures held { self.new.held ≡ self.old.held }
         ensures talk { self.new.talk ≡ self.old.talk }
@@ -132,28 +124,9 @@ impl Session {
         }
     }
 
-    // Keeps a request that found no room.
-    fn hold(&mut self, caller: Caller, code: i32, event: Event)
-        requires { IsRequest event }
-        ensures held { OnRequest event (λ request. self.new.held ≡ Some (heard_from caller code (Ok request))) }
-        ensures owed { self.new.owed.items ≡ self.old.owed.items }
-        ensures talk { self.new.talk ≡ self.old.talk }
-        ensures out { KeepsOut self.old self.new }
-    {
-        let Event::Request { request, .. } = event else {
-            unreachable!();
-        };
-        self.held = Some(Heard {
-            form: caller.form,
-            code,
-            opaque: caller.opaque,
-            one_way: caller.one_way,
-            request: Ok(request),
-        });
-    }
-
-    /// Gives the next request to the broker, at this reading of the clock, in milliseconds. After `Memory` the link has to end,
-    /// since a request may have been answered whose reply is not owed.
+    /// Gives the next request to the broker, at this reading of the clock, in milliseconds. Where it finds no room the first pending
+    /// record is looked for directly after, and the request is held. After `Memory` the link has to end, since a request may have been
+    /// answered whose reply is not owed.
     pub fn serve_next<C: Calls>(
         &mut self,
         alloc: Global,
@@ -257,66 +230,20 @@ impl Session {
             now,
             request,
         };
-        let result = self.give_event(alloc, calls, caller, &event);
-        if found_room(result) {
-            drop(event);
-        } else {
-            self.hold(caller, code, event);
+        match apply(alloc, calls, &event) {
+            Ok(Applied::Owes(reply, awaits)) => {
+                drop(event);
+                self.owe(caller, reply, awaits)
+            }
+            Ok(Applied::Full(pending)) => {
+                let before = look(alloc, calls, awaits_room(pending));
+                self.hold(caller, code, event, pending, before);
+                Ok(Step::Full)
+            }
+            Err(_) => {
+                drop(event);
+                Err(Halt::Memory)
+            }
         }
-        result
-    }
-
-    // Gives a request to the broker.
-    fn give_event<C: Calls>(
-        &mut self,
-        alloc: Global,
-        calls: &mut C,
-        caller: Caller,
-        event: &Event,
-    ) -> Result<Step, Halt>
-        requires request { IsRequest event.now }
-        requires accepted { Accepts (C.shown calls.old) event.now }
-        ensures gives { Leads C.makes calls.old calls.new (λ made. GivesEvent event.now caller self.old made result self.new) }
-        ensures held { self.new.held ≡ self.old.held }
-        ensures talk { self.new.talk ≡ self.old.talk }
-        ensures out { KeepsOut self.old self.new }
-    {
-        match apply(alloc, calls, event) {
-            Ok(Applied::Owes(reply, awaits)) => self.owe(caller, reply, awaits),
-            Ok(Applied::Full(_)) => Ok(Step::Full),
-            Err(_) => Err(Halt::Memory),
-        }
-    }
-
-    // Who asked what found no room, and is refused now.
-    fn let_go(&mut self) -> Option<Caller>
-        ensures caller { result ≡ option_map caller_of self.old.held }
-        ensures held { self.new.held ≡ None }
-        ensures talk { self.new.talk ≡ self.old.talk }
-        ensures owed { self.new.owed.items ≡ self.old.owed.items }
-        ensures out { KeepsOut self.old self.new }
-    {
-        match self.held.take() {
-            Some(heard) => Some(heard.caller()),
-            None => None,
-        }
-    }
-
-    /// Refuses the request that found no room, since the flush turn that it waited for failed, as the disk's failure of this
-    /// number. Nothing where there is none.
-    pub fn give_up(&mut self, alloc: Global, count: u64) -> Result<(), Halt>
-        ensures gives_up { GivesUp self.old.held count self.old result self.new }
-        ensures held { self.new.held ≡ None }
-        ensures talk { self.new.talk ≡ self.old.talk }
-        ensures out { KeepsOut self.old self.new }
-    {
-        let Some(caller) = self.let_go() else {
-            return Ok(());
-        };
-        let Ok(reply) = no_room(alloc, count) else {
-            return Err(Halt::Memory);
-        };
-        self.owe(caller, reply, None)?;
-        Ok(())
     }
 }

@@ -2,8 +2,8 @@
 
 ghost use Rattle.std.specs.Prelude.{◌≤◌, length};
 
-use crate::heard::Heard;
 use crate::owed::Owed;
+use crate::room::HeldRequest;
 use crate::talk::Talk;
 use std::collections::VecDeque;
 
@@ -13,7 +13,7 @@ use std::collections::VecDeque;
 #[derive(Drop)]
 pub struct Session {
     pub(crate) talk: Talk,
-    pub(crate) held: Option<Heard>,
+    pub(crate) held: Option<HeldRequest>,
     pub(crate) owed: VecDeque<Owed>,
     pub(crate) out: Vec<u8>,
     pub(crate) sent: usize,

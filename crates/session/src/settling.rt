@@ -4,8 +4,8 @@ ghost use Rattle.std.specs.Prelude.{◌≡◌, ◌≢◌, ◌≤◌, ◌<◌, �
 ghost use Rattle.broker_events.specs.declared.said.Awaited.TheVariants.{NotYet};
 ghost use Rattle.session.specs.Readers.{reads_between, risen_from};
 ghost use Rattle.session.specs.Serving.{Leads, LeadsReading, KeepsOut};
-ghost use Rattle.session.specs.Settling.{Became, IsDueAt, TakesDue, GivesDue, SettlesAll, IsPut, awaits_of, is_loaded_of, unsent_of};
-ghost use Rattle.session.specs.Settling.{front_is_below, is_below as is_below_of};
+ghost use Rattle.session.specs.Settling.{Became, IsDueAt, TakesDue, GivesDue, SettlesAll, IsPut, awaits_of, unsent_of};
+ghost use Rattle.session.specs.Settling.{front_is_below, is_below as is_below_of, is_full_of, is_loaded_of};
 
 use crate::caller::Caller;
 use crate::owed::{Awaits, look, not_flushed, write_reply};
@@ -174,13 +174,18 @@ impl Session {
         }
     }
 
-    /// Whether so much is owed or unsent that no further request is to be read.
+    /// Whether so much is owed or unsent that no further request is to be served.
+    pub fn is_full(&self) -> bool
+        ensures { result ≡ is_full_of self.now }
+    {
+        self.owed.len() >= OWED_MAX || self.out.len() - self.sent >= UNSENT_MAX
+    }
+
+    /// Whether a request waits for room, or so much is owed or unsent, that no further request is to be read.
     pub fn is_loaded(&self) -> bool
         ensures { result ≡ is_loaded_of self.now }
     {
-        self.held.is_some()
-            || self.owed.len() >= OWED_MAX
-            || self.out.len() - self.sent >= UNSENT_MAX
+        self.held.is_some() || self.is_full()
     }
 
     /// The bytes that are to be sent.

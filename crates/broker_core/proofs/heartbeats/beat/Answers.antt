@@ -6,22 +6,19 @@ use Rattle.broker_model.specs.Answers.{done_reply}
 use Rattle.broker_core.proofs.AnswerLemmas.{is_plain_reply}
 use Rattle.broker_core.proofs.HeartbeatLemmas.{does_beat, represents_clients}
 use Rattle.broker_core.proofs.ReadLemmas.{carries_done, asked_by}
-use Rattle.core_log.proofs.StoreLemmas.{on_err}
 use Rattle.broker_core.proofs.heartbeats.beat.Goals as goal
 
-pub returns-in_err-heartbeat-clause-stays : goal.returns-in_err-heartbeat-clause-stays
-returns-in_err-heartbeat-clause-stays c =
-    on_err c.from_residual-in_err-heartbeat.result
-    (λ s are. represents_clients c.args.parts.now c.heartbeat.new.self s s.clients are (c.in_err-heartbeat.ensures.same s.clients are.clients))
+pub returns-in-Err-clause-stays : goal.returns-in-Err-clause-stays
+returns-in-Err-clause-stays c s are = represents_clients c.args.parts.now c.heartbeat.new.self s s.clients are (c.in-Err.ensures.same s.clients are.clients)
 
-pub returns-clause-carries : goal.returns-clause-carries
-returns-clause-carries c host =
+pub returns-in-Ok-clause-carries : goal.returns-in-Ok-clause-carries
+returns-in-Ok-clause-carries c host =
     let old = c.args.parts.now in
     let b = c.args.beat.now in
     let link = c.args.link in
     carries_done old (record old { clients = c.heartbeat.new.self }) c.told.new.parts (asked_by link host c.args.now (Beat b)) (λ s. model.Replies done_reply)
     (λ s. record s { clients = after_beat link b s.clients }) c.told.result (does_beat old link host c.args.now b) c.requires.time c.told.ensures.moved
     (λ s are. (
-      represents_clients old c.heartbeat.new.self s (after_beat link b s.clients) are (c.in_ok-heartbeat.ensures.heard s.clients are.clients),
+      represents_clients old c.heartbeat.new.self s (after_beat link b s.clients) are (c.in-Ok.ensures.heard s.clients are.clients),
       c.told.ensures.told (model.Replies done_reply) (is_plain_reply c.in_ok-reply.reply 0 (codes "") c.in_ok-reply.ensures),
     ))

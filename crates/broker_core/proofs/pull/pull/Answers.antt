@@ -15,15 +15,15 @@ returns-in-Some-clause-carries c link host =
     carries_refusal old (asked_by link host c.args.now (Pull q)) c.in-Some.refused c.said.result
     (refusal_pull old q c.in-Some.refused (is_refused_as old (λ (s : State). pull_refusal s q) c.refuses_pull.result c.in-Some.refused c.refuses_pull.ensures c.in-Some.is)) c.said.ensures
 
-pub returns-in_ok-commit-in-None-clause-carries : goal.returns-in_ok-commit-in-None-clause-carries
-returns-in_ok-commit-in-None-clause-carries c link host =
+pub returns-in-Ok-clause-carries : goal.returns-in-Ok-clause-carries
+returns-in-Ok-clause-carries c link host =
     let old = c.args.parts.now in
     let q = c.args.asked.now in
     carries_done old c.commit.new.parts c.told.new.parts (asked_by link host c.args.now (Pull q)) (λ s. model.Replies (pulled_reply (pull_of s q))) (λ s. stored s q.group q.topic q.queue (pull_offset q)) c.told.result
     (does_pull old link host c.args.now q (is_allowed old (λ (s : State). pull_refusal s q) c.refuses_pull.result c.refuses_pull.ensures c.in-None.is))
     c.requires.time c.told.ensures.moved
     (λ s are. (
-      c.in_ok-commit-in-None.ensures.stored s are
+      c.in-Ok.ensures.stored s are
           (pull_legal old s q are (is_allowed old (λ (s : State). pull_refusal s q) c.refuses_pull.result c.refuses_pull.ensures c.in-None.is s are)),
       c.told.ensures.told (model.Replies (pulled_reply (pull_of s q))) (c.in_ok-reply-in-None.ensures s are),
     ))

@@ -27,8 +27,8 @@ lock_reply-requires-clause-few c =
     subst (λ (l : List QueueName). length l ≤ 4096) (sym (c.as_slice-2.ensures.value ∙ c.in_ok-granted.ensures.granted rows some.1.locks))
     (granted_few c.max-moment.result c.as_str-group.result.now c.as_str-client.result.now rows c.as_slice.result.now few)
 
-pub returns-clause-carries : goal.returns-clause-carries
-returns-clause-carries c link host =
+pub returns-in-Ok-clause-carries : goal.returns-in-Ok-clause-carries
+returns-in-Ok-clause-carries c link host =
     let old = c.args.parts.now in
     let l : LockSaid = c.args.asked.now in
     let groups = c.lock.new.self in
@@ -44,7 +44,7 @@ returns-clause-carries c link host =
     (does_lock old link host c.args.now l) c.requires.time c.told.ensures.moved
     (λ s are.
     let done = lock_done old groups s l c.args.now moment own_group own_client c.as_slice.result.now given are c.max-moment.ensures group client queues c.in_ok-granted.ensures.granted
-    (λ rows has. subst (λ (g : List QueueName). HasLocks groups (with_locks moment own_group own_client g rows)) c.as_slice-3.ensures.value (c.in_ok-lock.ensures.locked rows has))
+    (λ rows has. subst (λ (g : List QueueName). HasLocks groups (with_locks moment own_group own_client g rows)) c.as_slice-3.ensures.value (c.in-Ok.ensures.locked rows has))
     c.lock.ensures.offsets in (
       done.0,
       c.told.ensures.told (model.Locked (granted (max c.args.now s.now) l.group l.client s.locks l.queues))

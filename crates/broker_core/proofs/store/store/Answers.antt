@@ -13,7 +13,7 @@ use Rattle.core_log.specs.Represents.{Represents}
 use Rattle.client_tables.specs.declared.topics.Topics.{Topics}
 use Rattle.reply_fields.specs.Sent.{sent_fields}
 use Rattle.broker_core.specs.Stores.{stored_answer, IsTarget}
-use Rattle.core_log.proofs.StoreLemmas.{found_place, is_next_record, on_err}
+use Rattle.core_log.proofs.StoreLemmas.{found_place, is_next_record}
 use Rattle.broker_core.proofs.store.store.Goals as goal
 
 pub append_in-requires-clause-some : goal.append_in-requires-clause-some
@@ -40,8 +40,8 @@ append_in-requires-clause-encodable c =
     (ap (λ (x : Parts). x.now) others) c.requires.storable mine c.next_place-place.ensures.queue_offset c.next_place-place.ensures.offset (c.next_place-place.ensures.store ∙ c.max.ensures) c.requires.size c.requires.low c.requires.now in
     found.0
 
-pub returns-clause-stored : goal.returns-clause-stored
-returns-clause-stored c s are0 =
+pub returns-in-Ok-clause-stored : goal.returns-in-Ok-clause-stored
+returns-in-Ok-clause-stored c s are0 =
     let core = c.make_ready.new.self in
     let d = c.args.draft.now in
     let p = c.next_place-place.result in
@@ -61,7 +61,7 @@ returns-clause-stored c s are0 =
       answer = subst (λ (r : Entry). stored_answer s d target.queue r c.answer-said.result) is_record
           (subst (λ (b : Bool). Says c.answer-said.result (append_answer s b told 1)) c.waits.ensures (c.answer-said.ensures s told are is_reply));
       state = subst (λ (r : Entry). Represents c.append_in.new.parts (with_records (with_made s target.topic.now n) time (r ∷ []))) is_record
-          (subst (λ (t : ℕ). Represents c.append_in.new.parts (with_records (with_made s target.topic.now n) t (entry_of d p ∷ []))) found.2 (c.in_ok-append_in.ensures.appended s are found.1));
+          (subst (λ (t : ℕ). Represents c.append_in.new.parts (with_records (with_made s target.topic.now n) t (entry_of d p ∷ []))) found.2 (c.in-Ok.ensures.appended s are found.1));
     }
 
 pub append_in-requires-clause-target : goal.append_in-requires-clause-target
@@ -76,6 +76,5 @@ answer-said-requires-clause-some c =
     let it = c.requires.some in
     (it.0, c.in_ok-table.ensures.stays it.0 it.1)
 
-pub returns-in_err-append_in-clause-stays : goal.returns-in_err-append_in-clause-stays
-returns-in_err-append_in-clause-stays c =
-    on_err c.from_residual-in_err-append_in.result (λ s are. c.in_err-append_in.ensures.stays s (c.in_ok-table.ensures.stays s are))
+pub returns-in-Err-clause-stays : goal.returns-in-Err-clause-stays
+returns-in-Err-clause-stays c s are = c.in-Err.ensures.stays s (c.in_ok-table.ensures.stays s are)

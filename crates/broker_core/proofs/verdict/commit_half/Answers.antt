@@ -26,10 +26,10 @@ append_both-requires-clause-room c s are =
     sym (c.room_for_two.ensures s c.args.copy.now c.args.op.now c.args.now are c.size_of.ensures c.size_of-2.ensures)
     ∙ free_of c.room_for_two.result c.in_ok-said.field-0 c.in_ok-said.ensures (λ what is. c.in_default.not-Some what is)
 
-pub returns-clause-settled : goal.returns-clause-settled
-returns-clause-settled c s half are it =
+pub returns-in-Ok-clause-settled : goal.returns-in-Ok-clause-settled
+returns-in-Ok-clause-settled c s half are it =
     let free = sym (c.room_for_two.ensures s c.args.copy.now c.args.op.now c.args.now are c.size_of.ensures c.size_of-2.ensures)
     ∙ free_of c.room_for_two.result c.in_ok-said.field-0 c.in_ok-said.ensures (λ what is. c.in_default.not-Some what is) in
     settled_freely s c.args.now c.args.awaited c.args.copy.now (c.args.op.now ∷ []) c.answer-said.result c.append_both.new.self free
     (c.answer-said.ensures s done_reply are (is_plain_reply c.in_ok-reply.reply 0 (codes "") c.in_ok-reply.ensures))
-    (c.in_ok-append_both.ensures.appended s half are it)
+    (c.in-Ok.ensures.appended s half are it)

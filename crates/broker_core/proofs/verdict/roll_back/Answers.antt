@@ -20,10 +20,10 @@ append_alone-requires-clause-room c s are =
     sym (c.room.ensures s c.args.op.now c.args.now are c.size_of-size.ensures)
     ∙ free_of c.room.result c.in_ok-said.field-0 c.in_ok-said.ensures (λ what is. c.in_default.not-Some what is)
 
-pub returns-clause-settled : goal.returns-clause-settled
-returns-clause-settled c s are it =
+pub returns-in-Ok-clause-settled : goal.returns-in-Ok-clause-settled
+returns-in-Ok-clause-settled c s are it =
     let free = sym (c.room.ensures s c.args.op.now c.args.now are c.size_of-size.ensures)
     ∙ free_of c.room.result c.in_ok-said.field-0 c.in_ok-said.ensures (λ what is. c.in_default.not-Some what is) in
     settled_freely s c.args.now c.args.awaited c.args.op.now [] c.answer-said.result c.append_alone.new.parts free
     (c.answer-said.ensures s done_reply are (is_plain_reply c.in_ok-reply.reply 0 (codes "") c.in_ok-reply.ensures))
-    (c.in_ok-append_alone.ensures.appended s are it)
+    (c.in-Ok.ensures.appended s are it)

@@ -1,17 +1,18 @@
-use Rattle.std.proofs.Common.{ℕ, List, inr, refl, sym, ap, subst}
+use Rattle.std.proofs.Common.{inr, refl, sym, ap, subst}
 use Rattle.mq_outside.specs.Disk.{Rests}
 use Rattle.mq_outside.proofs.Moments.{rests_start}
 use Rattle.log_model.specs.Stored.{StaysOutside}
 use Rattle.log_model.proofs.OutsideLemmas.{outside_start}
 use Rattle.worker_turns.specs.Acts.{view_of}
-use Rattle.serve_threads.specs.Kept.{keep_over}
+use Rattle.loop_threads.specs.Kept.{keep_over}
+use Rattle.loop_threads.specs.Worlds.{Readings, readings_of}
 use Rattle.serve_threads.specs.Links.{links_over}
-use Rattle.serve_threads.specs.Served.{clocks_over, readings_of, views_of}
+use Rattle.serve_threads.specs.Served.{clocks_over, views_of}
 use Rattle.broker_serve.specs.Serves.{EndsOver, run_over}
 use Rattle.broker_serve.specs.Statuses.{ShutOut}
 use Rattle.broker_serve.proofs.Serving.{ends_unserved}
 use Rattle.broker_serve.proofs.Telling.{came_from, links_from, none_of, why_unserved}
-use Rattle.serve_threads.specs.Causes.{world_faults}
+use Rattle.loop_threads.specs.Causes.{world_faults}
 use Rattle.broker_serve.proofs.Causing.{causes_from, causes_unserved, door_causes}
 use Rattle.broker_serve.proofs.run.serve_log.Goals as goal
 
@@ -41,12 +42,17 @@ returns-in-Ok-clause-cause g c = causes_from c.serve_loops.result.status _ _ _ _
 pub returns-in-Ok-clause-ends : goal.returns-in-Ok-clause-ends
 returns-in-Ok-clause-ends g c =
     let readings = g.K.Clock.readings in
-    let now = readings_of readings c.serve_loops.result.world.clocks in
+    let now = readings_of readings c.serve_loops.result.world in
     let keep = keep_over g.E.Keep.tells (g.E.Keep.state c.args.store.keep) (g.E.Keep.state c.serve_loops.result.store.keep) in
     let run = run_over c.serve_loops.result.status c.args.store.disk c.serve_loops.result.store.disk g.D.Disk.reader_faults keep in
-    subst (λ (was : List ℕ × List ℕ). EndsOver (views_of (links_over g.P.Link.Link.tells g.P.Ends.Ends.tells g.P.Ends.Ends.entries c.serve_loops.result.ends) g.D.Reader.Reader.gives (clocks_over g.K.Clock.tells was now)
+    subst (λ (was : Readings). EndsOver (views_of (links_over g.P.Link.Link.tells g.P.Ends.Ends.tells g.P.Ends.Ends.entries c.serve_loops.result.ends) g.D.Reader.Reader.gives (clocks_over g.K.Clock.tells was now)
     (view_of g.D.Disk.tells g.D.Disk.state g.D.Disk.faults g.D.Disk.syncs)) c.args.opened c.serve_loops.result.core run)
-    (ap (λ k. readings_of readings k) c.in-Ok.ensures.clocks) c.serve_loops.ensures.ends
+    (λ i. record {
+      first = readings (c.in-Ok.ensures.clocks.0 i).0;
+      second = readings (c.in-Ok.ensures.clocks.0 i).1;
+      timer = readings (c.in-Ok.ensures.clocks.1 i);
+    })
+    c.serve_loops.ensures.ends
 
 pub returns-in-Err-clause-came : goal.returns-in-Err-clause-came
 returns-in-Err-clause-came g c = none_of _ _ c.unserved.ensures.core

@@ -1,13 +1,14 @@
-use Rattle.std.proofs.Common.{◌≡◌, ◌∙◌, ℕ, List, sym, ap, subst}
+use Rattle.std.proofs.Common.{◌≡◌, ◌∙◌, ℕ, sym, ap, subst}
 use Rattle.mq_outside.specs.Disk.{Rests}
 use Rattle.mq_outside.proofs.Moments.{rests_start}
 use Rattle.log_model.specs.Stored.{IsOutside, StaysOutside}
 use Rattle.log_model.proofs.OutsideLemmas.{outside_then}
 use Rattle.worker_turns.specs.Acts.{change_of, place_of, view_of}
 use Rattle.exit_status.proofs.LogLemmas.{stays_rests}
-use Rattle.serve_threads.specs.Kept.{keep_over}
+use Rattle.loop_threads.specs.Kept.{keep_over}
+use Rattle.loop_threads.specs.Worlds.{Readings, readings_of}
 use Rattle.serve_threads.specs.Links.{AreAllThatCame, LinksOver, links_over}
-use Rattle.serve_threads.specs.Served.{IsLeft, clocks_over, readings_of, views_of}
+use Rattle.serve_threads.specs.Served.{IsLeft, clocks_over, views_of}
 use Rattle.broker_serve.proofs.Serving.{ends_unserved, ends_served}
 use Rattle.event_loops.specs.Doors.{GaveAll}
 use Rattle.broker_serve.proofs.Telling.{links_left, none_of, some_of, why_unserved, why_served, zero_done}
@@ -33,18 +34,18 @@ returns-in-Ok-clause-ends g c =
     let served = c.in-Ok.served in
     let readings = g.K.Clock.readings in
     let over = links_over g.P.Link.Link.tells g.P.Ends.Ends.tells g.P.Ends.Ends.entries in
-    let seen = λ (links : LinksOver) (now : List ℕ × List ℕ).
-    views_of links g.D.Reader.Reader.gives (clocks_over g.K.Clock.tells (readings_of readings c.args.loops.world.clocks) now)
+    let seen = λ (links : LinksOver) (now : Readings).
+    views_of links g.D.Reader.Reader.gives (clocks_over g.K.Clock.tells (readings_of readings c.args.loops.world) now)
     (view_of g.D.Disk.tells g.D.Disk.state g.D.Disk.faults g.D.Disk.syncs) in
-    let now = readings_of readings c.ended_of.result.world.clocks in
+    let now = readings_of readings c.ended_of.result.world in
     let ended = place_of c.in-Ok.ensures.left.0 served.disk in
     let failed : ℕ × ℕ = (g.D.Reader.Reader.faults served.readers.0, g.D.Reader.Reader.faults served.readers.1) in
     ends_served (seen (over c.ended_of.result.ends) now) (record { core = c.args.core; flusher = c.args.devices.flusher }) _ _ _ served.end served.last _ ended failed c.ended_of.ensures.core c.ended_of.ensures.tells c.ended_of.ensures.alike c.ended_of.ensures.counted
     (subst (λ x. IsLeft (seen (over x) now) failed (change_of c.args.core (place_of c.args.devices.flusher.file c.args.devices.disk) served.core ended)
     (keep_over g.E.Keep.tells (g.E.Keep.state c.args.devices.keep) (g.E.Keep.state c.ended_of.result.store.keep)) served.kept) (sym c.ended_of.ensures.ends)
-    (subst (λ w. IsLeft (seen (over served.ends) (readings_of readings w.clocks)) failed (change_of c.args.core (place_of c.args.devices.flusher.file c.args.devices.disk) served.core ended)
+    (subst (λ w. IsLeft (seen (over served.ends) (readings_of readings w)) failed (change_of c.args.core (place_of c.args.devices.flusher.file c.args.devices.disk) served.core ended)
     (keep_over g.E.Keep.tells (g.E.Keep.state c.args.devices.keep) (g.E.Keep.state c.ended_of.result.store.keep)) served.kept) (sym c.ended_of.ensures.world)
-    (subst (λ k. IsLeft (seen (over served.ends) (readings_of readings served.world.clocks)) failed (change_of c.args.core (place_of c.args.devices.flusher.file c.args.devices.disk) served.core ended)
+    (subst (λ k. IsLeft (seen (over served.ends) (readings_of readings served.world)) failed (change_of c.args.core (place_of c.args.devices.flusher.file c.args.devices.disk) served.core ended)
     (keep_over g.E.Keep.tells (g.E.Keep.state c.args.devices.keep) (g.E.Keep.state k)) served.kept) (sym c.ended_of.ensures.keep) c.in-Ok.ensures.left.1)))
 
 pub returns-in-Ok-clause-outside : goal.returns-in-Ok-clause-outside

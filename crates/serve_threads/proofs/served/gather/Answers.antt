@@ -1,10 +1,11 @@
 use Rattle.std.proofs.Common.{◌≡◌, ◌∙◌, IfSome, ap, sym, subst}
-use Rattle.ask_ways.specs.Ways.{ArePair, put_by, taken_by}
+use Rattle.flush_rounds.specs.Ways.{ArePair, put_by, taken_by}
 use Rattle.flush_rounds.specs.Asking.{IsFrontOf}
 use Rattle.flush_rounds.specs.declared.asks.LoopAsks.{LoopAsks}
 use Rattle.event_loops.specs.Causes.{door_faults, loop_faults}
 use Rattle.serve_threads.proofs.Keys.{some_at}
-use Rattle.serve_threads.specs.Causes.{HasDoor, IsFirstFault}
+use Rattle.loop_threads.specs.Causes.{HasDoor}
+use Rattle.serve_threads.specs.Causes.{IsFirstFault}
 use Rattle.serve_threads.specs.Links.{AreWhole}
 use Rattle.serve_threads.proofs.Counting.{world_counts}
 use Rattle.serve_threads.proofs.Whole.{some_unless}
@@ -61,13 +62,14 @@ returns-clause-fronts g c =
 
 pub returns-clause-clocks : goal.returns-clause-clocks
 returns-clause-clocks g c = (
-  c.join.ensures.clocks.0 ∙ ap (λ o. o.clock) c.left_of-first_pass.ensures.outside,
-  c.join.ensures.clocks.1 ∙ ap (λ o. o.clock) c.left_of-second_pass.ensures.outside,
+  c.join.ensures.parted.clocks.0 ∙ ap (λ o. o.clock) c.left_of-first_pass.ensures.outside,
+  c.join.ensures.parted.clocks.1 ∙ ap (λ o. o.clock) c.left_of-second_pass.ensures.outside,
+  c.join.ensures.parted.timer_is ∙ c.into_clock.ensures,
 )
 
 pub returns-clause-door : goal.returns-clause-door
 returns-clause-door g c =
-    subst (λ o. IfSome o.entrance (λ e. c.join.result.door ≡ e.door)) c.left_of-first_pass.ensures.outside c.join.ensures.door
+    subst (λ o. IfSome o.entrance (λ e. c.join.result.door ≡ e.door)) c.left_of-first_pass.ensures.outside c.join.ensures.parted.door
 
 pub returns-clause-ends : goal.returns-clause-ends
 returns-clause-ends g c =

@@ -1,4 +1,4 @@
-use Rattle.std.proofs.Common.{◌≤◌, ◌∙◌, ℕ, List, IfSome, ap, refl, sym, subst}
+use Rattle.std.proofs.Common.{◌≤◌, ◌∙◌, ℕ, IfSome, ap, refl, sym, subst}
 use Rattle.log_model.specs.Stored.{StaysOutside}
 use Rattle.worker_turns.specs.Acts.{place_of, view_of}
 use Rattle.story_lock.specs.Passes.{IsPassOf, seen_by, start_of}
@@ -7,9 +7,13 @@ use Rattle.spine.specs.declared.spine.Spine.{Spine}
 use Rattle.serve_threads.specs.Kept.{PutsAlong}
 use Rattle.flush_rounds.specs.Asking.{put_of}
 use Rattle.event_loops.specs.Tales.{loop_view}
-use Rattle.serve_threads.specs.Links.{AreAllThatCame, first_links, second_links, links_over, part_of, reader_over}
+use Rattle.loop_threads.specs.Loops.{part_of, reader_over}
+use Rattle.loop_threads.specs.Worlds.{IsParted, Readings, readings_of}
+use Rattle.loop_threads.proofs.Parting.{parted_once}
+use Rattle.serve_threads.specs.Links.{AreAllThatCame, first_links, second_links, links_over}
 use Rattle.flush_rounds.specs.Flushing.{FlushesTo}
-use Rattle.serve_threads.specs.Served.{HasMade, clocks_over, readings_of, views_of}
+use Rattle.flush_rounds.specs.Timing.{clock_from, clock_view}
+use Rattle.serve_threads.specs.Served.{HasMade, clocks_over, views_of}
 use Rattle.serve_threads.proofs.Flushed.{blames_from, flushed_from, worked_from}
 use Rattle.serve_threads.proofs.Keeping.{keeps_along, puts_longer}
 use Rattle.serve_threads.proofs.Parts.{answered, looks_of, made_of, met_last, stays_acting, stays_leading, took_first, up_to, worked_leads}
@@ -18,19 +22,21 @@ use Rattle.worker_turns.specs.declared.flush.FlushEnd.{FlushEnd}
 use Rattle.flush_rounds.specs.Causes.{BlamesDisk}
 use Rattle.flush_rounds.proofs.Working.{worked_none}
 use Rattle.serve_threads.proofs.Counting.{came_from, door_stays, gave_all, loops_blame}
-use Rattle.serve_threads.specs.Causes.{WorldFaults, BlamesWorld, world_faults}
+use Rattle.loop_threads.specs.Causes.{WorldFaults, world_faults}
+use Rattle.serve_threads.specs.Causes.{BlamesWorld}
 use Rattle.serve_threads.proofs.served.run_seated.Goals as goal
 
 pub new-requires-clause-opens : goal.new-requires-clause-opens
 new-requires-clause-opens g c =
-    worked_none _ _ _ (view_of g.D.Disk.tells g.D.Disk.state g.D.Disk.faults g.D.Disk.syncs) _
+    worked_none _ _ _ (view_of g.D.Disk.tells g.D.Disk.state g.D.Disk.faults g.D.Disk.syncs) (clock_view g.K.Clock.tells g.K.Clock.readings) _
     (record { key = c.seats_of-calls.ensures.key; none_out = c.seats_of-calls.ensures.none_out; inside = c.requires.inside })
 
 pub gather-requires-clause-turns : goal.gather-requires-clause-turns
 gather-requires-clause-turns g c κs within =
     let cut = c.seats_of-calls.ensures.cut in
-    stays_acting (λ z. z.pass) (view_of g.D.Disk.tells g.D.Disk.state g.D.Disk.faults g.D.Disk.syncs) (FlushesTo (put_of c.run_all-ran.result.flushing.ways)) c.args.spine.now.story _ _ _ _ cut.turns cut.are.0 cut.of.0
-    (flushed_from _ _ _ _ _ _ _ c.in-Ok.ensures.story.0 c.run_all-ran.ensures.worked c.requires.none_asked.0)
+    stays_acting (λ z. z.pass) (view_of g.D.Disk.tells g.D.Disk.state g.D.Disk.faults g.D.Disk.syncs)
+    (FlushesTo (clock_from (clock_view g.K.Clock.tells g.K.Clock.readings) c.new-timetable.result.clock c.run_all-ran.result.flushing.timetable.clock) (put_of c.run_all-ran.result.flushing.ways)) c.args.spine.now.story _ _ _ _ cut.turns cut.are.0 cut.of.0
+    (flushed_from _ _ _ _ _ _ _ _ c.in-Ok.ensures.story.0 c.run_all-ran.ensures.worked c.requires.none_asked.0)
 
 pub gather-requires-clause-first : goal.gather-requires-clause-first
 gather-requires-clause-first g c κs within =
@@ -51,15 +57,19 @@ gather-requires-clause-keeper g c κs within =
 
 pub returns-clause-outside : goal.returns-clause-outside
 returns-clause-outside g c = λ tells.
-    subst (λ d. StaysOutside (g.D.Disk.state c.args.devices.disk) (g.D.Disk.state d)) (sym c.gather.ensures.disk) ((worked_from _ _ _ _ _ _ _ c.in-Ok.ensures.story.0 c.run_all-ran.ensures.worked).outside tells)
+    subst (λ d. StaysOutside (g.D.Disk.state c.args.devices.disk) (g.D.Disk.state d)) (sym c.gather.ensures.disk) ((worked_from _ _ _ _ _ _ _ _ c.in-Ok.ensures.story.0 c.run_all-ran.ensures.worked).outside tells)
 
 pub returns-clause-made : goal.returns-clause-made
 returns-clause-made g c =
     let ran = c.run_all-ran in
     let kept = ran.ensures.kept in
     let readings = g.K.Clock.readings in
-    let parts = c.part-near.ensures.clocks in
-    let given = readings_of readings (c.part-near.result.0.clock, c.part-near.result.1.clock) in
+    let parts = c.part-near.ensures.parted in
+    let given : Readings = record {
+      first = readings c.part-near.result.0.clock;
+      second = readings c.part-near.result.1.clock;
+      timer = readings c.new-timetable.result.clock;
+    } in
     let view = (loop_view g.P.Link.Link.tells g.P.Link.Link.given g.P.Link.Link.taken g.P.Ends.Ends.tells g.P.Ends.Ends.entries) in
     let ends = c.gather.result.ends in
     let links = links_over view.links.tells view.told view.entries ends in
@@ -77,22 +87,31 @@ returns-clause-made g c =
     links.told links.first c.requires.none_asked.1 (first_whole view.told view.entries whole.0 first.event_loop.links second.event_loop.links ends whole.2) in
     let other = answered view far _ 1 _ _ (part_of second.calls second.asks second.event_loop.links) loops.1.loops loops.1.none loops.1.fresh ran.ensures.second (law (faults second.reader))
     links.told links.second c.requires.none_asked.2 (second_whole view.told view.entries whole.0 first.event_loop.links second.event_loop.links ends whole.2) in
-    let views = λ (given now : List ℕ × List ℕ).
+    let views = λ (given now : Readings).
     views_of links g.R.Reader.gives (clocks_over g.K.Clock.tells given now) (view_of g.D.Disk.tells g.D.Disk.state g.D.Disk.faults g.D.Disk.syncs) in
     let place = place_of c.args.devices.flusher.file c.args.devices.disk in
     let clocks = c.gather.ensures.clocks in
     let pass = c.gather.result.pass in
-    let now = readings_of readings (first.outside.clock, second.outside.clock) in
+    let now : Readings = record {
+      first = readings first.outside.clock;
+      second = readings second.outside.clock;
+      timer = readings ran.result.flushing.timetable.clock;
+    } in
     let same = c.gather.ensures.readers in
     let failed : ℕ × ℕ = (faults c.gather.result.readers.0, faults c.gather.result.readers.1) in
-    subst (λ (given : List ℕ × List ℕ). HasMade (views given (readings_of readings c.gather.result.world.clocks)) failed place pass c.gather.result.disk)
-    (λ i. (readings (parts.0 i), readings (parts.1 i)))
-    (subst (λ (now : List ℕ × List ℕ). HasMade (views given now) failed place pass c.gather.result.disk) (λ i. (readings (sym clocks.0 i), readings (sym clocks.1 i)))
+    subst (λ (given : Readings). HasMade (views given (readings_of readings c.gather.result.world)) failed place pass c.gather.result.disk)
+    (λ i. record {
+      first = readings (sym parts.clocks.0 i);
+      second = readings (sym parts.clocks.1 i);
+      timer = readings ((c.new-timetable.ensures ∙ sym parts.timer_is) i);
+    })
+    (subst (λ (now : Readings). HasMade (views given now) failed place pass c.gather.result.disk)
+    (λ i. record { first = readings (sym clocks.0 i); second = readings (sym clocks.1 i); timer = readings (sym clocks.2 i) })
     (subst (λ (f : ℕ × ℕ). HasMade (views given now) f place pass c.gather.result.disk) (λ i. (faults (sym same.0 i), faults (sym same.1 i)))
     (subst (λ d. HasMade (views given now) failures place pass d) (sym c.gather.ensures.disk)
     (made_of (views given now) failures (λ z. z.pass) (put_of ran.result.flushing.ways) place ran.result.flushing.flusher.file ran.result.flushing.disk c.args.spine.now.story c.args.pass pass _ _ _ _ _ _ _ _
     c.requires.first.1 c.requires.numbers c.seats_of-calls.ensures.cut c.gather.ensures.met
-    (flushed_from _ _ _ _ _ _ _ c.in-Ok.ensures.story.0 c.run_all-ran.ensures.worked c.requires.none_asked.0)
+    (flushed_from _ _ _ _ _ _ _ _ c.in-Ok.ensures.story.0 c.run_all-ran.ensures.worked c.requires.none_asked.0)
     (took_first _ (first_links links) _ _ _ 0 _ _ _ _ c.gather.ensures.fronts.0 one) (took_first _ (second_links links) _ _ _ 1 _ _ _ _ c.gather.ensures.fronts.1 other)
     (looks_of (λ z. z.pass) (λ z. z.spine.now) (λ (v : Spine). start_of v.story) _ kept.cores _ kept.seen)))))
 
@@ -120,7 +139,7 @@ returns-clause-disk_cause g c =
     let faults = g.D.Disk.faults in
     subst (λ d. BlamesDisk c.gather.result.last (faults c.args.devices.disk) (faults d)) (sym c.gather.ensures.disk)
     (subst (λ (e : FlushEnd). BlamesDisk e (faults c.args.devices.disk) (faults c.run_all-ran.result.flushing.disk)) (sym c.gather.ensures.last)
-    (blames_from _ _ _ _ _ _ _ c.in-Ok.ensures.story.0 c.run_all-ran.ensures.worked refl))
+    (blames_from _ _ _ _ _ _ _ _ c.in-Ok.ensures.story.0 c.run_all-ran.ensures.worked refl))
 
 pub returns-clause-keep_grows : goal.returns-clause-keep_grows
 returns-clause-keep_grows g c =
@@ -129,7 +148,7 @@ returns-clause-keep_grows g c =
 pub gather-requires-clause-pairs : goal.gather-requires-clause-pairs
 gather-requires-clause-pairs g c κs within =
     let ran = c.run_all-ran.ensures in
-    let ways = (worked_from _ _ _ _ _ _ _ c.in-Ok.ensures.story.0 ran.worked).ways in (
+    let ways = (worked_from _ _ _ _ _ _ _ _ c.in-Ok.ensures.story.0 ran.worked).ways in (
       ways.first c.run_all-ran.result.first.asks.way (ran.first.went.took.same c.args.ways.sends.first c.requires.pairs.0),
       ways.second c.run_all-ran.result.second.asks.way (ran.second.went.took.same c.args.ways.sends.second c.requires.pairs.1),
     )
@@ -173,5 +192,6 @@ returns-in-Err-clause-err g c =
     let same = c.in-Err.ensures.err in (
       some_at _ _ _ (ap (λ s. s.calls.pass) (sym same) ∙ back.pass) (subst (λ p. IfSome p (λ q. IsPassOf c.args.spine.now.story q)) (sym cut.are.0) cut.of.0),
       back.devices ∙ ap (λ s. record { flusher = s.flusher; disk = s.disk; readers = c.args.devices.readers; keep = c.args.devices.keep }) same,
-      back.world,
+      parted_once g.P.Door.Door.faults c.args.world c.unbegun.result.1.world c.part-near.result.0 c.part-near.result.1 c.part-near.result.2 c.part-near.ensures.door.0 c.part-near.ensures.parted
+          (subst (λ k. IsParted c.unbegun.result.1.world c.part-near.result.0 c.part-near.result.1 k) (ap (λ s. s.timetable.clock) same ∙ c.new-timetable.ensures) back.world),
     )

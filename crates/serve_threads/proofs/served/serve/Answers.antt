@@ -1,4 +1,4 @@
-use Rattle.std.proofs.Common.{◌∙◌, ℕ, List, sym, subst}
+use Rattle.std.proofs.Common.{◌∙◌, ℕ, sym, subst}
 use Rattle.std.specs.Prelude.{IsSome}
 use Rattle.log_model.specs.Stored.{StaysOutside}
 use Rattle.core_log.specs.declared.parts.Parts.{Parts}
@@ -8,10 +8,12 @@ use Rattle.worker_turns.specs.declared.flush.FlushEnd.{FlushEnd}
 use Rattle.event_loops.specs.Doors.{GaveAll}
 use Rattle.event_loops.specs.declared.event_loop.LoopEnd.{LoopEnd}
 use Rattle.flush_rounds.specs.Causes.{BlamesDisk}
-use Rattle.serve_threads.specs.Causes.{BlamesWorld, world_faults}
-use Rattle.serve_threads.specs.Kept.{keep_over}
+use Rattle.loop_threads.specs.Causes.{world_faults}
+use Rattle.serve_threads.specs.Causes.{BlamesWorld}
+use Rattle.loop_threads.specs.Kept.{keep_over}
+use Rattle.loop_threads.specs.Worlds.{Readings, readings_of}
 use Rattle.serve_threads.specs.Links.{AreAllThatCame, links_over}
-use Rattle.serve_threads.specs.Served.{IsLeft, clocks_over, readings_of, views_of}
+use Rattle.serve_threads.specs.Served.{IsLeft, clocks_over, views_of}
 use Rattle.serve_threads.proofs.served.serve.Goals as goal
 
 pub returns-in-Ok-run_seated-clause-left : goal.returns-in-Ok-run_seated-clause-left
@@ -21,18 +23,18 @@ returns-in-Ok-run_seated-clause-left g c =
     let seated = c.in-Ok-run_seated in
     let readings = g.K.Clock.readings in
     let over = links_over g.P.Link.Link.tells g.P.Ends.Ends.tells g.P.Ends.Ends.entries in
-    let views = λ (was now : List ℕ × List ℕ).
+    let views = λ (was now : Readings).
     views_of (over seated.left.ends) g.R.Reader.gives (clocks_over g.K.Clock.tells was now) (view_of g.D.Disk.tells g.D.Disk.state g.D.Disk.faults g.D.Disk.syncs) in
-    let was = readings_of readings c.args.loops.world.clocks in
-    let now = readings_of readings seated.left.world.clocks in
+    let was = readings_of readings c.args.loops.world in
+    let now = readings_of readings seated.left.world in
     let keep = keep_over g.E.Keep.tells (g.E.Keep.state devices.keep) (g.E.Keep.state c.close.result.keep) in
     let faults = g.R.Reader.faults in
     let failed : ℕ × ℕ = (faults c.close.result.readers.0, faults c.close.result.readers.1) in
     let readers = c.close.ensures.readers in
     subst (λ x. (file : LastFile) × IsLeft (views_of (over x) g.R.Reader.gives
-    (clocks_over g.K.Clock.tells was (readings_of readings c.close.result.world.clocks)) (view_of g.D.Disk.tells g.D.Disk.state g.D.Disk.faults g.D.Disk.syncs)) failed
+    (clocks_over g.K.Clock.tells was (readings_of readings c.close.result.world)) (view_of g.D.Disk.tells g.D.Disk.state g.D.Disk.faults g.D.Disk.syncs)) failed
     (change_of c.args.core place c.close.result.core (place_of file c.close.result.disk)) keep c.close.result.kept) (sym c.close.ensures.ends.3)
-    (subst (λ w. (file : LastFile) × IsLeft (views was (readings_of readings w.clocks)) failed (change_of c.args.core place c.close.result.core (place_of file c.close.result.disk)) keep
+    (subst (λ w. (file : LastFile) × IsLeft (views was (readings_of readings w)) failed (change_of c.args.core place c.close.result.core (place_of file c.close.result.disk)) keep
     c.close.result.kept) (sym c.close.ensures.ends.2)
     (subst (λ r. (file : LastFile) × IsLeft (views was now) (faults r.0, faults r.1) (change_of c.args.core place c.close.result.core (place_of file c.close.result.disk)) keep c.close.result.kept)
     (sym readers)

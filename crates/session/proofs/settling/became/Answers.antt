@@ -1,5 +1,5 @@
 use Rattle.std.proofs.Common.{[], ◌∷◌, refl}
-use Rattle.session.specs.Settling.{look_for}
+use Rattle.session.specs.Owing.{look_for}
 use Rattle.session.proofs.SettlingSteps.{became_by}
 use Rattle.session.proofs.settling.became.Goals as goal
 

@@ -30,7 +30,7 @@ pub returns : goal.returns
 returns g c = record {
   went = λ most high. timed_pass g.C.Calls.makes g.A.Takes.takes (loop_view g.P.Link.Link.tells g.P.Link.Link.given g.P.Link.Link.taken g.P.Ends.Ends.tells g.P.Ends.Ends.entries) (counted_to g.R.Reader.gives most) g.K.Clock.tells c.in_ok-now.now _ _ _ _ _ _ _ _ _ _
       (taking_serving (loop_view g.P.Link.Link.tells g.P.Link.Link.given g.P.Link.Link.taken g.P.Ends.Ends.tells g.P.Ends.Ends.entries) (counted_to g.R.Reader.gives most) (at_reading c.in_ok-now.now g.C.Calls.makes) g.A.Takes.takes g.met.A.Takes.takes_more g.met.A.Takes.takes_none _ _ _ _ _ _ _ _ _ _ _ _ _ _
-      (led_whenever g.C.Calls.makes c.in_ok-now.now _ _ _ _ _ _ (c.gather.ensures.went most (omega arith))) c.note_turns-failed.ensures.links
+      (led_whenever g.C.Calls.makes c.in_ok-now.now _ _ _ _ _ _ (c.gather.ensures.went most (omega arith))) c.note_turns.ensures.links
       (taken_whenever g.C.Calls.makes g.A.Takes.takes c.in_ok-now.now _ _ _ _ _ _ _ (c.take_asks-more_asks.ensures.went most (omega (arith, high, c.serve.ensures.grows)))) (c.serve.ensures.went most high))
       (λ tells. c.in_ok-now.ensures.gave tells ∙ ap (λ l. l ++ c.in_ok-now.now ∷ []) (ap g.K.Clock.readings c.gather.ensures.clock));
   door = door_then g.P.Door.Door.gave _ _ _ c.gather.ensures.door (door_same g.P.Door.Door.gave _ _ c.now.ensures.entrance);

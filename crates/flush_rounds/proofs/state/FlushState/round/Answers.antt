@@ -11,4 +11,4 @@ pub attend-requires-clause-inside : goal.attend-requires-clause-inside
 attend-requires-clause-inside g c κs within = c.flush_all-end.ensures.ready.inside
 
 pub returns : goal.returns
-returns g c = worked_then g.C.Calls.makes g.C.Calls.has_key g.C.Calls.shown _ _ _ _ c.flush_all-end.ensures c.attend.ensures
+returns g c = worked_then g.C.Calls.makes g.C.Calls.has_key g.C.Calls.shown _ _ _ _ _ c.flush_all-end.ensures c.attend.ensures

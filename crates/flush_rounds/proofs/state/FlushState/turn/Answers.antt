@@ -11,7 +11,7 @@ returns-then-is_idle g c =
     let did = c.flush_turn-end.ensures in
     let end = c.flush_turn-end.result in
     record {
-      acted = flushes_still g.C.Calls.makes _ _ _ _ _ (asking_of c.args.self.now.ways)
+      acted = flushes_still g.C.Calls.makes _ g.K.Clock.tells (g.K.Clock.readings c.args.self.now.timetable.clock) _ _ _ _ (asking_of c.args.self.now.ways)
           (idle_turns g.C.Calls.makes _ end _ _ _ _ (c.is_idle.ensures c.if-is_idle.true) did.ended
           (λ none. let rests = did.rests none in λ i. place_of ((rests.0 i).file) (rests.1 i)) did.placed did.cause);
       ways = ways_still _;
@@ -26,7 +26,7 @@ returns g c =
     let did = c.flush_turn-end.ensures in
     let end = c.flush_turn-end.result in
     record {
-      acted = flushes_still g.C.Calls.makes _ _ _ _ _ (asking_of c.args.self.now.ways)
+      acted = flushes_still g.C.Calls.makes _ g.K.Clock.tells (g.K.Clock.readings c.args.self.now.timetable.clock) _ _ _ _ (asking_of c.args.self.now.ways)
           (shown_turns g.C.Calls.makes _ end _ _ _ _ _ did.ended
           (λ none. let rests = did.rests none in λ i. place_of ((rests.0 i).file) (rests.1 i)) did.placed did.cause c.show-seen.ensures.made);
       ways = ways_still _;

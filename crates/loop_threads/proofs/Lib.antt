@@ -1,0 +1,3 @@
+pub mod KeepingUp
+pub mod Parting
+pub mod Working
