@@ -14,7 +14,6 @@ mod JudgeLemmas
 pub mod LegalLemmas
 mod MadeLemmas
 mod MessageLemmas
-mod PairLemmas
 pub mod PullLemmas
 pub mod QueryLemmas
 pub mod ReadLemmas
@@ -23,7 +22,6 @@ pub mod ReplyLemmas
 pub mod RoomLemmas
 pub mod RoomSteps
 pub mod SaidLemmas
-pub mod SendDraftLemmas
 pub mod SendLemmas
 pub mod ShownLemmas
 pub mod StateLemmasReads

@@ -25,10 +25,10 @@ use Rattle.broker_events.specs.Steps.{Says}
 use Rattle.broker_events.specs.declared.said.Said.{Said}
 use Rattle.broker_events.specs.declared.said.Said.TheVariants as said
 use Rattle.core_log.specs.declared.parts.Parts.{Parts}
-use Rattle.broker_core.specs.declared.send_rows.Refusal.{Refusal}
-use Rattle.broker_core.specs.declared.send_rows.Refusal.TheVariants.{Topic, SysFlag, Body, Properties, Record, SystemTopic, NoTopic, Queue}
+use Rattle.made_records.specs.declared.send_rows.Refusal.{Refusal}
+use Rattle.made_records.specs.declared.send_rows.Refusal.TheVariants.{Topic, SysFlag, Body, Properties, Record, SystemTopic, NoTopic, Queue}
 use Rattle.broker_core.specs.Kinds.{kind_of, draft_by}
-use Rattle.broker_core.specs.SendRows.{refusal_by, refused}
+use Rattle.made_records.specs.SendRows.{refusal_by, refused}
 use Rattle.core_log.specs.Represents.{Represents}
 use Rattle.broker_core.specs.Asked.{CarriesRequest}
 use Rattle.core_log.specs.Stands.{IsStorable}
@@ -37,7 +37,8 @@ use Rattle.broker_core.specs.Stores.{IsStored, IsSent, stored_reply, stored_stat
 use Rattle.core_log.specs.Rooms.{is_past, is_over}
 use Rattle.broker_core.proofs.AnswerLemmas.{is_plain_reply, carries_refused}
 use Rattle.broker_core.proofs.EventLemmas.{log_end_answer, full_answer, stored_says, stored_after}
-use Rattle.broker_core.proofs.SendLemmas.{rows_are, is_taken, kept_is}
+use Rattle.made_records.proofs.RowLemmas.{rows_are, is_taken}
+use Rattle.broker_core.proofs.SendLemmas.{kept_is}
 use Rattle.broker_core.proofs.StorableLemmas.{storable, waits_stay}
 use Rattle.core_log.proofs.StoreLemmas.{found_topic}
 

@@ -26,9 +26,9 @@ use Rattle.core_log.specs.declared.kind.Kind.TheVariants.{Plain, Delayed, Half}
 use Rattle.broker_core.specs.Kinds.{kind_in, kind_of, draft_by}
 use Rattle.core_log.specs.Stands.{IsStorable}
 use Rattle.broker_core.proofs.MadeLemmas.{number_in_digits}
-use Rattle.broker_core.proofs.SendLemmas.{IsTaken}
-use Rattle.broker_core.proofs.PairLemmas.{named_has}
-use Rattle.broker_core.proofs.SendDraftLemmas.{IsPlainDraft, writable, kept_within, filter_within, with_prop_within, hosts_stay}
+use Rattle.made_records.proofs.RowLemmas.{IsTaken}
+use Rattle.made_records.proofs.PairLemmas.{named_has}
+use Rattle.made_records.proofs.SendDraftLemmas.{IsPlainDraft, writable, kept_within, filter_within, with_prop_within, hosts_stay}
 
 -- ---- a level
 

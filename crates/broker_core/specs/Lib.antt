@@ -6,6 +6,5 @@ pub mod Makes
 pub mod Owner
 pub mod Queries
 pub mod Reads
-pub mod SendRows
 pub mod Stores
 pub mod Verdicts

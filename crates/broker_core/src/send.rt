@@ -10,11 +10,11 @@ ghost use Rattle.core_log.specs.Stands.{IsStorable};
 ghost use Rattle.core_log.specs.Carries.{Stays, RepresentsSome};
 ghost use Rattle.broker_core.specs.Asked.{CarriesRequest};
 
-use crate::send_draft::{kept_draft, kind_of, plain_draft};
-use crate::send_rows::{made_queues, queue_named, refusal_of};
+use crate::send_kind::{kept_draft, kind_of};
 use crate::store::{Target, store};
 use broker_events::Said;
 use core_log::{Parts, is_past_end, size_of};
+use made_records::{made_queues, plain_draft, queue_named, refusal_of};
 use record_codec::Draft;
 use reply_fields::Reply;
 use request_fields::SendFields;

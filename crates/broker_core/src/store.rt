@@ -17,9 +17,9 @@ ghost use Rattle.core_log.specs.Appends.{HasRoomFor, MayStand};
 ghost use Rattle.core_log.specs.Stands.{IsKeptAs, IsStorable};
 ghost use Rattle.broker_core.specs.Stores.{IsStored, IsTarget};
 
-use crate::send_draft::waits;
 use broker_events::Said;
 use core_log::{Kind, Parts};
+use made_records::waits;
 use record_codec::{Draft, Place};
 use reply_fields::{Reply, Sent};
 use std::alloc::{AllocError, Global};

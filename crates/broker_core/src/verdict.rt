@@ -29,12 +29,12 @@ ghost use Rattle.core_log.specs.Settles.{IsSettling};
 ghost use Rattle.broker_core.specs.Verdicts.{disagreement_of, is_first_verdict, IsSettled, IsRollingBack, IsNamedBy, IsJudged};
 ghost use Rattle.broker_core.specs.Verdicts.{AnswersVerdict, agreed_answer, awaited_in};
 
-use crate::send_draft::waits;
 use crate::store::answer;
 use broker_events::Said;
 use core_log::{Parts, size_of};
 use half_records::Judged;
 use log_model::OriginState;
+use made_records::waits;
 use record_codec::{Draft, Record};
 use record_copies::{commit_draft, op_draft};
 use reply_fields::Reply;

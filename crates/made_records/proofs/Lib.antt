@@ -6,3 +6,6 @@ pub mod RenewalLemmas
 pub mod DiscardLemmas
 pub mod AskLemmas
 pub mod TableLemmas
+pub mod PairLemmas
+pub mod RowLemmas
+pub mod SendDraftLemmas

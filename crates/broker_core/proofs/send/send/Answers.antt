@@ -12,12 +12,12 @@ use Rattle.broker_model.specs.Sends.{is_half_send, level_of, queue_named, plain_
 use Rattle.core_log.specs.declared.kind.Kind.{Kind}
 use Rattle.broker_core.specs.Kinds.{HasLevel, kind_in, kind_of, draft_by}
 use Rattle.broker_events.specs.declared.said.Said.{Said}
-use Rattle.broker_core.specs.SendRows.{refusal_by}
+use Rattle.made_records.specs.SendRows.{refusal_by}
 use Rattle.core_log.specs.Represents.{Represents}
 use Rattle.broker_core.specs.Asked.{CarriesRequest}
 use Rattle.core_log.specs.Stands.{IsStorable}
 use Rattle.broker_core.specs.Stores.{IsSent, IsTarget}
-use Rattle.broker_core.proofs.SendLemmas.{is_taken}
+use Rattle.made_records.proofs.RowLemmas.{is_taken}
 use Rattle.broker_core.proofs.StorableLemmas.{named_level}
 use Rattle.broker_core.proofs.RoomLemmas.{refused_send, made_some, draft_is_storable, carries_sent}
 use Rattle.broker_core.proofs.send.send.Goals as goal

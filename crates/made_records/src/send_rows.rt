@@ -15,7 +15,7 @@ ghost use Rattle.std.specs.Prelude.{◌≡◌, ◌<◌, ◌≤◌, pos, IfOk};
 ghost use Rattle.reply_fields.specs.Parts.{plain as plain_of};
 ghost use Rattle.broker_model.specs.Sends.{queue_named as queue_named_of};
 ghost use Rattle.broker_model.specs.Refusals.{made_queues as made_queues_of};
-ghost use Rattle.broker_core.specs.SendRows.{refusal_by, refused};
+ghost use Rattle.made_records.specs.SendRows.{refusal_by, refused};
 
 use log_model::is_system_topic;
 use record_codec::{BODY_MAX, HOSTS_LONG, is_legal_topic};
@@ -25,14 +25,22 @@ use std::alloc::{AllocError, Global};
 
 /// Why a send is refused: a row of the table.
 #[derive(Clone, Copy)]
-pub(crate) enum Refusal {
+pub enum Refusal {
+    /// The topic has no legal name.
     Topic,
+    /// The system flag says that a host has an address of 16 bytes.
     SysFlag,
+    /// The body is too long.
     Body,
+    /// The property text is too long.
     Properties,
+    /// The record may pass a segment.
     Record,
+    /// The topic is one that the broker keeps for itself.
     SystemTopic,
+    /// The topic isn't known, and no default topic is named.
     NoTopic,
+    /// The topic has no such queue, or would be made with fewer.
     Queue,
 }
 
@@ -43,7 +51,7 @@ const PROPERTIES_MAX: usize = 31_999;
 const RESERVE: usize = 1024;
 
 /// With how many queues a topic is made, where a send asks for this number: 1 to 8.
-pub(crate) fn made_queues(asked: i32) -> u32
+pub fn made_queues(asked: i32) -> u32
     ensures value { result ≡ made_queues_of asked }
     ensures few { result ≤ 8 }
 {
@@ -57,15 +65,16 @@ pub(crate) fn made_queues(asked: i32) -> u32
 }
 
 /// The queue that a send names: a negative number stands for 0.
-pub(crate) fn queue_named(queue: i32) -> u32
+pub fn queue_named(queue: i32) -> u32
     ensures { result ≡ queue_named_of queue }
 {
     if queue < 0 { 0 } else { queue as u32 }
 }
 
-/// The first refusal that holds, for segments of this size and a topic that has so many queues, where it is known.
+/// The first refusal that holds, for segments of this size and a topic that has so many queues, where it is known. `None` where the
+/// send isn't refused.
 #[tactic(auto, unfolding(crate::specs::SendRows::refusal_by))]
-pub(crate) fn refusal_of(send: &SendFields, segment: u32, known: Option<u32>) -> Option<Refusal>
+pub fn refusal_of(send: &SendFields, segment: u32, known: Option<u32>) -> Option<Refusal>
     ensures { result ≡ refusal_by segment known send.now }
 {
     let body = send.body.as_slice().len();
@@ -98,8 +107,8 @@ pub(crate) fn refusal_of(send: &SendFields, segment: u32, known: Option<u32>) ->
 }
 
 impl Refusal {
-    /// What is answered.
-    pub(crate) fn reply(self, alloc: Global) -> Result<Reply, AllocError>
+    /// What is answered: the code and the remark of the row. It fails only where memory runs out.
+    pub fn reply(self, alloc: Global) -> Result<Reply, AllocError>
         ensures { IfOk result (λ reply. reply ≡ plain_of (pos (refused self).code) (refused self).remark) }
     {
         match self {

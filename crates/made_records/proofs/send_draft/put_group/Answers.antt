@@ -1,7 +1,7 @@
 use Rattle.std.proofs.Common.{◌≡◌, ◌∙◌, codes, refl, sym, ap, subst, List, ℕ, true, false}
 use Rattle.std.specs.Prelude.{is_some, OnOk}
-use Rattle.broker_core.proofs.PairLemmas.{group_pair, named_has, with_own, mapped_some}
-use Rattle.broker_core.proofs.send_draft.put_group.Goals as goal
+use Rattle.made_records.proofs.PairLemmas.{group_pair, named_has, with_own, mapped_some}
+use Rattle.made_records.proofs.send_draft.put_group.Goals as goal
 
 pub returns-then-is_some : goal.returns-then-is_some
 returns-then-is_some c =

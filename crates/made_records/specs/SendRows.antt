@@ -7,8 +7,8 @@ use Rattle.request_fields.specs.Requests.{SendSaid}
 use Rattle.broker_model.specs.Events as model
 use Rattle.broker_model.specs.Sends.{queue_named, flag_of}
 use Rattle.broker_model.specs.Refusals.{plain_reply, made_queues}
-use Rattle.broker_core.specs.declared.send_rows.Refusal.{Refusal}
-use Rattle.broker_core.specs.declared.send_rows.Refusal.TheVariants.{Topic, SysFlag, Body, Properties, Record, SystemTopic, NoTopic, Queue}
+use Rattle.made_records.specs.declared.send_rows.Refusal.{Refusal}
+use Rattle.made_records.specs.declared.send_rows.Refusal.TheVariants.{Topic, SysFlag, Body, Properties, Record, SystemTopic, NoTopic, Queue}
 
 -- the rows, in their order
 abbrev pub rows_of : ℕ → Option ℕ → SendSaid → List (Bool × Refusal)

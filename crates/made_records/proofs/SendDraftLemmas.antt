@@ -17,7 +17,7 @@ use Rattle.record_codec.proofs.LastLemmas.{value_of-dropped}
 use Rattle.log_model.specs.Drafts.{plain_flag}
 use Rattle.request_fields.specs.Requests.{SendSaid}
 use Rattle.broker_model.specs.Sends.{flag_of, queue_named, kept_props, plain_draft}
-use Rattle.broker_core.proofs.SendLemmas.{IsTaken, no_bits}
+use Rattle.made_records.proofs.RowLemmas.{IsTaken, no_bits}
 
 -- A draft that can be written into a segment, and is a plain message to one of 1,024 queues and no copy of a half message.
 pub record IsPlainDraft (segment : ℕ) (d : Draft) : Type 0 where

@@ -1,4 +1,4 @@
-//! What the record of a send says, and what a send asks for besides being stored.
+//! What the record of a send says, as a plain, a delayed or a half message, and what a send asks for besides being stored.
 
 ghost use Rattle.std.specs.Prelude.{◌≡◌, ◌≤◌, true, IfOk, OnOk};
 ghost use Rattle.record_codec.specs.Layout.{is_legal};
@@ -6,17 +6,15 @@ ghost use Rattle.request_fields.specs.Requests.{IsFieldName};
 ghost use Rattle.broker_model.specs.Sends.{is_half_send, level_of as level_of_send, waits as waits_of};
 ghost use Rattle.broker_model.specs.Sends.{kept_props as kept_props_of, plain_draft as plain_draft_of};
 ghost use Rattle.broker_model.specs.Sends.{with_real, with_group, half_draft as half_draft_of, delayed_draft as delayed_draft_of};
-ghost use Rattle.broker_core.specs.Kinds.{HasLevel, draft_by, kind_of as kind_of_send};
 
 use crate::send_rows::queue_named;
-use core_log::Kind;
 use mq_bytes::{Text, read_decimal};
 use record_codec::{Draft, PREPARED, Props, TRANSACTION_BITS};
 use request_fields::SendFields;
 use std::alloc::{AllocError, Global};
 
-// Whether it is a half message, by its property or by its system flag.
-fn is_half(send: &SendFields) -> bool
+/// Whether a send is of a half message, by its property or by its system flag.
+pub fn is_half(send: &SendFields) -> bool
     ensures { result ≡ is_half_send send.now }
 {
     let says = match Props::value_in(send.props.as_str(), "TRAN_MSG") {
@@ -26,8 +24,9 @@ fn is_half(send: &SendFields) -> bool
     says || send.sysflag.cast_unsigned() & TRANSACTION_BITS == PREPARED
 }
 
-// The delay level of a send, by its `DELAY`: 1 to 18, which stands for each greater number too.
-fn level_of(send: &SendFields) -> Option<u8>
+/// The delay level of a send, by its `DELAY`: 1 to 18, which stands for each greater number too. `None` where it has no number
+/// there, or one below 1.
+pub fn level_of(send: &SendFields) -> Option<u8>
     ensures { result ≡ level_of_send send.now }
 {
     match Props::value_in(send.props.as_str(), "DELAY") {
@@ -47,21 +46,8 @@ fn level_of(send: &SendFields) -> Option<u8>
     }
 }
 
-/// How the message of a send is kept: as a half message, as a delayed one where it has a level, or in its own topic.
-pub(crate) fn kind_of(send: &SendFields) -> Kind
-    ensures { result ≡ kind_of_send send.now }
-{
-    if is_half(send) {
-        return Kind::Half;
-    }
-    match level_of(send) {
-        Some(level) => Kind::Delayed(level),
-        None => Kind::Plain,
-    }
-}
-
 /// Whether a message with these properties is answered once it is on the disk.
-pub(crate) fn waits(props: &Props) -> bool
+pub fn waits(props: &Props) -> bool
     ensures { result ≡ waits_of props.now }
 {
     match props.get("WAIT") {
@@ -90,8 +76,8 @@ fn text(alloc: Global, text: &str) -> Result<Text, AllocError>
     Ok(Text::of(String::from_str(alloc, text)?))
 }
 
-/// The message as it was sent, from this host, to the broker at the other one.
-pub(crate) fn plain_draft(
+/// The message as it was sent, from this host, to the broker at the other one. It fails only where memory runs out.
+pub fn plain_draft(
     alloc: Global,
     send: &SendFields,
     born_host: [u8; 8],
@@ -124,8 +110,8 @@ fn put_real(alloc: Global, props: &mut Props, topic: &str, queue: u32) -> Result
     props.put(alloc, "REAL_QID", digits.as_str())
 }
 
-// The message as a delayed one of this level.
-fn delayed_draft(alloc: Global, level: u8, d: Draft) -> Result<Draft, AllocError>
+/// The message as a delayed one of this level. It fails only where memory runs out.
+pub fn delayed_draft(alloc: Global, level: u8, d: Draft) -> Result<Draft, AllocError>
     requires low { 1 ≤ level }
     requires legal { is_legal d.topic ≡ true }
     ensures { IfOk result (λ draft. draft ≡ delayed_draft_of level d) }
@@ -148,8 +134,8 @@ fn put_group(alloc: Global, props: &mut Props, group: &str) -> Result<(), AllocE
     props.put(alloc, "PGROUP", group)
 }
 
-// The message of this producer group as a half message, which isn't delayed.
-fn half_draft(alloc: Global, group: &str, d: Draft) -> Result<Draft, AllocError>
+/// The message of this producer group as a half message, which isn't delayed. It fails only where memory runs out.
+pub fn half_draft(alloc: Global, group: &str, d: Draft) -> Result<Draft, AllocError>
     requires group { IsFieldName group.now }
     requires legal { is_legal d.topic ≡ true }
     ensures { IfOk result (λ draft. draft ≡ half_draft_of group.now d) }
@@ -161,23 +147,4 @@ fn half_draft(alloc: Global, group: &str, d: Draft) -> Result<Draft, AllocError>
     draft.topic = text(alloc, "RMQ_SYS_TRANS_HALF_TOPIC")?;
     draft.queue = 0;
     Ok(draft)
-}
-
-/// The message of this producer group as it is kept.
-pub(crate) fn kept_draft(
-    alloc: Global,
-    kind: Kind,
-    group: &str,
-    d: Draft,
-) -> Result<Draft, AllocError>
-    requires level { HasLevel kind }
-    requires group { IsFieldName group.now }
-    requires legal { is_legal d.topic ≡ true }
-    ensures { IfOk result (λ draft. draft ≡ draft_by kind group.now d) }
-{
-    match kind {
-        Kind::Plain => Ok(d),
-        Kind::Delayed(level) => delayed_draft(alloc, level, d),
-        Kind::Half => half_draft(alloc, group, d),
-    }
 }

@@ -1,8 +1,8 @@
 use Rattle.std.proofs.Common.{codes, refl, ◌∙◌, sym, subst, List, ℕ, arith}
 use Rattle.std.specs.Prelude.{IsTrue}
 use Rattle.record_codec.specs.Props.{is_pair}
-use Rattle.broker_core.proofs.PairLemmas.{digits_pair, topic_pair}
-use Rattle.broker_core.proofs.send_draft.put_real.Goals as goal
+use Rattle.made_records.proofs.PairLemmas.{digits_pair, topic_pair}
+use Rattle.made_records.proofs.send_draft.put_real.Goals as goal
 
 pub put-requires : goal.put-requires
 put-requires c = topic_pair (codes "REAL_TOPIC") c.args.topic.now refl c.requires
