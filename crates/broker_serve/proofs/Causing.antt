@@ -17,8 +17,7 @@ use Rattle.event_loops.specs.declared.event_loop.LoopEnd.TheVariants as loops
 use Rattle.store_open.specs.Openings.{OpeningCause}
 use Rattle.store_open.specs.declared.status.Status.{Status}
 use Rattle.flush_rounds.specs.Causes.{BlamesDisk}
-use Rattle.loop_threads.specs.Causes.{WorldFaults, BlamesMaking}
-use Rattle.serve_threads.specs.Causes.{ServeFaults, BlamesWorld, HasCauses, counts_of}
+use Rattle.serve_threads.specs.Causes.{BlamesMaking, BlamesWorld, HasCauses, ServeFaults, WorldFaults, counts_of}
 use Rattle.broker_serve.specs.Causes.{BlamesDoor, Causes, StatusTellsMaking}
 use Rattle.exit_status.specs.Statuses.{TellsDevice, StatusTellsFault, StatusTellsConfig}
 use Rattle.broker_serve.specs.Statuses.{StatusTellsLoops, StatusTellsEnd, StatusLeft, StatusTellsReader}

@@ -25,8 +25,7 @@ use Rattle.store_open.specs.declared.serve_words.ServeCommand.{ServeCommand}
 use Rattle.store_open.specs.declared.status.Status.{Status}
 use Rattle.event_loops.specs.Doors.{GaveAll}
 use Rattle.mq_peers.specs.Ended.{LinkEnd}
-use Rattle.loop_threads.specs.Causes.{WorldFaults}
-use Rattle.serve_threads.specs.Causes.{ServeFaults, counts_of}
+use Rattle.serve_threads.specs.Causes.{ServeFaults, WorldFaults, counts_of}
 use Rattle.serve_threads.specs.Links.{LinksOver, AreAllThatCame, links_over, told_in}
 use Rattle.broker_serve.specs.Serves.{AllLinks}
 use Rattle.exit_status.specs.Statuses.{TellsDevice, StatusKept, StatusTellsFault, StatusTellsConfig}

@@ -4,14 +4,14 @@ use Rattle.mq_outside.specs.Counts.{Rises}
 use Rattle.event_loops.specs.declared.event_loop.LoopEnd.{LoopEnd}
 use Rattle.event_loops.specs.declared.event_loop.LoopEnd.TheVariants as loops
 use Rattle.store_open.specs.declared.status.Status.{Status}
-use Rattle.loop_threads.specs.Causes.{WorldFaults}
-use Rattle.serve_threads.specs.Causes.{OneRises, ServeFaults}
+use Rattle.serve_threads.specs.Causes.{OneRises, ServeFaults, WorldFaults}
 use Rattle.exit_status.specs.Statuses.{TellsDevice}
 
 -- the status tells of no device that failed
 abbrev pub BlamesNone : Status → Type 0
 BlamesNone status =
-    (status.code ≡ 0) ⊎ ((status.code ≡ 1) ⊎ ((status.code ≡ 6) ⊎ ((status.code ≡ 7) ⊎ ((status.code ≡ 8) ⊎ (status.code ≡ 9)))))
+    (status.code ≡ 0) ⊎ ((status.code ≡ 1) ⊎ ((status.code ≡ 6)
+    ⊎ ((status.code ≡ 7) ⊎ ((status.code ≡ 8) ⊎ (status.code ≡ 9)))))
 
 -- what keeps the door shut: it failed, or what tells one of the loops which links are ready did, or there is no memory
 abbrev pub BlamesDoor : Status → WorldFaults → WorldFaults → Type 0

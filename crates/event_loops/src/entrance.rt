@@ -5,7 +5,7 @@ ghost use Rattle.event_loops.specs.Causes.{CountsDoor};
 ghost use Rattle.event_loops.specs.Doors.{AllCame, KeepsEntrance};
 
 use crate::event_loop::LoopEnd;
-use crate::shared::NewLink;
+use link_service::NewLink;
 use mq_outside::Failed;
 use mq_peers::{Door, Ready};
 

@@ -1,7 +1,8 @@
 //! A loop: it waits until one of its links may have something to say or a check-back for one has come, serves what came on all of
 //! them, and sends what is due.
 
-ghost use Rattle.std.specs.Prelude.{length, ◌≡◌, ◌<◌, ◌≤◌, ◌^◌, [], true, false, Some, None, IfOk, IfSome, slice_get, vec_len};
+ghost use Rattle.std.specs.Prelude.{length, ◌≡◌, ◌<◌, ◌≤◌, ◌^◌, [], true, false};
+ghost use Rattle.std.specs.Prelude.{Some, None, IfOk, IfSome, slice_get, vec_len};
 ghost use Rattle.link_service.specs.Clocks.{at_reading, unasked};
 ghost use Rattle.link_service.specs.Transcripts.{ByReader};
 ghost use Rattle.event_loops.specs.Causes.{CountsEnd, CountsLoop, Grow, loop_faults};
@@ -14,8 +15,8 @@ use crate::asks::{Picked, Takes};
 use crate::flushing::Flushes;
 use crate::links::Links;
 use crate::outside::{DOOR, Outside};
-use crate::shared::{NewLink, Port, Shared};
 use broker_events::Calls;
+use link_service::{NewLink, Port, Shared};
 use mq_outside::{Clock, Reader};
 use mq_peers::{Ends, Event, Ready};
 use std::alloc::{AllocError, Global};

@@ -3,7 +3,7 @@
 //! came meanwhile would miss the next turn.
 
 use crate::event_loop::{Around, EventLoop};
-use crate::shared::{Port, Shared};
+use link_service::{Port, Shared};
 use mq_peers::Ready;
 use std::alloc::Global;
 use std::sync::Wait;

@@ -10,7 +10,6 @@ mod laws;
 mod ledger;
 mod links;
 mod outside;
-mod shared;
 
 pub use asks::{NoAsks, Picked, Takes};
 pub use entrance::{Bounds, Entrance};
@@ -20,4 +19,3 @@ pub use laws::{a_loop_is_told_from_its_beginning_on, each_link_of_a_loop_is_answ
 pub use ledger::Ledger;
 pub use links::{Links, Numbered};
 pub use outside::{Outside, watch_door};
-pub use shared::{NewLink, Port, Shared};

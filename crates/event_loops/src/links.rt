@@ -1,6 +1,7 @@
 //! The links of a loop: each is read and served, and then what is due on each is sent.
 
-ghost use Rattle.std.specs.Prelude.{◌≡◌, ◌<◌, ◌≤◌, ◌^◌, ◌∷◌, [], List, true, false, slice_get, Option, Some, None, IfSome};
+ghost use Rattle.std.specs.Prelude.{◌≡◌, ◌<◌, ◌≤◌, ◌^◌, ◌∷◌, [], List, true, false};
+ghost use Rattle.std.specs.Prelude.{slice_get, Option, Some, None, IfSome};
 ghost use Rattle.mq_peers.specs.Ended.{LinkEnd};
 ghost use Rattle.broker_events.specs.declared.event.Event.TheVariants.{Leave};
 ghost use Rattle.broker_events.specs.declared.said.Said.{Said};
@@ -10,9 +11,8 @@ ghost use Rattle.event_loops.specs.Tales.{Acts, ActsOrLeaves, Enters, Keeps, Lea
 ghost use Rattle.event_loops.specs.Tales.{IsLink, IsSlotOf, end_in, link_view, loop_view, loop_of as loop_of_link};
 
 use crate::ledger::{Ledger, let_go};
-use crate::shared::Shared;
 use broker_events::{Calls, Event as BrokerEvent};
-use link_service::Linked;
+use link_service::{Linked, Shared};
 use mq_outside::Reader;
 use mq_peers::{Ends, Event, Link};
 use reply_fields::Ask;

@@ -8,7 +8,8 @@ ghost use Rattle.flush_rounds.specs.Timing.{AreDueNow, AreNotDue};
 
 use crate::ways::{Receiver, Sender, way};
 use broker_events::Calls;
-use event_loops::{Picked, Port, Takes};
+use event_loops::{Picked, Takes};
+use link_service::Port;
 use mq_peers::Ready;
 use reply_fields::Ask;
 use std::alloc::{AllocError, Global};

@@ -1,3 +1,2 @@
 pub mod KeepingUp
-pub mod Parting
 pub mod Working

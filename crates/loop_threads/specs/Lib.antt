@@ -1,4 +1,2 @@
-pub mod Causes
 pub mod Kept
 pub mod Loops
-pub mod Worlds

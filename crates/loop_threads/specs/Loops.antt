@@ -1,28 +1,14 @@
--- Two loops before they run, and what each of them did until it ended.
-use Rattle.std.specs.Prelude.{◌≡◌, ℕ, List, []}
+-- What each of two loops did until it ended.
+use Rattle.std.specs.Prelude.{◌≡◌, ℕ, []}
 use Rattle.mq_outside.specs.Readings.{Giving}
-use Rattle.mq_peers.specs.Ended.{LinkEnd}
 use Rattle.link_service.specs.Transcripts.{counted_to}
 use Rattle.event_loops.specs.Tales.{LoopView}
 use Rattle.event_loops.specs.Takings.{LeadsTaking}
 use Rattle.event_loops.specs.Timing.{ClockOver, GoesTimed}
-use Rattle.event_loops.specs.declared.event_loop.EventLoop.{EventLoop}
 use Rattle.event_loops.specs.declared.links.Links.{Links}
 use Rattle.worker_turns.specs.Turns.{Steps}
 use Rattle.flush_rounds.specs.Asking.{HasTaken}
 use Rattle.flush_rounds.specs.declared.asks.LoopAsks.{LoopAsks}
-
--- one of two loops, with this number, which had no link yet; where its ledger tells, it has none either
-pub record IsLoop {Ready Link Door Ends Waker : Type 0} (told : Type 0) (entries : Ends → List LinkEnd) (number : ℕ)
-    (it : EventLoop Ready Link Door Ends Waker) : Type 0 where
-  pub loops : (it.links.loops ≡ 2) × (it.links.number ≡ number)
-  pub none : it.links.slots.items ≡ []
-  pub fresh : told → entries it.links.ledger.ends ≡ []
-
--- both of them
-abbrev pub AreLoops : {Ready Link Door Ends Waker : Type 0} → Type 0 → (Ends → List LinkEnd) → EventLoop Ready Link Door Ends Waker
-    → EventLoop Ready Link Door Ends Waker → Type 0
-AreLoops told entries first second = IsLoop told entries 0 first × IsLoop told entries 1 second
 
 -- a loop with its caller of the core, and its end of a way by which check-backs come
 pub record Part (C L N : Type 0) : Type 0 where

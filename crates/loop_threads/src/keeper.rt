@@ -4,8 +4,8 @@ ghost use Rattle.std.specs.Prelude.{◌≤◌};
 ghost use Rattle.loop_threads.specs.Kept.{KeepsUp, keep_over};
 
 use broker_core::Owner;
-use event_loops::Shared;
 use keeper_turns::keeper_turn;
+use link_service::Shared;
 use mq_outside::Keep;
 use std::alloc::Global;
 use std::sync::Wait;

@@ -4,13 +4,7 @@
 
 mod callers;
 mod keeper;
-mod loops;
-mod starting;
 mod threads;
-mod world;
 
 pub use callers::CALLERS;
-pub use loops::Loops;
-pub use starting::can_start_threads;
 pub use threads::{Keeping, Ran, Worker, run_all};
-pub use world::World;

@@ -4,20 +4,19 @@ ghost use Rattle.std.specs.Prelude.{◌≡◌, ◌≢◌, true, false, None, IfS
 ghost use Rattle.worker_turns.specs.Acts.{view_of};
 ghost use Rattle.store_open.specs.Words.{texts_of};
 ghost use Rattle.loop_threads.specs.Kept.{keep_over};
-ghost use Rattle.loop_threads.specs.Worlds.{readings_of};
+ghost use Rattle.serve_threads.specs.Worlds.{readings_of};
 ghost use Rattle.serve_threads.specs.Links.{links_over};
 ghost use Rattle.serve_threads.specs.Served.{clocks_over, views_of};
-ghost use Rattle.loop_threads.specs.Causes.{world_faults};
-ghost use Rattle.serve_threads.specs.Causes.{counts_of};
+ghost use Rattle.serve_threads.specs.Causes.{counts_of, world_faults};
 ghost use Rattle.program_run.specs.Acknowledged.{KeepsServed};
 ghost use Rattle.program_run.specs.Stand.{KeepsAnswers};
 ghost use Rattle.program_run.specs.Runs.{AsksLinks, Pipes, Serves};
 
 use broker_run::run_pipe;
 use broker_serve::{Ended, Store, run_serve};
-use loop_threads::World;
 use mq_outside::{Clock, Disk, Keep, Sink, Source};
 use mq_peers::Ready;
+use serve_threads::World;
 use std::alloc::Global;
 use std::sync::Wait;
 use std::thread::Threads;

@@ -5,10 +5,10 @@ ghost use Rattle.mq_outside.specs.MemSource.{HasNoEmptyPiece};
 
 use broker_core::Core;
 use broker_serve::{Ended, Store, run_serve};
-use loop_threads::World;
 use mq_outside::{Disk, MemClock, MemDisk, MemKeep, MemSink, MemSource, Room};
 use mq_peers::{Calls, Link, MemDoor, MemEnds, MemLink, MemReady};
 use run_tests::put_send;
+use serve_threads::World;
 use std::alloc::{AllocError, Global};
 use std::sync::Wait;
 use std::thread::Threads;

@@ -4,10 +4,10 @@ ghost use Rattle.std.specs.Thread.{IsSync};
 
 use crate::links::{disk, records_in};
 use broker_serve::{Ended, Store, run_serve};
-use loop_threads::World;
 use mq_outside::{Disk, MemClock, MemDisk, MemKeep};
 use mq_peers::{MachineRest, Ready, Rest, TcpDoor, TcpReady};
 use run_tests::{FIRST_SENT, HOST, put_send};
+use serve_threads::World;
 use std::alloc::{AllocError, Global};
 use std::io;
 use std::io::{Read, Write};

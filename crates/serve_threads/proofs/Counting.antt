@@ -9,8 +9,7 @@ use Rattle.event_loops.specs.Doors.{AllCame, GaveAll, IsDoorDone, KeepsDoor}
 use Rattle.event_loops.specs.declared.entrance.Bounds.{Bounds}
 use Rattle.event_loops.specs.declared.entrance.Entrance.{Entrance}
 use Rattle.event_loops.specs.Causes.{door_faults, LoopFaults, GrowsAt, RisesAt, Blames, CountsEnd}
-use Rattle.loop_threads.specs.Causes.{WorldFaults, HasDoor, both_faults, count_in}
-use Rattle.serve_threads.specs.Causes.{BlamesWorld, BlamesKeep, IsFirstFault}
+use Rattle.serve_threads.specs.Causes.{BlamesKeep, BlamesWorld, HasDoor, IsFirstFault, WorldFaults, both_faults, count_in}
 
 -- ---- the keep
 

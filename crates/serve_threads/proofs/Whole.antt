@@ -8,7 +8,7 @@ use Rattle.event_loops.specs.Doors.{KeepsDoor}
 use Rattle.event_loops.specs.declared.entrance.Bounds.{Bounds}
 use Rattle.event_loops.specs.declared.entrance.Entrance.{Entrance}
 use Rattle.event_loops.specs.declared.links.Links.{Links}
-use Rattle.loop_threads.specs.Causes.{HasDoor}
+use Rattle.serve_threads.specs.Causes.{HasDoor}
 use Rattle.serve_threads.specs.Links.{AreAllThatCame, AreUpTo, AreWhole, told_in, first_in, second_in, links_over}
 
 module _ {L N : Type 0} (told : Type 0) (entries : N → List LinkEnd) (came : ℕ) (first second : Links L N) where

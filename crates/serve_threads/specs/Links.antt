@@ -1,5 +1,6 @@
 -- What two loops did for their links, and which links have ended.
-use Rattle.std.specs.Prelude.{◌≡◌, ◌⊎◌, ◌<◌, ◌≤◌, ◌+◌, ℕ, List, [], length, slice_get, Option, Some, None, false}
+use Rattle.std.specs.Prelude.{◌≡◌, ◌⊎◌, ◌<◌, ◌≤◌, ◌+◌, ℕ, List, [], length, slice_get}
+use Rattle.std.specs.Prelude.{Option, Some, None, false}
 use Rattle.mq_outside.specs.Readings.{Giving}
 use Rattle.mq_peers.specs.Ended.{LinkEnd}
 use Rattle.reply_fields.specs.Parts.{AskParts}
@@ -78,7 +79,8 @@ pub record AreEntered (tells : Type 0) (reader : ReaderView) (number : ℕ) (act
 -- What one of the two loops made: for each of its links its passes, in which each reply is its request's, and behind them its `Leave`,
 -- and nothing else. These check-backs were written meanwhile, and replies `read N`: each with a count to which the failures of the loop's
 -- reader came, and all together no more than it failed. Where the links that ended are told, it is what was done for them.
-pub record AreAnswered (links : LoopLinks) (gives : Giving) (failures : ℕ) (number : ℕ) (steps : Made) (asks : List AskParts) : Type 0 where
+pub record AreAnswered (links : LoopLinks) (gives : Giving) (failures : ℕ) (number : ℕ) (steps : Made) (asks : List AskParts)
+    : Type 0 where
   pub acts : List Act
   pub all : steps ≡ steps_of acts
   pub asked : asks ≡ asks_of acts

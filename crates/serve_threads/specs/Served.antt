@@ -29,7 +29,7 @@ use Rattle.spine.specs.Stands.{Stands}
 use Rattle.keeper_turns.specs.Puts.{KeepsBy}
 use Rattle.keeper_turns.specs.Turns.{IsOffsetsOf, IsTopicsOf}
 use Rattle.flush_rounds.specs.Flushing.{FlushesTo, Write}
-use Rattle.loop_threads.specs.Worlds.{Readings}
+use Rattle.serve_threads.specs.Worlds.{Readings}
 use Rattle.loop_threads.specs.Kept.{KeepOver}
 use Rattle.serve_threads.specs.Kept.{PutsAlong}
 use Rattle.serve_threads.specs.Links.{LinksOver, AreAnsweredFrom, first_links, second_links}
@@ -143,8 +143,8 @@ module _ {chronicle : Ghosts Shared Event (Option Said)} where
 
   -- The pass has each seat number of four, and its entries are the flusher's, those of the two loops, whose readers failed so often,
   -- and the keeper's. What the flusher's turns did to the disk leads from the first place to this disk.
-  pub record HasMade {D : Type 0} (views : Views D) (failures : ℕ × ℕ) (old : Place D) (pass : Pass Shared Event (Option Said) chronicle) (disk : D)
-      : Type 0 where
+  pub record HasMade {D : Type 0} (views : Views D) (failures : ℕ × ℕ) (old : Place D)
+      (pass : Pass Shared Event (Option Said) chronicle) (disk : D) : Type 0 where
     pub turns : List acts.Act
     pub first : Made
     pub second : Made

@@ -3,7 +3,13 @@
 #![tactic(auto)]
 
 mod laws;
+mod loops;
 mod served;
+mod starting;
+mod world;
 
 pub use laws::a_shared_history_is_a_story;
+pub use loops::Loops;
 pub use served::{Devices, Served, Unserved, serve};
+pub use starting::can_start_threads;
+pub use world::World;

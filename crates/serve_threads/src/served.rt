@@ -1,6 +1,7 @@
 //! The broker over many links, from the core that is opened to the core that is left.
 
-ghost use Rattle.std.specs.Prelude.{◌≡◌, ◌≢◌, ◌≤◌, ◌+◌, ℕ, List, [], ◌∷◌, length, true, false, Some, None, IfSome, IsSome, IfOk, IfErr};
+ghost use Rattle.std.specs.Prelude.{◌≡◌, ◌≢◌, ◌≤◌, ◌+◌, ℕ, List, [], ◌∷◌, length, true, false};
+ghost use Rattle.std.specs.Prelude.{Some, None, IfSome, IsSome, IfOk, IfErr};
 ghost use Rattle.log_model.specs.Stored.{StaysOutside};
 ghost use Rattle.segment_files.specs.Turn.{IsInside};
 ghost use Rattle.segment_files.specs.declared.last_file.LastFile.{LastFile};
@@ -13,25 +14,28 @@ ghost use Rattle.event_loops.specs.Doors.{GaveAll};
 ghost use Rattle.event_loops.specs.declared.event_loop.LoopEnd.TheVariants.{Done, Memory};
 ghost use Rattle.flush_rounds.specs.Ways.{ArePair, put_by, taken_by};
 ghost use Rattle.flush_rounds.specs.Asking.{HasNoneAsked, IsFrontOf};
-ghost use Rattle.loop_threads.specs.Causes.{HasDoor, both_faults, world_faults};
 ghost use Rattle.loop_threads.specs.Kept.{keep_over};
-ghost use Rattle.loop_threads.specs.Loops.{AreLoops};
-ghost use Rattle.loop_threads.specs.Worlds.{IsParted, Readings, readings_of};
+ghost use Rattle.serve_threads.specs.Loops.{AreLoops};
+ghost use Rattle.serve_threads.specs.Worlds.{IsParted, Readings, readings_of};
 ghost use Rattle.serve_threads.specs.Kept.{PutsAlong};
 ghost use Rattle.serve_threads.specs.Links.{AreAllThatCame, AreWhole, links_over};
 ghost use Rattle.serve_threads.specs.Served.{AreCut, AreMet, Meets, HasMade, IsLeft, by_thread};
 ghost use Rattle.serve_threads.specs.Served.{clocks_over, views_of};
 ghost use Rattle.flush_rounds.specs.Causes.{BlamesDisk};
-ghost use Rattle.serve_threads.specs.Causes.{BlamesKeep, BlamesWorld, HasCauses, IsFirstFault, counts_of};
+ghost use Rattle.serve_threads.specs.Causes.{BlamesKeep, BlamesWorld, HasCauses, HasDoor, IsFirstFault};
+ghost use Rattle.serve_threads.specs.Causes.{both_faults, counts_of, world_faults};
 
+use crate::loops::Loops;
+use crate::world::World;
 use broker_core::Core;
 use event_loops::{
-    Around, Bounds, EventLoop, LoopEnd, Outside, Shared, each_link_of_a_loop_is_answered_in_order,
+    Around, Bounds, EventLoop, LoopEnd, Outside, each_link_of_a_loop_is_answered_in_order,
 };
 use flush_rounds::{AskWays, FlushState, LoopAsks, Timetable, Ways};
 use group_flush::Flusher;
 use keeper_turns::keep_core;
-use loop_threads::{CALLERS, Keeping, Loops, Ran, Worker, World, run_all};
+use link_service::Shared;
+use loop_threads::{CALLERS, Keeping, Ran, Worker, run_all};
 use mq_outside::{Clock, Disk, DiskFault, Keep, Reader};
 use mq_peers::Ready;
 use spine::{Pass, Spine, SpinePass};
@@ -345,7 +349,8 @@ fn unbegun<
 ) -> (Pass, Unserved<P, K, D, R, E>)
     requires door { HasDoor (door_faults P.Door.faults loops.0.entrance) }
     ensures pass { state.entry.calls.pass ≡ Some result.0 }
-    ensures devices { result.1.devices ≡ record { flusher = state.entry.flusher; disk = state.entry.disk; readers = readers; keep = keep } }
+    ensures devices { result.1.devices
+        ≡ record { flusher = state.entry.flusher; disk = state.entry.disk; readers = readers; keep = keep } }
     ensures world { IsParted result.1.world loops.0 loops.1 state.entry.timetable.clock }
 {
     let FlushState {
@@ -491,7 +496,8 @@ fn close<
         (R.faults left.readers.0, R.faults left.readers.1)
         (change_of (start_of spine.story).core place result.core (place_of file result.disk))
         (keep_over E.tells (E.state before) (E.state result.keep)) result.kept }
-    ensures ends { (result.end ≡ left.end) × (result.last ≡ left.last) × (result.world ≡ left.world) × (result.ends ≡ left.ends) }
+    ensures ends { (result.end ≡ left.end) × (result.last ≡ left.last) × (result.world ≡ left.world)
+        × (result.ends ≡ left.ends) }
     ensures readers { result.readers ≡ left.readers }
     ensures cause { (before : ℕ) → before ≤ E.faults left.keep → BlamesKeep result.kept before (E.faults result.keep) }
 {

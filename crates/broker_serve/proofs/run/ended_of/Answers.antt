@@ -1,7 +1,6 @@
 use Rattle.broker_serve.proofs.Telling.{left_tells}
 use Rattle.std.proofs.Common.{ℕ, sym, subst}
-use Rattle.loop_threads.specs.Causes.{world_faults}
-use Rattle.serve_threads.specs.Causes.{counts_of}
+use Rattle.serve_threads.specs.Causes.{counts_of, world_faults}
 use Rattle.broker_serve.specs.Causes.{Causes}
 use Rattle.broker_serve.proofs.Causing.{served_causes}
 use Rattle.broker_serve.proofs.run.ended_of.Goals as goal

@@ -1,5 +1,5 @@
 use Rattle.std.proofs.Common.{refl}
-use Rattle.loop_threads.specs.Causes.{world_faults}
+use Rattle.serve_threads.specs.Causes.{world_faults}
 use Rattle.broker_serve.proofs.Causing.{making_blames, making_tells, shut_blames}
 use Rattle.broker_serve.proofs.Telling.{door_told}
 use Rattle.broker_serve.proofs.run.open_loops.Goals as goal

@@ -11,8 +11,7 @@ use Rattle.broker_serve.specs.Statuses.{IsDamagedFor, TellsWhy}
 use Rattle.broker_serve.specs.Unserved.{ServesNobody}
 use Rattle.broker_serve.proofs.Serving.{run_served, run_unserved, store_others}
 use Rattle.broker_serve.proofs.Telling.{all_came, none_of, none_zero, why_unserved, why_then, not_formed, tells_why}
-use Rattle.loop_threads.specs.Causes.{world_faults}
-use Rattle.serve_threads.specs.Causes.{counts_of}
+use Rattle.serve_threads.specs.Causes.{counts_of, world_faults}
 use Rattle.broker_serve.proofs.Causing.{causes_from, causes_unserved, opening_causes, threads_cause, words_cause}
 use Rattle.broker_serve.proofs.run.run_serve.Goals as goal
 

@@ -10,7 +10,7 @@ use Rattle.broker_serve.specs.Statuses.{IsDamagedLog, Unopened}
 use Rattle.broker_serve.specs.Unserved.{LeavesLog}
 use Rattle.broker_serve.proofs.Serving.{log_unserved, log_served_with}
 use Rattle.broker_serve.proofs.Telling.{none_of, why_unserved, why_then, not_recovered, shut_out}
-use Rattle.loop_threads.specs.Causes.{world_faults}
+use Rattle.serve_threads.specs.Causes.{world_faults}
 use Rattle.broker_serve.proofs.Causing.{causes_from, causes_unserved, log_causes}
 use Rattle.broker_serve.proofs.run.serve_config.Goals as goal
 

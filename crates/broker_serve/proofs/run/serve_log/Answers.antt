@@ -5,14 +5,14 @@ use Rattle.log_model.specs.Stored.{StaysOutside}
 use Rattle.log_model.proofs.OutsideLemmas.{outside_start}
 use Rattle.worker_turns.specs.Acts.{view_of}
 use Rattle.loop_threads.specs.Kept.{keep_over}
-use Rattle.loop_threads.specs.Worlds.{Readings, readings_of}
+use Rattle.serve_threads.specs.Worlds.{Readings, readings_of}
 use Rattle.serve_threads.specs.Links.{links_over}
 use Rattle.serve_threads.specs.Served.{clocks_over, views_of}
 use Rattle.broker_serve.specs.Serves.{EndsOver, run_over}
 use Rattle.broker_serve.specs.Statuses.{ShutOut}
 use Rattle.broker_serve.proofs.Serving.{ends_unserved}
 use Rattle.broker_serve.proofs.Telling.{came_from, links_from, none_of, why_unserved}
-use Rattle.loop_threads.specs.Causes.{world_faults}
+use Rattle.serve_threads.specs.Causes.{world_faults}
 use Rattle.broker_serve.proofs.Causing.{causes_from, causes_unserved, door_causes}
 use Rattle.broker_serve.proofs.run.serve_log.Goals as goal
 

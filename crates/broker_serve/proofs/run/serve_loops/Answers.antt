@@ -8,7 +8,7 @@ use Rattle.broker_serve.specs.Statuses.{ShutOut}
 use Rattle.broker_serve.proofs.Serving.{ends_unserved, ends_lent}
 use Rattle.broker_serve.proofs.Storing.{inside_rests}
 use Rattle.broker_serve.proofs.Telling.{none_of, why_unserved, why_then, no_reader, out_of_memory}
-use Rattle.loop_threads.specs.Causes.{world_faults}
+use Rattle.serve_threads.specs.Causes.{world_faults}
 use Rattle.broker_serve.proofs.Causing.{causes_from, causes_unserved, reader_causes}
 use Rattle.broker_serve.proofs.run.serve_loops.Goals as goal
 

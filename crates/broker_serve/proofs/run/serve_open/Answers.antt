@@ -6,7 +6,7 @@ use Rattle.log_model.proofs.OutsideLemmas.{outside_then}
 use Rattle.worker_turns.specs.Acts.{change_of, place_of, view_of}
 use Rattle.exit_status.proofs.LogLemmas.{stays_rests}
 use Rattle.loop_threads.specs.Kept.{keep_over}
-use Rattle.loop_threads.specs.Worlds.{Readings, readings_of}
+use Rattle.serve_threads.specs.Worlds.{Readings, readings_of}
 use Rattle.serve_threads.specs.Links.{AreAllThatCame, LinksOver, links_over}
 use Rattle.serve_threads.specs.Served.{IsLeft, clocks_over, views_of}
 use Rattle.broker_serve.proofs.Serving.{ends_unserved, ends_served}

@@ -11,7 +11,7 @@ use Rattle.broker_serve.specs.Statuses.{IsDamagedIn, Unserved}
 use Rattle.broker_serve.specs.Unserved.{LeavesLog}
 use Rattle.broker_serve.proofs.Serving.{store_unserved, store_served}
 use Rattle.broker_serve.proofs.Telling.{none_of, why_unserved, why_then, not_loaded, not_opened}
-use Rattle.loop_threads.specs.Causes.{world_faults}
+use Rattle.serve_threads.specs.Causes.{world_faults}
 use Rattle.broker_serve.proofs.Causing.{causes_from, causes_unserved, config_causes}
 use Rattle.broker_serve.proofs.run.serve_store.Goals as goal
 

@@ -2,7 +2,7 @@ use Rattle.std.proofs.Common.{ℕ}
 use Rattle.worker_turns.specs.Acts.{change_of, place_of, view_of}
 use Rattle.story_lock.specs.Passes.{start_of}
 use Rattle.loop_threads.specs.Kept.{keep_over}
-use Rattle.loop_threads.specs.Worlds.{readings_of}
+use Rattle.serve_threads.specs.Worlds.{readings_of}
 use Rattle.serve_threads.specs.Links.{links_over}
 use Rattle.serve_threads.specs.Served.{clocks_over, views_of}
 use Rattle.serve_threads.proofs.Keeping.{left_at}

@@ -4,8 +4,7 @@ use Rattle.flush_rounds.specs.Asking.{IsFrontOf}
 use Rattle.flush_rounds.specs.declared.asks.LoopAsks.{LoopAsks}
 use Rattle.event_loops.specs.Causes.{door_faults, loop_faults}
 use Rattle.serve_threads.proofs.Keys.{some_at}
-use Rattle.loop_threads.specs.Causes.{HasDoor}
-use Rattle.serve_threads.specs.Causes.{IsFirstFault}
+use Rattle.serve_threads.specs.Causes.{HasDoor, IsFirstFault}
 use Rattle.serve_threads.specs.Links.{AreWhole}
 use Rattle.serve_threads.proofs.Counting.{world_counts}
 use Rattle.serve_threads.proofs.Whole.{some_unless}

@@ -8,8 +8,8 @@ use Rattle.serve_threads.specs.Kept.{PutsAlong}
 use Rattle.flush_rounds.specs.Asking.{put_of}
 use Rattle.event_loops.specs.Tales.{loop_view}
 use Rattle.loop_threads.specs.Loops.{part_of, reader_over}
-use Rattle.loop_threads.specs.Worlds.{IsParted, Readings, readings_of}
-use Rattle.loop_threads.proofs.Parting.{parted_once}
+use Rattle.serve_threads.specs.Worlds.{IsParted, Readings, readings_of}
+use Rattle.serve_threads.proofs.Parting.{parted_once}
 use Rattle.serve_threads.specs.Links.{AreAllThatCame, first_links, second_links, links_over}
 use Rattle.flush_rounds.specs.Flushing.{FlushesTo}
 use Rattle.flush_rounds.specs.Timing.{clock_from, clock_view}
@@ -22,8 +22,7 @@ use Rattle.worker_turns.specs.declared.flush.FlushEnd.{FlushEnd}
 use Rattle.flush_rounds.specs.Causes.{BlamesDisk}
 use Rattle.flush_rounds.proofs.Working.{worked_none}
 use Rattle.serve_threads.proofs.Counting.{came_from, door_stays, gave_all, loops_blame}
-use Rattle.loop_threads.specs.Causes.{WorldFaults, world_faults}
-use Rattle.serve_threads.specs.Causes.{BlamesWorld}
+use Rattle.serve_threads.specs.Causes.{BlamesWorld, WorldFaults, world_faults}
 use Rattle.serve_threads.proofs.served.run_seated.Goals as goal
 
 pub new-requires-clause-opens : goal.new-requires-clause-opens

@@ -8,10 +8,9 @@ use Rattle.worker_turns.specs.declared.flush.FlushEnd.{FlushEnd}
 use Rattle.event_loops.specs.Doors.{GaveAll}
 use Rattle.event_loops.specs.declared.event_loop.LoopEnd.{LoopEnd}
 use Rattle.flush_rounds.specs.Causes.{BlamesDisk}
-use Rattle.loop_threads.specs.Causes.{world_faults}
-use Rattle.serve_threads.specs.Causes.{BlamesWorld}
+use Rattle.serve_threads.specs.Causes.{BlamesWorld, world_faults}
 use Rattle.loop_threads.specs.Kept.{keep_over}
-use Rattle.loop_threads.specs.Worlds.{Readings, readings_of}
+use Rattle.serve_threads.specs.Worlds.{Readings, readings_of}
 use Rattle.serve_threads.specs.Links.{AreAllThatCame, links_over}
 use Rattle.serve_threads.specs.Served.{IsLeft, clocks_over, views_of}
 use Rattle.serve_threads.proofs.served.serve.Goals as goal

@@ -1,5 +1,5 @@
 use Rattle.std.proofs.Common.{subst}
-use Rattle.loop_threads.specs.Worlds.{IsParted}
+use Rattle.serve_threads.specs.Worlds.{IsParted}
 use Rattle.serve_threads.proofs.served.unbegun.Goals as goal
 
 pub returns-clause-world : goal.returns-clause-world

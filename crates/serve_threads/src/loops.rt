@@ -1,12 +1,13 @@
 //! The two loops, and how other threads reach them.
 
 ghost use Rattle.std.specs.Prelude.{◌≡◌, IfErr, IfOk};
-ghost use Rattle.loop_threads.specs.Loops.{AreLoops};
-ghost use Rattle.loop_threads.specs.Causes.{BlamesMaking, world_faults};
+ghost use Rattle.serve_threads.specs.Loops.{AreLoops};
+ghost use Rattle.serve_threads.specs.Causes.{BlamesMaking, world_faults};
 
 use crate::world::World;
-use event_loops::{Bounds, EventLoop, LoopEnd, Port, watch_door};
+use event_loops::{Bounds, EventLoop, LoopEnd, watch_door};
 use flush_rounds::LOOPS;
+use link_service::Port;
 use mq_outside::Clock;
 use mq_peers::Ready;
 use std::alloc::{AllocError, Global};

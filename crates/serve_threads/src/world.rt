@@ -2,8 +2,8 @@
 
 ghost use Rattle.std.specs.Prelude.{◌≡◌, None, IfSome};
 ghost use Rattle.event_loops.specs.Causes.{door_faults, loop_faults};
-ghost use Rattle.loop_threads.specs.Causes.{HasDoor, both_faults, world_faults};
-ghost use Rattle.loop_threads.specs.Worlds.{IsParted};
+ghost use Rattle.serve_threads.specs.Causes.{HasDoor, both_faults, world_faults};
+ghost use Rattle.serve_threads.specs.Worlds.{IsParted};
 
 use event_loops::{Bounds, Entrance, Outside};
 use mq_outside::Clock;

@@ -1,7 +1,7 @@
 -- What is around the threads, whole and in parts.
 use Rattle.std.specs.Prelude.{◌≡◌, ℕ, List, IfSome}
 use Rattle.event_loops.specs.declared.outside.Outside.{Outside}
-use Rattle.loop_threads.specs.declared.world.World.{World}
+use Rattle.serve_threads.specs.declared.world.World.{World}
 
 -- what each of the threads has of it: this is outside the first loop, which has the door, this outside the second, and this one is the
 -- flusher's clock

@@ -4,9 +4,9 @@ use Rattle.std.specs.Prelude.{IfSome}
 use Rattle.event_loops.specs.Causes.{door_faults}
 use Rattle.event_loops.specs.declared.entrance.Entrance.{Entrance}
 use Rattle.event_loops.specs.declared.outside.Outside.{Outside}
-use Rattle.loop_threads.specs.Causes.{HasDoor}
-use Rattle.loop_threads.specs.Worlds.{IsParted}
-use Rattle.loop_threads.specs.declared.world.World.{World}
+use Rattle.serve_threads.specs.Causes.{HasDoor}
+use Rattle.serve_threads.specs.Worlds.{IsParted}
+use Rattle.serve_threads.specs.declared.world.World.{World}
 
 same_door : {Ready Link Door Ends Waker : Type 0} (faults : Door → ℕ) (entrance : Option (Entrance Ready Link Door Ends Waker)) (one other : Door) → HasDoor (door_faults faults entrance)
     → IfSome entrance (λ e. one ≡ e.door) → IfSome entrance (λ e. other ≡ e.door) → other ≡ one

@@ -1,5 +1,5 @@
 use Rattle.std.proofs.Common.{ap, ◌∙◌}
-use Rattle.loop_threads.proofs.loops.pair_of.Goals as goal
+use Rattle.serve_threads.proofs.loops.pair_of.Goals as goal
 
 pub returns : goal.returns
 returns g c = (
