@@ -16,3 +16,8 @@ pub mod FaultLaws
 pub mod StreamLaws
 pub mod FieldSpans
 pub mod PlainNumbers
+pub mod NumberSteps
+pub mod JsonBytes
+pub mod PlainRuns
+pub mod ScannerSteps
+pub mod EscapeSteps

@@ -1,5 +1,5 @@
 -- What a pass over the tokens of a plain header has read, a member at a time.
-use Rattle.std.proofs.Common.{◌≡◌, ℕ, ◌-◌, ◌<◌, ◌≤◌, ◌∷◌, [], List, Bool, length, Option, Some, None, option_map, option_and_then, IfSome, ℤ, pos, negsuc, FitsSigned, refl, ap, ◌∙◌, arith}
+use Rattle.std.proofs.Common.{◌≡◌, ℕ, ◌-◌, ◌<◌, ◌≤◌, ◌∷◌, [], List, length, Option, Some, None, option_map, option_and_then, IfSome, ℤ, pos, negsuc, FitsSigned, refl, ap, ◌∙◌, arith}
 use Rattle.std.specs.Int.{w32}
 use Rattle.std.specs.Str.{IsUtf8}
 use Rattle.std.proofs.lemmas.Int.{ints}
@@ -9,7 +9,7 @@ use Rattle.json.specs.Lex.{tokens}
 use Rattle.json.specs.Json as json
 use Rattle.json.specs.Json.{parse_map, read_key, members, value, if_last}
 use Rattle.json.proofs.Grammar.{read_key-shorter, value_is, value-begin_object, members_end, members_more, skip_value-shorter}
-use Rattle.serde_json.specs.Data.{Num, Data, null, boolean, number, string, object, Members, no_members, put}
+use Rattle.serde_json.specs.Data.{Num, Data, number, string, object, Members, no_members, put}
 use Rattle.serde_json.specs.Find.{of_integer}
 use Rattle.serde_json.specs.Read.{number_of, of_json, of_members, converted}
 use Rattle.serde_json.proofs.Numbers.{number_of-decimal, number_of-negative}
@@ -45,12 +45,6 @@ shorter depth ts r d e = let j = converted_from of_json (value depth ts) d r e i
 pub text_begins : (depth : ℕ) (s : List ℕ) (ts r : List Token) → ts ≡ token.string s ∷ r → BeginsWith depth ts (string s) r
 text_begins depth s ts r e = ap (converted of_json) (ap (value depth) e ∙ value_is depth (token.string s ∷ r))
 
-pub null_begins : (depth : ℕ) (ts r : List Token) → ts ≡ token.null ∷ r → BeginsWith depth ts null r
-null_begins depth ts r e = ap (converted of_json) (ap (value depth) e ∙ value_is depth (token.null ∷ r))
-
-pub boolean_begins : (depth : ℕ) (b : Bool) (ts r : List Token) → ts ≡ token.boolean b ∷ r → BeginsWith depth ts (boolean b) r
-boolean_begins depth b ts r e = ap (converted of_json) (ap (value depth) e ∙ value_is depth (token.boolean b ∷ r))
-
 -- the number whose decimal text stands there
 number_is : (z : ℤ) → FitsSigned w32 z → number_of (decimal z) ≡ Some (of_integer z)
 number_is (pos n) f = number_of-decimal n (omega (arith, ints, f))
@@ -62,10 +56,10 @@ number_begins depth z ts r fits e =
     ∙ ap (λ (o : Option Num). option_map (λ b. (b, r)) (option_map number o)) (number_is z fits)
 
 -- the same of what may be a number
-pub numbers_begin : (depth : ℕ) (o : Option ℤ) (text : List ℕ) (ts r : List Token) → IfSome o (λ z. text ≡ decimal z) → IfSome o (FitsSigned w32) → ts ≡ token.number text ∷ r
+pub numbers_begin : (depth : ℕ) (o : Option ℤ) (ts r : List Token) → IfSome o (FitsSigned w32) → IfSome o (λ z. ts ≡ token.number (decimal z) ∷ r)
     → IfSome o (λ z. BeginsWith depth ts (number (of_integer z)) r)
-numbers_begin depth None text ts r is fits e = tt
-numbers_begin depth (Some z) text ts r is fits e = number_begins depth z ts r fits (e ∙ ap (λ (w : List ℕ). token.number w ∷ r) is)
+numbers_begin depth None ts r fits e = tt
+numbers_begin depth (Some z) ts r fits e = number_begins depth z ts r fits e
 
 pub whole_numbers : (o : Option ℤ) → IfSome o (FitsSigned w32) → IfSome o (λ z. whole (number (of_integer z)) ≡ Some z)
 whole_numbers None fits = tt

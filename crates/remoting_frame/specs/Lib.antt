@@ -4,6 +4,7 @@ pub mod Gives
 pub mod Json
 pub mod Written
 pub mod Plain
+pub mod Scanning
 pub mod Tokens
 pub mod Binary
 pub mod BinaryText

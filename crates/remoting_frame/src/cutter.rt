@@ -2,7 +2,7 @@
 //!
 //! `feed` puts a piece behind the bytes that are held, `next` takes the frame off their front. The front of a frame is
 //! read once: while its body is still to come it is kept, so small pieces cost no second reading of a header. The bytes
-//! behind a frame are not moved for it. What reading a JSON header needs is made for the first, and kept for those behind.
+//! behind a frame are not moved for it.
 
 ghost use Rattle.std.specs.Prelude.{◌≡◌, ◌+◌, ◌<◌, ◌++◌, [], length, OnOk, OnErr};
 ghost use Rattle.remoting_frame.specs.Fronts.{front_view};
@@ -14,7 +14,6 @@ use crate::frame::Frame;
 use crate::front::FrameFront;
 use crate::front_reader::front_at;
 use bytes::BytesMut;
-use json::Scratch;
 use mq_bytes::Rows;
 use std::alloc::{AllocError, Global};
 use std::marker::Model;
@@ -25,8 +24,6 @@ pub struct Cutter {
     at: u64,
     held: BytesMut,
     front: Option<FrameFront>,
-    // None as long as no JSON header came. In a box, since a cutter is moved.
-    scratch: Option<Box<Scratch>>,
 }
 
 impl Model for Cutter {
@@ -48,7 +45,6 @@ impl Cutter {
             at: 0,
             held: BytesMut::new(alloc),
             front: None,
-            scratch: None,
         }
     }
 
@@ -73,7 +69,7 @@ impl Cutter {
     {
         match self.front.take() {
             Some(front) => Ok(Some(front)),
-            None => front_at(alloc, self.at, self.held.as_slice(), &mut self.scratch),
+            None => front_at(alloc, self.at, self.held.as_slice()),
         }
     }
 

@@ -21,7 +21,6 @@ use crate::frame::{FORM_UNIT, FRAME_MAX, Form};
 use crate::front::FrameFront;
 use crate::header::Header;
 use crate::numbers::u32_at;
-use json::Scratch;
 use std::alloc::Global;
 
 #[tactic(auto, unfolding(crate::specs::Frames::with_header))]
@@ -32,7 +31,6 @@ fn past_form(
     len: u32,
     form: Form,
     header_len: u32,
-    scratch: &mut Option<Box<Scratch>>,
 ) -> Result<Option<FrameFront>, FrameFault>
     requires within { len ≤ 16777216 }
     requires header_within { header_len < 2 ^ 24 }
@@ -45,7 +43,7 @@ fn past_form(
         return Ok(None);
     }
     let header = &bytes[8..8 + header_len as usize];
-    match Header::read_with(alloc, form, header, scratch) {
+    match Header::read(alloc, form, header) {
         Ok(header) => Ok(Some(FrameFront {
             form,
             header,
@@ -63,15 +61,14 @@ fn past_word(
     bytes: &[u8],
     len: u32,
     word: u32,
-    scratch: &mut Option<Box<Scratch>>,
 ) -> Result<Option<FrameFront>, FrameFault>
     requires within { len ≤ 16777216 }
     ensures { Answers front_view result (with_word at bytes.now len word) }
 {
     let header_len = word % FORM_UNIT;
     match word / FORM_UNIT {
-        0 => past_form(alloc, at, bytes, len, Form::Json, header_len, scratch),
-        1 => past_form(alloc, at, bytes, len, Form::Binary, header_len, scratch),
+        0 => past_form(alloc, at, bytes, len, Form::Json, header_len),
+        1 => past_form(alloc, at, bytes, len, Form::Binary, header_len),
         _ => Err(FrameFault::BadForm(at)),
     }
 }
@@ -82,7 +79,6 @@ pub(crate) fn front_at(
     alloc: Global,
     at: u64,
     bytes: &[u8],
-    scratch: &mut Option<Box<Scratch>>,
 ) -> Result<Option<FrameFront>, FrameFault>
     ensures { Answers front_view result (first_of at bytes.now) }
 {
@@ -96,5 +92,5 @@ pub(crate) fn front_at(
     if bytes.len() < 8 {
         return Ok(None);
     }
-    past_word(alloc, at, bytes, len, u32_at(bytes, 4), scratch)
+    past_word(alloc, at, bytes, len, u32_at(bytes, 4))
 }

@@ -15,7 +15,6 @@ use crate::frame::Form;
 use crate::front_writer::{write_binary_front, write_json_front};
 use crate::json_reader::read_json;
 use crate::json_writer::write_json;
-use json::Scratch;
 use mq_bytes::Text;
 use std::alloc::{AllocError, Global};
 use std::marker::Model;
@@ -58,23 +57,8 @@ impl Header {
         ensures bits { form ≡ Form.Binary → IfOk result Has16Bits }
         ensures lengths { form ≡ Form.Binary → IfOk result FitsLengths }
     {
-        Header::read_with(alloc, form, bytes, &mut None)
-    }
-
-    // The same with the scratch that JSON headers share. It is made for the first of them.
-    pub(crate) fn read_with(
-        alloc: Global,
-        form: Form,
-        bytes: &[u8],
-        scratch: &mut Option<Box<Scratch>>,
-    ) -> Result<Header, HeaderFault>
-        ensures header { Gives (λ h. h) result (header_in form bytes.now) }
-        ensures memory { IfErr result (λ e. e ≡ Memory → 0 < length bytes.now) }
-        ensures bits { form ≡ Form.Binary → IfOk result Has16Bits }
-        ensures lengths { form ≡ Form.Binary → IfOk result FitsLengths }
-    {
         match form {
-            Form::Json => read_json(alloc, bytes, scratch),
+            Form::Json => read_json(alloc, bytes),
             Form::Binary => read_binary(alloc, bytes),
         }
     }

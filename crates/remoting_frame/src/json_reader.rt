@@ -24,7 +24,6 @@ use crate::fault::HeaderFault;
 use crate::fields::Fields;
 use crate::header::Header;
 use crate::plain_reader::read_plain;
-use json::Scratch;
 use mq_bytes::Text;
 use serde_json::{Map, Value};
 use std::alloc::Global;
@@ -152,16 +151,12 @@ fn header_from(alloc: Global, value: &mut Value, room: usize) -> Result<Header, 
     })
 }
 
-/// The header that the bytes are in JSON form. The scratch is made where there is none.
-pub(crate) fn read_json(
-    alloc: Global,
-    bytes: &[u8],
-    scratch: &mut Option<Box<Scratch>>,
-) -> Result<Header, HeaderFault>
+/// The header that the bytes are in JSON form.
+pub(crate) fn read_json(alloc: Global, bytes: &[u8]) -> Result<Header, HeaderFault>
     ensures header { Gives (λ h. h) result (json_header bytes.now) }
     ensures memory { IfErr result (λ e. e ≡ Memory → 0 < length bytes.now) }
 {
-    if let Some(header) = read_plain(alloc, bytes, scratch) {
+    if let Some(header) = read_plain(alloc, bytes) {
         return Ok(header);
     }
     let mut value = value_of(alloc, bytes)?;

@@ -4,6 +4,7 @@
 mod binary_reader;
 mod binary_writer;
 mod cutter;
+mod escapes;
 mod fault;
 mod fields;
 mod frame;
@@ -11,10 +12,13 @@ mod front;
 mod front_reader;
 mod front_writer;
 mod header;
+mod json_bytes;
 mod json_reader;
 mod json_writer;
 mod numbers;
+mod plain_numbers;
 mod plain_reader;
+mod scanner;
 mod spellings;
 mod streams;
 

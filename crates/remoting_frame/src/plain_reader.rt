@@ -1,17 +1,17 @@
-//! Reads a header in JSON form in one pass over its tokens, where it is plain, as those of most senders are:
+//! Reads a header in JSON form in one pass over its text, where it is plain, as those of most senders are:
 //!
 //! - one object, which has the members of the table in `json_reader`, each whole number written as it is told in decimal;
 //! - `remark` is a text, and `extFields` comes once and has texts alone, whose names come in byte order or are few;
-//! - any other member is a text, `true`, `false` or null.
+//! - any other member is a text without escapes;
+//! - names have no escapes, and the escapes of texts stand for characters below 0x80.
 //!
 //! What is not plain is no fault: `json_reader` then looks at the tree of the whole text. So it does where memory runs out.
 
-ghost use Rattle.std.specs.Prelude.{◌≡◌, ◌≤◌, length, get_or, FitsSigned, Some, IfSome, OnSome, IsTrue, option_map};
-ghost use Rattle.std.specs.Int.{w32};
-ghost use Rattle.json.specs.Json.{read_key};
-ghost use Rattle.mq_bytes.specs.Decimal.{decimal, decimal_value};
+ghost use Rattle.std.specs.Prelude.{◌≡◌, ◌∷◌, ℕ, List, length, Some, IfSome, OnSome};
+ghost use Rattle.json.specs.Token as token;
 ghost use Rattle.serde_json.specs.Data.{Data, Members, number, string, object, no_members, put};
 ghost use Rattle.serde_json.specs.Find.{of_integer};
+ghost use Rattle.remoting_frame.specs.Binary.{put_pair};
 ghost use Rattle.remoting_frame.specs.Head.{IsInOrder};
 ghost use Rattle.remoting_frame.specs.Json.{whole, header_of, json_header};
 ghost use Rattle.remoting_frame.specs.Written.{texts};
@@ -20,13 +20,9 @@ ghost use Rattle.remoting_frame.specs.Plain.{BeginsWith, members_behind, pairs_f
 use crate::binary_reader::{FEW, moves_few};
 use crate::fields::Fields;
 use crate::header::Header;
-use itoa::Buffer;
-use json::{Reader, Scratch, Token};
-use mq_bytes::{Text, read_decimal};
+use crate::scanner::Scanner;
+use mq_bytes::Text;
 use std::alloc::Global;
-
-// A scratch has room for the longest text that it read, and is given back behind one of more bytes than this.
-const KEPT_ROOM: usize = 16384;
 
 // What the members so far say. Of a name that comes twice, but `extFields`, the last value counts.
 #[derive(Drop)]
@@ -39,149 +35,106 @@ struct Found {
     ext: Option<Fields>,
 }
 
-// Whether a text has neither a sign nor a zero in front of other digits.
-fn is_bare(text: &str) -> bool
-    ensures { IsTrue result → (48 ≤ get_or text.now 0 0) × (get_or text.now 0 0 ≡ 48 → length text.now ≡ 1) }
-{
-    let bytes = text.as_bytes();
-    if bytes.is_empty() {
-        return false;
-    }
-    bytes[0] > b'0' || (bytes[0] == b'0' && bytes.len() == 1)
-}
-
-// Whether a number's text is the one that is written for it.
-fn is_decimal(text: &str, value: i64) -> bool
-    requires { decimal_value text.now ≡ Some value }
-    ensures { IsTrue result → text.now ≡ decimal value }
-{
-    if is_bare(text) {
-        return true;
-    }
-    Buffer::new().format(value) == text
-}
-
-// The number of 32 bits whose decimal text this is.
-fn short_number(text: &str) -> Option<i32>
-    ensures text { IfSome result (λ z. text.now ≡ decimal z) }
-    ensures fits { IfSome result (FitsSigned w32) }
-{
-    let Some(value) = read_decimal(text) else {
-        return None;
-    };
-    if value < -2147483648 || value > 2147483647 || !is_decimal(text, value) {
-        return None;
-    }
-    Some(value as i32)
-}
-
-fn take_number(reader: &mut Reader<'_>) -> Option<i32>
-    ensures begins { IfSome result (λ z. BeginsWith 126 reader.old (number (of_integer z)) reader.new) }
+fn take_number(scanner: &mut Scanner<'_>) -> Option<i32>
+    ensures begins { IfSome result (λ z. BeginsWith 126 scanner.old (number (of_integer z)) scanner.new) }
     ensures whole { IfSome result (λ z. whole (number (of_integer z)) ≡ Some z) }
 {
-    match reader.next() {
-        Some(Token::Number(text)) => short_number(text),
-        _ => None,
-    }
+    scanner.number()
 }
 
-fn take_text(alloc: Global, reader: &mut Reader<'_>) -> Option<Text>
-    ensures { IfSome result (λ text. BeginsWith 126 reader.old (string text) reader.new) }
+#[inline(always)]
+fn take_text(alloc: Global, scanner: &mut Scanner<'_>) -> Option<Text>
+    ensures { IfSome result (λ text. BeginsWith 126 scanner.old (string text) scanner.new) }
 {
-    match reader.next() {
-        Some(Token::String(text)) => Some(Text::of(String::from_str(alloc, text).ok()?)),
-        _ => None,
+    if let Some(text) = scanner.string() {
+        return Some(Text::of(String::from_str(alloc, text).ok()?));
     }
+    Some(Text::of(scanner.escaped_string(alloc)?))
 }
 
 // Passes the value of a member that says nothing here.
-fn pass_value(reader: &mut Reader<'_>) -> Option<()>
-    ensures { OnSome result ((d : Data) × BeginsWith 126 reader.old d reader.new) }
+#[inline(always)]
+fn pass_value(scanner: &mut Scanner<'_>) -> Option<()>
+    ensures { OnSome result ((d : Data) × BeginsWith 126 scanner.old d scanner.new) }
 {
-    match reader.next() {
-        Some(Token::String(_)) => Some(()),
-        Some(Token::Bool(_)) => Some(()),
-        Some(Token::Null) => Some(()),
-        _ => None,
-    }
+    scanner.string()?;
+    Some(())
 }
 
-// The name of the next member, or none at the brace that closes the object.
+// Puts the pair of this name, whose value comes next.
 #[inline(always)]
-fn next_name<'a>(reader: &mut Reader<'a>) -> Option<Option<&'a str>>
-    ensures { IfSome result (λ name. read_key reader.old ≡ Some (option_map (λ s. s.now) name, reader.new)) }
+fn put_value(alloc: Global, scanner: &mut Scanner<'_>, name: &str, ext: &mut Fields) -> Option<()>
+    requires { IsInOrder ext.old }
+    ensures { OnSome result ((s : List ℕ) × (scanner.old ≡ token.string s ∷ scanner.new)
+        × (ext.new ≡ put_pair ext.old (name.now, s))) }
 {
-    match reader.next_key() {
-        Ok(name) => Some(name),
-        Err(_) => None,
+    if !moves_few(name, ext) {
+        return None;
     }
+    if let Some(text) = scanner.string() {
+        return ext.put(name, text).ok();
+    }
+    let text = scanner.escaped_string(alloc)?;
+    ext.put(name, text.as_str()).ok()
 }
 
 // The pairs behind the brace that opens their object, which have so many bytes at most.
-fn pairs_behind(alloc: Global, reader: &mut Reader<'_>, room: usize) -> Option<Fields>
+fn pairs_behind(alloc: Global, scanner: &mut Scanner<'_>, room: usize) -> Option<Fields>
     ensures pairs { IfSome result (λ ext.
-        members_behind no_members 125 (length reader.old) reader.old ≡ Some (texts ext, reader.new)) }
+        members_behind no_members 125 (length scanner.old) scanner.old ≡ Some (texts ext, scanner.new)) }
     ensures ordered { IfSome result IsInOrder }
 {
     let Ok(mut ext) = Fields::with_room(alloc, FEW, room) else {
         return None;
     };
-    'members: while let Some(name) = next_name(reader)? {
-        let Some(Token::String(text)) = reader.next() else {
-            return None;
-        };
-        if !moves_few(name, &ext) {
-            return None;
-        }
-        let Ok(()) = ext.put(name, text) else {
-            return None;
-        };
+    'members: while let Some(name) = scanner.name()? {
+        put_value(alloc, scanner, name, &mut ext)?;
     }
     Some(ext)
 }
 
-fn take_pairs(alloc: Global, reader: &mut Reader<'_>, room: usize) -> Option<Fields>
-    ensures pairs { IfSome result (λ ext. BeginsWith 126 reader.old (object (texts ext)) reader.new) }
+#[inline(always)]
+fn take_pairs(alloc: Global, scanner: &mut Scanner<'_>, room: usize) -> Option<Fields>
+    ensures pairs { IfSome result (λ ext. BeginsWith 126 scanner.old (object (texts ext)) scanner.new) }
     ensures ordered { IfSome result IsInOrder }
 {
-    match reader.next() {
-        Some(Token::BeginObject) => pairs_behind(alloc, reader, room),
-        _ => None,
-    }
+    scanner.open()?;
+    pairs_behind(alloc, scanner, room)
 }
 
 // Takes the value of the member that has this name.
+#[inline(always)]
 fn take_member(
     alloc: Global,
-    reader: &mut Reader<'_>,
+    scanner: &mut Scanner<'_>,
     room: usize,
     name: &str,
     found: &mut Found,
 ) -> Option<()>
-    ensures { OnSome result ((d : Data) × BeginsWith 126 reader.old d reader.new
+    ensures { OnSome result ((d : Data) × BeginsWith 126 scanner.old d scanner.new
         × ((ms : Members) → Says found.old ms → Says found.new (put name.now d ms))) }
 {
     match name {
-        "code" => found.code = Some(take_number(reader)?),
-        "opaque" => found.opaque = Some(take_number(reader)?),
-        "flag" => found.flag = take_number(reader)?,
-        "version" => found.version = take_number(reader)?,
-        "remark" => found.remark = take_text(alloc, reader)?,
+        "code" => found.code = Some(take_number(scanner)?),
+        "opaque" => found.opaque = Some(take_number(scanner)?),
+        "flag" => found.flag = take_number(scanner)?,
+        "version" => found.version = take_number(scanner)?,
+        "remark" => found.remark = take_text(alloc, scanner)?,
         "extFields" => {
             if found.ext.is_some() {
                 return None;
             }
-            found.ext = Some(take_pairs(alloc, reader, room)?);
+            found.ext = Some(take_pairs(alloc, scanner, room)?);
         }
-        _ => pass_value(reader)?,
+        _ => pass_value(scanner)?,
     }
     Some(())
 }
 
 // What the members behind the brace that opens the header say.
-fn members_from(alloc: Global, reader: &mut Reader<'_>, room: usize) -> Option<Found>
+fn members_from(alloc: Global, scanner: &mut Scanner<'_>, room: usize) -> Option<Found>
     ensures { IfSome result (λ found. (ms : Members) × Says found ms
-        × (members_behind no_members 126 (length reader.old) reader.old ≡ Some (ms, reader.new))) }
+        × (members_behind no_members 126 (length scanner.old) scanner.old ≡ Some (ms, scanner.new))) }
 {
     let mut found = Found {
         code: None,
@@ -191,8 +144,8 @@ fn members_from(alloc: Global, reader: &mut Reader<'_>, room: usize) -> Option<F
         remark: Text::of(String::new(alloc)),
         ext: None,
     };
-    'members: while let Some(name) = next_name(reader)? {
-        take_member(alloc, reader, room, name, &mut found)?;
+    'members: while let Some(name) = scanner.name()? {
+        take_member(alloc, scanner, room, name, &mut found)?;
     }
     Some(found)
 }
@@ -237,60 +190,25 @@ fn header_from(alloc: Global, found: Found) -> Option<Header>
     Some(header_with(code?, version, opaque?, flag, remark, ext))
 }
 
-// Only the first JSON header of a stream comes here, so no other pays for the room that 16 KiB take on the stack.
-#[cold]
-#[inline(never)]
-fn new_scratch(alloc: Global) -> Option<Box<Scratch>> {
-    Box::new(alloc, Scratch::new(alloc)).ok()
-}
-
-// The scratch that is kept, or none where no memory is had for it.
-fn lend(alloc: Global, kept: &mut Option<Box<Scratch>>) -> Option<&mut Scratch> {
-    if kept.is_none() {
-        *kept = new_scratch(alloc);
-    }
-    kept.as_deref_mut()
-}
-
 // The header that a text is, where it is plain.
-fn header_in(alloc: Global, text: &str, scratch: &mut Scratch) -> Option<Header>
+fn header_in(alloc: Global, text: &str) -> Option<Header>
     ensures { IfSome result (λ h. json_header text.now ≡ Some h) }
 {
-    let Ok(mut reader) = Reader::new(text, scratch) else {
-        return None;
-    };
-    let Some(Token::BeginObject) = reader.next() else {
-        return None;
-    };
-    let found = members_from(alloc, &mut reader, text.len())?;
-    if reader.next().is_some() {
+    let mut scanner = Scanner::new(text);
+    scanner.open()?;
+    let found = members_from(alloc, &mut scanner, text.len())?;
+    if !scanner.is_over() {
         return None;
     }
     header_from(alloc, found)
 }
 
-/// The header that the bytes are in JSON form, where it is plain. The scratch is made where there is none, and is kept
-/// unless the text is long.
-pub(crate) fn read_plain(
-    alloc: Global,
-    bytes: &[u8],
-    kept: &mut Option<Box<Scratch>>,
-) -> Option<Header>
+/// The header that the bytes are in JSON form, where it is plain.
+pub(crate) fn read_plain(alloc: Global, bytes: &[u8]) -> Option<Header>
     ensures { IfSome result (λ h. json_header bytes.now ≡ Some h) }
 {
-    // No bytes take no memory.
-    if bytes.is_empty() {
-        return None;
-    }
     let Ok(text) = str::from_utf8(bytes) else {
         return None;
     };
-    let Some(scratch) = lend(alloc, kept) else {
-        return None;
-    };
-    let header = header_in(alloc, text, scratch);
-    if bytes.len() > KEPT_ROOM {
-        *kept = None;
-    }
-    header
+    header_in(alloc, text)
 }

@@ -9,6 +9,7 @@ pub returns : goal.returns
 returns c =
     let read = c.in_ok-found.ensures in
     let text : IsUtf8 c.args.text.now = search rules in
-    let first : tokens c.args.text.now ≡ begin_object ∷ c.next.new.self = grind arith in
-    let none : c.members_from.new.reader ≡ [] = search rules in
-    plain_header c.args.text.now c.next.new.self c.in_ok-found.found read.0 c.header_from.result text first (rw none at read.2) read.1 c.header_from.ensures
+    let opened = c.in_ok-open.ensures in
+    let first : tokens c.args.text.now ≡ begin_object ∷ c.open.new.self = rw c.new-scanner.ensures at opened in
+    let none : c.members_from.new.scanner ≡ [] = search rules in
+    plain_header c.args.text.now c.open.new.self c.in_ok-found.found read.0 c.header_from.result text first (rw none at read.2) read.1 c.header_from.ensures

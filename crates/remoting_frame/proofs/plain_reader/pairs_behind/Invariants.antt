@@ -7,8 +7,8 @@ use Rattle.remoting_frame.proofs.plain_reader.pairs_behind.Given as goal
 
 abbrev pub invariant-members : goal.invariant-members
 invariant-members l =
-    (n : ℕ) × (length l.reader ≤ n) × IsInOrder l.ext
-    × (members_behind no_members 125 (length l.initial.reader) l.initial.reader ≡ members_behind (texts l.ext) 125 n l.reader)
+    (n : ℕ) × (length l.scanner ≤ n) × IsInOrder l.ext
+    × (members_behind no_members 125 (length l.initial.scanner) l.initial.scanner ≡ members_behind (texts l.ext) 125 n l.scanner)
 
 abbrev pub decreases-members : goal.decreases-members
-decreases-members l = length l.reader
+decreases-members l = length l.scanner

@@ -1,12 +1,15 @@
-use Rattle.std.proofs.Common.{◌≡◌, ◌∷◌, arith, rules}
-use Rattle.json.specs.Token as token
-use Rattle.json.specs.Reads.{token_of}
+use Rattle.std.proofs.Common.{◌≡◌, string_bytes, rules}
 use Rattle.remoting_frame.proofs.PlainReading.{text_begins}
 use Rattle.remoting_frame.proofs.plain_reader.take_text.Goals as goal
 
-pub returns-in_ok-ok-in-Some-String : goal.returns-in_ok-ok-in-Some-String
-returns-in_ok-ok-in-Some-String c =
-    let first : c.args.reader.now ≡ token_of c.in-Some-String.field-0 ∷ c.next.new.self = c.in-Some-String.ensures.value in
-    let is : c.args.reader.now ≡ token.string c.in-Some-String.text.now ∷ c.next.new.self = grind (arith, first) in
-    let copied : c.of.result ≡ c.in-Some-String.text.now = search rules in
-    rw copied (text_begins 126 c.in-Some-String.text.now c.args.reader.now c.next.new.self is)
+pub returns-in-Some : goal.returns-in-Some
+returns-in-Some c =
+    let copied : c.of.result ≡ c.in-Some.text.now = search rules in
+    rw copied (text_begins 126 c.in-Some.text.now c.args.scanner.now c.string.new.self c.in-Some.ensures.some)
+
+pub returns : goal.returns
+returns c =
+    let same = c.in_default.ensures.none in
+    let read = c.in_ok-escaped_string.ensures in
+    let is : c.of-2.result ≡ string_bytes c.in_ok-escaped_string.field-0 = search rules in
+    rw is (text_begins 126 (string_bytes c.in_ok-escaped_string.field-0) c.args.scanner.now c.escaped_string.new.self (rw same at read))

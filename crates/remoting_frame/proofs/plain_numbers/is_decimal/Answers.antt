@@ -1,5 +1,5 @@
 use Rattle.remoting_frame.proofs.PlainNumbers.{bare_is_decimal}
-use Rattle.remoting_frame.proofs.plain_reader.is_decimal.Goals as goal
+use Rattle.remoting_frame.proofs.plain_numbers.is_decimal.Goals as goal
 
 pub returns-then-is_bare : goal.returns-then-is_bare
 returns-then-is_bare c = λ _.
