@@ -208,7 +208,8 @@ def main():
     while time.time() < end:
         data = mutated(dice)
         with tempfile.TemporaryDirectory() as folder:
-            done = subprocess.run([PROGRAM, "pipe"], input=data, cwd=folder, stdout=subprocess.PIPE, timeout=60)
+            done = subprocess.run([PROGRAM, "pipe"], input=data, cwd=folder, stdout=subprocess.PIPE, stderr=subprocess.DEVNULL,
+                                  timeout=60)
         runs += 1
         if done.returncode not in STATUSES:
             sys.exit(f"run {runs}: status {done.returncode} for {data.hex()}")

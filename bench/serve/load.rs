@@ -379,6 +379,13 @@ fn machine() -> String {
     format!("{} processors, load {part}", std::thread::available_parallelism().map_or(0, |n| n.get()))
 }
 
+fn name_of(shape: &Shape) -> String {
+    match shape.work {
+        Work::Send(size) => format!("{size} B, {} x {}", shape.links, shape.in_flight),
+        Work::Pull => format!("pulls of 32, {} x {}", shape.links, shape.in_flight),
+    }
+}
+
 fn main() {
     let args: Vec<String> = std::env::args().collect();
     let rounds: usize = args[1].parse().expect("ROUNDS");
@@ -412,12 +419,12 @@ fn main() {
     for links in [1, 16] {
         shapes.push(Shape { work: Work::Pull, links, in_flight: 1 });
     }
+    if let Ok(row) = std::env::var("ROW") {
+        shapes.retain(|shape| name_of(shape) == row);
+    }
     println!("{:<26} {:<16} {:>9} {:>7} {:>9} {:>9} {:>9}", "", "", "a second", "ratio", "p50, us", "p99, us", "cpu, us");
     for shape in shapes {
-        let what = match shape.work {
-            Work::Send(size) => format!("{size} B, {} x {}", shape.links, shape.in_flight),
-            Work::Pull => format!("pulls of 32, {} x {}", shape.links, shape.in_flight),
-        };
+        let what = name_of(&shape);
         let mut figures: Vec<Vec<Figures>> = servers.iter().map(|_| Vec::new()).collect();
         let mut spent = vec![0.0; servers.len()];
         let mut alone = Vec::new();
