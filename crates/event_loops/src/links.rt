@@ -136,7 +136,9 @@ fn hear_each<L: Link + Drop, C: Calls, R: Reader>(
 fn leave<C: Calls>(alloc: Global, calls: &mut C, link: u32)
     ensures { (said : Option Said) × C.makes calls.old (Leave link) said calls.new }
 {
-    let _ = calls.call(alloc, &BrokerEvent::Leave { link });
+    let event = BrokerEvent::Leave { link };
+    drop(calls.call(alloc, &event));
+    drop(event);
 }
 
 // The same of the link in a slot, if there is one.
@@ -353,10 +355,8 @@ impl<L: Link + Drop, N: Ends<L> + Drop> Links<L, N> {
         ensures newest { self.new.newest ≡ self.old.newest }
     {
         let at = self.slots.len();
-        match self.slots.push(None) {
-            Ok(()) => Some(at),
-            Err(_) => None,
-        }
+        self.slots.push(None).ok()?;
+        Some(at)
     }
 
     /// A slot for one more link, if there is one.
@@ -388,11 +388,12 @@ impl<L: Link + Drop, N: Ends<L> + Drop> Links<L, N> {
         let peer = link.peer();
         let linked = Linked::new(alloc, number, link);
         self.newest = number;
-        self.slots[slot] = Some(Numbered {
+        let free = self.slots[slot].replace(Numbered {
             number,
             peer,
             linked,
         });
+        drop(free);
     }
 
     /// Lets go of a link with this number, which is served by nobody.
