@@ -40,14 +40,9 @@ fn two_links_that_say_a_byte_at_a_time_are_served_to_their_ends(
     rt: HostRuntime,
 ) -> Result<(), Fail> {
     let door = door(rt.alloc(), Calls::Never, ROOM)?;
-    assert!(rt; serve(&rt, rt.alloc(), &TWO, door)? == SERVED);
-    Ok(())
-}
-
-#[test]
-fn each_link_that_came_has_ended_at_the_loop_of_its_number(rt: HostRuntime) -> Result<(), Fail> {
-    let door = door(rt.alloc(), Calls::Never, ROOM)?;
-    let (_, numbers) = serve_over(&rt, rt.alloc(), &TWO, door, disk(rt.alloc())?, NOW)?;
+    let (left, numbers) = serve_over(&rt, rt.alloc(), &TWO, door, disk(rt.alloc())?, NOW)?;
+    assert!(rt; left == SERVED);
+    // Each has ended at the loop of its number.
     assert!(rt; numbers == (Some(2), Some(1)));
     Ok(())
 }
