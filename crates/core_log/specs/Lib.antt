@@ -2,7 +2,6 @@ pub mod Appends
 pub mod Carries
 pub mod Counts
 pub mod Loads
-pub mod Pieces
 pub mod Represents
 pub mod Rooms
 pub mod Sees

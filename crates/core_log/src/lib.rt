@@ -19,5 +19,5 @@ pub use counts::Counts;
 pub use kind::Kind;
 pub use loaded::Loaded;
 pub use parts::Parts;
-pub use pieces::{add_piece, no_pieces};
+pub use pieces::no_pieces;
 pub use room::{Room, is_past_end, size_of};

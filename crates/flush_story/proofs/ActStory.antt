@@ -17,15 +17,12 @@ use Rattle.broker_core.specs.declared.alone.Alone.{Alone}
 use Rattle.core_log.specs.declared.parts.Parts.{Parts}
 use Rattle.worker_turns.specs.Turns.{TakesFrom}
 use Rattle.worker_turns.specs.Acts.{Act, Made, Wrote, Missed, Acts, Acted, DiskView, Place, growing_at, steps_of, turns_of, IsBetween, IsUnwritten, HasUnwritten, Happens, HasMade, HasWritten, HasMissed, change_of}
-use Rattle.worker_turns.specs.Turning.{AreAllTurns}
-use Rattle.worker_turns.specs.declared.broken.Broken.{Broken}
-use Rattle.worker_turns.specs.declared.broken.Broken.TheVariants as broken
 use Rattle.flush_story.specs.Story as story
 use Rattle.flush_story.specs.Story.{StepsAs, Happening, Stepped, Ended, Broke, Story, Reaches, span_of}
 use Rattle.flush_story.specs.Keeping.{IsPlacedFor, Keeps}
 use Rattle.flush_story.proofs.Keeps.{keeps_start, keeps_story, story_reaches}
 use Rattle.flush_story.proofs.Placing.{placed_story, takes_to_place}
-use Rattle.flush_story.specs.Leads.{alone, LeadsTo, Led}
+use Rattle.flush_story.specs.Leads.{alone, LeadsTo}
 
 -- ---- an act in a story
 
@@ -187,18 +184,3 @@ module _ {D : Type 0} (view : DiskView D) where
         places = λ here. placed_story view.tells (growing_at view) s it.0 (map happening_of acts) p q it.1.state.log low here it.2;
         written = λ here. acts_written acts s x y p q are here happened;
       }
-
-  pub acted_led : (IsKind : List Act → Type 0) (x y : Alone) (p q : Place D) → Acted alone view IsKind (change_of x p y q) → Led view IsKind x p y q
-  acted_led IsKind x y p q acted = record {
-    acts = acted.acts;
-    kind = acted.kind;
-    happened = acted.happened;
-    leads = λ s are. acts_lead acted.acts s x y p q are acted.happened;
-  }
-
-  -- so flush turns never break off at a misplaced batch
-  pub all_placed : (result : Result (Option ℕ) Broken) (s : State) (x y : Alone) (p q : Place D) → Represents x.core s → IsPlacedFor s p.file
-      → Acted alone view (AreAllTurns result) (change_of x p y q) → result ≢ Err broken.Misplaced
-  all_placed result s x y p q are here acted is =
-      let all = subst (λ (r : Result (Option ℕ) Broken). Acted alone view (AreAllTurns r) (change_of x p y q)) is acted in
-      acts_written all.acts s x y p q are here all.happened all.kind

@@ -23,11 +23,3 @@ pub record LeadsTo {D : Type 0} (view : DiskView D) (acts : List Act) (s : State
   pub keeps : view.tells → IsOpenFor s (growing_at view old) → Keeps s reached (turns_of acts) (growing_at view old) (growing_at view new)
   pub places : IsPlacedFor s old.file → IsPlacedFor reached new.file
   pub written : IsPlacedFor s old.file → HasUnwritten acts → ⊥
-
--- Acts of this kind were made, and lead on from each state that the core represented.
-pub record Led {D : Type 0} (view : DiskView D) (IsKind : List Act → Type 0) (x : Alone) (old : Place D) (y : Alone)
-    (new : Place D) : Type 0 where
-  pub acts : List Act
-  pub kind : IsKind acts
-  pub happened : Acts alone view acts (change_of x old y new)
-  pub leads : (s : State) → Represents x.core s → LeadsTo view acts s old y new

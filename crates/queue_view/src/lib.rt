@@ -1,7 +1,6 @@
 //! The tables of the queues: the units of each queue's records, and how many of them consumers see.
 #![tactic(auto)]
 
-mod absent;
 mod bounds;
 mod examine;
 pub mod laws;
@@ -13,7 +12,6 @@ mod tables;
 mod tags;
 mod view;
 
-pub use absent::pull_absent;
 pub use pulled::{FOUND, NONE_TAKEN, NOT_YET, OUTSIDE, Pulled};
 pub use stored::StoredUnit;
 pub use tags::Tags;

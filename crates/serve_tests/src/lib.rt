@@ -9,8 +9,6 @@ mod messages;
 #[cfg(test)]
 mod numbers;
 #[cfg(test)]
-mod places_tests;
-#[cfg(test)]
 mod sharing_tests;
 #[cfg(test)]
 mod story_tests;
@@ -18,5 +16,3 @@ mod story_tests;
 mod talk_tests;
 #[cfg(test)]
 mod turn_tests;
-#[cfg(test)]
-mod waiting_tests;

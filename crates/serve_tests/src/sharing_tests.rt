@@ -67,7 +67,7 @@ fn met<R: Wait>(rt: &R, spine: &Spine, one: Pass, other: Pass) -> Pass
     ensures { IsPassOf spine.now.story result × HasSeat result }
 {
     let mut calls = spine.seat(rt, one);
-    calls.meet(spine.seat(rt, other));
+    calls.learn(other);
     calls.leave()
 }
 

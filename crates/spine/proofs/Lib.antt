@@ -1,4 +1,3 @@
 pub mod Runs
 pub mod AtTurn
 pub mod Looking
-pub mod Waits

@@ -1,4 +1,3 @@
-pub mod Awaits
 pub mod Boxed
 pub mod Entries
 pub mod Owner

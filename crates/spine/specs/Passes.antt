@@ -4,7 +4,7 @@ use Rattle.story_lock.specs.declared.chronicle.Chronicle.{Ghosts}
 use Rattle.story_lock.specs.declared.story.Pass.{Pass}
 use Rattle.story_lock.specs.Counts.{StartsWith, IsDistinct, greatest, without}
 use Rattle.story_lock.specs.Rule.{longer, shorter}
-use Rattle.story_lock.specs.Passes.{IsSamePass, seen_by, mine_of, numbers_of}
+use Rattle.story_lock.specs.Passes.{seen_by, mine_of, numbers_of}
 
 -- there is a pass before and after, and they are like this
 abbrev pub ArePasses : {P : Type 0} → Option P → Option P → (P → P → Type 0) → Type 0
@@ -18,11 +18,6 @@ module _ {S E A : Type 0} {chronicle : Ghosts S E A} where
     pub numbers : (numbers_of new ≡ without (greatest (numbers_of old)) (numbers_of old))
         × (numbers_of other ≡ greatest (numbers_of old) ∷ [])
     pub count : length (numbers_of new) + 1 ≡ length (numbers_of old)
-
-  -- the old pass is as it was; the other has seen as much, with no seat number and no entries
-  pub record Watches (old new other : Pass S E A chronicle) : Type 0 where
-    pub same : IsSamePass old new × (seen_by new ≡ seen_by old) × (mine_of new ≡ mine_of old)
-    pub watcher : (seen_by other ≡ seen_by old) × (mine_of other ≡ []) × (numbers_of other ≡ [])
 
   -- two passes are one: the shorter of the histories that they had seen begins the longer, and no entry was of both
   pub record Joins (one other new : Pass S E A chronicle) : Type 0 where

@@ -8,7 +8,7 @@ ghost use Rattle.story_lock.specs.Passes.{IsPassOf, HasSeat, HasKey, numbers_of}
 ghost use Rattle.story_lock.specs.Owned.{StepsBy};
 ghost use Rattle.spine.specs.Entries.{Fits};
 ghost use Rattle.spine.specs.Seen.{shown_by};
-ghost use Rattle.spine.specs.Passes.{ArePasses, Splits, Joins, Watches};
+ghost use Rattle.spine.specs.Passes.{ArePasses, Splits, Joins};
 
 use crate::shared::Pass;
 use crate::spine::Spine;
@@ -16,7 +16,7 @@ use broker_events::{Calls, Event, Said};
 use std::alloc::{AllocError, Global};
 use std::sync::Wait;
 
-/// A pass with its spine, and with what its calls wait by.
+/// A pass with its spine, and with what its calls wait for the lock by.
 #[derive(Drop)]
 pub struct SpinePass<'a, R: Wait> {
     pub(crate) spine: &'a Spine,
@@ -60,43 +60,19 @@ impl<'a, R: Wait> SpinePass<'a, R> {
         }
     }
 
-    /// Takes another pass at the same spine over, with what it had seen, its entries and its seat numbers.
-    pub fn meet(&mut self, other: SpinePass<'a, R>)
-        requires one_spine { other.spine.now.story ≡ self.old.spine.now.story }
-        ensures spine { self.new.spine.now ≡ self.old.spine.now }
-        ensures joins { ArePasses self.old.pass self.new.pass (λ p q. IfSome other.entry.pass (λ o. Joins p o q)) }
-    {
-        let other = other.leave();
-        self.learn(other);
-    }
-
-    /// A pass that has seen as much, with no seat number.
-    pub fn watch(&mut self) -> Pass
-        ensures spine { self.new.spine.now ≡ self.old.spine.now }
-        ensures of { IsPassOf self.old.spine.now.story result }
-        ensures watches { ArePasses self.old.pass self.new.pass (λ p q. Watches p q result) }
-    {
-        let Some(pass) = self.pass.take() else {
-            unreachable!()
-        };
-        let (pass, other) = self.spine.story.watch(pass);
-        self.pass = Some(pass);
-        other
-    }
-
     /// Takes a pass of the spine over, with what it had seen, its entries and its seat numbers.
-    pub fn learn(&mut self, watched: Pass)
-        requires of { IsPassOf self.old.spine.now.story watched }
+    pub fn learn(&mut self, other: Pass)
+        requires of { IsPassOf self.old.spine.now.story other }
         ensures spine { self.new.spine.now ≡ self.old.spine.now }
-        ensures joins { ArePasses self.old.pass self.new.pass (λ p q. Joins p watched q) }
+        ensures joins { ArePasses self.old.pass self.new.pass (λ p q. Joins p other q) }
     {
         let Some(pass) = self.pass.take() else {
             unreachable!()
         };
-        self.pass = Some(self.spine.story.join(pass, watched));
+        self.pass = Some(self.spine.story.join(pass, other));
     }
 
-    // One turn, with one entry: the event with what was said. Who waits for a flush turn that it ends is woken.
+    // One turn, with one entry: the event with what was said.
     pub(crate) fn turn(&mut self, alloc: Global, event: &Event) -> Option<Said>
         requires key { IsKeyed event.now → IfSome self.old.pass (λ p. HasKey p) }
         requires accepted { Accepts (shown_by self.old.pass) event.now }
@@ -110,7 +86,6 @@ impl<'a, R: Wait> SpinePass<'a, R> {
         let mut turn = self.spine.story.enter(self.rt, pass);
         let said = turn.state().step(alloc, event);
         self.pass = Some(turn.end(event, &said));
-        self.spine.tell(self.rt, event);
         said
     }
 }

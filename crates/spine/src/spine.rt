@@ -2,11 +2,9 @@
 
 ghost use Rattle.std.specs.Prelude.{◌≡◌};
 
-use crate::flush_waits::FlushWaits;
 use crate::pass::SpinePass;
 use crate::shared::{Pass, Shared};
 use broker_core::Core;
-use broker_events::Event;
 use std::alloc::{AllocError, Global};
 use std::sync::Wait;
 use story_lock::Story;
@@ -14,8 +12,6 @@ use story_lock::Story;
 /// The broker for many callers.
 pub struct Spine {
     pub(crate) story: Story<Shared>,
-    // Where callers wait for flush turns.
-    pub(crate) waits: FlushWaits,
 }
 
 impl Spine {
@@ -40,18 +36,12 @@ impl Spine {
             Err(refused) => return Err(refused),
         };
         match Story::new(alloc, shared, seats) {
-            Ok((story, pass)) => Ok((
-                Spine {
-                    story,
-                    waits: FlushWaits::new(),
-                },
-                pass,
-            )),
+            Ok((story, pass)) => Ok((Spine { story }, pass)),
             Err((shared, fault)) => Err((shared.into_core(), fault)),
         }
     }
 
-    /// The pass with its spine, and with what its calls wait by.
+    /// The pass with its spine, and with what its calls wait for the lock by.
     pub fn seat<'a, R: Wait>(&'a self, rt: &'a R, pass: Pass) -> SpinePass<'a, R>
         requires of { IsPassOf self.now.story pass }
         requires seat { HasSeat pass }
@@ -71,17 +61,7 @@ impl Spine {
         requires { IsPassOf self.story pass }
         ensures { (history : List (AnEvent × Option ASaid)) × StandsFor self.story pass history result }
     {
-        let Spine { story, waits: _ } = self;
+        let Spine { story } = self;
         story.close(rt, pass).into_core()
-    }
-
-    // Wakes those whose record was held by the flush turn that this event ends, if it ends one.
-    pub(crate) fn tell<R: Wait>(&self, rt: &R, event: &Event) {
-        match event {
-            Event::Flushed(receipt) => self.waits.wake(rt, receipt.from, receipt.count),
-            // It doesn't say which records the turn held.
-            Event::FlushFailed { count: _ } => self.waits.wake_all(rt),
-            _ => {}
-        }
     }
 }

@@ -1,6 +1,6 @@
 //! Tables as the broker keeps them: units are added and seen, pulled by tags, and removed. The hashes of the tags are Java's.
 
-use queue_view::{Pulled, QueueView, Tags, pull_absent};
+use queue_view::{Pulled, QueueView, Tags};
 use record_codec::Unit;
 use std::alloc::Global;
 use std::test::Fail;
@@ -26,9 +26,9 @@ fn put(
     Ok(())
 }
 
-/// A pull of a queue.
+/// A pull of a queue, which is made where it is absent.
 fn pull(
-    view: &QueueView,
+    view: &mut QueueView,
     alloc: Global,
     topic: &str,
     queue: u32,
@@ -36,10 +36,8 @@ fn pull(
     text: &str,
 ) -> Result<Pulled, Fail> {
     let tags = Tags::read(alloc, text)?;
-    match view.find(topic, queue) {
-        Some(table) => Ok(view.pull(alloc, table, from, 32, &tags)?),
-        None => Ok(pull_absent(alloc, from)),
-    }
+    let table = view.reserve(alloc, topic, queue, 1)?;
+    Ok(view.pull(alloc, table, from, 32, &tags)?)
 }
 
 /// A unit of this size and tag code.
@@ -66,16 +64,16 @@ fn a_pull_is_answered_by_where_it_begins_and_by_its_tags(rt: HostRuntime) -> Res
         (4, "*", 21, 3, 0),
         (-1, "*", 21, 0, 0),
     ] {
-        let pulled = pull(&view, alloc, "T", 3, from, text)?;
+        let pulled = pull(&mut view, alloc, "T", 3, from, text)?;
         assert!(rt;
             (pulled.code, pulled.next, pulled.units.len()) == (code, next, found),
             "{text} from {from}"
         );
         assert!(rt; (pulled.min, pulled.max) == (0, 3));
     }
-    let other = pull(&view, alloc, "T", 1, 0, "*")?;
+    let other = pull(&mut view, alloc, "T", 1, 0, "*")?;
     assert!(rt; (other.code, other.next, other.max) == (19, 0, 0));
-    let past = pull(&view, alloc, "T", 1, 7, "*")?;
+    let past = pull(&mut view, alloc, "T", 1, 7, "*")?;
     assert!(rt; (past.code, past.next) == (21, 0));
     Ok(())
 }
@@ -93,7 +91,7 @@ fn a_body_has_262144_bytes_at_most_or_one_record(rt: HostRuntime) -> Result<(), 
         put(&mut view, alloc, "T", 0, unit(offset, size, 0))?;
     }
     for (from, next) in [(0, 1), (1, 3), (2, 4), (3, 4)] {
-        let pulled = pull(&view, alloc, "T", 0, from, "*")?;
+        let pulled = pull(&mut view, alloc, "T", 0, from, "*")?;
         assert!(rt; (pulled.code, pulled.next) == (0, next), "from {from}");
     }
     Ok(())
@@ -113,7 +111,7 @@ fn removed_units_move_the_minimum_and_leave_the_maximum(rt: HostRuntime) -> Resu
     if view.min(table) <= 6 && 6 <= view.max(table) {
         view.cut(table, 6);
     }
-    let pulled = pull(&view, alloc, "T", 0, 5, "*")?;
+    let pulled = pull(&mut view, alloc, "T", 0, 5, "*")?;
     assert!(rt; (pulled.code, pulled.next) == (21, 6));
     assert!(rt; (pulled.min, pulled.max) == (6, 6));
     Ok(())
