@@ -14,6 +14,10 @@ utf16_units text = flat_map encode_utf16 (chars text)
 unfoldable pub java_hash : List ℕ → ℤ
 java_hash text = cast_signed w32 (number_from_digits 31 (utf16_units text) % 2 ^ 32)
 
--- its absolute value, and 0 for -2^31, whose absolute value is beyond 32 signed bits
+-- the absolute value, and 0 for -2^31, whose absolute value is beyond 32 signed bits
+abbrev pub absolute : ℤ → ℕ
+absolute hash = if unsigned_abs hash == 2 ^ 31 then 0 else unsigned_abs hash
+
+-- the absolute value of its hash
 unfoldable pub key_hash : List ℕ → ℕ
-key_hash text = if unsigned_abs (java_hash text) == 2 ^ 31 then 0 else unsigned_abs (java_hash text)
+key_hash text = absolute (java_hash text)

@@ -1,10 +1,11 @@
 //! The hashes of tags and keys, as Java computes them: over the UTF-16 units of a text, not its bytes.
 //! The hash of a tag is its tag code, and the hash of a key chooses its slot in an index file.
 
-ghost use Rattle.std.specs.Prelude.{◌≡◌, ◌+◌, ◌*◌, ◌%◌, ◌^◌};
+ghost use Rattle.std.specs.Prelude.{◌≡◌, ℕ, ◌+◌, ◌*◌, ◌%◌, ◌^◌, List, ◌++◌};
+ghost use Rattle.std.specs.Str.{IsUtf8};
 ghost use Rattle.std.specs.Int.Digits.{number_from_digits_after};
 ghost use Rattle.std.specs.Char.Escape.{encode_utf16};
-ghost use Rattle.mq_bytes.specs.Hashes.{java_hash as java_hash_of, key_hash as key_hash_of};
+ghost use Rattle.mq_bytes.specs.Hashes.{utf16_units, java_hash as java_hash_of, absolute as absolute_of, key_hash as key_hash_of};
 
 // The hash one UTF-16 unit on.
 fn after_unit(hash: u32, unit: u32) -> u32
@@ -28,15 +29,37 @@ fn after_char(hash: u32, c: char) -> u32
     )
 }
 
+// The hash a text on.
+fn after_text(start: u32, text: &str) -> u32
+    ensures { result ≡ number_from_digits_after 31 start (utf16_units text.now) % 2 ^ 32 }
+{
+    let mut hash = start;
+    for c in text.chars() {
+        hash = after_char(hash, c);
+    }
+    hash
+}
+
 /// Java's `String.hashCode` of the text.
 pub fn java_hash(text: &str) -> i32
     ensures { result ≡ java_hash_of text.now }
 {
-    let mut hash = 0;
-    for c in text.chars() {
-        hash = after_char(hash, c);
-    }
-    hash.cast_signed()
+    after_text(0, text).cast_signed()
+}
+
+/// Java's `String.hashCode` of an earlier text, whose hash is `hash`, followed by this one.
+pub fn java_hash_more(hash: i32, text: &str) -> i32
+    ensures { (before : List ℕ) → IsUtf8 before → hash ≡ java_hash_of before → result ≡ java_hash_of (before ++ text.now) }
+{
+    after_text(hash.cast_unsigned(), text).cast_signed()
+}
+
+// The absolute value, and 0 for `i32::MIN`, which has none.
+fn absolute(hash: i32) -> u32
+    ensures { result ≡ absolute_of hash }
+{
+    let size = hash.unsigned_abs();
+    if size == 1 << 31 { 0 } else { size }
 }
 
 /// The absolute value of `java_hash`, and 0 for `i32::MIN`, which has none.
@@ -44,6 +67,12 @@ pub fn java_hash(text: &str) -> i32
 pub fn key_hash(text: &str) -> u32
     ensures { result ≡ key_hash_of text.now }
 {
-    let size = java_hash(text).unsigned_abs();
-    if size == 1 << 31 { 0 } else { size }
+    absolute(java_hash(text))
+}
+
+/// The `key_hash` of an earlier text, whose `java_hash` is `hash`, followed by this one.
+pub fn key_hash_more(hash: i32, text: &str) -> u32
+    ensures { (before : List ℕ) → IsUtf8 before → hash ≡ java_hash_of before → result ≡ key_hash_of (before ++ text.now) }
+{
+    absolute(java_hash_more(hash, text))
 }
