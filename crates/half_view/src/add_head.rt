@@ -14,9 +14,9 @@ ghost use Rattle.half_view.specs.Heads.{IsHeadOf};
 ghost use Rattle.half_view.specs.OfLog.{AreHalvesOf, committed_by, discarded_by, with_settlement};
 
 use crate::head::Head;
-use crate::kinds::{is_copy_flag, is_discard_topic, is_half_topic, number_in};
+use crate::kinds::{is_copy_flag, is_discard_topic, is_half_topic};
 use crate::view::HalfView;
-use log_model::OriginState;
+use log_model::{OriginState, number_in};
 use record_codec::Props;
 
 // The queue offset that a half message of these properties names.

@@ -2,31 +2,27 @@
 
 ghost use Rattle.std.specs.Prelude.{◌≡◌, ◌==◌, ◌&&◌, not, bit_and};
 ghost use Rattle.std.specs.Str.{bytes_eq};
-ghost use Rattle.log_model.specs.Admissible.{half_topic, discard_topic, is_bare as bare, number_in as number_of_text};
-ghost use Rattle.log_model.specs.Admissible.{number_of as number_of_bytes, number_at};
+ghost use Rattle.log_model.specs.Admissible.{half_topic, discard_topic, number_at};
 ghost use Rattle.log_model.specs.Kinds.{is_half as is_half_entry, is_op as is_op_entry};
 ghost use Rattle.log_model.specs.Kinds.{is_discard as is_discard_entry, is_copy as is_copy_entry};
 ghost use Rattle.log_model.specs.Kinds.{origin_text};
 ghost use Rattle.half_view.specs.OfLog.{rolled_back_by};
 
-use mq_bytes::read_decimal;
-use record_codec::{COMMITTED, TRANSACTION_BITS, View};
-
-/// Numbers in records are below this one.
-const LIMIT: u64 = 1 << 62;
+use log_model::{number_in, number_of};
+use record_codec::{COMMITTED, DISCARD_TOPIC, HALF_TOPIC, OP_TOPIC, TRANSACTION_BITS, View};
 
 // ---- by topic and flag
 
 pub(crate) fn is_half_topic(topic: &str) -> bool
     ensures { result ≡ bytes_eq topic.now half_topic }
 {
-    topic == "RMQ_SYS_TRANS_HALF_TOPIC"
+    topic == HALF_TOPIC
 }
 
 pub(crate) fn is_discard_topic(topic: &str) -> bool
     ensures { result ≡ bytes_eq topic.now discard_topic }
 {
-    topic == "TRANS_CHECK_MAX_TIME_TOPIC"
+    topic == DISCARD_TOPIC
 }
 
 // The flag of a copy that a Commit appended.
@@ -48,7 +44,7 @@ pub fn is_half(view: &View<'_>) -> bool
 fn is_op(view: &View<'_>) -> bool
     ensures { result ≡ is_op_entry view.now }
 {
-    view.topic() == "RMQ_SYS_TRANS_OP_HALF_TOPIC"
+    view.topic() == OP_TOPIC
 }
 
 pub(crate) fn is_discard(view: &View<'_>) -> bool
@@ -62,41 +58,6 @@ pub(crate) fn is_copy(view: &View<'_>) -> bool
     ensures { result ≡ is_copy_entry view.now }
 {
     is_copy_flag(view.sysflag())
-}
-
-// The text has no sign and no leading zero.
-fn is_bare(text: &[u8]) -> bool
-    ensures { result ≡ bare text.now }
-{
-    !text.is_empty() && text[0] != b'-' && (text[0] != b'0' || text.len() == 1)
-}
-
-// The number that the text writes.
-pub(crate) fn number_in(text: &str) -> Option<u64>
-    ensures { result ≡ number_of_text text.now }
-{
-    if !is_bare(text.as_bytes()) {
-        return None;
-    }
-    let value = read_decimal(text)?;
-    if value < 0 {
-        return None;
-    }
-    let value = value as u64;
-    if value >= LIMIT {
-        return None;
-    }
-    Some(value)
-}
-
-// The same of bytes.
-fn number_of(bytes: &[u8]) -> Option<u64>
-    ensures { result ≡ number_of_bytes bytes.now }
-{
-    match std::str::from_utf8(bytes) {
-        Ok(text) => number_in(text),
-        Err(_) => None,
-    }
 }
 
 /// The queue offset that a half message names: a renewal that of its origin.

@@ -26,12 +26,10 @@ use crate::row::HalfRow;
 use crate::rows::{named_at, push, renew_at, set_all, settle_at};
 use crate::times::{NEVER, Times};
 use log_model::OriginState;
+use mq_bytes::PLACE_END;
 use record_codec::View;
 use std::alloc::{AllocError, Global};
 use std::marker::Model;
-
-// Past this queue offset no room is made: no log has as many records.
-const OFFSET_MAX: u64 = 1 << 62;
 
 /// The half messages, in the order of their queue offsets.
 #[derive(Drop)]
@@ -94,7 +92,8 @@ impl HalfView {
         ensures kept { self.old.spare ≤ self.new.spare }
     {
         let count = self.halves.len();
-        if self.low + count as u64 >= OFFSET_MAX {
+        // No log has as many records.
+        if self.low + count as u64 >= PLACE_END {
             return Err(AllocError);
         }
         if count >= self.times.len() {

@@ -4,7 +4,5 @@ pub mod QueryLemmas
 pub mod RecordLemmas
 pub mod CutLemmas
 pub mod RemovalLemmas
-pub mod HashLemmas
-pub mod WordSteps
 pub mod PartedLemmas
 pub mod KeyLemmas

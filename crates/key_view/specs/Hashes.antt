@@ -1,14 +1,9 @@
 -- What is left of a record's keys.
-use Rattle.std.specs.Prelude.{◌≡◌, ℕ, ◌%◌, ◌^◌, ◌++◌, List, [], ◌∷◌, map, Option, Some, option_to_list, codes}
+use Rattle.std.specs.Prelude.{◌≡◌, ℕ, ℤ, ◌++◌, List, [], ◌∷◌, map, Option, Some, option_to_list, codes}
 use Rattle.std.specs.Str.{IsUtf8}
-use Rattle.std.specs.Int.Digits.{number_from_digits}
-use Rattle.mq_bytes.specs.Hashes.{utf16_units}
+use Rattle.mq_bytes.specs.Hashes.{java_hash}
 use Rattle.record_codec.specs.Props.{value_of}
 use Rattle.log_model.specs.Keys.{hash_of, words}
-
--- the number with which the hash of each key of a topic begins: that of the topic and `#`
-abbrev pub start_for : List ℕ → ℕ
-start_for topic = number_from_digits 31 (utf16_units (topic ++ 35 ∷ [])) % 2 ^ 32
 
 -- the hashes of the keys that these properties give a record of this topic
 abbrev pub keys_in : List ℕ → List (List ℕ × List ℕ) → List ℕ
@@ -19,7 +14,7 @@ keys_in topic props =
 abbrev pub hashes_left : List ℕ → Option (List ℕ) → List ℕ → List ℕ
 hashes_left topic unique rest = map (hash_of topic) (option_to_list unique ++ words (Some rest))
 
--- the text is one of characters, and the start that of the topic
-pub record IsReading (topic : List ℕ) (start : ℕ) (rest : List ℕ) : Type 0 where
-  pub begins : start ≡ start_for topic
+-- the texts are of characters, and the start is the hash of the topic and `#`
+pub record IsReading (topic : List ℕ) (start : ℤ) (rest : List ℕ) : Type 0 where
+  pub begins : start ≡ java_hash (topic ++ 35 ∷ [])
   pub utf8 : IsUtf8 rest

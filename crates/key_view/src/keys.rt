@@ -1,13 +1,13 @@
 //! The keys of a record: its `UNIQ_KEY` and each word of its `KEYS`, as hashes with its topic. They are read where the
 //! record stands, one after another, and nothing is copied.
 
-ghost use Rattle.std.specs.Prelude.{◌≡◌, ◌≤◌, ◌++◌, [], length, map, option_map, option_to_list, Some, IsNone};
+ghost use Rattle.std.specs.Prelude.{◌≡◌, ◌≤◌, ◌++◌, ◌∷◌, [], length, map, option_map, option_to_list, Some, IsNone};
 ghost use Rattle.std.specs.Str.{IsUtf8};
+ghost use Rattle.mq_bytes.specs.Hashes.{java_hash};
 ghost use Rattle.log_model.specs.Keys.{hash_of, words, index_keys};
 ghost use Rattle.key_view.specs.Hashes.{keys_in};
 
-use crate::hash::{hash_from, start_of};
-use crate::words::next_word;
+use log_replay::{hash_after, next_word, topic_hash};
 use record_codec::{Draft, View};
 use std::marker::Model;
 
@@ -16,7 +16,7 @@ use std::marker::Model;
 pub struct RecordKeys<'a> {
     topic: &'a str,
     // The hash with which each key of the topic begins.
-    start: u32,
+    start: i32,
     unique: Option<&'a str>,
     // What is left of the text of the words.
     rest: &'a [u8],
@@ -55,6 +55,14 @@ fn count_of(key: Option<&str>) -> usize
     }
 }
 
+// The hash of a key of a topic, where `start` is that of the topic and `#`.
+fn hash_from(topic: &str, start: i32, key: &str) -> u32
+    requires { start ≡ java_hash (topic.now ++ 35 ∷ []) }
+    ensures { result ≡ hash_of topic.now key.now }
+{
+    hash_after(start, key)
+}
+
 // The keys of this topic: this one, if it is there, and the words of this text.
 fn keys_of<'a>(topic: &'a str, unique: Option<&'a str>, text: Option<&'a str>) -> RecordKeys<'a>
     ensures { result ≡ map (hash_of topic.entry.now) (option_to_list (option_map (λ t. t.now) unique.entry)
@@ -62,7 +70,7 @@ fn keys_of<'a>(topic: &'a str, unique: Option<&'a str>, text: Option<&'a str>) -
 {
     RecordKeys {
         topic,
-        start: start_of(topic),
+        start: topic_hash(topic),
         unique,
         rest: bytes_of(text),
     }

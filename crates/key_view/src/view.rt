@@ -16,14 +16,12 @@ use crate::places::{Sought, asked, put};
 use crate::row::{KeyRow, distance, is_key};
 use crate::rows::KeyRows;
 use crate::slots::{grow, newest, set_newest};
+use mq_bytes::PLACE_END;
 use std::alloc::{AllocError, Global};
 use std::marker::Model;
 
 /// The most rows that are kept at a time: a link is in 32 bits.
 const ROWS_MAX: usize = (1 << 32) - 2;
-
-/// The most rows that are ever added: no log has as many keys.
-const ADDED_MAX: u64 = 1 << 62;
 
 /// The keys of the records, in the order of the log.
 #[derive(Drop)]
@@ -70,7 +68,8 @@ impl KeyView {
         if additional > ROWS_MAX || count > ROWS_MAX - additional {
             return Err(AllocError);
         }
-        if self.gone > ADDED_MAX - (count + additional) as u64 {
+        // No log has as many keys as it has places.
+        if self.gone > PLACE_END - (count + additional) as u64 {
             return Err(AllocError);
         }
         self.rows.reserve(alloc, additional)?;

@@ -11,22 +11,22 @@ ghost use Rattle.log_model.specs.Admissible.{IfHas};
 
 use crate::made::{can_be_delivered, can_be_discarded, can_be_renewed};
 use crate::texts::{has_number, is_below, is_delay_from, number_in, number_of};
-use record_codec::{COMMITTED, TRANSACTION_BITS, View, is_legal_topic};
+use record_codec::{
+    COMMITTED, DISCARD_TOPIC, HALF_TOPIC, OP_TOPIC, SCHEDULE_TOPIC, TRANSACTION_BITS, View,
+    is_legal_topic,
+};
 
 /// The topics that the broker keeps for itself: delayed messages, half messages, what settles these, and those given up.
 pub fn is_system_topic(topic: &str) -> bool
     ensures { result ≡ is_system topic.now }
 {
-    topic == "SCHEDULE_TOPIC_XXXX"
-        || topic == "RMQ_SYS_TRANS_HALF_TOPIC"
-        || topic == "RMQ_SYS_TRANS_OP_HALF_TOPIC"
-        || topic == "TRANS_CHECK_MAX_TIME_TOPIC"
+    topic == SCHEDULE_TOPIC || topic == HALF_TOPIC || topic == OP_TOPIC || topic == DISCARD_TOPIC
 }
 
 fn most_queues(topic: &str) -> u32
     ensures { result ≡ most_of topic.now }
 {
-    if topic == "SCHEDULE_TOPIC_XXXX" {
+    if topic == SCHEDULE_TOPIC {
         18
     } else if is_system_topic(topic) {
         1
@@ -78,13 +78,13 @@ fn is_of_its_topic(segment: u32, view: &View<'_>) -> bool
         × (bytes_eq view.now.topic op_topic ≡ true → IsSome (number_of_bytes view.now.body))) }
 {
     let topic = view.topic();
-    if topic == "TRANS_CHECK_MAX_TIME_TOPIC" {
+    if topic == DISCARD_TOPIC {
         view.prepared() < view.offset()
-    } else if topic == "RMQ_SYS_TRANS_HALF_TOPIC" {
+    } else if topic == HALF_TOPIC {
         is_half_message(segment, view)
-    } else if topic == "SCHEDULE_TOPIC_XXXX" {
+    } else if topic == SCHEDULE_TOPIC {
         is_delayed_message(segment, view)
-    } else if topic == "RMQ_SYS_TRANS_OP_HALF_TOPIC" {
+    } else if topic == OP_TOPIC {
         number_of(view.body()).is_some()
     } else {
         true
@@ -124,9 +124,9 @@ fn named_half(view: &View<'_>) -> Option<u64>
     ensures { result ≡ names_half view.now }
 {
     let topic = view.topic();
-    if topic == "RMQ_SYS_TRANS_OP_HALF_TOPIC" {
+    if topic == OP_TOPIC {
         number_of(view.body())
-    } else if topic == "RMQ_SYS_TRANS_HALF_TOPIC" {
+    } else if topic == HALF_TOPIC {
         number_in(view.prop("TRAN_PREPARED_QUEUE_OFFSET")?)
     } else {
         None

@@ -32,3 +32,4 @@ pub use laws::{
 pub use origin::OriginState;
 pub use place::next_place;
 pub use queues::queue_of;
+pub use texts::{number_in, number_of};

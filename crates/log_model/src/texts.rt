@@ -7,9 +7,7 @@ ghost use Rattle.record_codec.specs.Props.{until};
 ghost use Rattle.log_model.specs.Admissible.{is_bare as bare, number_in as number_of_text};
 ghost use Rattle.log_model.specs.Admissible.{number_of as number_of_bytes, IsBelow, IsLevel, IsDelayFrom};
 
-use mq_bytes::read_decimal;
-
-const LIMIT: u64 = 1 << 62;
+use mq_bytes::{PLACE_END, read_decimal};
 
 // The text has no sign and no leading zero.
 fn is_bare(text: &[u8]) -> bool
@@ -18,8 +16,8 @@ fn is_bare(text: &[u8]) -> bool
     !text.is_empty() && text[0] != b'-' && (text[0] != b'0' || text.len() == 1)
 }
 
-/// The number that the text writes.
-pub(crate) fn number_in(text: &str) -> Option<u64>
+/// The number that the text writes; nothing where it writes none.
+pub fn number_in(text: &str) -> Option<u64>
     ensures { result ≡ number_of_text text.now }
 {
     if !is_bare(text.as_bytes()) {
@@ -30,14 +28,14 @@ pub(crate) fn number_in(text: &str) -> Option<u64>
         return None;
     }
     let value = value as u64;
-    if value >= LIMIT {
+    if value >= PLACE_END {
         return None;
     }
     Some(value)
 }
 
-/// The same of bytes.
-pub(crate) fn number_of(bytes: &[u8]) -> Option<u64>
+/// The same of bytes, which may be no text.
+pub fn number_of(bytes: &[u8]) -> Option<u64>
     ensures { result ≡ number_of_bytes bytes.now }
 {
     match std::str::from_utf8(bytes) {

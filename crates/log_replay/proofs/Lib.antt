@@ -7,3 +7,5 @@ pub mod Widths
 pub mod Delivered
 pub mod Growth
 pub mod Due
+pub mod WordSteps
+pub mod KeyHashes

@@ -6,24 +6,24 @@ ghost use Rattle.log_model.specs.Kinds.{is_half as is_half_entry, is_op as is_op
 ghost use Rattle.log_model.specs.Kinds.{is_copy as is_copy_entry, origin_text as origin_text_of};
 ghost use Rattle.log_replay.specs.Told.{is_of_origin};
 
-use record_codec::{COMMITTED, Record, TRANSACTION_BITS};
+use record_codec::{COMMITTED, DISCARD_TOPIC, HALF_TOPIC, OP_TOPIC, Record, TRANSACTION_BITS};
 
 pub(crate) fn is_half(r: &Record) -> bool
     ensures { result ≡ is_half_entry (said_by r.now) }
 {
-    r.draft.topic.as_str() == "RMQ_SYS_TRANS_HALF_TOPIC"
+    r.draft.topic.as_str() == HALF_TOPIC
 }
 
 pub(crate) fn is_op(r: &Record) -> bool
     ensures { result ≡ is_op_entry (said_by r.now) }
 {
-    r.draft.topic.as_str() == "RMQ_SYS_TRANS_OP_HALF_TOPIC"
+    r.draft.topic.as_str() == OP_TOPIC
 }
 
 pub(crate) fn is_discard(r: &Record) -> bool
     ensures { result ≡ is_discard_entry (said_by r.now) }
 {
-    r.draft.topic.as_str() == "TRANS_CHECK_MAX_TIME_TOPIC"
+    r.draft.topic.as_str() == DISCARD_TOPIC
 }
 
 // A copy that a Commit appended.

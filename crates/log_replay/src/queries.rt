@@ -6,7 +6,7 @@ ghost use Rattle.log_model.specs.Queues.{said_by, entries_of, IsStored};
 ghost use Rattle.log_model.specs.Keys.{asked_number, is_match as is_match_entry, newest_with_key, within, cut_to, query_of as query_of_log};
 ghost use Rattle.log_replay.specs.Told.{place_and_size};
 
-use crate::keys::{hash, index_keys_of};
+use crate::keys::{index_keys_of, key_hash};
 use record_codec::Record;
 use std::alloc::{AllocError, Global};
 
@@ -99,7 +99,7 @@ pub fn query_of(
     ensures { IfOk result (λ places. places.items ≡ map (λ r. r.offset)
         (newest_with_key (entries_of log.now) topic.now key.now (pos from) (pos to) (pos most))) }
 {
-    let hash = hash(alloc, topic, key)?;
+    let hash = key_hash(topic, key);
     let most = asked(i64::from(most));
     let found = newest(alloc, log, hash, i128::from(from), i128::from(to), most)?;
     let places = places(alloc, &found)?;
@@ -159,7 +159,7 @@ pub fn query_reply(
     ensures { IfOk result (λ places. places.items
         ≡ map (λ r. r.offset) (query_of_log (entries_of log.now) topic.now key.now from to most)) }
 {
-    let hash = hash(alloc, topic, key)?;
+    let hash = key_hash(topic, key);
     let most = asked(i64::from(most));
     let found = newest(alloc, log, hash, i128::from(from), i128::from(to), most)?;
     let mut places = cut(alloc, &found)?;

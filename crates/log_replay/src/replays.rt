@@ -36,7 +36,7 @@ fn row(alloc: Global, log: &[Record], r: &Record) -> Result<(Text, u32, Rows<Uni
 {
     let topic = r.draft.topic.as_str();
     let units = queue_of(alloc, log, topic, r.draft.queue)?;
-    let topic = Text::of(String::from_str(alloc, topic)?);
+    let topic = Text::copy(alloc, topic)?;
     Ok((topic, r.draft.queue, Rows::of(units)))
 }
 

@@ -4,11 +4,9 @@ ghost use Rattle.std.specs.Prelude.{◌≡◌, ◌<◌, ◌^◌, [], IfOk};
 
 use crate::clock::Clock;
 use crate::faults::Failed;
+use mq_bytes::PLACE_END;
 use std::rt;
 use std::time::{SystemTime, UNIX_EPOCH};
-
-// Readings are below 2^62.
-const READING_LIMIT: u64 = 1 << 62;
 
 /// The wall clock of the system `R`. A time before 1970, or 2^62 milliseconds or more after it, is a failure.
 #[derive(Drop)]
@@ -28,7 +26,7 @@ fn millis_of(rt: &impl rt::Clock) -> Result<u64, Failed>
         return Err(Failed);
     };
     match u64::try_from(since.as_millis()) {
-        Ok(millis) if millis < READING_LIMIT => Ok(millis),
+        Ok(millis) if millis < PLACE_END => Ok(millis),
         _ => Err(Failed),
     }
 }

@@ -13,12 +13,10 @@ use crate::pulled::{NOT_YET, OUTSIDE, Pulled, code_of};
 use crate::stored::StoredUnit;
 use crate::tags::Tags;
 use chunks::Chunks;
+use mq_bytes::PLACE_END;
 use record_codec::Unit;
 use std::alloc::{AllocError, Global};
 use std::marker::Model;
-
-// Past this offset no room is made: no log has as many records.
-const OFFSET_MAX: u64 = 1 << 62;
 
 /// The units of a queue.
 #[derive(Drop)]
@@ -71,7 +69,8 @@ impl QueueTable {
         ensures spare { OnOk result (additional ≤ self.new.spare) }
         ensures kept { self.old.spare ≤ self.new.spare }
     {
-        if self.added() >= OFFSET_MAX {
+        // No log has as many records.
+        if self.added() >= PLACE_END {
             return Err(AllocError);
         }
         self.units.reserve(alloc, additional)

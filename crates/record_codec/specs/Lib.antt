@@ -12,3 +12,4 @@ pub mod Fronts
 pub mod Units
 pub mod Marks
 pub mod Join
+pub mod Bodies

@@ -5,6 +5,7 @@ use crate::props::Props;
 use crate::sysflag::HOSTS_LONG;
 use crate::topic::{TOPIC_MAX, is_named};
 use mq_bytes::Text;
+use std::alloc::{AllocError, Global};
 
 /// What a record says, but for its place. Times are milliseconds, hosts are an IPv4 address and a port of four bytes each.
 #[derive(Drop)]
@@ -66,8 +67,42 @@ pub const SEGMENT_MIN: u32 = 4096;
 pub const SEGMENT_MAX: u32 = 1 << 30;
 
 impl Draft {
-    ghost use Rattle.std.specs.Prelude.{◌≡◌, None, Some, IfOk, IfErr};
+    ghost use Rattle.std.specs.Prelude.{◌≡◌, ℕ, None, Some, IfOk, IfErr};
     ghost use Rattle.record_codec.specs.Drafts.{draft_fault, draft_size};
+
+    /// The same draft, apart from this one.
+    pub fn copy(&self, alloc: Global) -> Result<Draft, AllocError>
+        ensures { IfOk result (λ copy. copy ≡ self.now) }
+    {
+        Ok(Draft {
+            topic: Text::copy(alloc, self.topic.as_str())?,
+            queue: self.queue,
+            flag: self.flag,
+            sysflag: self.sysflag,
+            born: self.born,
+            born_host: self.born_host,
+            store_host: self.store_host,
+            reconsume: self.reconsume,
+            prepared: self.prepared,
+            body: self.body.copy(alloc)?,
+            props: self.props.copy(alloc)?,
+        })
+    }
+
+    /// The size of the record, in bytes, of a draft that has passed `check` with some segment.
+    pub fn size(&self) -> u32
+        requires { (segment : ℕ) × (draft_fault segment self.now ≡ None) }
+        ensures { result ≡ draft_size self.now }
+    {
+        match self.props.written_len() {
+            Some(props) => {
+                let body = self.body.as_slice().len();
+                let topic = self.topic.as_str().len();
+                (105 + body + topic + props) as u32
+            }
+            None => unreachable!(),
+        }
+    }
 
     /// The size of the record, or the first fault that keeps it from being written into a segment of `segment` bytes.
     #[tactic(auto, unfolding(crate::specs::Drafts::draft_fault))]

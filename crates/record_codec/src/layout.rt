@@ -95,20 +95,6 @@ fn put_front(draft: &Draft, place: &Place, size: u32, out: &mut Vec<u8>)
     put(out, b"SEAL\x01");
 }
 
-fn size_of(draft: &Draft) -> u32
-    requires { draft_fault (2 ^ 30) draft.now ≡ None }
-    ensures { result ≡ draft_size draft.now }
-{
-    match draft.props.written_len() {
-        Some(props) => {
-            let body = draft.body.as_slice().len();
-            let topic = draft.topic.as_str().len();
-            (105 + body + topic + props) as u32
-        }
-        None => unreachable!(),
-    }
-}
-
 /// Appends the bytes of the record that the draft is at this place. After want of memory `out` is as before.
 pub fn encode(draft: &Draft, place: &Place, out: &mut Vec<u8>) -> Result<(), AllocError>
     requires { IsEncodable draft.now place.now }
@@ -116,7 +102,7 @@ pub fn encode(draft: &Draft, place: &Place, out: &mut Vec<u8>) -> Result<(), All
     ensures err { OnErr result (out.new.items ≡ out.old.items) }
     ensures a_record { OnOk result (IsRecord (entry_of draft.now place.now)) }
 {
-    let size = size_of(draft);
+    let size = draft.size();
     out.reserve(size as usize)?;
     let start = out.len();
     put_front(draft, place, size, out);

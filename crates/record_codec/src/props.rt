@@ -2,12 +2,12 @@
 //!
 //! The written form is, for each property: name, byte 1, value, byte 2.
 
-ghost use Rattle.std.specs.Prelude.{◌≡◌, ◌+◌, ◌≤◌, [], ◌++◌, length, vec_len, Some, option_map, IsTrue, IfOk, OnOk, OnErr};
+ghost use Rattle.std.specs.Prelude.{◌≡◌, ◌+◌, ◌≤◌, [], ◌++◌, length, string_bytes, vec_len, Some, option_map, IsTrue, IfOk, OnOk, OnErr};
 ghost use Rattle.std.specs.Option.{SomeIff};
 ghost use Rattle.std.specs.Str.{IsUtf8};
 ghost use Rattle.std.specs.Vec.{vec_capacity};
 ghost use Rattle.record_codec.specs.LaxProps.{first_piece as first_piece_of, read_props, ArePlacesIn};
-ghost use Rattle.record_codec.specs.Props.{written, lacks, is_pair, pairs_in, place_in, value_of, with_prop, without, AreProps, IsWritten};
+ghost use Rattle.record_codec.specs.Props.{pair_text, written, lacks, is_pair, pairs_in, place_in, value_of, with_prop, without, AreProps, IsWritten};
 
 use crate::append::{put, put_byte};
 use crate::scan::{next_pair, pair_of, split_at_first};
@@ -156,6 +156,17 @@ impl Props {
         put_pair(&mut self.pairs, alloc, at, name, value)
     }
 
+    /// The written form, as the text of a request has it.
+    pub fn text(&self, alloc: Global) -> Result<Text, AllocError>
+        ensures { IfOk result (λ text. text ≡ written self.now) }
+    {
+        let mut text = String::new(alloc);
+        for (name, value) in &self.pairs {
+            push_pair(&mut text, name.as_str(), value.as_str())?;
+        }
+        Ok(Text::of(text))
+    }
+
     /// Drops the name and its value, if the name is there.
     pub fn drop_name(&mut self, name: &str)
         ensures { self.new ≡ without name.now self.old }
@@ -208,20 +219,27 @@ impl Props {
     }
 }
 
+// Appends the written form of one property.
+fn push_pair(text: &mut String, name: &str, value: &str) -> Result<(), AllocError>
+    ensures { OnOk result (string_bytes text.new ≡ string_bytes text.old ++ pair_text (name.now, value.now)) }
+{
+    text.push_str(name)?;
+    text.push_str("\u{1}")?;
+    text.push_str(value)?;
+    text.push_str("\u{2}")
+}
+
 fn copies_of(alloc: Global, pairs: &[(Text, Text)]) -> Result<Vec<(Text, Text)>, AllocError>
     ensures { IfOk result (λ copies. copies.items ≡ pairs.now) }
 {
     let mut copies = Vec::with_capacity(alloc, pairs.len())?;
     for (name, value) in pairs {
-        copies.push((copy_of(alloc, name)?, copy_of(alloc, value)?))?;
+        copies.push((
+            Text::copy(alloc, name.as_str())?,
+            Text::copy(alloc, value.as_str())?,
+        ))?;
     }
     Ok(copies)
-}
-
-fn copy_of(alloc: Global, text: &Text) -> Result<Text, AllocError>
-    ensures { IfOk result (λ copy. copy ≡ text.now) }
-{
-    Ok(Text::of(String::from_str(alloc, text.as_str())?))
 }
 
 fn put_pair(
@@ -284,7 +302,7 @@ pub(crate) fn text_of(alloc: Global, bytes: &[u8]) -> Result<Text, AllocError>
     requires { IsUtf8 bytes.now }
     ensures { IfOk result (λ text. text ≡ bytes.now) }
 {
-    Ok(Text::of(String::from_str(alloc, str_of(bytes))?))
+    Text::copy(alloc, str_of(bytes))
 }
 
 fn str_of(bytes: &[u8]) -> &str

@@ -3,6 +3,7 @@
 ghost use Rattle.std.specs.Prelude.{◌≡◌, ◌+◌, ◌<◌, ◌^◌, pos, option_map};
 ghost use Rattle.record_codec.specs.Units.{delay_of, hash_of, tag_code as tag_code_of, unit_of as unit_of_record};
 
+use crate::system_topics::SCHEDULE_TOPIC;
 use crate::view::View;
 use mq_bytes::{java_hash, level_delay};
 
@@ -61,7 +62,7 @@ pub fn tag_code(topic: &str, tags: Option<&str>, queue: u32, store: u64) -> i64
     requires { store < 2 ^ 62 }
     ensures { result ≡ tag_code_of topic.now (option_map (λ text. text.now) tags.entry) queue store }
 {
-    if topic == "SCHEDULE_TOPIC_XXXX" {
+    if topic == SCHEDULE_TOPIC {
         due_time(queue, store)
     } else {
         tag_hash(tags)

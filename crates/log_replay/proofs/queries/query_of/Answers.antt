@@ -16,8 +16,8 @@ wider32 z n is low = subst (λ (y : ℤ). FitsSigned w64 y) (sym is) (wide_pos32
 
 pub returns : goal.returns
 returns c =
-    let are = newest_are (entries_of c.args.log.now) c.args.topic.now c.args.key.now c.in_ok-hash.hash c.asked-most.result _ _ (pos c.args.from) (pos c.args.to) (pos c.args.most)
-    c.in_ok-hash.ensures
+    let are = newest_are (entries_of c.args.log.now) c.args.topic.now c.args.key.now c.key_hash-hash.result c.asked-most.result _ _ (pos c.args.from) (pos c.args.to) (pos c.args.most)
+    c.key_hash-hash.ensures
     (to_z-of_z w128 c.from-2.result (wider c.from-2.result c.args.from c.from-2.ensures c.ranges.from.fits) ∙ c.from-2.ensures)
     (to_z-of_z w128 c.from-3.result (wider c.from-3.result c.args.to c.from-3.ensures c.ranges.to.fits) ∙ c.from-3.ensures)
     (c.asked-most.ensures ∙ ap (asked_number 64) (to_z-of_z w64 c.from.result (wider32 c.from.result c.args.most c.from.ensures c.ranges.most.fits) ∙ c.from.ensures)) in

@@ -23,8 +23,8 @@ number y z is fits =
 
 pub returns : goal.returns
 returns c =
-    let are = newest_are (entries_of c.args.log.now) c.args.topic.now c.args.key.now c.in_ok-hash.hash c.asked-most.result _ _ c.args.from c.args.to c.args.most
-    c.in_ok-hash.ensures
+    let are = newest_are (entries_of c.args.log.now) c.args.topic.now c.args.key.now c.key_hash-hash.result c.asked-most.result _ _ c.args.from c.args.to c.args.most
+    c.key_hash-hash.ensures
     (bound c.from-2.result c.args.from c.from-2.ensures c.ranges.from)
     (bound c.from-3.result c.args.to c.from-3.ensures c.ranges.to)
     (c.asked-most.ensures ∙ ap (asked_number 64) (number c.from.result c.args.most c.from.ensures c.ranges.most)) in

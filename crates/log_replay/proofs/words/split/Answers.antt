@@ -3,7 +3,7 @@ use Rattle.std.specs.Prelude.{unwrap_or}
 use Rattle.std.proofs.lemmas.Bool.{ne_eqb}
 use Rattle.std.proofs.lemmas.List.{take_all}
 use Rattle.record_codec.proofs.ScanLemmas.{passes, stops, ended}
-use Rattle.key_view.proofs.words.split.Goals as goal
+use Rattle.log_replay.proofs.words.split.Goals as goal
 
 pub returns-then-b-eq32 : goal.returns-then-b-eq32
 returns-then-b-eq32 c =

@@ -2,7 +2,7 @@
 use Rattle.std.proofs.Common.{◌≡◌, ◌≤◌, length}
 use Rattle.std.specs.Str.{IsUtf8}
 use Rattle.log_replay.proofs.WordLemmas.{words_in}
-use Rattle.key_view.proofs.words.next_word.Given as goal
+use Rattle.log_replay.proofs.words.next_word.Given as goal
 
 abbrev pub invariant-loop-rest : goal.invariant-loop-rest
 invariant-loop-rest l = record {

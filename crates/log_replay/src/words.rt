@@ -28,7 +28,7 @@ fn str_of(bytes: &[u8]) -> &str
 }
 
 /// The first word of a text, and what stands behind it; nothing where there is none.
-pub(crate) fn next_word(text: &[u8]) -> Option<(&str, &[u8])>
+pub fn next_word(text: &[u8]) -> Option<(&str, &[u8])>
     requires { IsUtf8 text.now }
     ensures first { IfSome result (λ found. words (Some text.now) ≡ found.0.now ∷ words (Some found.1.now)) }
     ensures utf8 { IfSome result (λ found. IsUtf8 found.1.now) }

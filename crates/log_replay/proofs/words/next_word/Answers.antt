@@ -1,8 +1,8 @@
 use Rattle.std.proofs.Common.{◌∙◌, ◌∷◌, ℕ, List, sym, ap, arith}
 use Rattle.std.proofs.lemmas.List.{nil_from_length}
 use Rattle.log_replay.proofs.WordLemmas.{words_in, words_in-nil, first_is, has_bytes, has_none}
-use Rattle.key_view.proofs.WordSteps.{a_word, no_word}
-use Rattle.key_view.proofs.words.next_word.Goals as goal
+use Rattle.log_replay.proofs.WordSteps.{a_word, no_word}
+use Rattle.log_replay.proofs.words.next_word.Goals as goal
 
 pub str_of-requires : goal.str_of-requires
 str_of-requires c = ((first_is c.loop-rest.rest.now _ c.split.ensures).utf8 c.loop-rest.invariant.utf8).0
