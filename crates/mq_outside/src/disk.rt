@@ -19,6 +19,10 @@ use crate::reader::Reader;
 use bytes::Bytes;
 use std::alloc::Global;
 
+/// The most bytes that one process leaves unsynced. A real disk writes that much of a file again in `renew`, and no more records
+/// than that may be pending: so both are this one number.
+pub const UNSYNCED_MAX: u64 = 67_108_864;
+
 /// A disk of named files. What it holds is said where `tells` holds; of a real disk nothing is said.
 pub trait Disk {
     /// Reads the frozen pieces of this disk.
@@ -108,8 +112,8 @@ pub trait Disk {
 
     /// Syncs a file that an earlier process wrote: what that process wrote last, and may have failed to sync, is written again as
     /// it is read, and synced. After it a crash leaves of this file what is read. The device takes it that all that may have
-    /// failed lies in the last 64 MiB of the file: one turn of the flusher writes no more, and none begins before the one before
-    /// it is on the disk. Writing what is read leaves nothing that a crash could not have left before.
+    /// failed lies in the last `UNSYNCED_MAX` bytes of the file: one turn of the flusher writes no more, and none begins before
+    /// the one before it is on the disk. Writing what is read leaves nothing that a crash could not have left before.
     fn renew(&mut self, file: &str) -> Result<(), Failed>
         ensures durable { tells → OnOk result (IsDurable file.now (state self.new)) }
         ensures moves { tells → Moves Same (state self.old) (state self.new) }

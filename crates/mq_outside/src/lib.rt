@@ -25,7 +25,7 @@ mod std_streams;
 mod stream;
 
 pub use clock::Clock;
-pub use disk::Disk;
+pub use disk::{Disk, UNSYNCED_MAX};
 pub use faults::{DiskFault, Failed};
 pub use frozen::Frozen;
 pub use frozen_ranges::FrozenRanges;

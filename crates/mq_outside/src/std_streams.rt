@@ -1,4 +1,5 @@
-//! Standard input as a source, and standard output as a sink. Neither is buffered: what was written has left the process.
+//! Standard input as a source, and standard output as a sink. Neither is buffered: what was written has left the process. Where
+//! another program made them non-blocking, they wait all the same.
 
 ghost use Rattle.std.specs.Prelude.{◌≡◌, ◌≤◌, ◌<◌, [], length, IfOk};
 ghost use Rattle.mq_outside.specs.Counts.{CountsFailure};
@@ -6,12 +7,17 @@ ghost use Rattle.std.specs.Io.KnownBytes.{ReadConsumes, WriteAppends};
 
 use crate::faults::Failed;
 use crate::stream::{Sink, Source};
+use libc::net::{POLLIN, POLLOUT, poll};
+use libc::types::pollfd;
+use libc::{STDIN_FILENO, STDOUT_FILENO};
 use std::io::{ErrorKind, Read, Stdin, Stdout, Write};
 
 /// A reader as a source, standard input where none is named. It says nothing of the bytes that come.
 #[derive(Drop)]
 pub struct StdSource<R: Read + Drop = Stdin> {
     input: R,
+    // What is waited for where a read would block; none: such a read is a failure.
+    awaited: Option<i32>,
     faults: u64,
 }
 
@@ -19,11 +25,40 @@ pub struct StdSource<R: Read + Drop = Stdin> {
 #[derive(Drop)]
 pub struct StdSink<W: Write + Drop = Stdout> {
     output: W,
+    // What is waited for where a write would block; none: such a write is a failure.
+    awaited: Option<i32>,
     faults: u64,
 }
 
-// One read, tried again where a signal interrupts it.
-pub(crate) fn read_some<R: Read>(reader: &mut R, out: &mut [u8]) -> Result<usize, Failed>
+// Waits until this descriptor is ready, or a signal comes: the call that is made again tells which. Answers whether there is one.
+fn is_awaited(descriptor: Option<i32>, events: i16) -> bool {
+    let Some(fd) = descriptor else {
+        return false;
+    };
+    let mut asked = [pollfd {
+        fd,
+        events,
+        revents: 0,
+    }];
+    poll(&mut asked, -1);
+    true
+}
+
+// Whether a call that failed so is made again: a signal interrupted it, or it would have blocked and the descriptor was waited for.
+fn goes_on(kind: ErrorKind, descriptor: Option<i32>, events: i16) -> bool {
+    match kind {
+        ErrorKind::Interrupted => true,
+        ErrorKind::WouldBlock => is_awaited(descriptor, events),
+        _ => false,
+    }
+}
+
+// One read, tried again where a signal interrupts it, or where it would block and there is a descriptor to wait for.
+pub(crate) fn read_some<R: Read>(
+    reader: &mut R,
+    awaited: Option<i32>,
+    out: &mut [u8],
+) -> Result<usize, Failed>
     ensures within { IfOk result (λ n. n ≤ length out.old) }
     ensures bytes { ReadConsumes (R.remaining reader.old) (R.remaining reader.new) result out.new }
 {
@@ -31,7 +66,7 @@ pub(crate) fn read_some<R: Read>(reader: &mut R, out: &mut [u8]) -> Result<usize
         match reader.read(out) {
             Ok(n) => return Ok(n),
             Err(e) => {
-                if e.kind() != ErrorKind::Interrupted {
+                if !goes_on(e.kind(), awaited, POLLIN) {
                     return Err(Failed);
                 }
             }
@@ -40,8 +75,12 @@ pub(crate) fn read_some<R: Read>(reader: &mut R, out: &mut [u8]) -> Result<usize
     Err(Failed)
 }
 
-// One write, tried again where a signal interrupts it. A write that takes nothing of a piece is a failure.
-pub(crate) fn write_some<W: Write>(writer: &mut W, piece: &[u8]) -> Result<usize, Failed>
+// One write, tried again as a read is. A write that takes nothing of a piece is a failure.
+pub(crate) fn write_some<W: Write>(
+    writer: &mut W,
+    awaited: Option<i32>,
+    piece: &[u8],
+) -> Result<usize, Failed>
     ensures within { IfOk result (λ n. n ≤ length piece.now) }
     ensures some { IfOk result (λ n. 0 < length piece.now → 0 < n) }
     ensures bytes { WriteAppends (W.contents writer.old) (W.contents writer.new) result piece.now }
@@ -55,7 +94,7 @@ pub(crate) fn write_some<W: Write>(writer: &mut W, piece: &[u8]) -> Result<usize
                 return Ok(n);
             }
             Err(e) => {
-                if e.kind() != ErrorKind::Interrupted {
+                if !goes_on(e.kind(), awaited, POLLOUT) {
                     return Err(Failed);
                 }
             }
@@ -65,40 +104,56 @@ pub(crate) fn write_some<W: Write>(writer: &mut W, piece: &[u8]) -> Result<usize
 }
 
 impl<R: Read + Drop> StdSource<R> {
-    /// This reader, from where it stands.
+    /// This reader, from where it stands. A read of it that would block is a failure.
     pub fn over(input: R) -> StdSource<R>
         ensures given { result.input ≡ input }
         ensures fresh { result.faults ≡ 0 }
     {
-        StdSource { input, faults: 0 }
+        StdSource {
+            input,
+            awaited: None,
+            faults: 0,
+        }
     }
 }
 
 impl<W: Write + Drop> StdSink<W> {
-    /// This writer.
+    /// This writer. A write to it that would block is a failure.
     pub fn over(output: W) -> StdSink<W>
         ensures given { result.output ≡ output }
         ensures fresh { result.faults ≡ 0 }
     {
-        StdSink { output, faults: 0 }
+        StdSink {
+            output,
+            awaited: None,
+            faults: 0,
+        }
     }
 }
 
 impl StdSource<Stdin> {
-    /// Standard input of this process, from where it stands.
+    /// Standard input of this process, from where it stands. A read of it waits, also where the input is non-blocking.
     pub fn new(rt: HostRuntime) -> StdSource<Stdin>
         ensures { result.faults ≡ 0 }
     {
-        StdSource::over(rt.stdin())
+        StdSource {
+            input: rt.stdin(),
+            awaited: Some(STDIN_FILENO),
+            faults: 0,
+        }
     }
 }
 
 impl StdSink<Stdout> {
-    /// Standard output of this process.
+    /// Standard output of this process. A write to it waits, also where the output is non-blocking.
     pub fn new(rt: HostRuntime) -> StdSink<Stdout>
         ensures { result.faults ≡ 0 }
     {
-        StdSink::over(rt.stdout())
+        StdSink {
+            output: rt.stdout(),
+            awaited: Some(STDOUT_FILENO),
+            faults: 0,
+        }
     }
 }
 
@@ -116,7 +171,7 @@ impl<R: Read + Drop> Source for StdSource<R> {
         ensures bytes { ReadConsumes (R.remaining self.old.input) (R.remaining self.new.input) result out.new }
         ensures cause { CountsFailure result self.old.faults self.new.faults }
     {
-        match read_some(&mut self.input, out) {
+        match read_some(&mut self.input, self.awaited, out) {
             Ok(n) => Ok(n),
             Err(Failed) => {
                 self.faults = self.faults.saturating_add(1);
@@ -139,7 +194,7 @@ impl<W: Write + Drop> Sink for StdSink<W> {
         ensures bytes { WriteAppends (W.contents self.old.output) (W.contents self.new.output) result piece.now }
         ensures cause { CountsFailure result self.old.faults self.new.faults }
     {
-        match write_some(&mut self.output, piece) {
+        match write_some(&mut self.output, self.awaited, piece) {
             Ok(n) => Ok(n),
             Err(Failed) => {
                 self.faults = self.faults.saturating_add(1);
