@@ -21,3 +21,4 @@ pub mod Seals
 pub mod MarkLemmas
 pub mod JoinLemmas
 pub mod ShiftLemmas
+pub mod WholeLemmas

@@ -10,6 +10,7 @@ pub mod LengthsViews
 pub mod Blanks
 pub mod Fronts
 pub mod Units
+pub mod Wholes
 pub mod Marks
 pub mod Join
 pub mod Bodies

@@ -19,6 +19,7 @@ mod system_topics;
 mod topic;
 mod unit;
 mod view;
+mod whole;
 
 pub use blank::{BLANK_FRONT, blank_front, test_blank};
 pub use body::Body;
@@ -33,3 +34,4 @@ pub use system_topics::{DISCARD_TOPIC, HALF_TOPIC, OP_TOPIC, SCHEDULE_TOPIC};
 pub use topic::is_legal_topic;
 pub use unit::{Unit, tag_code, unit_of};
 pub use view::View;
+pub use whole::whole_records;
