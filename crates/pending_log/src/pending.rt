@@ -23,12 +23,13 @@ use crate::rows::Rows;
 use crate::turn::{FailedTurn, Look, Out, look_at};
 use bytes::Bytes;
 use log_model::{Batch, Receipt, next_place};
+use mq_outside::UNSYNCED_MAX;
 use record_codec::{Draft, Place};
 use std::alloc::{AllocError, Global};
 use std::marker::Model;
 
-/// How many bytes may be pending: 64 MiB.
-pub const PENDING_MAX: usize = 67_108_864;
+/// How many bytes may be pending: as many as an opening of the log writes again, 64 MiB.
+pub const PENDING_MAX: usize = UNSYNCED_MAX as usize;
 
 /// The pending records, and the flush turns.
 #[derive(Drop)]
