@@ -202,7 +202,7 @@ def _(folder):
     child = subprocess.Popen([PROGRAM, "serve", "--host", f"127.0.0.1:{port}", "--connections", "1"], cwd=folder, stdin=subprocess.DEVNULL,
                              stdout=subprocess.PIPE, stderr=subprocess.PIPE)
     said = child.stderr.readline().decode()
-    assert said == f"mq_broker: opening store store, will serve on 127.0.0.1:{port}\n", said
+    assert said.startswith(f"mq_broker: opening store store, will serve on 127.0.0.1:{port}") and said.endswith("\n"), said
     end = time.time() + WAIT
     while not is_heard("127.0.0.1", port):
         assert time.time() < end

@@ -1,5 +1,6 @@
 //! What the arguments ask for, found before anything is made.
 
+use std::alloc::{AllocError, Global};
 use store_open::{Tool, Verb, read_gen_words, read_serve_words, read_tool_words, read_words};
 use tool_run::asked_tool;
 
@@ -12,12 +13,14 @@ pub(crate) const COMMANDS: [Verb; 5] = [
     Verb::Gen,
 ];
 
-/// A run: the command, the store's folder, and where `serve` listens (the address, and the port in four bytes, high byte first).
+/// A run: the command, the store's folder, where `serve` listens (the address, and the port in four bytes, high byte first), and
+/// how many connections it may have at a time, none for `pipe`.
 #[derive(Clone, Copy)]
 pub(crate) struct Target<'a> {
     pub(crate) verb: Verb,
     pub(crate) store: &'a str,
     pub(crate) listen: [u8; 8],
+    pub(crate) links: Option<u32>,
 }
 
 /// What the arguments ask for.
@@ -35,6 +38,15 @@ pub(crate) enum Asked<'a> {
     Unfit(u64),
 }
 
+/// The texts of arguments.
+pub(crate) fn texts_of<'a>(alloc: Global, words: &'a [String]) -> Result<Vec<&'a str>, AllocError> {
+    let mut texts = Vec::with_capacity(alloc, words.len())?;
+    for word in words {
+        texts.push(word.as_str())?;
+    }
+    Ok(texts)
+}
+
 // The run that the arguments of `pipe` ask for. It doesn't listen.
 fn asked_of_pipe<'a>(words: &[&'a str]) -> Asked<'a> {
     match read_words(words) {
@@ -43,6 +55,7 @@ fn asked_of_pipe<'a>(words: &[&'a str]) -> Asked<'a> {
             verb: Verb::Pipe,
             store: command.store,
             listen: command.host,
+            links: None,
         }),
     }
 }
@@ -55,6 +68,7 @@ fn asked_of_serve<'a>(words: &[&'a str]) -> Asked<'a> {
             verb: Verb::Serve,
             store: command.store,
             listen: command.listen,
+            links: Some(command.links),
         }),
     }
 }

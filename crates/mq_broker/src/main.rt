@@ -1,15 +1,18 @@
 //! `mq_broker pipe` answers the requests of standard input on standard output; `mq_broker serve` accepts connections over TCP;
 //! `mq_broker dump` and `mq_broker verify` tell what a store holds, and `mq_broker gen` fills one. The arguments are read before
-//! anything is made. Standard output has replies and the texts of the tools, of `--help` and of `--version` alone; standard error
+//! anything is made, and before them a closed standard input, output or error is opened on `/dev/null`. Standard output has replies and the texts of the tools, of `--help` and of `--version` alone; standard error
 //! has one line for each run that ends with another status than 0, and two of each run of `serve`.
 #![tactic(auto)]
 
 mod asked;
+mod descriptors;
+mod room;
 mod running;
 mod telling;
 mod tooling;
 
-use asked::{Asked, COMMANDS, asked_of};
+use asked::{Asked, COMMANDS, asked_of, texts_of};
+use descriptors::open_standard;
 use exit_status::usage_line;
 use running::run_target;
 use std::alloc::{AllocError, Global};
@@ -20,7 +23,7 @@ use store_open::{help, help_of};
 use telling::{say, warn};
 use tooling::{fill_store, use_tool};
 
-/// The status of a usage error.
+/// The status of a usage error, and of a closed standard input, output or error.
 const USAGE: u8 = 1;
 
 /// The status of a run that is out of memory.
@@ -71,14 +74,18 @@ fn run_program<W: Wait + Threads + Sync>(
     alloc: Global,
 ) -> Result<u8, AllocError> {
     let words = words_of(rt, alloc)?;
-    let mut texts = Vec::with_capacity(alloc, words.len())?;
-    for word in &words {
-        texts.push(word.as_str())?;
-    }
+    let texts = texts_of(alloc, words.as_slice())?;
     run_words(threads, rt, alloc, texts.as_slice())
 }
 
 fn main(rt: HostRuntime) -> ExitCode {
+    if open_standard(rt).is_err() {
+        warn(
+            rt,
+            "mq_broker: standard input, output or error is closed, and /dev/null can't be opened (status 1): open all three",
+        );
+        return ExitCode::from(USAGE);
+    }
     let alloc = rt.alloc();
     match run_program(&rt, rt, alloc) {
         Ok(code) => ExitCode::from(code),

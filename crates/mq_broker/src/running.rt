@@ -1,6 +1,8 @@
 //! A run over the real devices: the folder of the store, standard input and output, the machine's clock and TCP.
 
-use crate::asked::Target;
+use crate::asked::{Target, texts_of};
+use crate::descriptors::open_files_limit;
+use crate::room::{LEAST_FILES, Room, limit_for, links_within, with_links};
 use crate::telling::warn;
 use broker_serve::Store;
 use exit_status::{Scene, status_line};
@@ -71,19 +73,32 @@ fn world_at(rt: HostRuntime, alloc: Global, listen: &[u8; 8]) -> Option<TcpWorld
     })
 }
 
+// What bounds the connections besides the arguments, as the first line of `serve` says it.
+fn room_text(alloc: Global, room: Option<Room>) -> Result<String, AllocError> {
+    match room {
+        None => Ok(String::new(alloc)),
+        Some(Room { links, limit }) => format!(in alloc;
+            ", at most {links} connections, since the limit of open files is {limit}"
+        ),
+    }
+}
+
 // Prints what `serve` is about to do.
 fn tell_start(
     rt: HostRuntime,
     alloc: Global,
     target: &Target,
     address: &str,
+    room: Option<Room>,
 ) -> Result<(), AllocError> {
     if target.verb == Verb::Serve {
         let store = target.store;
+        let bound = room_text(alloc, room)?;
+        let bound = bound.as_str();
         warn(
             rt,
             format!(in alloc;
-                "mq_broker: opening store {store}, will serve on {address}"
+                "mq_broker: opening store {store}, will serve on {address}{bound}"
             )?.as_str(),
         );
     }
@@ -130,6 +145,15 @@ fn tell_lost_log(rt: HostRuntime, alloc: Global, store: &str) -> Result<u8, Allo
     Ok(DAMAGED)
 }
 
+// Prints that another process has the store, and answers the exit status: no disk failed.
+fn tell_taken(rt: HostRuntime, alloc: Global, cause: &str) -> Result<u8, AllocError> {
+    let line = format!(in alloc;
+        "mq_broker: {cause} (status 5): end it, then run again; what was answered is stored"
+    )?;
+    warn(rt, line.as_str());
+    Ok(DISK)
+}
+
 /// Prints how a run in this folder ended, whose devices these are, and answers the exit status.
 pub(crate) fn tell_run<'a>(
     rt: HostRuntime,
@@ -143,10 +167,16 @@ pub(crate) fn tell_run<'a>(
     if is_log_lost(status, store) {
         return tell_lost_log(rt, alloc, folder);
     }
+    let cause = cause_in(store, status);
+    if let Some(text) = cause
+        && text.ends_with("another process has the store")
+    {
+        return tell_taken(rt, alloc, text);
+    }
     let scene = Scene {
         store: folder,
         address,
-        cause: cause_in(store, status),
+        cause,
     };
     tell_end(rt, alloc, verb, status, &scene)?;
     Ok(status.code)
@@ -170,13 +200,31 @@ fn tell_no_world<'a>(
     Ok(status.code)
 }
 
-/// Runs as the arguments ask, over the real devices, and answers the exit status. These are the arguments of this target.
-pub(crate) fn run_target<W: Wait + Threads + Sync>(
+// Prints that too few files may be open to serve, and answers the exit status.
+fn tell_few_files(
+    rt: HostRuntime,
+    alloc: Global,
+    limit: u64,
+    links: u32,
+) -> Result<u8, AllocError> {
+    let wanted = limit_for(links);
+    let line = format!(in alloc;
+        "mq_broker: the limit of open files is {limit} (status 10): \
+         raise it, by ulimit -n {wanted} for {links} connections; nothing was made"
+    )?;
+    warn(rt, line.as_str());
+    Ok(DEVICE)
+}
+
+// Runs as these arguments say, over the real devices, and answers the exit status. They are those of this target, with as many
+// connections as there is room for.
+fn run_within<W: Wait + Threads + Sync>(
     threads: &W,
     rt: HostRuntime,
     alloc: Global,
     words: &[&str],
     target: &Target,
+    room: Option<Room>,
 ) -> Result<u8, AllocError> {
     let text = address_text(alloc, &target.listen)?;
     let address = text.as_str();
@@ -188,7 +236,7 @@ pub(crate) fn run_target<W: Wait + Threads + Sync>(
         source: StdSource::new(rt),
         sink: StdSink::new(rt),
     };
-    tell_start(rt, alloc, target, address)?;
+    tell_start(rt, alloc, target, address, room)?;
     let ended = run(threads, alloc, words, streams, world, store).ended;
     tell_run(
         rt,
@@ -199,4 +247,29 @@ pub(crate) fn run_target<W: Wait + Threads + Sync>(
         &ended.store,
         &ended.status,
     )
+}
+
+/// Runs as the arguments ask, over the real devices, and answers the exit status. These are the arguments of this target. `serve`
+/// has no more connections than the limit of open files leaves.
+pub(crate) fn run_target<W: Wait + Threads + Sync>(
+    threads: &W,
+    rt: HostRuntime,
+    alloc: Global,
+    words: &[&str],
+    target: &Target,
+) -> Result<u8, AllocError> {
+    let (Some(asked), Some(limit)) = (target.links, open_files_limit()) else {
+        return run_within(threads, rt, alloc, words, target, None);
+    };
+    if limit < LEAST_FILES {
+        return tell_few_files(rt, alloc, limit, asked);
+    }
+    let links = links_within(asked, limit);
+    if links == u64::from(asked) {
+        return run_within(threads, rt, alloc, words, target, None);
+    }
+    let lowered = with_links(alloc, words, links)?;
+    let texts = texts_of(alloc, lowered.as_slice())?;
+    let room = Some(Room { links, limit });
+    run_within(threads, rt, alloc, texts.as_slice(), target, room)
 }
