@@ -51,7 +51,10 @@ WHOLE = re.compile(r"-?[0-9]+")
 PIECES = ['"code":10,', '"code":null,', '"opaque":-3,', '"opaque":2147483648,', '"opaque":-2147483648,', '"opaque":007,', '"flag":2,',
           '"flag":1.0,', '"flag":-0,', '"version":1e2,', '"version":395,', '"remark":null,', '"remark":"\\n",', '"remark":7,',
           '"remark":"\\ud800",', '"remark":"\\ud83d\\ude00",', '"extFields":null,', '"extFields":{},', '"extFields":[],',
-          '"queueId":"1",', '"queueId":"2",', '"queueId":null,', '"queueId":3,', '"queue\\u0049d":"3",', '"c\\u006fde":10,',
+          '"queueId":"1",', '"queueId":"2",', '"queueId":null,', '"queueId":3,', '"queueId":-3,', '"queueId":-0,', '"queueId":2.0,',
+          '"queueId":1e0,', '"queueId":true,', '"queueId":[1],', '"queueId":{},', '"batch":false,',
+          '"bornTimestamp":9223372036854775807,', '"bornTimestamp":9223372036854775808,', '"y":-9223372036854775808,',
+          '"y":-9223372036854775809,', '"queue\\u0049d":"3",', '"c\\u006fde":10,',
           '"x":1e400,', '"x":-1e400,', '"x":1e-400,', '"x":true,', '"x":[{"code":1}],', '"x":{"opaque":{}},', '"x":NaN,', '"x":tru,',
           '"\\u00e9":"\\/\\b\\f",', '"x":"\t",', '"x":"\x7f",', '"x":' + "[" * 126 + "]" * 126 + ",",
           '"x":' + "[" * 127 + "]" * 127 + ",", '"x":' + "9" * 309 + ",", '"x":' + "9" * 308 + ",",
@@ -93,6 +96,19 @@ def whole(value):
     return int(value.text)
 
 
+def field_of(value):
+    """The text that a value of `extFields` stands for, or None for null."""
+    if value is None or isinstance(value, str):
+        return value
+    if isinstance(value, bool):
+        return "true" if value else "false"
+    if not isinstance(value, Number) or not WHOLE.fullmatch(value.text) or value.text == "-0":
+        raise Refused
+    if not -2 ** 63 <= int(value.text) < 2 ** 63:
+        raise Refused
+    return value.text
+
+
 def has_surrogate(value):
     if isinstance(value, str):
         return any(0xd800 <= ord(c) < 0xe000 for c in value)
@@ -127,13 +143,16 @@ def header_of(text):
     if not isinstance(value.get("remark", ""), (str, type(None))):
         raise Refused
     fields = value.get("extFields")
-    if not isinstance(fields, (dict, type(None))) or not all(isinstance(v, (str, type(None))) for v in (fields or {}).values()):
+    if not isinstance(fields, (dict, type(None))):
         raise Refused
-    return opaque, flag, {name: field for name, field in (fields or {}).items() if field is not None}
+    texts = {name: field_of(value) for name, value in (fields or {}).items()}
+    return opaque, flag, {name: text for name, text in texts.items() if text is not None}
 
 
 def mutated_header(dice):
-    fields = dict(FIELDS, queueId=str(dice.randrange(4)))
+    queue = dice.randrange(4)
+    # As Java's clients write it, mostly, and as those of C++ do.
+    fields = dict(FIELDS, queueId=queue if dice.random() < 0.3 else str(queue))
     text = json.dumps({"code": 10, "extFields": fields, "flag": dice.choice([0, 0, 0, 1, 2]), "language": "JAVA",
                        "opaque": dice.randrange(-2 ** 31, 2 ** 31), "version": 395}, separators=(",", ":"))
     for _ in range(dice.choice([0, 1, 1, 2, 3])):

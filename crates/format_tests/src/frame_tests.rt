@@ -21,6 +21,18 @@ const SEND_SAYS: &[u8] =
 \"producerGroup\":\"P\",\"queueId\":\"0\",\"sysFlag\":\"0\",\"topic\":\"T\"},\"flag\":0,\"language\":\"OTHER\",\"opaque\":7,\
 \"serializeTypeCurrentRPC\":\"JSON\",\"version\":395}hi";
 
+// A SEND of the same body by a C++ client: numbers and truth values among its fields, and a line end behind its object.
+const CPP_SEND: &[u8] =
+    b"\x00\x00\x00\xD5\x00\x00\x00\xCF{\"code\":310,\"extFields\":{\"a\":\"P\",\"b\":\"T\",\"c\":\"TBW102\",\"d\":4,\
+\"e\":0,\"f\":0,\"g\":\"1000\",\"h\":-1,\"k\":false,\"m\":true},\"flag\":0,\
+\"language\":\"CPP\",\"opaque\":7,\"remark\":\"\",\"serializeTypeCurrentRPC\":\"JSON\",\"version\":431}\nhi";
+
+// What its header says, and its body.
+const CPP_SEND_SAYS: &[u8] =
+    b"{\"code\":310,\"extFields\":{\"a\":\"P\",\"b\":\"T\",\"c\":\"TBW102\",\"d\":\"4\",\"e\":\"0\",\
+\"f\":\"0\",\"g\":\"1000\",\"h\":\"-1\",\"k\":\"false\",\"m\":\"true\"},\"flag\":0,\"language\":\"OTHER\",\"opaque\":7,\
+\"serializeTypeCurrentRPC\":\"JSON\",\"version\":431}hi";
+
 // The header of its reply.
 const REPLY: &[u8] =
     b"{\"code\":0,\"extFields\":{\"msgId\":\"7F00000100002A9F0000000000000000\",\"queueId\":\"0\",\"queueOffset\":\"0\"},\"flag\":1,\
@@ -86,6 +98,22 @@ fn joined(alloc: Global, front: &[u8], middle: &[u8], end: &[u8]) -> Result<Vec<
     Ok(text)
 }
 
+// Whether a header with these members has these fields, as JSON text; empty where it is refused.
+fn has_fields(alloc: Global, members: &[u8], ext: &[u8]) -> Result<bool, AllocError> {
+    let text = joined(alloc, b"{\"opaque\":7,", members, b"}")?;
+    let read = said(alloc, Form::Json, text.as_slice())?;
+    if ext.is_empty() {
+        return Ok(read.is_empty());
+    }
+    let says = joined(
+        alloc,
+        b"{\"code\":2,\"extFields\":",
+        ext,
+        b",\"flag\":0,\"language\":\"OTHER\",\"opaque\":7,\"serializeTypeCurrentRPC\":\"JSON\",\"version\":0}",
+    )?;
+    Ok(read.as_slice() == says.as_slice())
+}
+
 #[test]
 fn json_headers_that_are_not_plain_are_read_by_the_same_rules(rt: HostRuntime) -> Result<(), Fail> {
     let rows: [(&[u8], &[u8]); 12] = [
@@ -110,25 +138,43 @@ fn json_headers_that_are_not_plain_are_read_by_the_same_rules(rt: HostRuntime) -
         ),
         (b"\"code\":2,\"x\":\"\\ud800\"", b""),
         (b"\"code\":2,\"x\":1e400", b""),
-        (b"\"code\":2,\"extFields\":{\"a\":1}", b""),
+        (b"\"code\":2,\"extFields\":{\"a\":1}", b"{\"a\":\"1\"}"),
         (b"\"code\":2,\"remark\":7", b""),
         (b"\"code\":2,\"x\":1}{", b""),
     ];
     for (members, ext) in rows {
-        let text = joined(rt.alloc(), b"{\"opaque\":7,", members, b"}")?;
-        let says = joined(
-            rt.alloc(),
-            b"{\"code\":2,\"extFields\":",
-            ext,
-            b",\"flag\":0,\"language\":\"OTHER\",\"opaque\":7,\"serializeTypeCurrentRPC\":\"JSON\",\"version\":0}",
-        )?;
-        let read = said(rt.alloc(), Form::Json, text.as_slice())?;
-        let is_so = if ext.is_empty() {
-            read.is_empty()
-        } else {
-            read.as_slice() == says.as_slice()
-        };
-        assert!(rt; is_so, "at {members:?}");
+        assert!(rt; has_fields(rt.alloc(), members, ext)?, "at {members:?}");
+    }
+    Ok(())
+}
+
+#[test]
+fn whole_numbers_and_truth_values_among_the_fields_stand_for_their_texts(
+    rt: HostRuntime,
+) -> Result<(), Fail> {
+    let rows: [(&[u8], &[u8]); 12] = [
+        (b"0", b"{\"a\":\"0\"}"),
+        (
+            b"-9223372036854775808,\"b\":\"1\"",
+            b"{\"a\":\"-9223372036854775808\",\"b\":\"1\"}",
+        ),
+        (
+            b"9223372036854775807,\"b\":null",
+            b"{\"a\":\"9223372036854775807\"}",
+        ),
+        (b"true,\"b\":false", b"{\"a\":\"true\",\"b\":\"false\"}"),
+        (b"1.0,\"a\":1", b"{\"a\":\"1\"}"),
+        (b"-0", b""),
+        (b"1.0", b""),
+        (b"1e2", b""),
+        (b"9223372036854775808", b""),
+        (b"-9223372036854775809", b""),
+        (b"[1]", b""),
+        (b"{\"b\":1}", b""),
+    ];
+    for (value, ext) in rows {
+        let members = joined(rt.alloc(), b"\"code\":2,\"extFields\":{\"a\":", value, b"}")?;
+        assert!(rt; has_fields(rt.alloc(), &members, ext)?, "at {value:?}");
     }
     Ok(())
 }
@@ -306,8 +352,9 @@ fn a_frame_and_a_fault_come_with_their_last_byte_wherever_the_stream_is_cut(
 ) -> Result<(), Fail> {
     let alloc = rt.alloc();
     let nested = nested_200_deep(alloc)?;
-    let rows: [(&[u8], &[u8], Option<FrameFault>); 11] = [
+    let rows: [(&[u8], &[u8], Option<FrameFault>); 12] = [
         (SEND, SEND_SAYS, None),
+        (CPP_SEND, CPP_SEND_SAYS, None),
         (ASKING, ASKING_SAYS, None),
         (b"\x01\0\0\0", b"", None),
         (b"\0\0\0\x03", b"", Some(FrameFault::BadLength(55))),

@@ -1,5 +1,5 @@
 -- What the readers of a JSON header give.
-use Rattle.std.proofs.Common.{◌≡◌, ℕ, ◌<◌, ◌++◌, ◌∷◌, [], List, length, Bool, true, false, cond, Option, Some, None, option_map, ◌∙◌, ◌⊎◌, inl, inr, map, string_bytes, string_cmp, nat_cmp, Less, subst, refl, sym, ap, append_assoc, arith}
+use Rattle.std.proofs.Common.{◌≡◌, ℕ, ℤ, ◌<◌, ◌++◌, ◌∷◌, [], List, length, Bool, true, false, cond, Option, Some, None, option_map, ◌∙◌, ◌⊎◌, inl, inr, map, string_bytes, string_cmp, nat_cmp, Less, subst, refl, sym, ap, append_assoc, arith}
 use Rattle.std.specs.Str.{IsUtf8, is_utf8}
 use Rattle.std.proofs.lemmas.Str.{IsUtf8-from_is_utf8, is_utf8-from_IsUtf8}
 use Rattle.std.proofs.lemmas.Option.{same_Some}
@@ -13,8 +13,10 @@ use Rattle.serde_json.proofs.OnLiterals.{serde_json_on_literals}
 use Rattle.remoting_frame.specs.Head.{IsInOrder}
 use Rattle.serde_json.specs.Data.{Data, null, boolean, number, string, array, object, Members, member}
 use Rattle.serde_json.specs.Read.{read}
+use Rattle.serde_json.specs.Find.{as_i64}
+use Rattle.mq_bytes.specs.Decimal.{decimal}
 use Rattle.remoting_frame.specs.Gives.{◌>>=◌}
-use Rattle.remoting_frame.specs.Json.{data_of, pair_of, pairs_of}
+use Rattle.remoting_frame.specs.Json.{data_of, word_of, pair_of, pairs_of}
 
 pub data_is : (bytes : List ℕ) (d : Data) → IsUtf8 bytes → read bytes ≡ Some d → data_of bytes ≡ Some d
 unfolding data_of
@@ -57,13 +59,20 @@ with_others : (first : List (List ℕ × List ℕ)) (o : Option (List (List ℕ 
 with_others first (Some others) ps e = (others, refl, cc)
 with_others first None ps e = absurd cc
 
+-- what a number adds
+parted_number : (k : List ℕ) (z : Option ℤ) (ms : Members) (ps : List (List ℕ × List ℕ))
+    → (option_map (λ w. (k, decimal w) ∷ []) z >>= λ first. pairs_of ms >>= λ others. Some (first ++ others)) ≡ Some ps
+    → (others : List (List ℕ × List ℕ)) × (pairs_of ms ≡ Some others) × ((ps ≡ others) ⊎ ((s : List ℕ) × (ps ≡ (k, s) ∷ others)))
+parted_number k (Some z) ms ps e = let w = with_others ((k, decimal z) ∷ []) (pairs_of ms) ps e in (w.0, w.1, inr (decimal z, w.2))
+parted_number k None ms ps e = absurd cc
+
 -- what one member adds
 parted : (k : List ℕ) (d : Data) (ms : Members) (ps : List (List ℕ × List ℕ)) → pairs_of (member k d ms) ≡ Some ps
     → (others : List (List ℕ × List ℕ)) × (pairs_of ms ≡ Some others) × ((ps ≡ others) ⊎ ((s : List ℕ) × (ps ≡ (k, s) ∷ others)))
 parted k null ms ps e = let w = with_others [] (pairs_of ms) ps e in (w.0, w.1, inl w.2)
 parted k (string s) ms ps e = let w = with_others ((k, s) ∷ []) (pairs_of ms) ps e in (w.0, w.1, inr (s, w.2))
-parted k (boolean b) ms ps e = absurd cc
-parted k (number n) ms ps e = absurd cc
+parted k (boolean b) ms ps e = let w = with_others ((k, word_of b) ∷ []) (pairs_of ms) ps e in (w.0, w.1, inr (word_of b, w.2))
+parted k (number n) ms ps e = parted_number k (as_i64 n) ms ps e
 parted k (array ds) ms ps e = absurd cc
 parted k (object os) ms ps e = absurd cc
 

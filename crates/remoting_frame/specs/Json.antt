@@ -1,11 +1,12 @@
 -- The header that a JSON text is. The definition is over the value that `serde_json` reads, in which a repeated name has its last value
 -- only.
 use Rattle.std.specs.Prelude.{ℕ, ◌^◌, ◌++◌, ◌∷◌, [], List, ℤ, pos, negsuc, Bool, nat_lt}
-use Rattle.std.specs.Prelude.{codes, Option, Some, None, if◌then◌else◌, option_and_then}
+use Rattle.std.specs.Prelude.{codes, Option, Some, None, if◌then◌else◌, option_and_then, option_map}
 use Rattle.std.specs.Str.{is_utf8}
 use Rattle.serde_json.specs.Data.{Data, null, boolean, number, string, array, object, Members, no_members, member}
 use Rattle.serde_json.specs.Read.{read}
 use Rattle.serde_json.specs.Find.{get, as_number, as_i64}
+use Rattle.mq_bytes.specs.Decimal.{decimal}
 use Rattle.remoting_frame.specs.Gives.{◌>>=◌}
 use Rattle.remoting_frame.specs.Head.{Head}
 
@@ -35,12 +36,16 @@ text_or_empty (Some (number n)) = None
 text_or_empty (Some (array ds)) = None
 text_or_empty (Some (object ms)) = None
 
--- a name with its text; with null nothing
+abbrev pub word_of : Bool → List ℕ
+word_of b = if b then codes "true" else codes "false"
+
+-- A name with its text. A whole number of 64 signed bits stands for its digits, and a truth value for its word: clients that
+-- don't write in Java send both. With null there is nothing.
 abbrev pub pair_of : List ℕ → Data → Option (List (List ℕ × List ℕ))
 pair_of k null = Some []
 pair_of k (string s) = Some ((k, s) ∷ [])
-pair_of k (boolean b) = None
-pair_of k (number n) = None
+pair_of k (boolean b) = Some ((k, word_of b) ∷ [])
+pair_of k (number n) = option_map (λ z. (k, decimal z) ∷ []) (as_i64 n)
 pair_of k (array ds) = None
 pair_of k (object ms) = None
 

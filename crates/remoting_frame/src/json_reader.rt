@@ -7,13 +7,15 @@
 //! | `flag`      | whole number of 32 bits   | 0            |
 //! | `version`   | whole number of 32 bits   | 0            |
 //! | `remark`    | text or null              | empty        |
-//! | `extFields` | object of texts, or null  | empty        |
+//! | `extFields` | object of fields, or null | empty        |
 //!
-//! A member of `extFields` that is null is dropped. Other names are read over. Of a name that comes twice the last
-//! value counts, and no other is looked at. A number with a point or an exponent, and `-0`, is not whole.
+//! A field is a text, a whole number of 64 signed bits, which stands for its digits, or `true` or `false`, which stand for
+//! these words. A field that is null is dropped. Other names are read over. Of a name that comes twice the last value counts,
+//! and no other is looked at. A number with a point or an exponent, and `-0`, is not whole.
 
-ghost use Rattle.std.specs.Prelude.{◌≡◌, ◌<◌, length, IfOk, OnOk, IfErr, option_map, option_and_then, string_bytes, ◌++◌, []};
+ghost use Rattle.std.specs.Prelude.{◌≡◌, ◌<◌, length, IfOk, OnOk, IfErr, option_map, option_and_then, string_bytes, ◌++◌, ◌∷◌, []};
 ghost use Rattle.serde_json.specs.View.{view, members_view};
+ghost use Rattle.mq_bytes.specs.Decimal.{decimal};
 ghost use Rattle.remoting_frame.specs.Gives.{Gives};
 ghost use Rattle.remoting_frame.specs.Head.{IsInOrder};
 ghost use Rattle.remoting_frame.specs.Json.{data_of, whole, whole_or_zero, text_or_empty, pair_of};
@@ -24,6 +26,7 @@ use crate::fault::HeaderFault;
 use crate::fields::Fields;
 use crate::header::Header;
 use crate::plain_reader::read_plain;
+use itoa::Buffer;
 use mq_bytes::Text;
 use serde_json::{Map, Value};
 use std::alloc::Global;
@@ -80,6 +83,16 @@ fn text_or_none(alloc: Global, value: Option<&Value>) -> Result<Text, HeaderFaul
     }
 }
 
+fn push_whole(fields: &mut Fields, name: &str, number: Option<i64>) -> Result<(), HeaderFault>
+    ensures { Gives (λ _. fields.new) result (option_map (λ z. fields.old ++ (name.now, decimal z) ∷ []) number) }
+{
+    let Some(number) = number else {
+        return Err(HeaderFault::Bad);
+    };
+    fields.push(name, Buffer::new().format(number))?;
+    Ok(())
+}
+
 fn push_pair(fields: &mut Fields, name: String, value: Value) -> Result<(), HeaderFault>
     ensures { Gives (λ _. fields.new) result (option_map (λ p. fields.old ++ p) (pair_of (string_bytes name) (view value))) }
 {
@@ -89,11 +102,16 @@ fn push_pair(fields: &mut Fields, name: String, value: Value) -> Result<(), Head
             fields.push(name.as_str(), text.as_str())?;
             Ok(())
         }
+        Value::Bool(truth) => {
+            fields.push(name.as_str(), if truth { "true" } else { "false" })?;
+            Ok(())
+        }
+        Value::Number(number) => push_whole(fields, name.as_str(), number.as_i64()),
         _ => Err(HeaderFault::Bad),
     }
 }
 
-// The pairs, which have so many bytes at most.
+// The pairs, which have so many bytes at most: the text of a whole number or of a truth value is as it is spelled.
 fn pairs_in(alloc: Global, map: Map<String, Value>, room: usize) -> Result<Fields, HeaderFault>
     ensures pairs { Gives (λ r. r) result (pairs_of (members_view map.entries)) }
     ensures ordered { IfOk result IsInOrder }

@@ -1,4 +1,4 @@
-use Rattle.std.proofs.Common.{◌≡◌, [], ◌∷◌, arith, rules}
+use Rattle.std.proofs.Common.{◌≡◌, [], ◌∷◌, rules}
 use Rattle.std.specs.Str.{IsUtf8}
 use Rattle.json.specs.Token.{begin_object}
 use Rattle.json.specs.Lex.{tokens}
