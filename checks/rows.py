@@ -117,6 +117,12 @@ def _(folder):
          (150001, lock("A"), "0 locked 0"))
 
 
+@check("a lock goes by the clock's readings, whatever clock stored the last message, and ends where the clock is set back by over 60,000 ms")
+def _(folder):
+    play(folder, (4000000000000, send(0, b"hi"), kept(0, 0)), (60002, lock("A"), "0 locked 1"), (2, lock("B"), "0 locked 0"),
+         (1, lock("B"), "0 locked 1"), (60001, lock("A"), "0 locked 0"), (60002, lock("A"), "0 locked 1"))
+
+
 @check("the first message from a time on is found by its offset, and the bounds of a queue are told")
 def _(folder):
     def search(time):

@@ -75,21 +75,21 @@ module _ (s : State) (a : model.Asked) (d : Draft) (taken : refusal_of s a.reque
 
   -- a record that is stored
   pub stored_after : nat_lt (2 ^ 62) (r.offset + size r) ≡ false → nat_lt 67108864 (pending_bytes s + size r) ≡ false
-      → after s (model.Asks a) ≡ with_records (request_changed s a.link (max a.now s.now) a.request) (max a.now s.now) (r ∷ [])
+      → after s (model.Asks a) ≡ with_records (request_changed s a.link a.now a.request) (max a.now s.now) (r ∷ [])
   unfolding after changed
   stored_after low short =
       let stays : is_refused s (model.Asks a) ≡ false =
       refused_is ∙ ap (λ (b : Bool). b || false || nat_lt 67108864 (pending_bytes s + size r)) low ∙ short in
-      ap (λ (b : Bool). if b then s else with_records (request_changed s a.link (max a.now s.now) a.request) (max a.now s.now) (made_by s (model.Asks a))) stays
-      ∙ ap (λ (rs : List Entry). with_records (request_changed s a.link (max a.now s.now) a.request) (max a.now s.now) rs) made
+      ap (λ (b : Bool). if b then s else with_records (request_changed s a.link a.now a.request) (max a.now s.now) (made_by s (model.Asks a))) stays
+      ∙ ap (λ (rs : List Entry). with_records (request_changed s a.link a.now a.request) (max a.now s.now) rs) made
 
   pub stored_says : nat_lt (2 ^ 62) (r.offset + size r) ≡ false → nat_lt 67108864 (pending_bytes s + size r) ≡ false
-      → answer_of s (model.Asks a) ≡ request_answer s (max a.now s.now) a.request (r ∷ [])
+      → answer_of s (model.Asks a) ≡ request_answer s a.now a.request (r ∷ [])
   unfolding answer_of carried_out_answer appended
   stored_says low short =
       let stays : is_refused s (model.Asks a) ≡ false =
       refused_is ∙ ap (λ (b : Bool). b || false || nat_lt 67108864 (pending_bytes s + size r)) low ∙ short in
       ap (λ (o : Option model.Reply). or_refused o (if is_refused s (model.Asks a) then refused_answer s (model.Asks a)
-      else request_answer s (max a.now s.now) a.request (if is_refused s (model.Asks a) then [] else made_by s (model.Asks a)))) taken
-      ∙ ap (λ (b : Bool). if b then refused_answer s (model.Asks a) else request_answer s (max a.now s.now) a.request (if b then [] else made_by s (model.Asks a))) stays
-      ∙ ap (λ (rs : List Entry). request_answer s (max a.now s.now) a.request rs) made
+      else request_answer s a.now a.request (if is_refused s (model.Asks a) then [] else made_by s (model.Asks a)))) taken
+      ∙ ap (λ (b : Bool). if b then refused_answer s (model.Asks a) else request_answer s a.now a.request (if b then [] else made_by s (model.Asks a))) stays
+      ∙ ap (λ (rs : List Entry). request_answer s a.now a.request rs) made

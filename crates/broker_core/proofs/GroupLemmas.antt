@@ -154,8 +154,8 @@ commit_none old q s none are = subst (λ (o : Option ℕ). Represents old (store
 -- ---- locks
 
 pub does_lock : (old : Parts) (link : ℕ) (host : List ℕ) (now : ℕ) (l : LockSaid)
-    → Does old (asked_by link host now (request.Lock l)) (λ s. model.Locked (granted (max now s.now) l.group l.client s.locks l.queues))
-    (λ s. record s { locks = with_locks (max now s.now) l.group l.client (granted (max now s.now) l.group l.client s.locks l.queues) s.locks })
+    → Does old (asked_by link host now (request.Lock l)) (λ s. model.Locked (granted now l.group l.client s.locks l.queues))
+    (λ s. record s { locks = with_locks now l.group l.client (granted now l.group l.client s.locks l.queues) s.locks })
 unfolding drafts_of request_answer changed request_changed refusal_of
 does_lock old link host now l = record { none = λ s. refl; answer = λ s. refl; change = λ s. refl; time = λ s. refl; allowed = λ s are. refl }
 
@@ -165,16 +165,15 @@ unfolding drafts_of request_answer changed request_changed refusal_of
 does_unlock old link host now l = record { none = λ s. refl; answer = λ s. refl; change = λ s. refl; time = λ s. refl; allowed = λ s are. refl }
 
 -- a client got queues
-pub lock_done : (old : Parts) (groups : Groups) (s : State) (l : LockSaid) (now moment : ℕ) (group client : List ℕ) (queues given : List QueueName) → Represents old s → moment ≡ max now old.now → group ≡ l.group → client ≡ l.client
-    → queues ≡ l.queues → ((rows : List LockRow) → HasLocks old.groups rows → given ≡ granted moment group client rows queues)
-    → ((rows : List LockRow) → HasLocks old.groups rows → HasLocks groups (with_locks moment group client given rows)) → ((g t : List ℕ) (q : ℕ) → offset_of groups g t q ≡ offset_of old.groups g t q)
-    → Represents (record old { groups = groups }) (record s { locks = with_locks (max now s.now) l.group l.client (granted (max now s.now) l.group l.client s.locks l.queues) s.locks })
-    × (given ≡ granted (max now s.now) l.group l.client s.locks l.queues)
-lock_done old groups s l now moment group client queues given are time same_group same_client same_queues given_is locked offsets =
-    let now_is : moment ≡ max now s.now = time ∙ ap (λ (n : ℕ). max now n) are.numbers.now in
-    let got : given ≡ granted (max now s.now) l.group l.client s.locks l.queues = given_is s.locks are.locks ∙ (λ i. granted (now_is i) (same_group i) (same_client i) s.locks (same_queues i)) in
-    let locks : HasLocks groups (with_locks (max now s.now) l.group l.client (granted (max now s.now) l.group l.client s.locks l.queues) s.locks) =
-    subst (λ (rows : List LockRow). HasLocks groups rows) (λ i. with_locks (now_is i) (same_group i) (same_client i) (got i) s.locks) (locked s.locks are.locks) in
+pub lock_done : (old : Parts) (groups : Groups) (s : State) (l : LockSaid) (now : ℕ) (group client : List ℕ) (queues given : List QueueName) → Represents old s → group ≡ l.group → client ≡ l.client
+    → queues ≡ l.queues → ((rows : List LockRow) → HasLocks old.groups rows → given ≡ granted now group client rows queues)
+    → ((rows : List LockRow) → HasLocks old.groups rows → HasLocks groups (with_locks now group client given rows)) → ((g t : List ℕ) (q : ℕ) → offset_of groups g t q ≡ offset_of old.groups g t q)
+    → Represents (record old { groups = groups }) (record s { locks = with_locks now l.group l.client (granted now l.group l.client s.locks l.queues) s.locks })
+    × (given ≡ granted now l.group l.client s.locks l.queues)
+lock_done old groups s l now group client queues given are same_group same_client same_queues given_is locked offsets =
+    let got : given ≡ granted now l.group l.client s.locks l.queues = given_is s.locks are.locks ∙ (λ i. granted now (same_group i) (same_client i) s.locks (same_queues i)) in
+    let locks : HasLocks groups (with_locks now l.group l.client (granted now l.group l.client s.locks l.queues) s.locks) =
+    subst (λ (rows : List LockRow). HasLocks groups rows) (λ i. with_locks now (same_group i) (same_client i) (got i) s.locks) (locked s.locks are.locks) in
     (represents_groups old groups s s.offsets _ are (same_offsets old.groups groups s.offsets offsets are.offsets) are.kept locks, got)
 
 -- it freed them

@@ -47,7 +47,7 @@ after_read s t a none allowed is =
     ∙ (ap (λ (drafts : List Draft). with_records (changed s (model.Asks a)) (max a.now s.now) (next_records s.setup.segment (max a.now s.now) s.log drafts)) none
     ∙ ap (λ (u : State). with_records u (max a.now s.now) []) is)
 
-pub answer_read : (s : State) (a : model.Asked) → drafts_of s (model.Asks a) ≡ [] → refusal_of s a.request ≡ None → answer_of s (model.Asks a) ≡ request_answer s (max a.now s.now) a.request []
+pub answer_read : (s : State) (a : model.Asked) → drafts_of s (model.Asks a) ≡ [] → refusal_of s a.request ≡ None → answer_of s (model.Asks a) ≡ request_answer s a.now a.request []
 unfolding answer_of appended carried_out_answer
 answer_read s a none allowed =
     ap (λ (o : Option model.Reply). or_refused o (if is_refused s (model.Asks a) then refused_answer s (model.Asks a) else carried_out_answer s (model.Asks a) (appended s (model.Asks a)))) allowed
@@ -120,7 +120,7 @@ carries_refusal old a refused said is told =
 -- What is asked of each state: no record, this answer, and this change.
 pub record Does (old : Parts) (a : model.Asked) (told : State → model.Answer) (next : State → State) : Type 0 where
   pub none : (s : State) → drafts_of s (model.Asks a) ≡ []
-  pub answer : (s : State) → request_answer s (max a.now s.now) a.request [] ≡ told s
+  pub answer : (s : State) → request_answer s a.now a.request [] ≡ told s
   pub change : (s : State) → changed s (model.Asks a) ≡ next s
   pub time : (s : State) → (next s).now ≡ s.now
   pub allowed : (s : State) → Represents old s → refusal_of s a.request ≡ None
@@ -138,7 +138,7 @@ carries_done old mid new a told next what does low moved each s are =
 -- what is asked of each state: no record, this reply, and no change
 pub record Reads (old : Parts) (a : model.Asked) (told : State → model.Reply) : Type 0 where
   pub none : (s : State) → drafts_of s (model.Asks a) ≡ []
-  pub answer : (s : State) → request_answer s (max a.now s.now) a.request [] ≡ model.Replies (told s)
+  pub answer : (s : State) → request_answer s a.now a.request [] ≡ model.Replies (told s)
   pub change : (s : State) → changed s (model.Asks a) ≡ s
   pub allowed : (s : State) → Represents old s → refusal_of s a.request ≡ None
 

@@ -65,7 +65,7 @@ module _ (s : State) (link : ℕ) (host : List ℕ) (now : ℕ) (send : SendSaid
   drafts = ap (λ (x : Draft). x ∷ []) (kept_is s.setup.host host send)
 
   -- what is asked of the disk, and the host, are as the send has them
-  says : stored_reply s d (queue_named send.queue) r ≡ request_answer s (max now s.now) (Send send) (r ∷ [])
+  says : stored_reply s d (queue_named send.queue) r ≡ request_answer s now (Send send) (r ∷ [])
   unfolding request_answer
   says =
       ap (λ (b : Bool). append_answer s b (reply_with (sent_fields d.store_host r.offset (queue_named send.queue) r.queue_offset) []) 1)

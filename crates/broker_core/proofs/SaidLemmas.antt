@@ -82,7 +82,7 @@ asked_answer s a served =
     or_reply (refusal_of s a.request) (if is_refused s e then refused_answer s e else carried_out_answer s e (appended s e))
     (either (is_refused s e) (refused_answer s e) (carried_out_answer s e (appended s e))
     (either (is_past_end s e) (end_of_log e) (events.Full s.flushed) tt tt)
-    (served_answer s (max a.now s.now) a.request (appended s e) served))
+    (served_answer s a.now a.request (appended s e) served))
 
 is_of_request : (what : Said) (answer : events.Answer) → Says what answer → IsRequestAnswer answer → IsOfRequest what
 is_of_request (said.Reply reply) answer says is = tt

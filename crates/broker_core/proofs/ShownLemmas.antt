@@ -113,11 +113,11 @@ request_keeps s link now _ = (refl, refl, refl)
 event_keeps : (s : State) (a : events.Asked) → AreKept s (after s (events.Asks a))
 unfolding after changed
 event_keeps s a =
-    elim (is_refused s (events.Asks a)) as (λ b. AreKept s (if b then s else with_records (request_changed s a.link (max a.now s.now) a.request) (moment s (events.Asks a)) (made_by s (events.Asks a)))) [
+    elim (is_refused s (events.Asks a)) as (λ b. AreKept s (if b then s else with_records (request_changed s a.link a.now a.request) (moment s (events.Asks a)) (made_by s (events.Asks a)))) [
       | true ↦ (refl, refl, refl)
       | false ↦
-          let first = records_keep (request_changed s a.link (max a.now s.now) a.request) (moment s (events.Asks a)) (made_by s (events.Asks a)) in
-          let second = request_keeps s a.link (max a.now s.now) a.request in
+          let first = records_keep (request_changed s a.link a.now a.request) (moment s (events.Asks a)) (made_by s (events.Asks a)) in
+          let second = request_keeps s a.link a.now a.request in
           (first.0 ∙ second.0, first.1 ∙ second.1, first.2 ∙ second.2)
     ]
 

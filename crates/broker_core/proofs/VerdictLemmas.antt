@@ -267,7 +267,7 @@ module _ (s : State) (link : ℕ) (host : List ℕ) (given : ℕ) (end : EndSaid
   unfolding carried_out_answer request_answer
   carried_out records = refl
 
-  answered : (records : List Entry) → request_answer s time (EndTransaction end) records ≡ end_answer s end records
+  answered : (records : List Entry) → request_answer s given (EndTransaction end) records ≡ end_answer s end records
   unfolding request_answer
   answered records = refl
 

@@ -1,4 +1,5 @@
-//! A client of a consumer group has queues for itself. The locks expire by the time of the requests; no clock runs here.
+//! A client of a consumer group has queues for itself. The locks expire by the readings of the clock that the requests came at,
+//! which don't go by the log: a message that was stored by a clock far ahead keeps no lock.
 
 ghost use Rattle.std.specs.Prelude.{◌≡◌, ◌<◌, ◌≤◌, ◌^◌, ◌∷◌, [], length, All, IfOk, OnErr};
 ghost use Rattle.request_fields.specs.declared.request.Request.TheVariants.{Lock, Unlock};
@@ -46,7 +47,7 @@ fn lock_reply(alloc: Global, granted: &[QueueName]) -> Result<Reply, AllocError>
     })
 }
 
-/// A client gets those of the queues that no other client of its group has. At `Err` nothing changes.
+/// A client gets those of the queues that no other client of its group has at the reading `now`. At `Err` nothing changes.
 pub(crate) fn lock_queues(
     parts: &mut Parts,
     alloc: Global,
@@ -58,14 +59,13 @@ pub(crate) fn lock_queues(
     ensures carries { CarriesAsked parts.old now (Lock asked.now) result parts.new }
     ensures stays { OnErr result (Stays parts.old parts.new) }
 {
-    let moment = now.max(parts.now);
     let group = asked.group.as_str();
     let client = asked.client.as_str();
     let granted = parts
         .groups
-        .granted(group, client, asked.queues.as_slice(), moment)?;
+        .granted(group, client, asked.queues.as_slice(), now)?;
     let reply = lock_reply(alloc, granted.as_slice())?;
-    match parts.groups.lock(group, client, granted.as_slice(), moment) {
+    match parts.groups.lock(group, client, granted.as_slice(), now) {
         Ok(()) => Ok(told(parts, now, reply)),
         Err(fault) => {
             drop(reply);

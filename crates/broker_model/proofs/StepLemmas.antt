@@ -1,5 +1,5 @@
 -- What a step does to the log.
-use Rattle.std.proofs.Common.{◌≡◌, refl, ap, sym, ◌∙◌, ℕ, max, List, [], ◌∷◌, true, false, Option, Some, None, if◌then◌else◌}
+use Rattle.std.proofs.Common.{◌≡◌, refl, ap, sym, ◌∙◌, ℕ, List, [], ◌∷◌, true, false, Option, Some, None, if◌then◌else◌}
 use Rattle.std.proofs.lemmas.List.{append-nil}
 use Rattle.record_codec.specs.Entry.{Entry}
 use Rattle.log_model.specs.Numbered.{Log, with_appended}
@@ -31,7 +31,7 @@ request_log s link now _ = refl
 -- nothing but a removal changes the records that stand
 pub log_stays : (s : State) (e : Events.Event) → ¬ IsRemoval e → (changed s e).log ≡ s.log
 unfolding changed
-log_stays s (Events.Asks a) stays = request_log s a.link (max a.now s.now) a.request
+log_stays s (Events.Asks a) stays = request_log s a.link a.now a.request
 log_stays s Events.Take stays = out_log s (taken s)
 log_stays s (Events.Trim base) stays = absurd (stays tt)
 log_stays s _ stays = refl

@@ -137,7 +137,7 @@ viewed log place = view_found (find (λ r. r.offset == place) log)
 abbrev pub query_ext : List (List ℕ × List ℕ)
 query_ext = (codes "indexLastUpdatePhyoffset", codes "0") ∷ (codes "indexLastUpdateTimestamp", codes "0") ∷ []
 
--- the answer at this time to a request that is not refused, and appended these records
+-- the answer to a request that came at this reading of the clock, is not refused, and appended these records
 unfoldable pub request_answer : State → ℕ → Request → List Entry → Events.Answer
 request_answer s now (Send send) records = send_answer s send records
 request_answer s now (Pull p) records = Events.Replies (pulled_reply (pull_of s p))
@@ -216,7 +216,7 @@ delivered_of s (Some due) = Some (due.0, progress s.log due.0)
 
 -- the answer to an event that nothing keeps from being carried out, and that appended these records
 unfoldable pub carried_out_answer : State → Events.Event → List Entry → Events.Answer
-carried_out_answer s (Events.Asks a) records = request_answer s (max a.now s.now) a.request records
+carried_out_answer s (Events.Asks a) records = request_answer s a.now a.request records
 carried_out_answer s Events.Take records = Events.Batch (taken s)
 carried_out_answer s (Events.Flushed count) records = Events.Done
 carried_out_answer s (Events.FlushFailed count) records = Events.Done

@@ -41,7 +41,7 @@ stored s group topic queue (Some offset) = record s { offsets = with_offset (off
 abbrev pub with_made : State → List ℕ → ℕ → State
 with_made s topic n = record s { topics = with_topic topic n s.topics }
 
--- the state after a request that came on this link, but for the log and the time
+-- the state after a request that came on this link, at this reading of the clock, but for the log and the time
 unfoldable pub request_changed : State → ℕ → ℕ → Request → State
 request_changed s link now (Send send) = with_made s send.topic (send_queues s send)
 request_changed s link now (Pull p) = stored s p.group p.topic p.queue (pull_offset p)
@@ -78,7 +78,7 @@ failed_turns s count (Some out) = s.failed ++ record { turn = s.turns; from = s.
 
 -- the state after an event that isn't refused, but for the records that it appends and the time
 unfoldable pub changed : State → Events.Event → State
-changed s (Events.Asks a) = request_changed s a.link (max a.now s.now) a.request
+changed s (Events.Asks a) = request_changed s a.link a.now a.request
 changed s Events.Take = out_of s (taken s)
 changed s (Events.Flushed count) = record s { flushed = s.flushed + count; out = None }
 changed s (Events.FlushFailed count) = record s { failed = failed_turns s count s.out; out = None }

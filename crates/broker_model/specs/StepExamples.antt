@@ -15,14 +15,14 @@ use Rattle.log_model.specs.Keys.{query_of}
 use Rattle.log_model.specs.Transactions.{TransactionState, Open, Discarded, transaction_state}
 use Rattle.log_model.specs.Admissible.{half_topic}
 use Rattle.request_fields.specs.declared.request.Request.{Request}
-use Rattle.request_fields.specs.declared.request.Request.TheVariants.{Send, Pull, SetOffset, MakeTopic}
+use Rattle.request_fields.specs.declared.request.Request.TheVariants.{Send, Pull, SetOffset, MakeTopic, Lock}
 use Rattle.broker_model.specs.Tables.{LockRow, granted, with_locks, without_locks, queues_in}
 use Rattle.broker_model.specs.Clients.{no_clients, after_beat, after_unregister, after_leave, producer_link, heard_words}
 use Rattle.broker_model.specs.State.{State}
 use Rattle.broker_model.specs.Events
 use Rattle.broker_model.specs.Refusals.{refusal_of}
 use Rattle.broker_model.specs.Appended.{appended, is_refused, drafts_of}
-use Rattle.broker_model.specs.Answers.{answer_of, carried_out_answer, offset_at, viewed}
+use Rattle.broker_model.specs.Answers.{answer_of, carried_out_answer, request_answer, offset_at, viewed}
 use Rattle.broker_model.specs.Step.{after, changed, request_changed}
 use Rattle.broker_model.specs.Run.{crashed}
 use Rattle.broker_model.specs.Examples.{broker, hi, draft_of_hi, fresh, asks, half_props, half_log, delayed_log, stored_at, remark_of}
@@ -163,15 +163,46 @@ view_of_5 = refl
 abbrev pub queue_0 : QueueName
 queue_0 = record { topic = codes "T"; broker = codes "b"; queue = 0 }
 
+-- client A got the queue at this reading of the clock
+abbrev pub locked_by_a_at : ℕ → List LockRow
+locked_by_a_at now = with_locks now (codes "G") (codes "A") (granted now (codes "G") (codes "A") [] (queue_0 ∷ [])) []
+
 -- client A got the queue at 0
 abbrev pub locked_by_a : List LockRow
-locked_by_a = with_locks 0 (codes "G") (codes "A") (granted 0 (codes "G") (codes "A") [] (queue_0 ∷ [])) []
+locked_by_a = locked_by_a_at 0
 
 pub lock_is_kept_for_a_minute : granted 60000 (codes "G") (codes "B") locked_by_a (queue_0 ∷ []) ≡ []
 lock_is_kept_for_a_minute = refl
 
+pub lock_is_kept_as_the_clock_is_set_back_a_minute : granted 0 (codes "G") (codes "B") (locked_by_a_at 60000) (queue_0 ∷ []) ≡ []
+lock_is_kept_as_the_clock_is_set_back_a_minute = refl
+
+pub clock_set_back_further_frees_the_lock : granted 0 (codes "G") (codes "B") (locked_by_a_at 60001) (queue_0 ∷ []) ≡ queue_0 ∷ []
+clock_set_back_further_frees_the_lock = refl
+
 pub foreign_unlock_changes_nothing : without_locks (codes "G") (codes "B") (queue_0 ∷ []) locked_by_a ≡ locked_by_a
 foreign_unlock_changes_nothing = refl
+
+-- a client asks for the queue at this reading of the clock
+abbrev pub locks_at : ℕ → List ℕ → Events.Event
+locks_at now client = Events.Asks (record {
+  link = 0;
+  host = broker;
+  now = now;
+  request = Lock (record { group = codes "G"; client = client; queues = queue_0 ∷ [] });
+})
+
+-- the time of the broker is far ahead, and A gets the queue at 0
+abbrev pub locked_far_ahead : State
+locked_far_ahead = outcome (record (fresh []) { now = 4000000000000 }) (locks_at 0 (codes "A") ∷ [])
+
+pub lock_is_kept_while_the_time_is_ahead : answer_of locked_far_ahead (locks_at 60000 (codes "B")) ≡ Events.Locked []
+unfolding answer_of carried_out_answer request_answer is_refused drafts_of refusal_of after changed request_changed
+lock_is_kept_while_the_time_is_ahead = refl
+
+pub lock_expires_while_the_time_is_ahead : answer_of locked_far_ahead (locks_at 60001 (codes "B")) ≡ Events.Locked (queue_0 ∷ [])
+unfolding answer_of carried_out_answer request_answer is_refused drafts_of refusal_of after changed request_changed
+lock_expires_while_the_time_is_ahead = refl
 
 pub expired_lock_is_granted : granted 60001 (codes "G") (codes "B") locked_by_a (queue_0 ∷ []) ≡ queue_0 ∷ []
 expired_lock_is_granted = refl

@@ -45,7 +45,7 @@ with_offset row rows = row ∷ filter (λ other. not (is_row_of row.group row.to
 
 -- ---- locks
 
--- a queue that a client of a group has for itself, and when it last asked for it
+-- a queue that a client of a group has for itself, and the reading of the clock when it last asked for it
 pub record LockRow : Type 0 where
   pub group : List ℕ
   pub topic : List ℕ
@@ -57,9 +57,14 @@ pub record LockRow : Type 0 where
 abbrev pub is_lock_of : List ℕ → QueueName → LockRow → Bool
 is_lock_of group q row = bytes_eq row.group group && bytes_eq row.topic q.topic && (row.queue == q.queue)
 
--- the lock is another client's, and was renewed at most 60,000 ms ago
+-- A lock that was renewed at one reading of the clock lasts at another: they are at most 60,000 ms apart. A lock from further
+-- ahead was renewed before the clock was set back, and would last until the clock is there again.
+abbrev pub is_live : (now renewed : ℕ) → Bool
+is_live now renewed = nat_le now (renewed + 60000) && nat_le renewed (now + 60000)
+
+-- the lock is another client's, and lasts
 abbrev pub is_foreign : ℕ → List ℕ → LockRow → Bool
-is_foreign now client row = not (bytes_eq row.client client) && nat_le now (row.renewed + 60000)
+is_foreign now client row = not (bytes_eq row.client client) && is_live now row.renewed
 
 -- another client of the group holds the queue
 abbrev pub is_held_by_other : ℕ → List ℕ → List ℕ → List LockRow → QueueName → Bool

@@ -4,7 +4,7 @@ use Rattle.std.proofs.lemmas.Bool.{cases_Bool, or_parts, cond-true, cond-false}
 use Rattle.record_codec.specs.Entry.{Entry}
 use Rattle.log_model.specs.Bases.{Base}
 use Rattle.log_model.specs.Numbered.{Log, with_appended, above, below}
-use Rattle.std.specs.Prelude.{◌||◌, max}
+use Rattle.std.specs.Prelude.{◌||◌}
 use Rattle.request_fields.specs.declared.request.Request.{Request}
 use Rattle.request_fields.specs.declared.request.Request.TheVariants.{Pull}
 use Rattle.broker_model.specs.State.{State, Saved, Setup}
@@ -127,7 +127,7 @@ out_setup s (Some t) = (refl, refl)
 
 changed_setup : (s : State) (e : Events.Event) → ((changed s e).setup ≡ s.setup) × ((changed s e).saved ≡ s.saved)
 unfolding changed
-changed_setup s (Events.Asks a) = request_setup s a.link (max a.now s.now) a.request
+changed_setup s (Events.Asks a) = request_setup s a.link a.now a.request
 changed_setup s Events.Take = out_setup s (taken s)
 changed_setup s _ = (refl, refl)
 

@@ -1,5 +1,5 @@
 -- What a step stores of offsets.
-use Rattle.std.proofs.Common.{◌≡◌, refl, ap, sym, ◌∙◌, subst, arith, ℕ, max, List, [], ◌∷◌, filter, Bool, true, false, Option, Some, None, cond, if◌then◌else◌}
+use Rattle.std.proofs.Common.{◌≡◌, refl, ap, sym, ◌∙◌, subst, arith, ℕ, List, [], ◌∷◌, filter, Bool, true, false, Option, Some, None, cond, if◌then◌else◌}
 use Rattle.std.specs.Prelude.{not}
 use Rattle.request_fields.specs.declared.request.Request.{Request}
 use Rattle.request_fields.specs.declared.request.Request.TheVariants.{Send, Pull, Query, OffsetOf, SetOffset, MakeTopic, Search, MaxOffset, MinOffset, ViewById, Beat, Unregister, EndTransaction, Lock, Unlock}
@@ -52,7 +52,7 @@ out_rows s (Some t) = refl
 
 changed_rows : (allowed : OffsetRow → Bool) (s : State) (e : Events.Event) → EventStores allowed s e → AllRows (IsAllowed allowed s) s.offsets → AllRows (IsAllowed allowed s) (changed s e).offsets
 unfolding changed
-changed_rows allowed s (Events.Asks a) may all = request_rows allowed s a.link (max a.now s.now) a.request may all
+changed_rows allowed s (Events.Asks a) may all = request_rows allowed s a.link a.now a.request may all
 changed_rows allowed s Events.Take may all = subst (AllRows (IsAllowed allowed s)) (sym (out_rows s (taken s))) all
 changed_rows allowed s (Events.Flushed n) may all = all
 changed_rows allowed s (Events.FlushFailed n) may all = all
@@ -82,7 +82,7 @@ out_saved s (Some t) = refl
 
 changed_saved : (s : State) (e : Events.Event) → (changed s e).saved ≡ s.saved
 unfolding changed
-changed_saved s (Events.Asks a) = request_saved s a.link (max a.now s.now) a.request
+changed_saved s (Events.Asks a) = request_saved s a.link a.now a.request
 changed_saved s Events.Take = out_saved s (taken s)
 changed_saved s _ = refl
 

@@ -1,5 +1,5 @@
 -- Each step leaves a sound state, into which the one before it grows.
-use Rattle.std.proofs.Common.{◌≡◌, refl, ap, sym, ◌∙◌, subst, arith, ℕ, ◌+◌, ◌-◌, ◌≤◌, max, List, [], ◌∷◌, length, take, drop, Bool, true, false, Option, Some, None, if◌then◌else◌, take_while, ◌/◌, ◌==◌, length-append}
+use Rattle.std.proofs.Common.{◌≡◌, refl, ap, sym, ◌∙◌, subst, arith, ℕ, ◌+◌, ◌-◌, ◌≤◌, List, [], ◌∷◌, length, take, drop, Bool, true, false, Option, Some, None, if◌then◌else◌, take_while, ◌/◌, ◌==◌, length-append}
 use Rattle.std.proofs.lemmas.List.{length-take, length-drop, append-nil}
 use Rattle.std.specs.List.{prefix_len}
 use Rattle.record_codec.specs.Entry.{Entry}
@@ -140,7 +140,7 @@ trim_good s base is sound =
 
 changed_good : (s : State) (e : Events.Event) → IsPossible s e → IsSound s → Good s (changed s e)
 unfolding changed
-changed_good s (Events.Asks a) possible sound = same_good s _ (request_same s a.link (max a.now s.now) a.request) sound
+changed_good s (Events.Asks a) possible sound = same_good s _ (request_same s a.link a.now a.request) sound
 changed_good s Events.Take possible sound = out_good s s.out (next_batch s) (batch_few s.setup.segment (pending s)) sound
 changed_good s (Events.Flushed count) possible sound = flushed_good s count s.out refl possible sound
 changed_good s (Events.FlushFailed count) possible sound = numbers_good s _ sound refl refl (omega arith) (omega arith) sound.dispatched sound.flushed tt

@@ -1,5 +1,5 @@
 -- An accepted Commit: what it is, what it appends, and what it is answered.
-use Rattle.std.proofs.Common.{◌≡◌, ◌⊎◌, inl, inr, refl, ap, ◌∙◌, subst, arith, ℕ, zero, suc, ◌+◌, ◌*◌, ◌/◌, ◌%◌, ◌<◌, ◌≤◌, ◌^◌, max, List, [], ◌∷◌, slice_get, Bool, true, false, Option, Some, None, if◌then◌else◌}
+use Rattle.std.proofs.Common.{◌≡◌, ◌⊎◌, inl, inr, refl, ap, ◌∙◌, subst, arith, ℕ, zero, suc, ◌+◌, ◌*◌, ◌/◌, ◌%◌, ◌<◌, ◌≤◌, ◌^◌, List, [], ◌∷◌, slice_get, Bool, true, false, Option, Some, None, if◌then◌else◌}
 use Rattle.std.specs.Prelude.{◌||◌, ◌==◌, not, bit_and, bit_or, is_some}
 use Rattle.std.proofs.lemmas.Bool.{and_parts, eqb-true, or_parts, cond-false}
 use Rattle.std.proofs.lemmas.Nat.{and_or_self, and_or_apart, and_block, and_assoc, and_le_r}
@@ -116,10 +116,10 @@ pub verdict_answer : (s : State) (a : Events.Asked) (end : EndSaid) → a.reques
 unfolding answer_of appended carried_out_answer request_answer
 verdict_answer s a end is fine =
     ap (λ (o : Option Events.Reply). or_refused o (if is_refused s (Events.Asks a) then refused_answer s (Events.Asks a)
-    else request_answer s (max a.now s.now) a.request (if is_refused s (Events.Asks a) then [] else made_by s (Events.Asks a)))) (no_row s a fine)
-    ∙ (cond-false (is_refused s (Events.Asks a)) (refused_answer s (Events.Asks a)) (request_answer s (max a.now s.now) a.request (if is_refused s (Events.Asks a) then [] else made_by s (Events.Asks a))) fine
-    ∙ (ap (λ (rs : List Entry). request_answer s (max a.now s.now) a.request rs) (cond-false (is_refused s (Events.Asks a)) [] (made_by s (Events.Asks a)) fine)
-    ∙ ap (λ (r : Request). request_answer s (max a.now s.now) r (made_by s (Events.Asks a))) is))
+    else request_answer s a.now a.request (if is_refused s (Events.Asks a) then [] else made_by s (Events.Asks a)))) (no_row s a fine)
+    ∙ (cond-false (is_refused s (Events.Asks a)) (refused_answer s (Events.Asks a)) (request_answer s a.now a.request (if is_refused s (Events.Asks a) then [] else made_by s (Events.Asks a))) fine
+    ∙ (ap (λ (rs : List Entry). request_answer s a.now a.request rs) (cond-false (is_refused s (Events.Asks a)) [] (made_by s (Events.Asks a)) fine)
+    ∙ ap (λ (r : Request). request_answer s a.now r (made_by s (Events.Asks a))) is))
 
 -- ---- the last number
 

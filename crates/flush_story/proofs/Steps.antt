@@ -48,7 +48,7 @@ out_alike s (Some t) = record { setup = refl; flushed = refl }
 
 changed_alike : (s : State) (e : Event) → IsBetween e → Alike s (changed s (event_of e))
 unfolding changed
-changed_alike s (Asks link host now request) between = request_alike s link (max now s.now) request
+changed_alike s (Asks link host now request) between = request_alike s link now request
 changed_alike s Take between = out_alike s (taken s)
 changed_alike s (Flushed receipt) between = absurd between
 changed_alike s (FlushFailed count) between = record { setup = refl; flushed = refl }

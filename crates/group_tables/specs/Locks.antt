@@ -1,11 +1,11 @@
 -- Which client of a group has which queue for itself, and the rows that this equals.
-use Rattle.std.specs.Prelude.{◌≡◌, ℕ, ◌+◌, ◌==◌, ◌&&◌, Bool, false, not, nat_le, List, filter, String}
+use Rattle.std.specs.Prelude.{◌≡◌, ℕ, ◌==◌, ◌&&◌, Bool, false, not, List, filter, String}
 use Rattle.std.specs.Prelude.{Option, Some, None, option_map, option_to_list, if◌then◌else◌}
 use Rattle.std.specs.Option.{option_flatten}
 use Rattle.std.specs.HashMap.{HashMap}
 use Rattle.std.specs.Str.{bytes_eq}
 use Rattle.request_fields.specs.declared.clients.QueueName.{QueueName}
-use Rattle.broker_model.specs.Tables.{LockRow, is_lock_of}
+use Rattle.broker_model.specs.Tables.{LockRow, is_lock_of, is_live}
 use Rattle.group_tables.specs.Table.{in_groups}
 use Rattle.group_tables.specs.declared.locks.Lock.{Lock}
 
@@ -14,10 +14,10 @@ abbrev pub lock_in : {A S T U : Type 0} → HashMap (String A) (HashMap (String 
     → Option Lock
 lock_in slots group topic queue = option_flatten (in_groups slots group topic queue)
 
--- the lock is another client's, and was renewed at most 60,000 ms ago
+-- the lock is another client's, and lasts
 abbrev pub keeps_off : ℕ → List ℕ → Option Lock → Bool
 keeps_off now client None = false
-keeps_off now client (Some lock) = not (bytes_eq lock.client client) && nat_le now (lock.renewed + 60000)
+keeps_off now client (Some lock) = not (bytes_eq lock.client client) && is_live now lock.renewed
 
 -- the lock, if it is another client's
 abbrev pub without_own : List ℕ → Option Lock → Option Lock

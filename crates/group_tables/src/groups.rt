@@ -75,7 +75,8 @@ impl Groups {
     }
 
     /// Those of the queues that the client would get: those that are free, its own, or whose lock was last renewed more than
-    /// 60,000 ms before `now`; each once, in the order of the request, under the name of its first broker.
+    /// 60,000 ms before `now` or after it; each once, in the order of the request, under the name of its first broker.
+    /// `now` is a reading of the clock, which may have been set back since.
     pub fn granted(
         &self,
         group: &str,

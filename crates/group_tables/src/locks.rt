@@ -1,11 +1,12 @@
-//! Which client of a group has which queue for itself. A lock that was last renewed more than 60,000 ms ago hinders nobody.
+//! Which client of a group has which queue for itself. A lock that was last renewed more than 60,000 ms ago hinders nobody, and
+//! neither does one from more than 60,000 ms ahead: the clock was set back since.
 
 ghost use Rattle.std.specs.Prelude.{◌≡◌, ◌==◌, ◌&&◌, ◌<◌, ◌++◌, [], ◌∷◌, ℕ, List, length, take, filter, not, true, is_some};
 ghost use Rattle.std.specs.Prelude.{All, IsTrue, Option, Some, None, option_copied, if◌then◌else◌, IfOk, OnOk, OnErr};
 ghost use Rattle.std.specs.Option.{option_and};
 ghost use Rattle.std.specs.List.{list_any};
 ghost use Rattle.std.specs.Str.{bytes_eq};
-ghost use Rattle.broker_model.specs.Tables.{LockRow, distinct_queues, granted, with_locks, without_locks};
+ghost use Rattle.broker_model.specs.Tables.{LockRow, distinct_queues, granted, is_live, with_locks, without_locks};
 ghost use Rattle.group_tables.specs.Table.{in_groups};
 ghost use Rattle.group_tables.specs.declared.locks.Lock.{Lock};
 ghost use Rattle.group_tables.specs.Locks.{lock_in, keeps_off, without_own, lock_from, names_queue};
@@ -16,7 +17,7 @@ use request_fields::QueueName;
 use std::alloc::{AllocError, Global};
 use std::collections::HashSet;
 
-/// Who has a queue for itself, and when it last asked for it.
+/// Who has a queue for itself, and the reading of the clock when it last asked for it, in milliseconds.
 #[derive(Drop)]
 pub(crate) struct Lock {
     client: Text,
@@ -36,12 +37,19 @@ fn lock_on<'a>(slots: &'a Slots, group: &str, queue: &QueueName) -> Option<&'a L
     }
 }
 
+// Two readings of the clock are at most 60,000 ms apart.
+fn is_near(now: u64, renewed: u64) -> bool
+    ensures { result ≡ is_live now renewed }
+{
+    now.saturating_sub(renewed) <= 60_000 && renewed.saturating_sub(now) <= 60_000
+}
+
 // Another client has the queue.
 fn is_kept_off(slots: &Slots, group: &str, client: &str, queue: &QueueName, now: u64) -> bool
     ensures { result ≡ keeps_off now client.now (lock_in slots.now group.now queue.now.topic queue.now.queue) }
 {
     match lock_on(slots, group, queue) {
-        Some(lock) => lock.client.as_str() != client && now.saturating_sub(lock.renewed) <= 60_000,
+        Some(lock) => lock.client.as_str() != client && is_near(now, lock.renewed),
         None => false,
     }
 }

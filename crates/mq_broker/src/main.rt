@@ -1,7 +1,8 @@
 //! `mq_broker pipe` answers the requests of standard input on standard output; `mq_broker serve` accepts connections over TCP;
-//! `mq_broker dump` and `mq_broker verify` tell what a store holds, and `mq_broker gen` fills one. The arguments are read before
-//! anything is made, and before them a closed standard input, output or error is opened on `/dev/null`. Standard output has replies and the texts of the tools, of `--help` and of `--version` alone; standard error
-//! has one line for each run that ends with another status than 0, and two of each run of `serve`.
+//! `mq_broker dump` and `mq_broker verify` tell what a store holds, and `mq_broker gen` fills one. A standard input, output or
+//! error that is closed is opened on `/dev/null` before anything else, and the arguments are read before anything is made.
+//! Standard output has replies and the texts of the tools, of `--help` and of `--version` alone; standard error has one line for
+//! each run that ends with another status than 0, two of each run of `serve`, and one where a start finds something amiss.
 #![tactic(auto)]
 
 mod asked;

@@ -45,6 +45,21 @@ fn a_lock_is_granted_again_after_60000_milliseconds(rt: HostRuntime) -> Result<(
 }
 
 #[test]
+fn a_clock_that_is_set_back_by_more_than_60000_milliseconds_frees_a_lock(
+    rt: HostRuntime,
+) -> Result<(), Fail> {
+    let alloc = rt.alloc();
+    let mut groups = Groups::new(alloc);
+    let wanted = [queue(alloc, "T", "b", 0)?];
+    assert!(rt; groups.lock_batch("G", "A", &wanted, 60_002)?.len() == 1);
+    assert!(rt; groups.lock_batch("G", "B", &wanted, 60_001)?.len() == 0);
+    assert!(rt; groups.lock_batch("G", "B", &wanted, 2)?.len() == 0);
+    assert!(rt; groups.lock_batch("G", "B", &wanted, 1)?.len() == 1);
+    assert!(rt; groups.lock_batch("G", "A", &wanted, 60_001)?.len() == 0);
+    Ok(())
+}
+
+#[test]
 fn each_queue_is_granted_once_under_its_first_name(rt: HostRuntime) -> Result<(), Fail> {
     let alloc = rt.alloc();
     let mut groups = Groups::new(alloc);
