@@ -23,25 +23,25 @@ use Rattle.broker_model.specs.Acknowledged.{is_verdict_on}
 use Rattle.broker_model.proofs.StepLemmas.{log_grows}
 use Rattle.core_laws.specs.Kept.{IsKept}
 use Rattle.core_laws.specs.Halves.{in_family, IsCopyAt}
-use Rattle.core_laws.proofs.Lists.{get_left}
+use Rattle.core_laws.proofs.Lists.{get_left, get_seam}
 use Rattle.core_laws.proofs.Counts.{any_found}
 use Rattle.core_laws.proofs.Families.{family_at, copy_settles}
 use Rattle.core_laws.proofs.KeptSteps.{named_there}
 use Rattle.core_laws.proofs.Commits.{commit_family}
-use Rattle.core_laws.proofs.Verdicts.{IsVerdict, verdict_of, verdict_answer, number_high, copy_bits}
+use Rattle.core_laws.proofs.Verdicts.{IsVerdict, commit_of, verdict_answer, number_high, copy_bits}
 
--- ---- what a Commit writes
+-- ---- what a verdict writes
 
-verdict_writes : (s : State) (a : Events.Asked) (end : EndSaid) (half origin : Entry) (state : TransactionState) → a.request ≡ EndTransaction end → end.verdict ≡ 8
+pub verdict_writes : (s : State) (a : Events.Asked) (end : EndSaid) (half origin : Entry) (verdict : ℕ) (state : TransactionState) → a.request ≡ EndTransaction end → end.verdict ≡ verdict
     → named_half s end ≡ Some half → verdict_origin s end ≡ Some origin → transaction_state s.log.records origin.queue_offset ≡ state
-    → drafts_of s (Events.Asks a) ≡ first_verdict state (copy_draft s.setup.host half ∷ op_draft s.setup.host (max a.now s.now) origin.queue_offset ∷ [])
+    → drafts_of s (Events.Asks a) ≡ first_verdict state (open_verdict s (max a.now s.now) verdict half origin)
 unfolding drafts_of
-verdict_writes s a end half origin state is eight named judged become =
+verdict_writes s a end half origin verdict state is says named judged become =
     ap (λ (r : Request). request_drafts s (max a.now s.now) a.host r) is
     ∙ (ap (λ (o : Option Entry). verdict_drafts s (max a.now s.now) end.verdict o (verdict_origin s end)) named
     ∙ (ap (λ (o : Option Entry). verdict_drafts s (max a.now s.now) end.verdict (Some half) o) judged
     ∙ (ap (λ (x : TransactionState). first_verdict x (open_verdict s (max a.now s.now) end.verdict half origin)) become
-    ∙ ap (λ (n : ℕ). first_verdict state (open_verdict s (max a.now s.now) n half origin)) eight)))
+    ∙ ap (λ (n : ℕ). first_verdict state (open_verdict s (max a.now s.now) n half origin)) says)))
 
 -- the log behind it
 pub verdict_log : (s t : State) (a : Events.Asked) (answer : Events.Answer) → is_refused s (Events.Asks a) ≡ false → Step s (Events.Asks a) (Some answer) t
@@ -53,11 +53,11 @@ verdict_log s t a answer fine step =
 
 -- ---- the answers
 
-after_number : (b : Bool) (reply : Events.Reply) (number turn k t : ℕ) → Events.After reply number turn ≡ (if b then Events.After done_reply k t else Events.Replies done_reply) → number ≡ k
+pub after_number : (b : Bool) (reply : Events.Reply) (number turn k t : ℕ) → Events.After reply number turn ≡ (if b then Events.After done_reply k t else Events.Replies done_reply) → number ≡ k
 after_number true reply number turn k t is = cc
 after_number false reply number turn k t is = absurd (cc)
 
-replies_now : (a b : Bool) (reply : Events.Reply) (k t : ℕ) → a ≡ true → Events.Replies reply ≡ (if a && b then Events.After done_reply k t else Events.Replies done_reply) → b ≡ false
+pub replies_now : (a b : Bool) (reply : Events.Reply) (k t : ℕ) → a ≡ true → Events.Replies reply ≡ (if a && b then Events.After done_reply k t else Events.Replies done_reply) → b ≡ false
 replies_now true true reply k t on is = absurd (cc)
 replies_now true false reply k t on is = refl
 replies_now false b reply k t on is = absurd (cc)
@@ -80,16 +80,12 @@ fresh_copy s t a end half origin h kept named judged of drafts log =
         index = length s.log.records;
         number = ap (λ (l : Log). l.base.records + length s.log.records) (sym log);
         stands = subst (λ (l : List Entry). slice_get l (length s.log.records) ≡ Some copy) (sym records)
-            (subst (λ (l : List Entry). slice_get (s.log.records ++ l) (length s.log.records) ≡ Some copy) (sym made) (seam s.log.records copy _));
+            (subst (λ (l : List Entry). slice_get (s.log.records ++ l) (length s.log.records) ≡ Some copy) (sym made) (get_seam s.log.records copy _));
       };
       copies = and_from (is_copy copy) (is_of_family t.log.records h copy.prepared) (eq-eqb _ 8 (copy_bits half.sysflag))
           (family_at t.log.records h copy.prepared there.0 half
           (subst (λ (l : List Entry). slice_get l there.0 ≡ Some half) (sym records) (get_left s.log.records (made_by s (Events.Asks a)) there.0 half there.1)) family refl);
     }
-  where
-    seam : (xs : List Entry) (x : Entry) (more : List Entry) → slice_get (xs ++ x ∷ more) (length xs) ≡ Some x
-    seam [] x more = refl
-    seam (y ∷ xs) x more = seam xs x more
 
 -- ---- a Commit that is said again
 
@@ -127,11 +123,12 @@ agreed s h origin of is =
     }
 
 -- it says the number of that record
-again_answer : (s : State) (end : EndSaid) (origin : Entry) (number : ℕ) → end.verdict ≡ 8 → verdict_origin s end ≡ Some origin → settling_number s (Some origin) ≡ Some number
+pub again_answer : (s : State) (end : EndSaid) (origin : Entry) (verdict number : ℕ) → end.verdict ≡ verdict → (verdict == 0) ≡ false → verdict_origin s end ≡ Some origin → settling_number s (Some origin) ≡ Some number
     → end_answer s end [] ≡ (if s.setup.sync && nat_le s.flushed number then Events.After done_reply number s.turns else Events.Replies done_reply)
-again_answer s end origin number eight judged last =
-    ap (λ (n : ℕ). if n == 0 then Events.Replies done_reply else repeated_answer s (settling_number s (verdict_origin s end))) eight
-    ∙ (ap (λ (o : Option Entry). repeated_answer s (settling_number s o)) judged ∙ ap (repeated_answer s) last)
+again_answer s end origin verdict number says some judged last =
+    ap (λ (n : ℕ). if n == 0 then Events.Replies done_reply else repeated_answer s (settling_number s (verdict_origin s end))) says
+    ∙ (ap (λ (b : Bool). if b then Events.Replies done_reply else repeated_answer s (settling_number s (verdict_origin s end))) some
+    ∙ (ap (λ (o : Option Entry). repeated_answer s (settling_number s o)) judged ∙ ap (repeated_answer s) last))
 
 again_copy : (s t : State) (h : ℕ) (origin : Entry) → (c : IsAgreed s h origin) → t.log ≡ with_appended s.log [] → IsCopyAt t h (s.log.base.records + c.index) c.copy
 again_copy s t h origin c log =
@@ -151,17 +148,17 @@ again_copy s t h origin c log =
 pub step_after : (s t : State) (e : Events.Event) (h : ℕ) (reply : Events.Reply) (number turn : ℕ) → IsKept s.log → is_verdict_on s h 8 e ≡ true
     → Step s e (Some (Events.After reply number turn)) t → (n : ℕ) × (copy : Entry) × (n ≤ number) × IsCopyAt t h n copy
 step_after s t e h reply number turn kept is step =
-    let v = verdict_of s e h is in
+    let v = commit_of s e h is in
     asked_after v (subst (λ (x : Events.Event). Step s x (Some (Events.After reply number turn)) t) v.is step) (subst (λ (x : Events.Event). is_refused s x ≡ false) v.is v.fine)
   where
-    asked_after : (v : IsVerdict s e h) → Step s (Events.Asks v.asked) (Some (Events.After reply number turn)) t → is_refused s (Events.Asks v.asked) ≡ false
+    asked_after : (v : IsVerdict s e h 8 Committed) → Step s (Events.Asks v.asked) (Some (Events.After reply number turn)) t → is_refused s (Events.Asks v.asked) ≡ false
         → (n : ℕ) × (copy : Entry) × (n ≤ number) × IsCopyAt t h n copy
     asked_after v taken fine =
         let says = taken.1 ∙ verdict_answer s v.asked v.end v.request fine in
         let log = verdict_log s t v.asked (Events.After reply number turn) fine taken in
         elim v.state [
           | inl was_open ↦
-              let drafts = verdict_writes s v.asked v.end v.half v.origin Open v.request v.verdict v.named v.judged was_open in
+              let drafts = verdict_writes s v.asked v.end v.half v.origin 8 Open v.request v.says v.named v.judged was_open in
               let made : made_by s (Events.Asks v.asked) ≡ next_records s.setup.segment (max v.asked.now s.now) s.log (copy_draft s.setup.host v.half ∷ op_draft s.setup.host (max v.asked.now s.now) v.origin.queue_offset ∷ []) =
               ap (next_records s.setup.segment (max v.asked.now s.now) s.log) drafts in
               let said = says ∙ ap (end_answer s v.end) made in
@@ -173,9 +170,9 @@ step_after s t e h reply number turn kept is step =
               )
           | inr done ↦
               let c = agreed s h v.origin v.of done in
-              let drafts = verdict_writes s v.asked v.end v.half v.origin Committed v.request v.verdict v.named v.judged done in
+              let drafts = verdict_writes s v.asked v.end v.half v.origin 8 Committed v.request v.says v.named v.judged done in
               let made : made_by s (Events.Asks v.asked) ≡ [] = ap (next_records s.setup.segment (max v.asked.now s.now) s.log) drafts in
-              let said = says ∙ (ap (end_answer s v.end) made ∙ again_answer s v.end v.origin c.number v.verdict v.judged c.last) in
+              let said = says ∙ (ap (end_answer s v.end) made ∙ again_answer s v.end v.origin 8 c.number v.says refl v.judged c.last) in
               let number_is = after_number (s.setup.sync && nat_le s.flushed c.number) reply number turn c.number s.turns said in (
                 s.log.base.records + c.index,
                 c.copy,
@@ -189,7 +186,7 @@ pub step_at_once : (s t : State) (a : Events.Asked) (end : EndSaid) (h : ℕ) (r
     → is_verdict_on s h 8 (Events.Asks a) ≡ true → s.setup.sync ≡ true → half_waits (named_half s end) ≡ true → Step s (Events.Asks a) (Some (Events.Replies reply)) t
     → (n : ℕ) × (copy : Entry) × (n < s.flushed) × IsCopyAt t h n copy
 step_at_once s t a end h reply kept request is sync waits step =
-    let v = verdict_of s (Events.Asks a) h is in
+    let v = commit_of s (Events.Asks a) h is in
     let same : v.asked ≡ a = let e = v.is in cc in
     let one : v.end ≡ end = same_end v.end end (sym v.request ∙ (ap (λ (x : Events.Asked). x.request) same ∙ request)) in
     once v (subst (λ (x : Events.Asked). Step s (Events.Asks x) (Some (Events.Replies reply)) t) (sym same) step) (subst (λ (x : Events.Event). is_refused s x ≡ false) v.is v.fine)
@@ -198,14 +195,14 @@ step_at_once s t a end h reply kept request is sync waits step =
     same_end : (x y : EndSaid) → EndTransaction x ≡ EndTransaction y → x ≡ y
     same_end x y e = cc
 
-    once : (v : IsVerdict s (Events.Asks a) h) → Step s (Events.Asks v.asked) (Some (Events.Replies reply)) t → is_refused s (Events.Asks v.asked) ≡ false
+    once : (v : IsVerdict s (Events.Asks a) h 8 Committed) → Step s (Events.Asks v.asked) (Some (Events.Replies reply)) t → is_refused s (Events.Asks v.asked) ≡ false
         → half_waits (named_half s v.end) ≡ true → (n : ℕ) × (copy : Entry) × (n < s.flushed) × IsCopyAt t h n copy
     once v taken fine waits =
         let says = taken.1 ∙ verdict_answer s v.asked v.end v.request fine in
         let log = verdict_log s t v.asked (Events.Replies reply) fine taken in
         elim v.state [
           | inl was_open ↦
-              let drafts = verdict_writes s v.asked v.end v.half v.origin Open v.request v.verdict v.named v.judged was_open in
+              let drafts = verdict_writes s v.asked v.end v.half v.origin 8 Open v.request v.says v.named v.judged was_open in
               let made : made_by s (Events.Asks v.asked) ≡ next_records s.setup.segment (max v.asked.now s.now) s.log (copy_draft s.setup.host v.half ∷ op_draft s.setup.host (max v.asked.now s.now) v.origin.queue_offset ∷ []) =
               ap (next_records s.setup.segment (max v.asked.now s.now) s.log) drafts in
               let said = says ∙ ap (end_answer s v.end) made in
@@ -213,9 +210,9 @@ step_at_once s t a end h reply kept request is sync waits step =
               absurd (let e : true ≡ false = sym waits ∙ late in cc)
           | inr done ↦
               let c = agreed s h v.origin v.of done in
-              let drafts = verdict_writes s v.asked v.end v.half v.origin Committed v.request v.verdict v.named v.judged done in
+              let drafts = verdict_writes s v.asked v.end v.half v.origin 8 Committed v.request v.says v.named v.judged done in
               let made : made_by s (Events.Asks v.asked) ≡ [] = ap (next_records s.setup.segment (max v.asked.now s.now) s.log) drafts in
-              let said = says ∙ (ap (end_answer s v.end) made ∙ again_answer s v.end v.origin c.number v.verdict v.judged c.last) in
+              let said = says ∙ (ap (end_answer s v.end) made ∙ again_answer s v.end v.origin 8 c.number v.says refl v.judged c.last) in
               let low = leb-false s.flushed c.number (replies_now s.setup.sync (nat_le s.flushed c.number) reply c.number s.turns sync said) in (
                 s.log.base.records + c.index,
                 c.copy,

@@ -142,13 +142,13 @@ refused_rolled_back = refl
 
 -- ---- the moves
 
-sends_half : Goes at_opening (answered at_opening (sends half_props)) at_half
+pub sends_half : Goes at_opening (answered at_opening (sends half_props)) at_half
 sends_half = goes at_opening (sends half_props) tt
 
-takes_half : Goes at_half (answered at_half Events.Take) at_turn
+pub takes_half : Goes at_half (answered at_half Events.Take) at_turn
 takes_half = goes at_half Events.Take tt
 
-flushes_half : Goes at_turn (answered at_turn (Events.Flushed 1)) at_flushed
+pub flushes_half : Goes at_turn (answered at_turn (Events.Flushed 1)) at_flushed
 flushes_half = goes at_turn (Events.Flushed 1) first_flush
 
 pub commits_half : Goes at_flushed (Steps commits (Some (Events.After done_reply 2 1))) at_commit

@@ -1,5 +1,5 @@
 -- Behind an accepted Commit its origin is committed, with the copy that the Commit made or found.
-use Rattle.std.proofs.Common.{◌≡◌, inl, inr, refl, ap, sym, ◌∙◌, subst, arith, ℕ, ◌+◌, ◌<◌, ◌≤◌, ◌^◌, List, take, length, slice_get, Bool, true, false, Option, Some, None, if◌then◌else◌}
+use Rattle.std.proofs.Common.{◌≡◌, inl, inr, refl, ap, sym, ◌∙◌, subst, arith, ℕ, ◌+◌, ◌<◌, ◌≤◌, ◌^◌, List, ◌++◌, take, length, slice_get, Bool, true, false, Option, Some, None, if◌then◌else◌}
 use Rattle.std.specs.Prelude.{◌&&◌, ◌||◌, ◌==◌, not, is_none}
 use Rattle.std.specs.List.{list_any}
 use Rattle.std.specs.Str.Parse.{digits_value}
@@ -11,9 +11,10 @@ use Rattle.log_model.specs.Kinds.{is_half, is_copy, is_discard, origin_text}
 use Rattle.log_model.specs.Numbered.{Log, with_appended}
 use Rattle.log_model.specs.Queues.{queue_of}
 use Rattle.log_model.specs.Transactions.{Open, Committed, RolledBack, Discarded, transaction_state, is_origin, is_renewal, is_of_family, copies_it, discards_it, names_it, settles, is_settled, named_origin, origin_of}
+use Rattle.request_fields.specs.Requests.{EndSaid}
 use Rattle.broker_model.specs.State.{State}
 use Rattle.broker_model.specs.Events
-use Rattle.broker_model.specs.Refusals.{judged_origin, is_by_its_group}
+use Rattle.broker_model.specs.Refusals.{named_half, verdict_origin, judged_origin, is_by_its_group}
 use Rattle.broker_model.specs.Step.{Step}
 use Rattle.broker_model.specs.Appended.{made_by, drafts_of, is_refused, moment}
 use Rattle.broker_model.specs.Acknowledged.{StandsAt, is_verdict_on}
@@ -26,7 +27,7 @@ use Rattle.core_laws.proofs.Families.{places_rise, family_found, open_unsettled}
 use Rattle.core_laws.proofs.Texts.{found_at}
 use Rattle.core_laws.proofs.KeptSteps.{named_there}
 use Rattle.core_laws.proofs.KeptRuns.{made_kept}
-use Rattle.core_laws.proofs.Verdicts.{IsVerdict, verdict_of}
+use Rattle.core_laws.proofs.Verdicts.{IsVerdict, commit_of}
 use Rattle.core_laws.proofs.CommitAnswers.{verdict_log}
 use Rattle.core_laws.proofs.Discards.{asks_discards, none_discarded}
 use Rattle.core_laws.proofs.Committed.{IsCommittedAt, NoneGivesUp, more_none}
@@ -47,6 +48,18 @@ origin_case log (Some text) r origin k at half is found =
     let there = found_at (is_origin (digits_value 10 text)) log origin found in
     let parts = and_parts (is_half origin && is_none (origin_text origin)) (origin.queue_offset == digits_value 10 text) there.2 in
     (there.0, there.1, and_from (is_half origin && is_none (origin_text origin)) (origin.queue_offset == origin.queue_offset) parts.0 (eq-eqb origin.queue_offset origin.queue_offset refl))
+
+-- the origin that a verdict judges stands in the log
+pub judged_stands : (s : State) (end : EndSaid) (half origin : Entry) → named_half s end ≡ Some half → verdict_origin s end ≡ Some origin
+    → (i : ℕ) × (slice_get s.log.records i ≡ Some origin) × (is_origin origin.queue_offset origin ≡ true)
+judged_stands s end half origin named judged =
+    let there = named_there s end half named in
+    origin_case s.log.records (origin_text half) half origin there.0 there.1 there.2 refl
+    (found (is_by_its_group end half) (sym (ap (judged_origin s.log.records end) named) ∙ judged))
+  where
+    found : (b : Bool) → (if b then origin_of s.log.records half else None) ≡ Some origin → origin_of s.log.records half ≡ Some origin
+    found true is = is
+    found false is = absurd (cc)
 
 -- it is the first of its family
 origin_first : (log : Log) (h k q : ℕ) (o y : Entry) → h < 2 ^ 64 → IsKept log → slice_get log.records k ≡ Some o → is_origin h o ≡ true
@@ -105,7 +118,7 @@ given_settles log h r is = last (names_it h r) (copies_it log h r) (discards_it 
     last false true c e = refl
     last false false c e = e
 
-open_none : (log : List Entry) (h : ℕ) → transaction_state log h ≡ Open → NoneGivesUp log h
+pub open_none : (log : List Entry) (h : ℕ) → transaction_state log h ≡ Open → NoneGivesUp log h
 open_none log h is = λ k x at. elim (cases_Bool (discards_it log h x)) [
   | inl given ↦ absurd (let settled = any_none (settles log h) log (open_unsettled log h is) k x at in let e : true ≡ false = sym (given_settles log h x given) ∙ settled in cc)
   | inr not ↦ not
@@ -123,6 +136,14 @@ left_of : (a b : Bool) → a ≡ true → (a || b) ≡ true
 left_of true b is = refl
 left_of false b is = absurd (cc)
 
+-- no request gives up what none gave up before
+pub asks_none : (s : State) (a : Events.Asked) (h : ℕ) → 0 < s.setup.segment → IsKept s.log → is_refused s (Events.Asks a) ≡ false → NoneGivesUp s.log.records h
+    → NoneGivesUp (s.log.records ++ made_by s (Events.Asks a)) h
+asks_none s a h some kept fine none =
+    more_none s.log (made_by s (Events.Asks a)) h (made_kept s (Events.Asks a) some kept fine)
+    (λ j k x y at gone y_at family same. (let not = none_discarded s.setup.segment (moment s (Events.Asks a)) s.log (drafts_of s (Events.Asks a)) j x (asks_discards s a kept fine) at in
+    let e : true ≡ false = sym gone ∙ not in cc)) none
+
 -- ---- a Commit
 
 -- the origin stood before the Commit, and is committed behind it
@@ -137,35 +158,27 @@ pub record IsKeptCommit (s t : State) (h n : ℕ) : Type 0 where
 pub commit_stays : (s t : State) (e : Events.Event) (answer : Events.Answer) (h n : ℕ) (copy : Entry) → 0 < s.setup.segment → IsKept s.log
     → is_verdict_on s h 8 e ≡ true → Step s e (Some answer) t → IsCopyAt t h n copy → IsKeptCommit s t h n
 commit_stays s t e answer h n copy some kept is step copied =
-    let v = verdict_of s e h is in
+    let v = commit_of s e h is in
     behind v (subst (λ (x : Events.Event). Step s x (Some answer) t) v.is step) (subst (λ (x : Events.Event). is_refused s x ≡ false) v.is v.fine)
   where
-    found : (v : IsVerdict s e h) (b : Bool) → (if b then origin_of s.log.records v.half else None) ≡ Some v.origin → origin_of s.log.records v.half ≡ Some v.origin
-    found v true is = is
-    found v false is = absurd (cc)
-
-    none_before : (v : IsVerdict s e h) → NoneGivesUp s.log.records h
+    none_before : (v : IsVerdict s e h 8 Committed) → NoneGivesUp s.log.records h
     none_before v = subst (NoneGivesUp s.log.records) v.of (elim v.state [
       | inl was_open ↦ open_none s.log.records v.origin.queue_offset was_open
       | inr done ↦ committed_none s.log.records v.origin.queue_offset done
     ])
 
-    behind : (v : IsVerdict s e h) → Step s (Events.Asks v.asked) (Some answer) t → is_refused s (Events.Asks v.asked) ≡ false → IsKeptCommit s t h n
+    behind : (v : IsVerdict s e h 8 Committed) → Step s (Events.Asks v.asked) (Some answer) t → is_refused s (Events.Asks v.asked) ≡ false → IsKeptCommit s t h n
     behind v taken fine =
         let new : List Entry = made_by s (Events.Asks v.asked) in
         let log : t.log ≡ with_appended s.log new = verdict_log s t v.asked answer fine taken in
-        let there = named_there s v.end v.half v.named in
-        let o = origin_case s.log.records (origin_text v.half) v.half v.origin there.0 there.1 there.2 refl
-        (found v (is_by_its_group v.end v.half) (sym (ap (judged_origin s.log.records v.end) v.named) ∙ v.judged)) in
+        let o = judged_stands s v.end v.half v.origin v.named v.judged in
         let is_it : is_origin h v.origin ≡ true = subst (λ (m : ℕ). is_origin m v.origin ≡ true) v.of o.2 in
         let half : is_half v.origin ≡ true = (and_parts (is_half v.origin) (is_none (origin_text v.origin))
         (and_parts (is_half v.origin && is_none (origin_text v.origin)) (v.origin.queue_offset == h) is_it).0).0 in
         let low : h < 2 ^ 64 = omega (arith, (kept.each o.0 v.origin o.1).low half, v.of) in
         let longer : IsKept (with_appended s.log new) = made_kept s (Events.Asks v.asked) some kept fine in
         let kept_now : IsKept t.log = subst IsKept (sym log) longer in
-        let none = more_none s.log new h longer
-        (λ j k x y at gone y_at family same. (let not = none_discarded s.setup.segment (moment s (Events.Asks v.asked)) s.log (drafts_of s (Events.Asks v.asked)) j x (asks_discards s v.asked kept fine) at in
-        let e : true ≡ false = sym gone ∙ not in cc)) (none_before v) in
+        let none = asks_none s v.asked h some kept fine (none_before v) in
         let parts = and_parts (is_copy copy) (is_of_family t.log.records h copy.prepared) copied.copies in
         let family = family_found t.log.records h copy.prepared parts.1 in
         let origin_at : slice_get t.log.records o.0 ≡ Some v.origin = subst (λ (l : Log). slice_get l.records o.0 ≡ Some v.origin) (sym log) (get_left s.log.records new o.0 v.origin o.1) in

@@ -16,17 +16,15 @@ use Rattle.log_model.specs.Transactions.{Open, Committed, RolledBack, Discarded,
 use Rattle.broker_model.specs.State.{State}
 use Rattle.broker_model.specs.Events
 use Rattle.broker_model.specs.Appended.{made_by, drafts_of, moment}
-use Rattle.broker_model.specs.Run.{Boot, Move, Steps, SavesOffsets, SavesTopics, SavesBase, Crashes, Goes, RunWith, IsCrash, IsOneBoot}
-use Rattle.core_laws.specs.Sound.{IsSound}
-use Rattle.core_laws.specs.Kept.{IsKept, IsKeptBoot}
+use Rattle.core_laws.specs.Kept.{IsKept}
 use Rattle.core_laws.specs.Halves.{in_family, IsCommittedOrRemoved}
-use Rattle.core_laws.specs.LogSteps.{LogStep}
+use Rattle.core_laws.specs.LogSteps.{Appends}
 use Rattle.core_laws.proofs.Lists.{get_append, get_left, get_take, take_get, get_drop, drop_get}
 use Rattle.core_laws.proofs.Counts.{any_at, any_found}
 use Rattle.core_laws.proofs.Families.{one_place, family_found, old_family, family_at, copy_settles}
 use Rattle.core_laws.proofs.Texts.{same_text, number_once}
-use Rattle.core_laws.proofs.KeptRuns.{step_log, made_kept, goes_kept}
-use Rattle.core_laws.proofs.Runs.{goes_good}
+use Rattle.core_laws.proofs.KeptRuns.{made_kept}
+use Rattle.core_laws.proofs.LogMoves.{IsKeptByMoves}
 use Rattle.core_laws.proofs.Discards.{NoDiscards, GivesUp, event_discards, none_discarded}
 
 -- ---- what is kept
@@ -68,7 +66,7 @@ state_is true false false a b c = absurd (cc)
 state_is true true copied a b c = absurd (cc)
 state_is false given copied a b c = absurd (cc)
 
-none_any : (p : Entry → Bool) (xs : List Entry) → ((k : ℕ) (x : Entry) → slice_get xs k ≡ Some x → p x ≡ false) → list_any p xs ≡ false
+pub none_any : (p : Entry → Bool) (xs : List Entry) → ((k : ℕ) (x : Entry) → slice_get xs k ≡ Some x → p x ≡ false) → list_any p xs ≡ false
 none_any p xs none = elim (cases_Bool (list_any p xs)) [
   | inl some ↦ absurd (let f = any_found p xs some in let a = none f.0 f.1 f.2 in let e : true ≡ false = sym f.3 ∙ a in cc)
   | inr not ↦ not
@@ -89,7 +87,7 @@ is_committed log h i n c = state_is (is_settled log.records h) (list_any (discar
 
 -- ---- a part of the log
 
-part_none : (log part : List Entry) (r h : ℕ) → ((k : ℕ) (x : Entry) → slice_get part k ≡ Some x → slice_get log (r + k) ≡ Some x)
+pub part_none : (log part : List Entry) (r h : ℕ) → ((k : ℕ) (x : Entry) → slice_get part k ≡ Some x → slice_get log (r + k) ≡ Some x)
     → NoneGivesUp log h → NoneGivesUp part h
 part_none log part r h back none = λ k x at. elim (cases_Bool (discards_it part h x)) [
   | inl given ↦ absurd (
@@ -185,7 +183,7 @@ renewal_family g h r low also renews family =
     both g h (Some text) is also = sym (same_text text (digits_of g) is) ∙ same_text text (digits_of h) also
 
 -- what a step gives up is of another origin, where this one is settled
-other_given : (s : State) (e : Events.Event) (h : ℕ) → h < 2 ^ 64 → IsKept s.log → IsKept (with_appended s.log (made_by s e)) → is_settled s.log.records h ≡ true
+pub other_given : (s : State) (e : Events.Event) (h : ℕ) → h < 2 ^ 64 → IsKept s.log → IsKept (with_appended s.log (made_by s e)) → is_settled s.log.records h ≡ true
     → NoDiscards (drafts_of s e) ⊎ GivesUp s e
     → (j k : ℕ) (x y : Entry) → slice_get (made_by s e) j ≡ Some x → is_discard x ≡ true → slice_get (s.log.records ++ made_by s e) k ≡ Some y → in_family h y ≡ true → y.offset ≡ x.prepared → ⊥
 other_given s e h low before kept settled (inl none) j k x y at is there family same =
@@ -205,7 +203,7 @@ other_given s e h low before kept settled (inr up) j k x y at is there family sa
     given_place (suc zero) x at is = absurd (let a = ap (λ (z : Entry). bytes_eq z.topic discard_topic) (same_Some _ x at) in let e : true ≡ false = sym is ∙ sym a in cc)
     given_place (suc (suc j)) x at is = absurd (cc)
 
-at_longer : (log : Log) (new : List Entry) (n : ℕ) (r : Entry) → IsAt log n r → IsAt (with_appended log new) n r
+pub at_longer : (log : Log) (new : List Entry) (n : ℕ) (r : Entry) → IsAt log n r → IsAt (with_appended log new) n r
 at_longer log new n r at = (at.0, at.1, get_left log.records new at.0 r at.2)
 
 grown : (log : Log) (new : List Entry) (h i n : ℕ) → NoneGivesUp (log.records ++ new) h → IsCommittedAt log h i n → IsCommittedAt (with_appended log new) h i n
@@ -228,46 +226,21 @@ grown log new h i n none c = record {
 
 -- ---- moves
 
-step_committed : (s t : State) (e : Events.Event) (h i n : ℕ) → h < 2 ^ 64 → 0 < s.setup.segment → IsSound s → IsKept s.log → LogStep s e t
-    → StaysCommitted s.log h i n → StaysCommitted t.log h i n
-step_committed s t e h i n low some sound kept (inl same) stays = subst (λ (l : Log). StaysCommitted l h i n) (sym same) stays
-step_committed s t e h i n low some sound kept (inr (inr cut)) stays =
-    subst (λ (l : Log). StaysCommitted l h i n) (sym cut.log) (above_committed s.log s.saved.base h i n (omega (arith, sound.saved.records)) stays)
-step_committed s t e h i n low some sound kept (inr (inl grows)) (inl gone) = inl (subst (λ (l : Log). i < l.base.records) (sym grows.log) gone)
-step_committed s t e h i n low some sound kept (inr (inl grows)) (inr c) =
-    let longer = made_kept s e some kept grows.fine in
-    let none = more_none s.log (made_by s e) h longer
-    (other_given s e h low kept longer (copied_settles s.log h i n c) (event_discards s e kept grows.fine)) c.none in
-    subst (λ (l : Log). StaysCommitted l h i n) (sym grows.log) (inr (grown s.log (made_by s e) h i n none c))
-
--- savings change no log, and a crash keeps what is on the disk
-goes_committed : (b : Boot) (move : Move) (c : Boot) (h i n : ℕ) → h < 2 ^ 64 → IsKeptBoot b → (IsCrash move → n < b.now.flushed) → Goes b move c
-    → StaysCommitted b.now.log h i n → StaysCommitted c.now.log h i n
-goes_committed b (Steps e said) c h i n low kept flushed goes stays =
-    step_committed b.now c.now e h i n low kept.segment kept.sound.state (kept.logs b.now (inl refl)) (step_log b.now c.now e said goes.0) stays
-goes_committed b SavesOffsets c h i n low kept flushed goes stays = subst (λ (x : Boot). StaysCommitted x.now.log h i n) (sym goes.2) stays
-goes_committed b SavesTopics c h i n low kept flushed goes stays = subst (λ (x : Boot). StaysCommitted x.now.log h i n) (sym goes.2) stays
-goes_committed b (SavesBase base) c h i n low kept flushed goes stays = subst (λ (x : Boot). StaysCommitted x.now.log h i n) (sym goes.4) stays
-goes_committed b (Crashes k setup) c h i n low kept flushed goes stays = subst (λ (x : Boot). StaysCommitted x.now.log h i n) (sym goes.1)
-    (above_committed (below b.now.log k) b.now.saved.base h i n (omega (arith, kept.sound.state.saved.records))
-    (below_committed b.now.log k h i n (omega (arith, flushed tt, goes.0.no_less)) stays))
-
--- in one boot it stays whatever is on the disk
-pub boot_committed : (P : Boot → Move → Boot → Type 0) (b : Boot) (moves : List Move) (c : Boot) (h i n : ℕ) → h < 2 ^ 64 → IsKeptBoot b → IsOneBoot moves
-    → RunWith P b moves c → StaysCommitted b.now.log h i n → StaysCommitted c.now.log h i n
-boot_committed P b [] c h i n low kept one run stays = subst (λ (x : Boot). StaysCommitted x.now.log h i n) (sym run) stays
-boot_committed P b (move ∷ moves) c h i n low kept one run stays =
-    boot_committed P run.0 moves c h i n low (goes_kept b move run.0 kept run.1) one.1 run.3
-    (goes_committed b move run.0 h i n low kept (λ crash. absurd (one.0 crash)) run.1 stays)
-
--- once its copy is on the disk it stays over crashes
-pub run_committed : (P : Boot → Move → Boot → Type 0) (b : Boot) (moves : List Move) (c : Boot) (h i n : ℕ) → h < 2 ^ 64 → IsKeptBoot b → n < b.now.flushed
-    → RunWith P b moves c → StaysCommitted b.now.log h i n → StaysCommitted c.now.log h i n
-run_committed P b [] c h i n low kept flushed run stays = subst (λ (x : Boot). StaysCommitted x.now.log h i n) (sym run) stays
-run_committed P b (move ∷ moves) c h i n low kept flushed run stays =
-    let good = goes_good b move run.0 kept.sound run.1 in
-    run_committed P run.0 moves c h i n low (goes_kept b move run.0 kept run.1) (omega (arith, flushed, good.1.flushed)) run.3
-    (goes_committed b move run.0 h i n low kept (λ crash. flushed) run.1 stays)
+-- the first records are removed, those behind the copy are lost, or others come behind
+pub committed_by_moves : (h i n : ℕ) → h < 2 ^ 64 → IsKeptByMoves (λ log. StaysCommitted log h i n) n
+committed_by_moves h i n low = record {
+  loses_front = λ log later less stays. above_committed log later h i n less stays;
+  loses_end = λ log m more stays. below_committed log m h i n more stays;
+  grows = step_committed;
+}
+  where
+    step_committed : (s t : State) (e : Events.Event) → 0 < s.setup.segment → IsKept s.log → Appends s e t → StaysCommitted s.log h i n → StaysCommitted t.log h i n
+    step_committed s t e some kept grows (inl gone) = inl (subst (λ (l : Log). i < l.base.records) (sym grows.log) gone)
+    step_committed s t e some kept grows (inr c) =
+        let longer = made_kept s e some kept grows.fine in
+        let none = more_none s.log (made_by s e) h longer
+        (other_given s e h low kept longer (copied_settles s.log h i n c) (event_discards s e kept grows.fine)) c.none in
+        subst (λ (l : Log). StaysCommitted l h i n) (sym grows.log) (inr (grown s.log (made_by s e) h i n none c))
 
 pub said_committed : (s : State) (h i n : ℕ) → StaysCommitted s.log h i n → IsCommittedOrRemoved s h i
 said_committed s h i n (inl gone) = inl gone

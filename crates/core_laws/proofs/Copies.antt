@@ -41,16 +41,16 @@ old_copy log new h k r kept at is =
     first false b e = absurd (cc)
 
 -- the longer log has those copies, and those among the new records
-grown : (log : Log) (new : List Entry) (h : ℕ) → IsKept (with_appended log new)
+pub more_copies : (log : Log) (new : List Entry) (h : ℕ) → IsKept (with_appended log new)
     → copies (log.records ++ new) h ≤ copies log.records h + count_by (copies_it (log.records ++ new) h) new
-grown log new h kept = omega (
+more_copies log new h kept = omega (
   arith,
   count_append (copies_it (log.records ++ new) h) log.records new,
   count_le (copies_it (log.records ++ new) h) (copies_it log.records h) log.records (λ k x at is. old_copy log new h k x kept at is),
 )
 
 -- drafts that are none of a copy make none
-none_made : (S now : ℕ) (log : Log) (drafts : List Draft) (whole : List Entry) (h : ℕ) → NoCopies drafts → count_by (copies_it whole h) (next_records S now log drafts) ≡ 0
+pub none_made : (S now : ℕ) (log : Log) (drafts : List Draft) (whole : List Entry) (h : ℕ) → NoCopies drafts → count_by (copies_it whole h) (next_records S now log drafts) ≡ 0
 none_made S now log [] whole h none = refl
 none_made S now log (d ∷ drafts) whole h none =
     let rest = none_made S now (with_appended log (next_record S now log d ∷ [])) drafts whole h none.1 in
@@ -89,7 +89,7 @@ commit_copies s t e h low before kept log c =
     let copy : Entry = next_record s.setup.segment (moment s e) s.log (copy_draft s.setup.host c.half) in
     let op : Entry = next_record s.setup.segment (moment s e) (with_appended s.log (copy ∷ [])) (op_draft s.setup.host (moment s e) c.origin.queue_offset) in
     let made : made_by s e ≡ copy ∷ op ∷ [] = ap (next_records s.setup.segment (moment s e) s.log) c.drafts_are in
-    let total = grown s.log (made_by s e) h kept in
+    let total = more_copies s.log (made_by s e) h kept in
     let is : copies t.log.records h ≡ copies (s.log.records ++ made_by s e) h = ap (λ (l : Log). copies l.records h) log in
     let pair : count_by (copies_it (s.log.records ++ made_by s e) h) (made_by s e) ≡ cond (copies_it (s.log.records ++ made_by s e) h copy) 1 0 =
     ap (count_by (copies_it (s.log.records ++ made_by s e) h)) made ∙ pair_made (s.log.records ++ made_by s e) h copy op refl in
@@ -129,7 +129,7 @@ step_copies s t e h low some kept (inr (inl grows)) =
       | inl none ↦ inl (omega (
         arith,
         ap (λ (l : Log). copies l.records h) grows.log,
-        grown s.log (made_by s e) h longer,
+        more_copies s.log (made_by s e) h longer,
         none_made s.setup.segment (moment s e) s.log (drafts_of s e) (s.log.records ++ made_by s e) h none,
       ))
       | inr commit ↦ commit_copies s t e h low kept longer grows.log commit

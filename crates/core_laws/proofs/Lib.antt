@@ -22,6 +22,7 @@ pub mod KeptOpenings
 pub mod KeptRuns
 pub mod KeptSteps
 pub mod Lists
+pub mod LogMoves
 pub mod Marks
 pub mod OffsetRows
 pub mod Offsets
@@ -33,6 +34,9 @@ pub mod Removed
 pub mod Renewals
 pub mod Replay
 pub mod ReplayExamples
+pub mod RollbackAnswers
+pub mod RollbackExamples
+pub mod RolledBack
 pub mod Runs
 pub mod Steps
 pub mod Texts

@@ -50,6 +50,11 @@ take_take_less (suc j) zero xs low = absurd (omega (arith, low))
 take_take_less (suc j) (suc k) [] low = refl
 take_take_less {A = A} (suc j) (suc k) (x ∷ xs) low = ap (λ (l : List A). x ∷ l) (take_take_less j k xs (omega (arith, low)))
 
+-- what stands right behind a list
+pub get_seam : {A : Type 0} (xs : List A) (x : A) (more : List A) → slice_get (xs ++ x ∷ more) (length xs) ≡ Some x
+get_seam [] x more = refl
+get_seam (y ∷ xs) x more = get_seam xs x more
+
 pub within : {A : Type 0} (xs : List A) (k : ℕ) (x : A) → slice_get xs k ≡ Some x → k < length xs
 within [] k x got = absurd (cc)
 within (y ∷ xs) zero x got = omega arith

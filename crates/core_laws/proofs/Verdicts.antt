@@ -1,4 +1,4 @@
--- An accepted Commit: what it is, what it appends, and what it is answered.
+-- An accepted verdict: what it is, and what it is answered.
 use Rattle.std.proofs.Common.{◌≡◌, ◌⊎◌, inl, inr, refl, ap, ◌∙◌, subst, arith, ℕ, zero, suc, ◌+◌, ◌*◌, ◌/◌, ◌%◌, ◌<◌, ◌≤◌, ◌^◌, List, [], ◌∷◌, slice_get, Bool, true, false, Option, Some, None, if◌then◌else◌}
 use Rattle.std.specs.Prelude.{◌||◌, ◌==◌, not, bit_and, bit_or, is_some}
 use Rattle.std.proofs.lemmas.Bool.{and_parts, eqb-true, or_parts, cond-false}
@@ -19,27 +19,27 @@ use Rattle.broker_model.specs.Acknowledged.{is_verdict_on, is_request_on, is_tha
 
 -- ---- what it is
 
--- an accepted Commit on the origin h
-pub record IsVerdict (s : State) (e : Events.Event) (h : ℕ) : Type 0 where
+-- an accepted verdict on the origin h, which is open or became what this verdict makes of it
+pub record IsVerdict (s : State) (e : Events.Event) (h verdict : ℕ) (made : TransactionState) : Type 0 where
   pub asked : Events.Asked
   pub end : EndSaid
   pub is : e ≡ Events.Asks asked
   pub request : asked.request ≡ EndTransaction end
-  pub verdict : end.verdict ≡ 8
+  pub says : end.verdict ≡ verdict
   pub half : Entry
   pub named : named_half s end ≡ Some half
   pub origin : Entry
   pub judged : verdict_origin s end ≡ Some origin
   pub of : origin.queue_offset ≡ h
   pub fine : is_refused s e ≡ false
-  pub state : (transaction_state s.log.records origin.queue_offset ≡ Open) ⊎ (transaction_state s.log.records origin.queue_offset ≡ Committed)
+  pub state : (transaction_state s.log.records origin.queue_offset ≡ Open) ⊎ (transaction_state s.log.records origin.queue_offset ≡ made)
 
-request_end : (s : State) (h : ℕ) (r : Request) → is_request_on s h 8 r ≡ true
-    → (end : EndSaid) × (r ≡ EndTransaction end) × (end.verdict ≡ 8) × (is_that_origin h (verdict_origin s end) ≡ true)
-request_end s h (EndTransaction end) is =
-    let parts = and_parts (end.verdict == 8) (is_that_origin h (verdict_origin s end)) is in
-    (end, refl, eqb-true end.verdict 8 parts.0, parts.1)
-request_end s h _ is = absurd (cc)
+request_end : (s : State) (h verdict : ℕ) (r : Request) → is_request_on s h verdict r ≡ true
+    → (end : EndSaid) × (r ≡ EndTransaction end) × (end.verdict ≡ verdict) × (is_that_origin h (verdict_origin s end) ≡ true)
+request_end s h verdict (EndTransaction end) is =
+    let parts = and_parts (end.verdict == verdict) (is_that_origin h (verdict_origin s end)) is in
+    (end, refl, eqb-true end.verdict verdict parts.0, parts.1)
+request_end s h verdict _ is = absurd (cc)
 
 that_origin : (h : ℕ) (o : Option Entry) → is_that_origin h o ≡ true → (origin : Entry) × (o ≡ Some origin) × (origin.queue_offset ≡ h)
 that_origin h None is = absurd (cc)
@@ -60,28 +60,39 @@ no_row s a fine =
     let outer = or_parts (is_refused_request s (Events.Asks a) || is_past_end s (Events.Asks a)) (is_full s (Events.Asks a)) fine in
     not_some (refusal_of s a.request) (or_parts (is_refused_request s (Events.Asks a)) (is_past_end s (Events.Asks a)) outer.0).0
 
-accepted : (state : TransactionState) → settled_otherwise 8 state ≡ None → (state ≡ Open) ⊎ (state ≡ Committed)
-accepted Open is = inl refl
-accepted Committed is = inr refl
-accepted RolledBack is = absurd (cc)
-accepted Discarded is = absurd (cc)
+-- a verdict is accepted where the origin is open, or became this
+abbrev pub AcceptedAt : ℕ → TransactionState → Type 0
+AcceptedAt verdict made = (state : TransactionState) → settled_otherwise verdict state ≡ None → (state ≡ Open) ⊎ (state ≡ made)
 
-end_row : (s : State) (end : EndSaid) (origin : Entry) → end.verdict ≡ 8 → verdict_origin s end ≡ Some origin → refusal_of s (EndTransaction end) ≡ None
-    → settled_otherwise 8 (transaction_state s.log.records origin.queue_offset) ≡ None
+commit_accepted : AcceptedAt 8 Committed
+commit_accepted Open is = inl refl
+commit_accepted Committed is = inr refl
+commit_accepted RolledBack is = absurd (cc)
+commit_accepted Discarded is = absurd (cc)
+
+rollback_accepted : AcceptedAt 12 RolledBack
+rollback_accepted Open is = inl refl
+rollback_accepted Committed is = absurd (cc)
+rollback_accepted RolledBack is = inr refl
+rollback_accepted Discarded is = absurd (cc)
+
+end_row : (s : State) (end : EndSaid) (origin : Entry) (verdict : ℕ) → end.verdict ≡ verdict → verdict_origin s end ≡ Some origin
+    → refusal_of s (EndTransaction end) ≡ None → settled_otherwise verdict (transaction_state s.log.records origin.queue_offset) ≡ None
 unfolding refusal_of
-end_row s end origin eight judged none =
-    subst (λ (v : ℕ). settled_otherwise v (transaction_state s.log.records origin.queue_offset) ≡ None) eight
+end_row s end origin verdict says judged none =
+    subst (λ (v : ℕ). settled_otherwise v (transaction_state s.log.records origin.queue_offset) ≡ None) says
     (subst (λ (o : Option Entry). origin_refusal s.log.records end.verdict o ≡ None) judged none)
 
 unrefused : (b : Bool) → not b ≡ true → b ≡ false
 unrefused true is = absurd (cc)
 unrefused false is = refl
 
-pub verdict_of : (s : State) (e : Events.Event) (h : ℕ) → is_verdict_on s h 8 e ≡ true → IsVerdict s e h
-verdict_of s (Events.Asks a) h is =
-    let parts = and_parts (is_request_on s h 8 a.request) (not (is_refused s (Events.Asks a))) is in
+verdict_of : (s : State) (e : Events.Event) (h verdict : ℕ) (made : TransactionState) → AcceptedAt verdict made → is_verdict_on s h verdict e ≡ true
+    → IsVerdict s e h verdict made
+verdict_of s (Events.Asks a) h verdict made accepted is =
+    let parts = and_parts (is_request_on s h verdict a.request) (not (is_refused s (Events.Asks a))) is in
     let fine : is_refused s (Events.Asks a) ≡ false = unrefused (is_refused s (Events.Asks a)) parts.1 in
-    let asks = request_end s h a.request parts.0 in
+    let asks = request_end s h verdict a.request parts.0 in
     let origin = that_origin h (verdict_origin s asks.0) asks.3 in
     let half = judged_half s.log.records asks.0 (named_half s asks.0) origin.0 origin.1 in
     record {
@@ -89,7 +100,7 @@ verdict_of s (Events.Asks a) h is =
       end = asks.0;
       is = refl;
       request = asks.1;
-      verdict = asks.2;
+      says = asks.2;
       half = half.0;
       named = half.1;
       origin = origin.0;
@@ -97,17 +108,23 @@ verdict_of s (Events.Asks a) h is =
       of = origin.2;
       fine = fine;
       state = accepted (transaction_state s.log.records origin.0.queue_offset)
-          (end_row s asks.0 origin.0 asks.2 origin.1 (subst (λ (r : Request). refusal_of s r ≡ None) asks.1 (no_row s a fine)));
+          (end_row s asks.0 origin.0 verdict asks.2 origin.1 (subst (λ (r : Request). refusal_of s r ≡ None) asks.1 (no_row s a fine)));
     }
-verdict_of s Events.Take h is = absurd (cc)
-verdict_of s (Events.Flushed n) h is = absurd (cc)
-verdict_of s (Events.FlushFailed n) h is = absurd (cc)
-verdict_of s (Events.Look n t) h is = absurd (cc)
-verdict_of s (Events.Dispatch n) h is = absurd (cc)
-verdict_of s (Events.Deliver n) h is = absurd (cc)
-verdict_of s (Events.Check n) h is = absurd (cc)
-verdict_of s (Events.Leave n) h is = absurd (cc)
-verdict_of s (Events.Trim base) h is = absurd (cc)
+verdict_of s Events.Take h verdict made accepted is = absurd (cc)
+verdict_of s (Events.Flushed n) h verdict made accepted is = absurd (cc)
+verdict_of s (Events.FlushFailed n) h verdict made accepted is = absurd (cc)
+verdict_of s (Events.Look n t) h verdict made accepted is = absurd (cc)
+verdict_of s (Events.Dispatch n) h verdict made accepted is = absurd (cc)
+verdict_of s (Events.Deliver n) h verdict made accepted is = absurd (cc)
+verdict_of s (Events.Check n) h verdict made accepted is = absurd (cc)
+verdict_of s (Events.Leave n) h verdict made accepted is = absurd (cc)
+verdict_of s (Events.Trim base) h verdict made accepted is = absurd (cc)
+
+pub commit_of : (s : State) (e : Events.Event) (h : ℕ) → is_verdict_on s h 8 e ≡ true → IsVerdict s e h 8 Committed
+commit_of s e h is = verdict_of s e h 8 Committed commit_accepted is
+
+pub rollback_of : (s : State) (e : Events.Event) (h : ℕ) → is_verdict_on s h 12 e ≡ true → IsVerdict s e h 12 RolledBack
+rollback_of s e h is = verdict_of s e h 12 RolledBack rollback_accepted is
 
 -- ---- what it is answered
 

@@ -64,6 +64,37 @@ rolls_back = asks (verdict_by (codes "P") 12 0 0)
 abbrev pub at_rolled_back : Boot
 at_rolled_back = stepped at_flushed rolls_back
 
+-- what the Rollback says
+abbrev pub rollback_said : EndSaid
+rollback_said = record { group = codes "P"; queue_offset = 0; place = 0; verdict = 12; msg_id = [] }
+
+-- it is answered once its op record is flushed
+abbrev pub at_op_turn : Boot
+at_op_turn = stepped at_rolled_back Events.Take
+
+abbrev pub at_op_flushed : Boot
+at_op_flushed = stepped at_op_turn (Events.Flushed 1)
+
+abbrev pub at_undone : Boot
+at_undone = stepped at_op_flushed (Events.Look 1 1)
+
+abbrev pub until_rolled_back : List Move
+until_rolled_back = answered at_opening (sends half_props) ∷ answered at_half Events.Take ∷ answered at_turn (Events.Flushed 1)
+    ∷ Steps rolls_back (Some (Events.After done_reply 1 1)) ∷ answered at_rolled_back Events.Take ∷ answered at_op_turn (Events.Flushed 1)
+    ∷ Steps (Events.Look 1 1) (Some (Events.Looked Events.IsFlushed)) ∷ []
+
+-- or all crashes once its op record is flushed, and the Rollback is said again
+abbrev pub at_kept_op : Boot
+at_kept_op = record { now = crashed at_op_flushed.now 2 setup; before = [] }
+
+abbrev pub at_undone_again : Boot
+at_undone_again = stepped at_kept_op rolls_back
+
+abbrev pub until_undone_again : List Move
+until_undone_again = answered at_opening (sends half_props) ∷ answered at_half Events.Take ∷ answered at_turn (Events.Flushed 1)
+    ∷ Steps rolls_back (Some (Events.After done_reply 1 1)) ∷ answered at_rolled_back Events.Take ∷ answered at_op_turn (Events.Flushed 1)
+    ∷ Crashes 2 setup ∷ Steps rolls_back (Some (Events.Replies done_reply)) ∷ []
+
 -- a Commit is refused then
 abbrev pub at_refused : Boot
 at_refused = stepped at_rolled_back commits

@@ -3,7 +3,7 @@ use Rattle.std.specs.Prelude.{◌≡◌, ◌⊎◌, ℕ, ◌<◌, ◌||◌, Bool
 use Rattle.record_codec.specs.Entry.{Entry}
 use Rattle.log_model.specs.Drafts.{copy_draft}
 use Rattle.log_model.specs.Numbered.{next_record}
-use Rattle.log_model.specs.Transactions.{Open, Committed, transaction_state, is_origin, is_renewal, copies_it}
+use Rattle.log_model.specs.Transactions.{Open, Committed, RolledBack, transaction_state, is_origin, is_renewal, copies_it}
 use Rattle.request_fields.specs.Requests.{EndSaid}
 use Rattle.request_fields.specs.declared.request.Request.TheVariants.{EndTransaction}
 use Rattle.broker_model.specs.State.{State}
@@ -53,3 +53,12 @@ pub record IsCopyAt (s : State) (h n : ℕ) (copy : Entry) : Type 0 where
 -- the origin with this queue offset and this number is committed, or was removed with its segment
 abbrev pub IsCommittedOrRemoved : State → ℕ → ℕ → Type 0
 IsCommittedOrRemoved s h i = (i < s.log.base.records) ⊎ (transaction_state s.log.records h ≡ Committed)
+
+-- it is rolled back, or was removed with its segment
+abbrev pub IsRolledBackOrRemoved : State → ℕ → ℕ → Type 0
+IsRolledBackOrRemoved s h i = (i < s.log.base.records) ⊎ (transaction_state s.log.records h ≡ RolledBack)
+
+-- the origin with this queue offset stood in the first state, and in the later one it is rolled back or was removed
+abbrev pub StaysRolledBack : State → State → ℕ → Type 0
+StaysRolledBack asked later h =
+    (i : ℕ) × (origin : Entry) × StandsAt asked i origin × (is_origin h origin ≡ true) × IsRolledBackOrRemoved later h i

@@ -1,7 +1,7 @@
 //! What holds of every run of steps, savings and crashes from an opening. No call is made: the clauses speak of the definitions.
 
 ghost use Rattle.std.specs.Prelude.{◌≡◌, ◌≢◌, ◌⊎◌, ◌+◌, ◌-◌, ◌^◌, ◌<◌, ◌≤◌, ℕ, max, List, [], ◌∷◌, take};
-ghost use Rattle.std.specs.Prelude.{drop, map, slice_get, Bool, true, codes, Option, Some, None};
+ghost use Rattle.std.specs.Prelude.{drop, map, slice_get, Bool, true, false, codes, Option, Some, None};
 ghost use Rattle.record_codec.specs.Entry.{Entry};
 ghost use Rattle.record_codec.specs.Props.{value_of};
 ghost use Rattle.log_model.specs.Drafts.{delivery_text};
@@ -21,7 +21,7 @@ ghost use Rattle.core_laws.specs.CommitExamples as commits;
 ghost use Rattle.core_laws.specs.Delays.{Delivers, InOrder};
 ghost use Rattle.core_laws.specs.DeliveryExamples as deliveries;
 ghost use Rattle.core_laws.specs.Examples as examples;
-ghost use Rattle.core_laws.specs.Halves.{IsMadeByCommit, NoCommitOn, IsCopyAt, IsCommittedOrRemoved};
+ghost use Rattle.core_laws.specs.Halves.{IsMadeByCommit, NoCommitOn, IsCopyAt, IsCommittedOrRemoved, StaysRolledBack};
 ghost use Rattle.core_laws.specs.Offsets.{AllRows, IsAllowed, IsWithin, StoresOnly};
 ghost use Rattle.core_laws.specs.Pulls.{IsSliceOf};
 ghost use Rattle.core_laws.specs.RemovalExamples as removals;
@@ -108,6 +108,19 @@ pub fn commits_stay()
         → is_verdict_on answers.asked.now h 8 (events.Asks a) ≡ true → answers.asked.now.setup.sync ≡ true
         → half_waits (named_half answers.asked.now end) ≡ true
         → (i : ℕ) × (origin : Entry) × StandsAt answers.asked.now i origin × (is_origin h origin ≡ true) × IsCommittedOrRemoved c.now h i }
+{}
+
+/// Where a Rollback is answered, its origin stood when it came, and is rolled back in every later state of the run, whatever crashes and
+/// whoever says a verdict on it again, until it is removed: no Commit that comes later makes the message.
+pub fn rollbacks_stay()
+    ensures stays { (b c : Boot) (moves : List Move) (e : events.Event) (reply : events.Reply) (number h : ℕ) → IsOpening b
+        → (answers : AnswersAfter b moves c e reply number) → is_verdict_on answers.asked.now h 12 e ≡ true
+        → StaysRolledBack answers.asked.now c.now h }
+    // At once: in sync mode, of a half message that waits, such a Rollback was said before.
+    ensures stays_at_once { (b c : Boot) (moves : List Move) (a : events.Asked) (end : EndSaid) (reply : events.Reply) (h : ℕ) → IsOpening b
+        → a.request ≡ EndTransaction end → (answers : AnswersAtOnce b moves c (events.Asks a) reply)
+        → is_verdict_on answers.asked.now h 12 (events.Asks a) ≡ true → answers.asked.now.setup.sync ≡ true
+        → half_waits (named_half answers.asked.now end) ≡ true → StaysRolledBack answers.asked.now c.now h }
 {}
 
 /// The deliveries of each level are numbered one after another, each is that of the message with its number, and none comes twice,
@@ -199,6 +212,19 @@ pub fn a_commit_happens()
     // Rolled back: a Commit that is refused is none.
     ensures rolled_back { RunWith (NoCommitOn 0) examples.at_opening commits.until_refused commits.at_refused
         × (transaction_state commits.at_refused.now.log.records 0 ≡ RolledBack) }
+{}
+
+/// The law on Rollbacks speaks of something: a half message is sent and flushed, and a Rollback of it is answered once its op record is
+/// flushed. Then all crashes: the Rollback that is said again is answered at once, and a Commit is refused.
+pub fn a_rollback_happens()
+    ensures answered { (answers : AnswersAfter examples.at_opening commits.until_rolled_back commits.at_undone commits.rolls_back done_reply 1)
+        × (is_verdict_on answers.asked.now 0 12 commits.rolls_back ≡ true) }
+    ensures again { (answers : AnswersAtOnce examples.at_opening commits.until_undone_again commits.at_undone_again commits.rolls_back done_reply)
+        × (is_verdict_on answers.asked.now 0 12 commits.rolls_back ≡ true) × (answers.asked.now.setup.sync ≡ true)
+        × (half_waits (named_half answers.asked.now commits.rollback_said) ≡ true) }
+    ensures rolled_back { (transaction_state commits.at_undone.now.log.records 0 ≡ RolledBack)
+        × (transaction_state commits.at_undone_again.now.log.records 0 ≡ RolledBack) }
+    ensures refused { is_verdict_on commits.at_undone_again.now 0 8 commits.commits ≡ false }
 {}
 
 /// The law on delays speaks of something: `hi` is sent with the delay level 1 to an empty store, flushed and dispatched, and delivered

@@ -4,7 +4,8 @@ use Rattle.broker_model.specs.Events
 use Rattle.core_laws.proofs.Acknowledged.{answer_sound}
 use Rattle.core_laws.proofs.CommitAnswers.{step_after, step_at_once}
 use Rattle.core_laws.proofs.CommitStays.{commit_stays}
-use Rattle.core_laws.proofs.Committed.{boot_committed, run_committed, said_committed}
+use Rattle.core_laws.proofs.Committed.{StaysCommitted, committed_by_moves, said_committed}
+use Rattle.core_laws.proofs.LogMoves.{boot_stays, run_stays}
 use Rattle.core_laws.proofs.Runs.{goes_good}
 use Rattle.core_laws.proofs.KeptOpenings.{opening_kept}
 use Rattle.core_laws.proofs.KeptRuns.{run_kept, goes_kept}
@@ -19,10 +20,12 @@ returns-clause-stays x b c moves e reply number h opening answers is =
     let copy = step_after answers.asked.now answers.heard.now e h reply number answers.turn (asked.logs answers.asked.now (inl refl)) is answers.asks.0 in
     let commit = commit_stays answers.asked.now answers.heard.now e (Events.After reply number answers.turn) h copy.0 copy.1 asked.segment
     (asked.logs answers.asked.now (inl refl)) is answers.asks.0 copy.3 in
-    let waited = boot_committed Anything answers.heard answers.waiting answers.looked h commit.i copy.0 commit.low heard answers.boot answers.waits (inr commit.committed) in
+    let moves_keep = committed_by_moves h commit.i copy.0 commit.low in
+    let waited = boot_stays (λ log. StaysCommitted log h commit.i copy.0) copy.0 moves_keep Anything answers.heard answers.waiting answers.looked heard answers.boot answers.waits
+    (inr commit.committed) in
     let low : copy.0 < answers.looked.now.flushed = omega (arith, copy.2, told) in
-    let last = run_committed Anything answers.looked (Steps (Events.Look number answers.turn) (Some (Events.Looked Events.IsFlushed)) ∷ answers.later) c h commit.i copy.0
-    commit.low looked low (answers.answered, answers.looks, tt, answers.rest) waited in
+    let last = run_stays (λ log. StaysCommitted log h commit.i copy.0) copy.0 moves_keep Anything answers.looked
+    (Steps (Events.Look number answers.turn) (Some (Events.Looked Events.IsFlushed)) ∷ answers.later) c looked low (answers.answered, answers.looks, tt, answers.rest) waited in
     (commit.i, commit.origin, commit.stands, commit.is_origin, said_committed c.now h commit.i copy.0 last)
 
 pub returns-clause-stays_at_once : goal.returns-clause-stays_at_once
@@ -34,5 +37,6 @@ returns-clause-stays_at_once x b c moves a end reply h opening request answers i
     let commit = commit_stays answers.asked.now answers.heard.now (Events.Asks a) (Events.Replies reply) h copy.0 copy.1 asked.segment
     (asked.logs answers.asked.now (inl refl)) is answers.asks.0 copy.3 in
     let low : copy.0 < answers.heard.now.flushed = omega (arith, copy.2, good.1.flushed) in
-    let last = run_committed Anything answers.heard answers.later c h commit.i copy.0 commit.low heard low answers.rest (inr commit.committed) in
+    let last = run_stays (λ log. StaysCommitted log h commit.i copy.0) copy.0 (committed_by_moves h commit.i copy.0 commit.low) Anything answers.heard answers.later c heard low
+    answers.rest (inr commit.committed) in
     (commit.i, commit.origin, commit.stands, commit.is_origin, said_committed c.now h commit.i copy.0 last)
