@@ -52,6 +52,30 @@ fn operands(verb: Verb) -> &'static str {
     }
 }
 
+// Appends the line of what stands between the command and its options.
+fn push_operand(operand: &str, text: &str, out: &mut String) -> Result<(), AllocError> {
+    out.push_str("\n  ")?;
+    out.push_str(operand)?;
+    pad(operand.len().saturating_add(2), COLUMN, out)?;
+    out.push_str(text)
+}
+
+// Appends the lines of all that stands between the command and its options.
+fn push_operands(verb: Verb, out: &mut String) -> Result<(), AllocError> {
+    match verb {
+        Verb::Pipe | Verb::Serve | Verb::Dump | Verb::Verify => Ok(()),
+        Verb::Gen => {
+            out.push_str("\n")?;
+            push_operand("N 1..1000000", "how many requests are made", out)?;
+            push_operand(
+                "START 0..1000000",
+                "request i is for queue (i + START) mod 4",
+                out,
+            )
+        }
+    }
+}
+
 // Appends the options that `verb` has, and where `beside` is given only those that this one has not.
 fn push_options(verb: Verb, beside: Option<Verb>, out: &mut String) -> Result<(), AllocError> {
     for choice in &CHOICES {
@@ -73,6 +97,7 @@ pub fn help_of(alloc: Global, verb: Verb) -> Result<String, AllocError> {
     out.push_str(operands(verb))?;
     out.push_str(" [OPTION VALUE]...\n\n  ")?;
     out.push_str(purpose(verb))?;
+    push_operands(verb, &mut out)?;
     out.push_str("\n\noptions, each at most once and in any order:\n")?;
     push_options(verb, None, &mut out)?;
     Ok(out)
