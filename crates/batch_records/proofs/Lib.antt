@@ -1,0 +1,3 @@
+pub mod Wire
+pub mod BatchReading
+pub mod BatchTexts
