@@ -20,7 +20,7 @@ use Rattle.event_loops.specs.declared.ledger.Ledger.{Ledger}
 use Rattle.event_loops.specs.declared.links.Links.{Links}
 use Rattle.event_loops.specs.Takings.{LeadsTaking}
 use Rattle.event_loops.specs.Tales.{Act, steps_of, asks_of, reads_of, acts_for, made_for, asks_for, reads_for, DidNothing, HasLeft, IsServed, IsTale, loop_of, LinkView, seen_in, LoopNumbers, loop_numbers, HasNumber, IsOwn, IsEndOf, AreEnded, IsTold, Keeps, IsSame, Acts, leave_of, Leaves, ActsOrLeaves, LetsGo, end_as, end_in, AreSome, LeadsWith, LeadsBy}
-use Rattle.event_loops.specs.Tales.{LoopView, Enters, IsToldOf, GoesOn, IsSeenAs}
+use Rattle.event_loops.specs.Tales.{LoopView, Enters, IsToldOf, GoesOn, IsSeenAs, MayBreak}
 
 -- ---- steps by links
 
@@ -453,6 +453,17 @@ module _ {L : Type 0} (view : LinkView L) (reader : ReaderView) where
         (subst (λ (d : Did). Served old d (seen_in view new)) (sym (joined_idle (did_for old.number before)))
         (subst (λ (x : Seen). Served old (did_for old.number before) x) (sym seen.1) (told.present i old at)))
 
+    -- a link may have broken
+    told_breaking : (old new : Option (Numbered L)) → slice_get links i ≡ Some old → MayBreak view old new
+        → IsTold view reader loop (before ++ []) (set links i new) (ended ++ [])
+    told_breaking None new at went =
+        subst (λ (x : Option (Numbered L)). IsTold view reader loop (before ++ []) (set links i x) (ended ++ [])) (sym went) (told_same [] at refl)
+    told_breaking (Some old) None at went = absurd went
+    told_breaking (Some old) (Some new) at went =
+        told_on old at [] idle refl (λ k other. refl) new went.0
+        (served_on old (did_for old.number before) idle (seen_in view old) (seen_in view new) (told.present i old at)
+        (went_read view.tells reader (seen_in view old) [] (seen_in view new) went.1))
+
   -- ---- a new link
 
   -- what a loop had stays its own
@@ -742,6 +753,14 @@ module _ {L : Type 0} (view : LinkView L) (reader : ReaderView) where
   pub keeps_all : (links : List (Option (Numbered L))) → Keeps view reader links [] links []
   keeps_all links loop before ended told = told_still view reader loop before links ended told
 
+  -- a link may have broken
+  pub keeps_breaking : (first mid : List (Option (Numbered L))) (i : ℕ) (old new : Option (Numbered L)) → slice_get mid i ≡ Some old
+      → Keeps view reader first [] mid [] → MayBreak view old new → Keeps view reader first [] (set mid i new) []
+  keeps_breaking first mid i old new at h k loop before ended told =
+      subst (λ (b : List Act). IsTold view reader loop b (set mid i new) (ended ++ [])) (append-nil (before ++ []))
+      (subst (λ (l : List LinkEnd). IsTold view reader loop ((before ++ []) ++ []) (set mid i new) l) (append-nil (ended ++ []))
+      (told_breaking view reader loop (before ++ []) mid (ended ++ []) (h loop before ended told) i old new at k))
+
   -- a pass of a slot
   passes_one : (old new : Option (Numbered L)) (acts : List Act) → Acts view reader old acts new → ActsOrLeaves view reader old acts new []
   passes_one old (Some new) acts did = (did, refl)
@@ -880,6 +899,14 @@ module _ {L : Type 0} (view : LinkView L) (reader : ReaderView) where
     keeps_first x links = record { acts = []; leads = refl; wrote = refl; counted = counted_none 0; so = keeps_all links }
 
 module _ {L N : Type 0} (view : LoopView L N) (reader : ReaderView) where
+  -- links may have broken
+  pub goes_breaking : (old new : Links L N) (slots left : List (Option (Numbered L))) → slots ≡ old.slots.items → new.slots.items ≡ left
+      → (new.loops ≡ old.loops) × (new.number ≡ old.number) × (new.newest ≡ old.newest) → new.ledger ≡ old.ledger
+      → Keeps view.links reader slots [] left [] → GoesOn view reader old [] new
+  goes_breaking old new slots left are then same ledger h = goes_with view reader old new [] [] (same.0, same.1) (enters_still view reader old.ledger new.ledger ledger)
+      (λ before ended told. let after = h (loop_numbers old) before ended (subst (λ (l : List (Option (Numbered L))). IsTold view.links reader (loop_numbers old) before l ended) (sym are) told) in
+      rw (same.0, same.1, same.2, then) after)
+
   module _ {C : Type 0} (makes : Steps C) where
     -- a loop goes on by what its slots do
     pub goes_by : (x y : C) (old new : Links L N) (slots left : List (Option (Numbered L))) (low high : ℕ) → slots ≡ old.slots.items → new.slots.items ≡ left

@@ -8,7 +8,7 @@ use Rattle.broker_events.specs.declared.said.Said.{Said}
 use Rattle.session.specs.Owing.{Steps}
 use Rattle.session.specs.Readers.{ReaderView}
 use Rattle.session.specs.Serving.{Made}
-use Rattle.link_service.specs.Transcripts.{Seen, WentOnWith, WentOn, IsFresh, IsTranscript, seen_of}
+use Rattle.link_service.specs.Transcripts.{Seen, WentOnWith, WentOn, WentOnUnread, IsFresh, IsTranscript, seen_of}
 use Rattle.event_loops.specs.declared.ledger.Ledger.{Ledger}
 use Rattle.event_loops.specs.declared.links.Links.{Links}
 use Rattle.event_loops.specs.declared.links.Numbered.{Numbered}
@@ -271,3 +271,9 @@ abbrev pub IsSeenAs : {L : Type 0} → LinkView L → Option (Numbered L) → Op
 IsSeenAs view None new = new ≡ None
 IsSeenAs view (Some old) None = ⊥
 IsSeenAs view (Some old) (Some new) = IsSame old new × (seen_in view new ≡ seen_in view old)
+
+-- the same link as before, which made no call since; it may have broken
+abbrev pub MayBreak : {L : Type 0} → LinkView L → Option (Numbered L) → Option (Numbered L) → Type 0
+MayBreak view None new = new ≡ None
+MayBreak view (Some old) None = ⊥
+MayBreak view (Some old) (Some new) = IsSame old new × WentOnUnread view.tells (seen_in view old) [] (seen_in view new)

@@ -8,7 +8,7 @@ ghost use Rattle.broker_events.specs.declared.said.Said.{Said};
 ghost use Rattle.link_service.specs.Clocks.{at_reading, unasked};
 ghost use Rattle.link_service.specs.Transcripts.{ByReader};
 ghost use Rattle.event_loops.specs.Tales.{Acts, ActsOrLeaves, Enters, Keeps, Leaves, LetsGo, LeadsWith, LeadsBy, GoesOn, IsSeenAs};
-ghost use Rattle.event_loops.specs.Tales.{IsLink, IsSlotOf, end_in, link_view, loop_view, loop_of as loop_of_link};
+ghost use Rattle.event_loops.specs.Tales.{MayBreak, IsLink, IsSlotOf, end_in, link_view, loop_view, loop_of as loop_of_link};
 
 use crate::ledger::{Ledger, let_go};
 use broker_events::{Calls, Event as BrokerEvent};
@@ -20,6 +20,10 @@ use std::alloc::Global;
 
 /// So many links a loop has at most.
 const LINKS_MAX: usize = 1 << 16;
+
+/// So many bytes at most are held of the unfinished frames of a loop's links together. A buffer grows by doubling, so that they take
+/// 256 MiB at most.
+const UNFINISHED_MAX: u64 = 1 << 27;
 
 /// How often, in milliseconds, a loop looks at the clock for links whose time passes.
 const LOOK_MILLIS: u64 = 500;
@@ -130,6 +134,47 @@ fn hear_each<L: Link + Drop, C: Calls, R: Reader>(
         any |= hear_slot::<L, C, R>(alloc, calls, slot, buffer, now);
     }
     any
+}
+
+// How many bytes are held of unfinished frames of all these links, and the slot of the link that has most of them.
+fn unfinished_in<L: Link + Drop>(slots: &[Option<Numbered<L>>]) -> (u64, usize) {
+    let mut sum = 0;
+    let mut most = 0;
+    let mut at = 0;
+    for i in 0..slots.len() {
+        if let Some(numbered) = &slots[i] {
+            let held = numbered.linked.unfinished();
+            sum = held.saturating_add(sum);
+            if held > most {
+                most = held;
+                at = i;
+            }
+        }
+    }
+    (sum, at)
+}
+
+// The link in a slot breaks, if there is one.
+fn break_slot<L: Link + Drop>(slot: &mut Option<Numbered<L>>)
+    ensures { MayBreak (link_view L.tells L.given L.taken) slot.old slot.new }
+{
+    if let Some(numbered) = slot {
+        numbered.linked.break_off();
+    }
+}
+
+// Breaks the link that has most of an unfinished frame, again until all of them together are within their bound.
+fn break_largest<L: Link + Drop, R: Reader>(slots: &mut [Option<Numbered<L>>])
+    ensures went { ByReader R.gives 0 (λ read. Keeps (link_view L.tells L.given L.taken) read slots.old [] slots.new []) }
+{
+    for _ in 0..slots.len() {
+        let (sum, at) = unfinished_in(slots);
+        if sum <= UNFINISHED_MAX || at >= slots.len() {
+            return;
+        }
+        let slot = &mut slots[at];
+        break_slot(slot);
+    }
 }
 
 // Tells the broker that a link has ended.
@@ -455,8 +500,8 @@ impl<L: Link + Drop, N: Ends<L> + Drop> Links<L, N> {
         }
     }
 
-    /// Serves what came on each link. Answers whether a request was given to the broker.
-    pub(crate) fn hear<C: Calls, R: Reader>(
+    // Serves what came on each link. Answers whether a request was given to the broker.
+    fn hear_links<C: Calls, R: Reader>(
         &mut self,
         alloc: Global,
         calls: &mut C,
@@ -468,6 +513,32 @@ impl<L: Link + Drop, N: Ends<L> + Drop> Links<L, N> {
             (λ acts. GoesOn (loop_view L.tells L.given L.taken N.tells N.entries) read self.old acts self.new)) }
     {
         hear_each::<L, C, R>(alloc, calls, self.slots.as_mut_slice(), buffer, now)
+    }
+
+    // Breaks links until what all of them hold of unfinished frames is within its bound.
+    fn bound_unfinished<R: Reader>(&mut self)
+        ensures went { ByReader R.gives 0
+            (λ read. GoesOn (loop_view L.tells L.given L.taken N.tells N.entries) read self.old [] self.new) }
+    {
+        break_largest::<L, R>(self.slots.as_mut_slice());
+    }
+
+    /// Serves what came on each link. Answers whether a request was given to the broker. Where more is held of unfinished frames then
+    /// than there is memory for, the links that hold most of them break.
+    pub(crate) fn hear<C: Calls, R: Reader>(
+        &mut self,
+        alloc: Global,
+        calls: &mut C,
+        buffer: &mut [u8],
+        now: u64,
+    ) -> bool
+        requires { now < 2 ^ 62 }
+        ensures went { ByReader R.gives 0 (λ read. LeadsBy (at_reading now C.makes) calls.old calls.new 0 0
+            (λ acts. GoesOn (loop_view L.tells L.given L.taken N.tells N.entries) read self.old acts self.new)) }
+    {
+        let any = self.hear_links::<C, R>(alloc, calls, buffer, now);
+        self.bound_unfinished::<R>();
+        any
     }
 
     /// Sends what is due on each link, and lets go of those that have ended. Answers whether any has.

@@ -1,13 +1,14 @@
 //! A link with its session: what one pass of a loop does for it.
 //!
-//! `whole -> broken [read, serve, settle, write, has_room]`, where the link fails or there is no memory. A broken link makes no further
-//! call.
+//! `whole -> broken [read, serve, settle, write, has_room, break_off]`, where the link fails or there is no memory. A broken link makes
+//! no further call.
 //! `whole -> garbled [serve]`, where what it says is no frame: nothing more is served. `drain.rt` says how it ends.
 
 ghost use Rattle.std.specs.Prelude.{◌≡◌, ◌<◌, ◌≤◌, ◌^◌, [], false, true, IfOk};
 ghost use Rattle.session.specs.Serving.{Leads, LeadsReading};
 ghost use Rattle.link_service.specs.Clocks.{at_reading, unasked};
 ghost use Rattle.link_service.specs.Transcripts.{ByReader, WentOn, WentOnWith, WentOnUnread, IsFresh, if_asked, seen_of};
+ghost use Rattle.link_service.specs.Unfinished.{unfinished_in};
 
 use broker_events::Calls;
 use mq_outside::Reader;
@@ -18,6 +19,9 @@ use std::alloc::Global;
 
 /// So many reads of one link are made in one pass at most.
 const READS_MAX: usize = 16;
+
+/// So many bytes are read of one link in one pass at most, where its loop reads 64 KiB at once.
+const PASS_BYTES: u64 = 1 << 20;
 
 /// So many requests of one link are served in one pass at most.
 const REQUESTS_MAX: usize = 4096;
@@ -112,11 +116,11 @@ impl<L: Link + Drop> Linked<L> {
         self.ended = self.ended || ended;
     }
 
-    // Whether it is read.
+    // Whether it is read. While whole requests may be held it isn't: it could say more in each pass than is served.
     fn is_heard(&self) -> bool
         ensures { result ≡ true → self.now.broken ≡ false }
     {
-        self.readable && !self.deaf && !self.broken && !self.session.is_loaded()
+        self.readable && !self.deaf && !self.broken && !self.behind && !self.session.is_loaded()
     }
 
     // Takes in what one read brings.
@@ -372,6 +376,30 @@ impl<L: Link + Drop> Linked<L> {
         }
         self.settle(alloc, calls, reader);
         self.put_ask::<R>(alloc, ask)
+    }
+
+    /// How many bytes are held of a frame that isn't whole, or of what is no frame. Where whole requests may be held too, as many as
+    /// one pass reads don't count.
+    pub fn unfinished(&self) -> u64
+        ensures { result ≡ unfinished_in self.now }
+    {
+        if self.broken {
+            return 0;
+        }
+        let (_, held) = self.session.rest();
+        if self.behind || self.session.is_loaded() {
+            held.saturating_sub(PASS_BYTES)
+        } else {
+            held
+        }
+    }
+
+    /// Breaks it: its owner has no memory for what it holds.
+    pub fn break_off(&mut self)
+        ensures broken { self.new.broken ≡ true }
+        ensures went { WentOnUnread L.tells (seen_of L.given L.taken self.old) [] (seen_of L.given L.taken self.new) }
+    {
+        self.broken = true;
     }
 
     /// Whether a flush turn may bring it on.
