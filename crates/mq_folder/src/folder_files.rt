@@ -41,14 +41,15 @@
 ghost use Rattle.std.specs.Prelude.{◌≡◌, ◌≤◌, ◌++◌, length, codes, string_bytes, IfOk, Ok};
 
 use crate::folder_kinds::{
-    FirstFault, Kind, is_file, is_folder, kind_at, make_folder, parent_of, sync_folder, unexpected,
+    FILE_MODE, FirstFault, Kind, is_file, is_folder, kind_at, make_folder, make_folders, parent_of,
+    sync_folder, sync_parent, unexpected,
 };
 use crate::folder_mark::{MARK, lost, put_mark};
 use crate::folder_reader::FolderReader;
 use std::alloc::{AllocError, Global};
 use std::fs::{File, OpenOptions, TryLockError};
 use std::io::ErrorKind;
-use std::os::unix::fs::FileExt;
+use std::os::unix::fs::{FileExt, OpenOptionsExt};
 use std::rt::Files;
 use std::{fs, io};
 
@@ -155,7 +156,11 @@ fn unlisted(error: io::Error) -> io::Error {
 
 // Takes the lock of the store.
 fn take_lock<R: Files<File = File>>(rt: &R, path: &str) -> io::Result<File> {
-    let lock = OpenOptions::new().write(true).create(true).open(rt, path)?;
+    let lock = OpenOptions::new()
+        .write(true)
+        .create(true)
+        .mode(FILE_MODE)
+        .open(rt, path)?;
     match lock.try_lock() {
         Ok(()) => Ok(lock),
         Err(TryLockError::WouldBlock) => Err(io::Error::new(
@@ -273,6 +278,13 @@ impl<R: Files<File = File> + AllocGlobal + Clone + Drop> FolderFiles<R> {
         error
     }
 
+    // The same of the folder that the store folder is in.
+    fn refuse_parent(&mut self, error: io::Error) -> io::Error {
+        let alloc = self.rt.alloc();
+        self.fault.note(alloc, parent_of(self.root.as_str()), &error);
+        error
+    }
+
     // Notes what was refused.
     fn told<T: Drop>(&mut self, name: &str, answer: io::Result<T>) -> io::Result<T>
         ensures { IfOk result (λ v. answer ≡ Ok v) }
@@ -353,9 +365,11 @@ impl<R: Files<File = File> + AllocGlobal + Clone + Drop> FolderFiles<R> {
     // Makes the store folder where it is absent.
     fn make_root(&mut self) -> io::Result<()> {
         let answer = make_folder(&self.rt, self.root.as_str());
-        self.told("", answer)?;
-        let answer = sync_folder(&self.rt, parent_of(self.root.as_str()));
-        self.told("", answer)
+        let is_new = self.told("", answer)?;
+        match sync_parent(&self.rt, self.root.as_str(), is_new) {
+            Ok(()) => Ok(()),
+            Err(e) => Err(self.refuse_parent(e)),
+        }
     }
 
     // The lock of the store, `None` where the store folder is foreign.
@@ -424,7 +438,11 @@ impl<R: Files<File = File> + AllocGlobal + Clone + Drop> FolderFiles<R> {
         let path = self.path(name)?;
         let name = String::from_str(self.rt.alloc(), name)?;
         let mut options = OpenOptions::new();
-        options.read(true).write(true).create(makes);
+        options
+            .read(true)
+            .write(true)
+            .create(makes)
+            .mode(FILE_MODE);
         let file = options.open(&self.rt, path.as_str())?;
         self.last = Some(Open {
             name,
@@ -446,7 +464,7 @@ impl<R: Files<File = File> + AllocGlobal + Clone + Drop> FolderFiles<R> {
     fn make(&mut self, name: &str) -> io::Result<()> {
         self.clean.clear();
         let folder = self.path(folder_of(name))?;
-        fs::create_dir_all(&self.rt, folder.as_str())?;
+        make_folders(&self.rt, folder.as_str())?;
         self.open_file(name, true)
     }
 

@@ -10,16 +10,23 @@
 //!
 //! A text is replaced in four steps: its bytes are written to `NAME.new`, that file is synced, renamed over `NAME`, and
 //! the folder is synced. So a crash leaves the old bytes or the new under the name, and after the last step the new.
+//! Where the bytes are there already nothing is written: the file and the folder are synced. That needs no room, so a
+//! store on a full disk opens.
 
 ghost use Rattle.std.specs.Prelude.{◌≡◌, ◌++◌, None, IfOk, codes, string_bytes};
 
-use crate::folder_kinds::{FirstFault, is_file, is_folder, make_folder, parent_of, sync_folder};
+use crate::folder_kinds::{
+    FirstFault, create_file, is_file, is_folder, make_folder, parent_of, sync_folder, sync_parent,
+};
 use mq_outside::{DiskFault, Keep};
 use std::alloc::{AllocError, Global};
 use std::fs::OpenFile;
 use std::io::{ErrorKind, Read, Write};
 use std::rt::Files;
 use std::{fs, io};
+
+// How much of a file is read at a time, in bytes.
+const PIECE: usize = 4096;
 
 /// The texts of a store folder. It says nothing of what it holds, and counts its failures.
 #[derive(Drop)]
@@ -64,9 +71,37 @@ fn read_file<R: Files>(rt: &R, alloc: Global, path: &str) -> io::Result<Vec<u8>>
 
 // Writes a file anew, and syncs it.
 fn write_file<R: Files>(rt: &R, path: &str, bytes: &[u8]) -> io::Result<()> {
-    let mut file = fs::create(rt, path)?;
+    let mut file = create_file(rt, path)?;
     file.write_all(bytes)?;
     file.sync_all()
+}
+
+// Whether these are the bytes that the file has, from where it is read on.
+fn has_bytes<F: Read>(file: &mut F, bytes: &[u8]) -> io::Result<bool> {
+    let mut piece = [0; PIECE];
+    let mut rest = bytes;
+    for _ in 0..u64::MAX {
+        match file.read(&mut piece) {
+            Ok(0) => break,
+            Ok(n) => match rest.strip_prefix(&piece[..n]) {
+                Some(behind) => rest = behind,
+                None => return Ok(false),
+            },
+            Err(e) if e.kind() == ErrorKind::Interrupted => {}
+            Err(e) => return Err(e),
+        }
+    }
+    Ok(rest.is_empty())
+}
+
+// Syncs a file where these are its bytes. Answers whether they are.
+fn sync_same<R: Files>(rt: &R, path: &str, bytes: &[u8]) -> io::Result<bool> {
+    let mut file = fs::open(rt, path)?;
+    if !has_bytes(&mut file, bytes)? {
+        return Ok(false);
+    }
+    file.sync_all()?;
+    Ok(true)
 }
 
 impl<R: Files + Drop> FolderKeep<R> {
@@ -116,7 +151,8 @@ impl<R: Files + Drop> FolderKeep<R> {
         self.told(alloc, path, answer)
     }
 
-    fn make(&mut self, alloc: Global, path: &str) -> io::Result<()>
+    // Makes a folder where it is absent. Answers whether it was.
+    fn make(&mut self, alloc: Global, path: &str) -> io::Result<bool>
         ensures { self.new.faults ≡ self.old.faults }
     {
         let answer = make_folder(&self.rt, path);
@@ -149,13 +185,22 @@ impl<R: Files + Drop> FolderKeep<R> {
         ensures { self.new.faults ≡ self.old.faults }
     {
         if !self.is_made {
-            self.make(alloc, &paths.root)?;
-            self.sync(alloc, parent_of(&paths.root))?;
+            let is_new = self.make(alloc, &paths.root)?;
+            let answer = sync_parent(&self.rt, &paths.root, is_new);
+            self.told(alloc, parent_of(&paths.root), answer)?;
             self.make(alloc, &paths.folder)?;
             self.sync(alloc, &paths.root)?;
             self.is_made = true;
         }
         Ok(())
+    }
+
+    // Syncs the text where these are its bytes. Answers whether they are.
+    fn has_synced(&mut self, alloc: Global, paths: &Paths, bytes: &[u8]) -> io::Result<bool>
+        ensures { self.new.faults ≡ self.old.faults }
+    {
+        let answer = sync_same(&self.rt, &paths.file, bytes);
+        self.told(alloc, &paths.file, answer)
     }
 
     // Writes the bytes to the file on the way, and gives it its name.
@@ -171,10 +216,12 @@ impl<R: Files + Drop> FolderKeep<R> {
     fn put(&mut self, alloc: Global, paths: &Paths, bytes: &[u8]) -> io::Result<()>
         ensures { self.new.faults ≡ self.old.faults }
     {
-        self.has_file(alloc, &paths.file)?;
+        let is_there = self.has_file(alloc, &paths.file)?;
         self.has_file(alloc, &paths.new_file)?;
         self.make_folders(alloc, paths)?;
-        self.write(alloc, paths, bytes)?;
+        if !is_there || !self.has_synced(alloc, paths, bytes)? {
+            self.write(alloc, paths, bytes)?;
+        }
         self.sync(alloc, &paths.folder)
     }
 }

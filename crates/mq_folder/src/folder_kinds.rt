@@ -11,10 +11,16 @@
 //! The kind is looked up before a path is opened: opening a pipe waits until somebody opens its other end.
 
 use std::alloc::{AllocError, Global};
-use std::fs::{Metadata, OpenFile};
+use std::fs::{DirBuilder, Metadata, OpenFile, OpenOptions};
 use std::io::ErrorKind;
+use std::os::unix::fs::{DirBuilderExt, OpenOptionsExt};
 use std::rt::Files;
 use std::{fs, io};
+
+/// The rights to a new file, and to a new folder: a message is for the store's owner alone.
+pub const FILE_MODE: u32 = 0o600;
+
+const FOLDER_MODE: u32 = 0o700;
 
 /// What a path leads to.
 #[derive(Clone, Copy, Debug, PartialEq, Eq)]
@@ -86,16 +92,34 @@ pub fn is_folder<R: Files>(rt: &R, path: &str) -> io::Result<bool> {
     }
 }
 
-/// Makes a folder where it is absent.
-pub fn make_folder<R: Files>(rt: &R, path: &str) -> io::Result<()> {
+/// Makes a folder where it is absent. Answers whether it was.
+pub fn make_folder<R: Files>(rt: &R, path: &str) -> io::Result<bool> {
     if is_folder(rt, path)? {
-        return Ok(());
+        return Ok(false);
     }
-    match fs::create_dir(rt, path) {
-        Ok(()) => Ok(()),
-        Err(e) if e.kind() == ErrorKind::AlreadyExists => Ok(()),
+    match DirBuilder::new().mode(FOLDER_MODE).create(rt, path) {
+        Ok(()) => Ok(true),
+        Err(e) if e.kind() == ErrorKind::AlreadyExists => Ok(false),
         Err(e) => Err(e),
     }
+}
+
+/// Makes a folder, and those on the way to it, where they are absent.
+pub fn make_folders<R: Files>(rt: &R, path: &str) -> io::Result<()> {
+    DirBuilder::new()
+        .recursive(true)
+        .mode(FOLDER_MODE)
+        .create(rt, path)
+}
+
+/// A file that is written anew, and made where it is absent.
+pub fn create_file<R: Files>(rt: &R, path: &str) -> io::Result<R::File> {
+    OpenOptions::new()
+        .write(true)
+        .create(true)
+        .truncate(true)
+        .mode(FILE_MODE)
+        .open(rt, path)
 }
 
 /// Syncs a folder, and so the names in it. Of a link it is the folder that it leads to.
@@ -103,12 +127,37 @@ pub fn sync_folder<R: Files>(rt: &R, path: &str) -> io::Result<()> {
     fs::open(rt, path)?.sync_all()
 }
 
+// A path without the slashes and the `/.` at its end, which name no further folder.
+fn plain(path: &str) -> &str {
+    let mut rest = path;
+    for _ in 0..path.len() {
+        match rest.strip_suffix("/.").or(rest.strip_suffix('/')) {
+            Some(shorter) => rest = shorter,
+            None => break,
+        }
+    }
+    rest
+}
+
 /// The folder that the store folder is in.
 pub fn parent_of(root: &str) -> &str {
-    match root.rsplit_once('/') {
+    let name = plain(root);
+    if name.is_empty() {
+        return "/";
+    }
+    match name.rsplit_once('/') {
         Some(("", _)) => "/",
         Some((parent, _)) => parent,
         None => ".",
+    }
+}
+
+/// Syncs the folder that the store folder is in, so that the store folder's name stays. Where it was there before, this
+/// user need not have the rights to read that folder.
+pub fn sync_parent<R: Files>(rt: &R, root: &str, is_new: bool) -> io::Result<()> {
+    match sync_folder(rt, parent_of(root)) {
+        Err(e) if !is_new && e.kind() == ErrorKind::PermissionDenied => Ok(()),
+        answer => answer,
     }
 }
 

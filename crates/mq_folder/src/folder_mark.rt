@@ -4,11 +4,11 @@
 //! leaves an empty folder. The mark tells them apart. It is put before the first sync of a log file is answered, so that
 //! no record is acknowledged without it, and at each opening that finds a log file.
 
-use crate::folder_kinds::{make_folder, sync_folder};
+use crate::folder_kinds::{create_file, make_folder, sync_folder};
 use std::fs::OpenFile;
+use std::io;
 use std::io::{ErrorKind, Write};
 use std::rt::Files;
-use std::{fs, io};
 
 /// The name of the mark in the store folder.
 pub const MARK: &str = "config/begun";
@@ -20,7 +20,7 @@ const TEXT: &[u8] = b"the log has begun\n";
 pub fn put_mark<R: Files>(rt: &R, root: &str, folder: &str, path: &str) -> io::Result<()> {
     make_folder(rt, folder)?;
     sync_folder(rt, root)?;
-    let mut file = fs::create(rt, path)?;
+    let mut file = create_file(rt, path)?;
     file.write_all(TEXT)?;
     file.sync_all()?;
     sync_folder(rt, folder)
