@@ -6,6 +6,8 @@ mod disk_tests;
 #[cfg(test)]
 mod echo;
 #[cfg(test)]
+mod folder_tests;
+#[cfg(test)]
 mod keep_tests;
 #[cfg(test)]
 mod mem_tests;

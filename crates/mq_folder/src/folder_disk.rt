@@ -12,12 +12,12 @@ use std::alloc::Global;
 use std::fs::File;
 use std::io;
 use std::io::ErrorKind;
-use std::rt::Files;
+use std::rt::{Clock, Files};
 
 /// The disk of a store folder. Two processes can't have it at a time: where another one has it each call fails.
 /// `folder_files` says what is made when, and what is refused.
 #[derive(Drop)]
-pub struct FolderDisk<R: Files<File = File> + AllocGlobal + Clone + Drop> {
+pub struct FolderDisk<R: Files<File = File> + Clock + Eprint + AllocGlobal + Clone + Drop> {
     files: FolderFiles<R>,
     faults: u64,
     syncs: u64,
@@ -25,7 +25,23 @@ pub struct FolderDisk<R: Files<File = File> + AllocGlobal + Clone + Drop> {
     reader_faults: u64,
 }
 
-impl<R: Files<File = File> + AllocGlobal + Clone + Drop> FolderDisk<R> {
+impl<R: Files<File = File> + Clock + Eprint + AllocGlobal + Clone + Drop> FolderDisk<R> {
+    // The disk of a store folder, with no count yet.
+    fn over(files: FolderFiles<R>) -> FolderDisk<R>
+        ensures faults { result.faults ≡ 0 }
+        ensures syncs { result.syncs ≡ 0 }
+        ensures given { result.given ≡ 0 }
+        ensures reader_faults { result.reader_faults ≡ 0 }
+    {
+        FolderDisk {
+            files,
+            faults: 0,
+            syncs: 0,
+            given: 0,
+            reader_faults: 0,
+        }
+    }
+
     /// The disk of a store folder, which the first call makes where it is absent.
     pub fn new(rt: R, root: String) -> FolderDisk<R>
         ensures faults { result.faults ≡ 0 }
@@ -33,13 +49,18 @@ impl<R: Files<File = File> + AllocGlobal + Clone + Drop> FolderDisk<R> {
         ensures given { result.given ≡ 0 }
         ensures reader_faults { result.reader_faults ≡ 0 }
     {
-        FolderDisk {
-            files: FolderFiles::new(rt, root),
-            faults: 0,
-            syncs: 0,
-            given: 0,
-            reader_faults: 0,
-        }
+        FolderDisk::over(FolderFiles::new(rt, root, false))
+    }
+
+    /// The disk of a store folder that is only read: nothing is made, and each call that changes something fails. Those
+    /// that only read share the store, and where the folder is absent each call fails.
+    pub fn for_reading(rt: R, root: String) -> FolderDisk<R>
+        ensures faults { result.faults ≡ 0 }
+        ensures syncs { result.syncs ≡ 0 }
+        ensures given { result.given ≡ 0 }
+        ensures reader_faults { result.reader_faults ≡ 0 }
+    {
+        FolderDisk::over(FolderFiles::new(rt, root, true))
     }
 
     /// The first fault of any call, or of a reader that came back: `PATH: WHY`, one line without its end. None where
@@ -48,10 +69,25 @@ impl<R: Files<File = File> + AllocGlobal + Clone + Drop> FolderDisk<R> {
         self.files.fault_text()
     }
 
-    /// Whether the log has begun and none of its files is there, as where the disk that has them is not mounted. The
-    /// list that found it failed, and nothing was changed.
-    pub fn is_log_lost(&self) -> bool {
-        self.files.is_log_lost()
+    /// How the log is damaged, where a call failed because it is, though the model knows only of a disk that failed:
+    /// `PATH WHY (status 8): WHAT TO DO`, one line without its end. Nothing was changed. None where no call found that, or
+    /// there was no memory for the text.
+    pub fn damage(&self) -> Option<&str> {
+        self.files.damage()
+    }
+
+    /// Marks that the log ended in order, so that the next opening need not write its end again. It does nothing where a
+    /// call failed, or something was written since the last sync that answered Ok. It comes last.
+    pub fn end_in_order(&mut self)
+        ensures faults { self.new.faults ≡ self.old.faults }
+        ensures syncs { self.new.syncs ≡ self.old.syncs }
+        ensures given { self.new.given ≡ self.old.given }
+        ensures reader_faults { self.new.reader_faults ≡ self.old.reader_faults }
+    {
+        if self.faults == 0 {
+            // Without the mark the end is written again.
+            let _ = self.files.end_in_order();
+        }
     }
 
     // Counts where the system refused.
@@ -72,7 +108,7 @@ impl<R: Files<File = File> + AllocGlobal + Clone + Drop> FolderDisk<R> {
     }
 }
 
-impl<R: Files<File = File> + AllocGlobal + Clone + Drop> Disk for FolderDisk<R> {
+impl<R: Files<File = File> + Clock + Eprint + AllocGlobal + Clone + Drop> Disk for FolderDisk<R> {
     type Reader = FolderReader<R>;
 
     ghost tells = { ⊥ };

@@ -33,6 +33,8 @@ const PIECE: usize = 4096;
 pub struct FolderKeep<R: Files + Drop> {
     rt: R,
     root: String,
+    // That nothing is to be changed.
+    is_reading: bool,
     // That the folders were made by this keep, and those above them synced.
     is_made: bool,
     faults: u64,
@@ -94,28 +96,57 @@ fn has_bytes<F: Read>(file: &mut F, bytes: &[u8]) -> io::Result<bool> {
     Ok(rest.is_empty())
 }
 
-// Syncs a file where these are its bytes. Answers whether they are.
-fn sync_same<R: Files>(rt: &R, path: &str, bytes: &[u8]) -> io::Result<bool> {
+// What a sync answered, where nothing was changed. A file system that is read-only may refuse it, or know of none.
+fn unless_read_only(answer: io::Result<()>) -> io::Result<()> {
+    match answer {
+        Err(e) if e.kind() == ErrorKind::ReadOnlyFilesystem => Ok(()),
+        Err(e) if e.kind() == ErrorKind::InvalidInput => Ok(()),
+        answer => answer,
+    }
+}
+
+// Syncs a file where these are its bytes, and answers whether they are. One that is only read need not be synced.
+fn sync_same<R: Files>(rt: &R, path: &str, bytes: &[u8], is_reading: bool) -> io::Result<bool> {
     let mut file = fs::open(rt, path)?;
     if !has_bytes(&mut file, bytes)? {
         return Ok(false);
     }
-    file.sync_all()?;
+    let answer = file.sync_all();
+    if is_reading {
+        unless_read_only(answer)?;
+    } else {
+        answer?;
+    }
     Ok(true)
 }
 
 impl<R: Files + Drop> FolderKeep<R> {
-    /// The texts in the folder `config` of this store folder. Both are made at the first `replace`.
-    pub fn new(rt: R, root: String) -> FolderKeep<R>
+    // The texts of a store folder, with no fault yet.
+    fn over(rt: R, root: String, is_reading: bool) -> FolderKeep<R>
         ensures { result.faults ≡ 0 }
     {
         FolderKeep {
             rt,
             root,
+            is_reading,
             is_made: false,
             faults: 0,
             fault: FirstFault::none(),
         }
+    }
+
+    /// The texts in the folder `config` of this store folder. Both are made at the first `replace`.
+    pub fn new(rt: R, root: String) -> FolderKeep<R>
+        ensures { result.faults ≡ 0 }
+    {
+        FolderKeep::over(rt, root, false)
+    }
+
+    /// The same texts, which are only read: a `replace` fails, unless it puts the bytes that are there.
+    pub fn for_reading(rt: R, root: String) -> FolderKeep<R>
+        ensures { result.faults ≡ 0 }
+    {
+        FolderKeep::over(rt, root, true)
     }
 
     /// The first fault of any call: `PATH: WHY`, one line without its end. None where nothing failed, or there was no
@@ -195,11 +226,31 @@ impl<R: Files + Drop> FolderKeep<R> {
         Ok(())
     }
 
+    // The refusal of a change by a process that only reads.
+    fn refuse_change(&mut self, alloc: Global, path: &str) -> io::Error
+        ensures { self.new.faults ≡ self.old.faults }
+    {
+        let error = io::Error::new(ErrorKind::PermissionDenied, "the store is only read");
+        self.fault.note(alloc, path, &error);
+        error
+    }
+
+    // The same of a keep that only reads: the text has to have these bytes.
+    fn put_same(&mut self, alloc: Global, paths: &Paths, bytes: &[u8]) -> io::Result<()>
+        ensures { self.new.faults ≡ self.old.faults }
+    {
+        if !self.has_file(alloc, &paths.file)? || !self.has_synced(alloc, paths, bytes)? {
+            return Err(self.refuse_change(alloc, &paths.file));
+        }
+        let answer = unless_read_only(sync_folder(&self.rt, &paths.folder));
+        self.told(alloc, &paths.folder, answer)
+    }
+
     // Syncs the text where these are its bytes. Answers whether they are.
     fn has_synced(&mut self, alloc: Global, paths: &Paths, bytes: &[u8]) -> io::Result<bool>
         ensures { self.new.faults ≡ self.old.faults }
     {
-        let answer = sync_same(&self.rt, &paths.file, bytes);
+        let answer = sync_same(&self.rt, &paths.file, bytes, self.is_reading);
         self.told(alloc, &paths.file, answer)
     }
 
@@ -216,6 +267,9 @@ impl<R: Files + Drop> FolderKeep<R> {
     fn put(&mut self, alloc: Global, paths: &Paths, bytes: &[u8]) -> io::Result<()>
         ensures { self.new.faults ≡ self.old.faults }
     {
+        if self.is_reading {
+            return self.put_same(alloc, paths, bytes);
+        }
         let is_there = self.has_file(alloc, &paths.file)?;
         self.has_file(alloc, &paths.new_file)?;
         self.make_folders(alloc, paths)?;
