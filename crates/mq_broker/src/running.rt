@@ -47,6 +47,18 @@ fn cause_in<'a>(store: &'a FolderStore, status: &Status) -> Option<&'a str> {
     }
 }
 
+/// The devices of the store in this folder, to be read alone: they make nothing.
+pub(crate) fn store_to_read(
+    rt: HostRuntime,
+    alloc: Global,
+    folder: &str,
+) -> Result<FolderStore, AllocError> {
+    Ok(Store {
+        disk: FolderDisk::for_reading(rt, String::from_str(alloc, folder)?),
+        keep: FolderKeep::for_reading(rt, String::from_str(alloc, folder)?),
+    })
+}
+
 /// The devices of the store in this folder. Nothing is made yet.
 pub(crate) fn store_in(
     rt: HostRuntime,
@@ -130,17 +142,9 @@ fn no_world(alloc: Global) -> Result<Status, AllocError> {
     })
 }
 
-// Whether the disk failed since the log has begun and none of its files is there.
-fn is_log_lost(status: &Status, store: &FolderStore) -> bool {
-    status.code == DISK && store.disk.is_log_lost()
-}
-
-// Prints that the log is lost, and answers the status of damage: the model knows of no disk that is away.
-fn tell_lost_log(rt: HostRuntime, alloc: Global, store: &str) -> Result<u8, AllocError> {
-    let line = format!(in alloc;
-        "mq_broker: {store}/commitlog has no file, though the log has begun (status 8): \
-         is its disk mounted? nothing was changed"
-    )?;
+// Prints how the log is damaged, and answers the status of damage: the model knows only of a disk that failed.
+fn tell_damage(rt: HostRuntime, alloc: Global, damage: &str) -> Result<u8, AllocError> {
+    let line = format!(in alloc; "mq_broker: {damage}")?;
     warn(rt, line.as_str());
     Ok(DAMAGED)
 }
@@ -164,8 +168,10 @@ pub(crate) fn tell_run<'a>(
     store: &'a FolderStore,
     status: &Status,
 ) -> Result<u8, AllocError> {
-    if is_log_lost(status, store) {
-        return tell_lost_log(rt, alloc, folder);
+    if status.code == DISK
+        && let Some(damage) = store.disk.damage()
+    {
+        return tell_damage(rt, alloc, damage);
     }
     let cause = cause_in(store, status);
     if let Some(text) = cause
@@ -237,8 +243,8 @@ fn run_within<W: Wait + Threads + Sync>(
         sink: StdSink::new(rt),
     };
     tell_start(rt, alloc, target, address, room)?;
-    let ended = run(threads, alloc, words, streams, world, store).ended;
-    tell_run(
+    let mut ended = run(threads, alloc, words, streams, world, store).ended;
+    let code = tell_run(
         rt,
         alloc,
         target.verb,
@@ -246,7 +252,11 @@ fn run_within<W: Wait + Threads + Sync>(
         address,
         &ended.store,
         &ended.status,
-    )
+    )?;
+    if code == 0 {
+        ended.store.disk.end_in_order();
+    }
+    Ok(code)
 }
 
 /// Runs as the arguments ask, over the real devices, and answers the exit status. These are the arguments of this target. `serve`

@@ -1,6 +1,6 @@
 //! A tool, and the generator, over the real devices: the folder of the store and standard output.
 
-use crate::running::{store_in, tell_run};
+use crate::running::{store_in, store_to_read, tell_run};
 use crate::telling::warn;
 use gen_run::run_gen;
 use mq_outside::StdSink;
@@ -11,7 +11,7 @@ use tool_run::run_tool;
 /// The status of a store that isn't for the command.
 const FOREIGN: u8 = 6;
 
-/// Uses the tool over the store in this folder, and answers the exit status. These are its arguments.
+/// Uses the tool over the store in this folder, which it only reads, and answers the exit status. These are its arguments.
 pub(crate) fn use_tool(
     rt: HostRuntime,
     alloc: Global,
@@ -19,7 +19,7 @@ pub(crate) fn use_tool(
     tool: Tool,
     folder: &str,
 ) -> Result<u8, AllocError> {
-    let mut store = store_in(rt, alloc, folder)?;
+    let mut store = store_to_read(rt, alloc, folder)?;
     let sink = StdSink::new(rt);
     let ran = run_tool(alloc, tool, words, sink, &mut store.disk, &mut store.keep);
     tell_run(rt, alloc, tool.verb(), folder, "", &store, &ran.status)
