@@ -3,10 +3,9 @@
 use mq_folder::{FolderDisk, FolderKeep};
 use mq_outside::{Disk, DiskFault, Failed, Keep};
 use std::alloc::AllocError;
-use std::fs;
-use std::io;
 use std::os::unix::fs::MetadataExt;
 use std::test::Fail;
+use std::{fs, io};
 
 // The first two log files of a store whose segments have 4,096 bytes.
 const FIRST: &str = "commitlog/00000000000000000000";
@@ -18,10 +17,7 @@ fn disk_in(rt: HostRuntime, root: &str) -> Result<FolderDisk<HostRuntime>, Alloc
 }
 
 fn reader_in(rt: HostRuntime, root: &str) -> Result<FolderDisk<HostRuntime>, AllocError> {
-    Ok(FolderDisk::for_reading(
-        rt,
-        String::from_str(rt.alloc(), root)?,
-    ))
+    Ok(FolderDisk::for_reading(rt, String::from_str(rt.alloc(), root)?))
 }
 
 // Puts a format into a store folder, so that it is one of ours.

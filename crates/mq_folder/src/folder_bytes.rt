@@ -8,9 +8,6 @@ use std::io;
 use std::io::ErrorKind;
 use std::os::unix::fs::FileExt;
 
-/// The most bytes that a process leaves unsynced.
-pub(crate) const UNSYNCED_MAX: u64 = 67_108_864;
-
 // How much is read and written at a time, and how much where there is no memory for that.
 const PIECE: usize = 1_048_576;
 

@@ -4,10 +4,11 @@
 //! is written once more as it is read, and then synced: more than that no process leaves unsynced. It is left out where the
 //! mark of an end in order (`folder_ended`) says that all was on the disk.
 
-use crate::folder_bytes::{UNSYNCED_MAX, copy_range, end_of_bytes};
+use crate::folder_bytes::{copy_range, end_of_bytes};
 use crate::folder_clock::tell_clock;
 use crate::folder_files::FolderFiles;
 use crate::folder_list::{base_of, is_in_log};
+use mq_outside::UNSYNCED_MAX;
 use std::fs::{File, OpenFile};
 use std::io;
 use std::rt::{Clock, Files};

@@ -4,11 +4,12 @@
 //! have left it: where the log ended in order behind the place of the cut (`folder_ended`), and where it is more than one
 //! process leaves unsynced. Then the log is damaged, and `damage` has the words.
 
-use crate::folder_bytes::{UNSYNCED_MAX, end_of_bytes};
+use crate::folder_bytes::end_of_bytes;
 use crate::folder_cut::{Rest, count_records, keep_rest};
 use crate::folder_files::FolderFiles;
 use crate::folder_list::base_of;
 use crate::folder_place::folder_of;
+use mq_outside::UNSYNCED_MAX;
 use record_codec::BLANK_FRONT;
 use std::alloc::Global;
 use std::fs::{File, OpenFile};
