@@ -82,6 +82,7 @@ def _(folder):
     assert not any(option in out.decode() for option in OF_SERVE), out
     status, out, said = call(folder, "serve", "--help")
     assert (status, said) == (0, "") and all(option in out.decode() for option in OPTIONS + OF_SERVE), out
+    assert call(folder, "-h") == call(folder, "--help") and call(folder, "serve", "--links", "5", "-h") == (status, out, said)
     assert everything(folder) == []
 
 

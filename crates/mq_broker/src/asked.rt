@@ -89,9 +89,14 @@ fn asked_of_gen<'a>(words: &[&'a str]) -> Asked<'a> {
     }
 }
 
+// Whether the argument asks for help.
+fn is_help(word: &str) -> bool {
+    word == "--help" || word == "-h"
+}
+
 // The help or the version, where the one argument asks for it.
 fn asked_alone<'a>(word: &str) -> Option<Asked<'a>> {
-    if word == "--help" {
+    if is_help(word) {
         Some(Asked::Help)
     } else if word == "--version" {
         Some(Asked::Version)
@@ -100,9 +105,9 @@ fn asked_alone<'a>(word: &str) -> Option<Asked<'a>> {
     }
 }
 
-// The help of a command, where the two arguments ask for it.
+// The help of a command, where its last argument asks for it.
 fn asked_help<'a>(command: &str, word: &str) -> Option<Asked<'a>> {
-    if word != "--help" {
+    if !is_help(word) {
         return None;
     }
     for verb in &COMMANDS {
@@ -116,11 +121,10 @@ fn asked_help<'a>(command: &str, word: &str) -> Option<Asked<'a>> {
 // The text that the arguments ask for, if it is one.
 fn asked_text<'a>(words: &[&str]) -> Option<Asked<'a>> {
     let first = words.first()?;
-    match words.len() {
-        1 => asked_alone(first),
-        2 => asked_help(first, words.get(1)?),
-        _ => None,
+    if words.len() == 1 {
+        return asked_alone(first);
     }
+    asked_help(first, words.last()?)
 }
 
 /// What these arguments ask for.

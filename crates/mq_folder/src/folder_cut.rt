@@ -9,6 +9,7 @@
 use crate::folder_bytes::{copy_range, is_range, read_up_to};
 use crate::folder_kinds::{create_file, make_folder, sync_folder};
 use crate::folder_place::Place;
+use record_codec::whole_records;
 use std::alloc::Global;
 use std::fs::{File, OpenFile};
 use std::io::ErrorKind;
@@ -182,11 +183,6 @@ pub(crate) fn keep_rest<R: Files<File = File> + AllocGlobal + Clone + Drop>(
     // One more than eight is no reason not to open.
     let _ = remove_old(place, alloc, name.as_str());
     Ok(name)
-}
-
-// How many whole records these bytes are, of which the first has this physical offset.
-fn whole_records(_bytes: &[u8], _place: u64) -> u64 {
-    0
 }
 
 /// How many whole records are among these bytes. None where there is no memory for them, or they can't be read.
