@@ -79,12 +79,13 @@ fn refuses_without_file(rt: HostRuntime, root: &str) -> Result<bool, Fail> {
     Ok(refused && second.fault_text() == Some(why.as_str()))
 }
 
-// Whether a disk whose folder was moved away makes no further file, and then syncs none.
+// Whether a disk whose folder was moved away and replaced makes no further file, and then syncs none.
 fn notices_a_move(rt: HostRuntime, root: &str, away: &str) -> Result<bool, Fail> {
     let mut disk = disk_in(rt, root)?;
     disk.write_at(FIRST, 0, b"1")?;
     disk.sync(FIRST)?;
     fs::rename(&rt, root, away)?;
+    fs::create_dir(&rt, root)?;
     disk.sync(FIRST)?;
     let is_refused = disk.write_at(SECOND, 0, b"2") == Err(Failed);
     let syncs = disk.sync(FIRST) == Err(Failed);
@@ -99,7 +100,8 @@ fn the_folder_itself_is_locked(rt: HostRuntime) -> Result<(), Fail> {
     let _ = fs::remove_dir_all(&rt, away);
     let is_refused = refuses_without_file(rt, root)?;
     let is_noticed = notices_a_move(rt, root, away)?;
-    let is_made = is_there(rt, root, "lock")?;
+    let is_made = is_there(rt, root, "commitlog")?;
+    fs::remove_dir_all(&rt, root)?;
     fs::remove_dir_all(&rt, away)?;
     assert!(rt; is_refused && is_noticed && !is_made);
     Ok(())
