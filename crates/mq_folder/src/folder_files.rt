@@ -27,8 +27,8 @@
 //! | can't be read, or has what is refused              | fails, and so does each later call                      |
 //!
 //! Those that only read make nothing, and an absent folder is refused. In a store with `config/format` the first list fails
-//! where the log has begun and has no file (`folder_mark`). A call that makes a file fails where the path leads to another
-//! folder than the one that is locked, and so does each later change and sync.
+//! where the log has begun and has no file (`folder_mark`). A write to another file than the last fails where the path leads
+//! to another folder than the one that is locked, or to none, and so does each later change and sync.
 
 ghost use Rattle.std.specs.Prelude.{◌≡◌, ◌≤◌, length, IfOk};
 
@@ -280,14 +280,18 @@ impl<R: Files<File = File> + Clock + Eprint + AllocGlobal + Clone + Drop> Folder
         self.last = None;
     }
 
+    // Whether the file of this name is the one that is open.
+    fn is_open(&self, name: &str) -> bool {
+        match &self.last {
+            Some(open) => open.name.as_str() == name,
+            None => false,
+        }
+    }
+
     // The open file of this name, opened where another one is open, `None` where it is absent.
     fn open(&mut self, name: &str) -> io::Result<Option<&mut Open>> {
         self.check_lock()?;
-        let is_open = match &self.last {
-            Some(open) => open.name.as_str() == name,
-            None => false,
-        };
-        if !is_open {
+        if !self.is_open(name) {
             self.close();
             if self.place.has_file(name)? {
                 self.open_file(name, false)?;
@@ -324,8 +328,12 @@ impl<R: Files<File = File> + Clock + Eprint + AllocGlobal + Clone + Drop> Folder
         Ok(())
     }
 
-    // The open file of this name, which is made where it is absent.
+    // The open file of this name, which is made where it is absent. Before another file is written than the one that is open
+    // the folder is looked at: it may have been moved away.
     fn open_or_make(&mut self, name: &str) -> io::Result<Option<&mut Open>> {
+        if !self.is_open(name) {
+            self.check_folder()?;
+        }
         if self.open(name)?.is_none() {
             self.make(name)?;
         }
@@ -334,7 +342,6 @@ impl<R: Files<File = File> + Clock + Eprint + AllocGlobal + Clone + Drop> Folder
 
     // Makes a file and the folders on the way to it. From then on none of them counts as synced.
     fn make(&mut self, name: &str) -> io::Result<()> {
-        self.check_folder()?;
         self.place.forget_synced();
         let folder = self.place.path(folder_of(name))?;
         make_folders(&self.place.rt, folder.as_str())?;
