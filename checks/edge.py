@@ -232,17 +232,13 @@ def five(folder):
     return [r["place"] for r in found] + [found[-1]["place"] + found[-1]["size"]]
 
 
-@check("a wrong bit in any record of a log that ended in order is status 8, and nothing is cut; verify tells of it before")
+@check("a wrong bit in any record of a log that ended in order is status 8, and nothing is cut")
 def _(folder):
     for k in range(5):
         places = five(folder)
         assert open(os.path.join(folder, ENDED)).read() == f"{places[5]}\n"
         flip(os.path.join(folder, LOG), places[k] + 90)
         before = tree(folder + "/store")
-        for tool in ("dump", "verify"):
-            status, out, _ = call(folder, tool)
-            torn = b"torn %d %d %d\n" % (places[k], places[5] - places[k], 4 - k)
-            assert out.endswith(torn) and status == (8 if tool == "verify" and k < 4 else 0), (k, tool, status, out)
         for words in (("pipe",), ("serve", "--host", f"127.0.0.1:{free_port()}")):
             status, out, said = call(folder, *words, data=send(9, b"new"))
             last = said.splitlines()[-1]

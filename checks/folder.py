@@ -271,8 +271,10 @@ def _(folder):
         os.chmod(os.path.join(folder, path), 0o444)
     before = tree(folder)
     assert as_nobody(send(1, b"hi"), folder) == (5, b"") and tree(folder) == before
-    for path in ("store", "store/commitlog", "store/config", FIRST, "store/config/format", "store/lock"):
-        os.chmod(os.path.join(folder, path), 0o777)
+    os.chmod(folder + "/store", 0o777)
+    for at, folders, files in os.walk(folder + "/store"):
+        for name in folders + files:
+            os.chmod(os.path.join(at, name), 0o777)
     os.makedirs(folder + "/store/closed/x")
     os.chmod(folder + "/store/closed", 0o000)
     status, out = as_nobody(pull(2, "T", 0), folder)

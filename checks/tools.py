@@ -192,12 +192,11 @@ def _(folder):
     want_sound(folder, records(folder))
 
 
-@check("a folder that is absent becomes a store without records, of the default sizes")
+@check("a folder that is absent is refused, and nothing is made")
 def _(folder):
-    for tool, text in (("dump", ""), ("verify", "records 0 end 0\nequal\n")):
-        assert call(folder, tool, "--store", tool) == (0, text, "")
-        assert open(f"{folder}/{tool}/config/format").read() == "mq_broker 1 1073741824 65536 262144\n"
-        assert sorted(os.listdir(f"{folder}/{tool}")) == ["config", "lock"]
+    for tool in TOOLS:
+        status, out, said = call(folder, tool, "--store", tool)
+        assert (status, out) == (5, "") and "it is not there" in said and os.listdir(folder) == [], (tool, status, out, said)
 
 
 @check("--store is the only option, what doesn't fit is status 1 and makes nothing, and the help has all")
