@@ -11,7 +11,7 @@ import signal
 import subprocess
 import time
 
-from wire import PROGRAM, all_replies, check, commit, frame, pull, pulled, records, run, send, stored
+from wire import PROGRAM, all_replies, check, commit, crash, frame, pull, pulled, records, run, send, stored
 
 OFFSETS = "store/config/consumerOffset.json"
 TOPICS = "store/config/topics.json"
@@ -86,6 +86,7 @@ def _(folder):
     answers(send(0, b"a") + send(1, b"b") + commit(2, 2) + commit(3, 1, group="H"), folder)
     path = os.path.join(folder, LOG)
     os.truncate(path, os.path.getsize(path) - 1)
+    crash(folder)
     told = answers(stored(0) + stored(1, group="H"), folder)
     assert [r["extFields"]["offset"] for r in told] == ["1", "1"]
     assert text_of(folder, OFFSETS) == b'{"offsetTable":{"T@G":{"0":1},"T@H":{"0":1}}}'

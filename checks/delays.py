@@ -15,7 +15,7 @@ import sys
 import time
 
 from clocked import FIRST, Clock, Pipe, Serve, answers, greatest, is_clock_taken, pairs_of, pulled_all, run, said_of
-from wire import PROGRAM, SYSTEM_TOPICS, all_replies, check, properties, pull, pulled, records, send
+from wire import PROGRAM, SYSTEM_TOPICS, all_replies, check, crash, properties, pull, pulled, records, send
 
 LEVEL_TOPIC = SYSTEM_TOPICS[0]
 DELAYS = [1000 * seconds for seconds in (1, 5, 10, 30, 60, 120, 180, 240, 300, 360, 420, 480, 540, 600, 1200, 1800, 3600, 7200)]
@@ -216,6 +216,7 @@ def _(folder):
     for at in range(316, 562):
         with open(path, "wb") as file:
             file.write(whole[:at])
+        crash(folder)
         clock.set(2000 + at)
         answers(folder, clock)
         log = records(folder)

@@ -14,7 +14,7 @@ import time
 from clocked import FIRST, Clock, Pipe, Serve, answers, is_clock_taken
 from killed_broker import Broker, until
 from mq_client import Admin, Connection, Producer
-from wire import PROGRAM, SYSTEM_TOPICS, check, frame, properties, pulled, records, send
+from wire import PROGRAM, SYSTEM_TOPICS, check, crash, frame, properties, pulled, records, send
 
 FOUND = {"indexLastUpdatePhyoffset": "0", "indexLastUpdateTimestamp": "0"}
 PRODUCERS, EACH, KEYS = 4, 1000, 40
@@ -149,6 +149,7 @@ def _(folder):
     a, b = records(folder)
     with open(os.path.join(folder, FIRST), "r+b") as file:
         file.truncate(b["place"] + b["size"] - 1)
+    crash(folder)
     told = answers(folder, clock, query(0, "k") + view(1, b["place"]) + view(2, a["place"]))
     assert [bodies(r) for r in told] == [[b"a"], [], [b"a"]]
     told = answers(folder, clock, keyed(0, b"c", "k") + query(1, "k") + view(2, b["place"]))

@@ -11,7 +11,7 @@ import signal
 import subprocess
 import time
 
-from wire import PROGRAM, all_replies, check, log_files, pull, pulled, records, replies, run, send
+from wire import PROGRAM, all_replies, check, crash, log_files, pull, pulled, records, replies, run, send
 
 SEGMENT = ("pipe", "--segment", "4096")
 FIRST = "store/commitlog/00000000000000000000"
@@ -37,6 +37,7 @@ def _(folder):
     for i in range(108):
         for damaged in (whole[:108 + i], whole[:108 + i] + bytes([whole[108 + i] ^ 1]) + whole[109 + i:]):
             open(path, "wb").write(damaged)
+            crash(folder)
             status, out = run(send(2, b"new"), folder)
             assert status == 0 and place_of(replies(out)[0]) == 108, i
             assert [r["body"] for r in records(folder)] == [b"hi", b"new"], i

@@ -11,7 +11,7 @@ import os
 import sys
 
 from clocked import FIRST, Clock, Pipe, answers, greatest, is_clock_taken
-from wire import (COMMIT, ROLLBACK, SYSTEM_TOPICS, UNKNOWN, check, commit, frame, half, of_group, properties, pull, pulled, send, stored,
+from wire import (COMMIT, ROLLBACK, SYSTEM_TOPICS, UNKNOWN, check, commit, crash, frame, half, of_group, properties, pull, pulled, send, stored,
                   verdict)
 
 HALF_TOPIC, GIVEN_UP_TOPIC = SYSTEM_TOPICS[1], SYSTEM_TOPICS[3]
@@ -58,10 +58,12 @@ def play(folder, *table, log=""):
         answers(folder, clock, send(0, b""))
         with open(path, "wb") as file:
             file.write(bytes.fromhex(log))
+        crash(folder)
     for left, rows in parts_of(table):
         if left is not None:
             assert os.path.getsize(path) >= left, (left, os.path.getsize(path))
             os.truncate(path, left)
+            crash(folder)
         with Pipe(folder, clock) as pipe:
             for number, (now, asked, wanted) in enumerate(rows):
                 clock.set(now)

@@ -16,7 +16,7 @@ import time
 
 from clocked import FIRST, Clock, Pipe, Serve, answers, greatest, is_clock_taken, pairs_of, pulled_all, said_of
 from killed_broker import until
-from wire import (COMMIT, ROLLBACK, SYSTEM_TOPICS, UNKNOWN, check, frame, frames_of, half, properties, pull, pulled, records, reply_of,
+from wire import (COMMIT, ROLLBACK, SYSTEM_TOPICS, UNKNOWN, check, crash, frame, frames_of, half, properties, pull, pulled, records, reply_of,
                   send, told, verdict, where)
 
 HALF_TOPIC, OP_TOPIC, GIVEN_UP_TOPIC = SYSTEM_TOPICS[1:]
@@ -293,6 +293,7 @@ def _(folder):
     for at in [*range(178, 435, 16), 294, 295, 296, 434]:
         with open(path, "wb") as file:
             file.write(whole[:at])
+        crash(folder)
         decisions = (COMMIT, ROLLBACK) if at >= 295 else (COMMIT, COMMIT)
         found = answers(folder, clock, b"".join(verdict(k, decision, 0, 0) for k, decision in enumerate(decisions)) + pull(2, "T", 0))
         assert [told(r) for r in found[:2]] == [(0, ""), (1, "settled committed") if at >= 295 else (0, "")], at

@@ -2,6 +2,7 @@
 
 A test is a function under `@check(NAME)`, which gets an empty folder and prints its name once it holds.
 """
+import contextlib
 import json
 import os
 import subprocess
@@ -200,6 +201,12 @@ def records(folder, whole=True):
             found.append(r)
             at += r["size"]
     return found
+
+
+def crash(folder):
+    """Takes the mark of an end in order away, which a killed broker doesn't leave: what is done to the log then, a crash may have done."""
+    with contextlib.suppress(FileNotFoundError):
+        os.remove(folder + "/store/config/ended")
 
 
 def run(data, folder, words=("pipe",)):
