@@ -315,6 +315,7 @@ def _(folder):
     status, out, said = call(folder, "gen", "10", "0")
     assert (status, out) == (6, "foreign records\n") and "store has records (status 6): " in said, (status, out, said)
     assert everything(folder) == before
+    assert call(folder, "pipe", "--store", "other")[0] == 0
     assert call(folder, "verify", "--store", "other") == (0, "records 0 end 0\nequal\n", "")
     assert call(folder, "gen", "10", "0", "--store", "other") == (0, summary_of(10, 0), "")
     status, out, said = call(folder, "gen", "10", "0", "--store", "other")
